@@ -1,11 +1,11 @@
 //! The flat configuration.
 
 use crate::entries::Tag;
-use crate::fix::Fix;
+use crate::expr::Expr;
 use crate::many::Many;
 use crate::text::Text;
 
-#[derive(Debug, Drop)]
+#[derive(Drop)]
 pub struct Conf {
     pub utc_offset: i32,
     pub hosts: Many<Host>,
@@ -18,14 +18,14 @@ pub struct Conf {
     pub pattern_paths: Many<Text>,
 }
 
-#[derive(Debug, Drop)]
+#[derive(Drop)]
 pub struct Host {
     pub name: Text,
     pub groups: Many<Text>,
     pub enabled: bool,
 }
 
-#[derive(Debug, Drop)]
+#[derive(Drop)]
 pub struct Item {
     pub host: u32,
     pub key: Text,
@@ -48,7 +48,7 @@ pub enum ValueType {
     Words,
 }
 
-#[derive(Debug, Drop)]
+#[derive(Drop)]
 pub struct StepSpec {
     pub kind: StepKind,
     pub params: Many<Text>,
@@ -87,7 +87,7 @@ pub enum StepKind {
     ThrottleHeartbeat,
 }
 
-#[derive(Debug, Drop)]
+#[derive(Drop)]
 pub struct Trigger {
     pub host: u32,
     pub name: Text,
@@ -113,38 +113,13 @@ pub enum RecoveryMode {
     Nothing,
 }
 
-#[derive(Debug, Drop)]
-pub enum Expr {
-    Const(Fix),
-    Call(u32),
-    Neg(Box<Expr>),
-    Not(Box<Expr>),
-    Bin(Op, Box<Expr>, Box<Expr>),
-}
-
-#[derive(Clone, Copy, Debug, PartialEq, Eq)]
-pub enum Op {
-    Or,
-    And,
-    Eq,
-    Ne,
-    Lt,
-    Le,
-    Gt,
-    Ge,
-    Add,
-    Sub,
-    Mul,
-    Div,
-}
-
 #[derive(Clone, Copy, Debug, PartialEq, Eq)]
 pub enum Range {
     Count(u32),
     Period(u32),
 }
 
-#[derive(Debug, Drop)]
+#[derive(Drop)]
 pub struct Call {
     pub fun: Fun,
     pub host: Text,
@@ -192,14 +167,14 @@ pub enum TagOp {
     NotContains,
 }
 
-#[derive(Debug, Drop)]
+#[derive(Drop)]
 pub struct TagTest {
     pub tag: Text,
     pub op: TagOp,
     pub value: Text,
 }
 
-#[derive(Debug, Drop)]
+#[derive(Drop)]
 pub struct Rule {
     pub name: Text,
     pub matching: Matching,
@@ -208,7 +183,7 @@ pub struct Rule {
     pub close_new: bool,
 }
 
-#[derive(Debug, Drop)]
+#[derive(Drop)]
 pub enum RuleCond {
     OldTag { tag: Text },
     NewTag { tag: Text },
@@ -218,7 +193,7 @@ pub enum RuleCond {
     NewGroup { group: Text },
 }
 
-#[derive(Debug, Drop)]
+#[derive(Drop)]
 pub struct Maintenance {
     pub name: Text,
     pub since: u32,
@@ -231,7 +206,7 @@ pub struct Maintenance {
     pub periods: Many<Period>,
 }
 
-#[derive(Debug, Drop)]
+#[derive(Drop)]
 pub enum Period {
     Once {
         start: u32,
@@ -256,7 +231,7 @@ pub enum Period {
     },
 }
 
-#[derive(Debug, Drop)]
+#[derive(Drop)]
 pub struct Action {
     pub name: Text,
     pub matching: Matching,
@@ -267,7 +242,7 @@ pub struct Action {
     pub recovery: Many<Sending>,
 }
 
-#[derive(Debug, Drop)]
+#[derive(Drop)]
 pub enum ActionCond {
     Severity { op: SeverityOp, value: u32 },
     Host { host: Text },
@@ -286,7 +261,7 @@ pub enum SeverityOp {
     Eq,
 }
 
-#[derive(Debug, Drop)]
+#[derive(Drop)]
 pub struct Operation {
     pub from: u32,
     pub to: u32,
@@ -296,7 +271,7 @@ pub struct Operation {
     pub body: Text,
 }
 
-#[derive(Debug, Drop)]
+#[derive(Drop)]
 pub struct Sending {
     pub recipients: Many<Text>,
     pub subject: Text,

@@ -1,0 +1,16 @@
+//! Ids, which count from 1.
+
+ghost use Rattle.std.specs.Prelude.{◌≡◌, option_copied};
+ghost use Rattle.zbx_types.specs.Ids.{at_id};
+
+/// The item of a list with this id. Ids count from 1; None where there is none with this one.
+#[tactic(auto, unfolding(crate::specs::Ids::at_id))]
+pub fn by_id<T>(items: &[T], id: u32) -> Option<&T>
+    ensures { option_copied result ≡ at_id items.now id }
+{
+    if id == 0 {
+        None
+    } else {
+        items.get(id as usize - 1)
+    }
+}
