@@ -1,0 +1,61 @@
+-- The values of history functions and expressions. None is Unknown.
+use Rattle.std.specs.Prelude.{ℕ, ◌-◌, ◌*◌, ◌==◌, nat_le, Bool, true, false, ◌&&◌, ◌||◌, List, [], ◌∷◌, Option, Some, None, if◌then◌else◌, ℤ, pos, int_lt, filter, slice_get, option_map, option_and_then}
+use Rattle.zbx_types.specs.Tree.{Tree, constant, call, negative, negation, binary}
+use Rattle.zbx_types.specs.declared.expr.Op.{Op}
+use Rattle.zbx_types.specs.declared.expr.Op.TheVariants as op
+use Rattle.zbx_types.specs.declared.conf.Call.{Call}
+use Rattle.zbx_types.specs.declared.conf.Fun.{Fun}
+use Rattle.zbx_types.specs.declared.conf.Fun.TheVariants as function
+use Rattle.zbx_types.specs.declared.conf.Range.{Range}
+use Rattle.zbx_types.specs.declared.conf.Range.TheVariants.{Count, Period}
+use Rattle.zbx_types.specs.declared.conf.Trigger.{Trigger}
+use Rattle.zbx_types.specs.declared.entries.Held.{Held}
+use Rattle.zbx_types.specs.declared.entries.Held.TheVariants as held
+use Rattle.zbx_types.specs.declared.entries.Stored.{Stored}
+
+-- the number that a stored value is
+abbrev pub number_held : Held → Option ℤ
+number_held (held.Number z) = Some z
+number_held (held.Words text) = None
+
+-- the values of a history with time at or before a bound, the latest first
+abbrev pub up_to : ℕ → List Stored → List Stored
+up_to bound history = filter (λ s. nat_le s.time bound) history
+
+-- the latest value's number
+abbrev pub last_number : List Stored → Option ℤ
+last_number [] = None
+last_number (s ∷ rest) = number_held s.value
+
+-- a history function over the history of its item at a moment. Built so far is `last` of `#1` without a shift.
+abbrev pub function_value : Fun → Range → ℕ → List Stored → ℕ → Option ℤ
+function_value function.Last (Count n) shift history now = if n == 1 && shift == 0 then last_number (up_to now history) else None
+function_value other range shift history now = None
+
+-- a call of a trigger, by its place, over the histories of the items at a moment
+unfoldable pub call_value : (ℕ → List Stored) → ℕ → Trigger → ℕ → Option ℤ
+call_value items now trigger place =
+    option_and_then (λ c. option_and_then (λ item. function_value c.fun c.range c.shift (items item) now) (slice_get trigger.call_items place)) (slice_get trigger.calls place)
+
+-- 1 and 0 in millionths
+abbrev pub truth : Bool → ℤ
+truth true = pos 1000000
+truth false = pos 0
+
+-- whether the first number is greater, where both are known
+abbrev pub greater : Option ℤ → Option ℤ → Option ℤ
+greater None b = None
+greater (Some x) None = None
+greater (Some x) (Some y) = Some (truth (int_lt y x))
+
+-- an expression over the values of its calls, by their places. Built so far are constants, calls and `>`.
+abbrev pub expression_value : (ℕ → Option ℤ) → Tree → Option ℤ
+expression_value calls (constant z) = Some z
+expression_value calls (call place) = calls place
+expression_value calls (negative a) = None
+expression_value calls (negation a) = None
+expression_value calls (binary o a b) = applied o (expression_value calls a) (expression_value calls b)
+  where
+    applied : Op → Option ℤ → Option ℤ → Option ℤ
+    applied op.Gt x y = greater x y
+    applied other x y = None
