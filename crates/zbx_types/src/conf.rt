@@ -277,3 +277,20 @@ pub struct Sending {
     pub subject: Text,
     pub body: Text,
 }
+
+/// Why a configuration document is refused. `at` counts the bytes of the text at fault from 0.
+#[derive(Clone, Copy, Debug, PartialEq, Eq)]
+pub enum Cause {
+    TooLong,
+    NotJson,
+    BadMember,
+    Duplicate,
+    TooMany,
+    UnknownName,
+    Cycle,
+    BadKey { at: u32 },
+    TooDeep,
+    BadPath { at: u32 },
+    BadExpression { at: u32 },
+    WrongValueType,
+}

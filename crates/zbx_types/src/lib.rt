@@ -17,8 +17,8 @@ mod text;
 
 pub use bytes::Bytes;
 pub use conf::{
-    Action, ActionCond, Call, Conf, Fun, Host, Item, ItemKind, Maintenance, Matching, OnFail,
-    Operation, Period, Range, RecoveryMode, Rule, RuleCond, Sending, SeverityOp, StepKind,
+    Action, ActionCond, Call, Cause, Conf, Fun, Host, Item, ItemKind, Maintenance, Matching,
+    OnFail, Operation, Period, Range, RecoveryMode, Rule, RuleCond, Sending, SeverityOp, StepKind,
     StepSpec, TagOp, TagTest, Trigger, ValueType,
 };
 pub use entries::{Cause2, Entry, EventId, Held, Numbered, Rec, Stored, Tag};
