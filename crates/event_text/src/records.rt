@@ -1,0 +1,211 @@
+//! Lines of records.
+
+ghost use Rattle.std.specs.Prelude.{◌≡◌, ◌++◌, ◌∷◌, [], OnOk, OnErr};
+ghost use Rattle.std.specs.List.{flat_map};
+ghost use Rattle.std.specs.Fmt.{decimal};
+ghost use Rattle.event_text.specs.Lines.{escaped, suppressed_text, cause_text, tag_fields, barred, joined, fields_of, line_of, lines_of};
+
+use crate::fields::{add_event, add_moment, add_number, add_text};
+use std::alloc::Global;
+use zbx_types::{Bytes, Cause2, EventId, Moment, OutOfMemory, Rec, Tag, Text};
+
+fn suppressed_text(suppressed: bool) -> &'static [u8]
+    ensures { result.now ≡ suppressed_text suppressed }
+{
+    if suppressed { b"1" } else { b"0" }
+}
+
+fn cause_text(cause: Cause2) -> &'static [u8]
+    ensures { result.now ≡ cause_text cause }
+{
+    match cause {
+        Cause2::Expression => b"e",
+        Cause2::Correlation => b"c",
+    }
+}
+
+fn put_failure(
+    alloc: Global,
+    number: u64,
+    host: &Text,
+    key: &Text,
+    why: &Text,
+    out: &mut Bytes,
+) -> Result<(), OutOfMemory>
+    ensures { OnOk result (out.new ≡ out.old ++ joined (fields_of (Rec.Failure number host.now key.now why.now))) }
+{
+    out.extend(b"F")?;
+    add_number(alloc, number, out)?;
+    add_text(host, out)?;
+    add_text(key, out)?;
+    add_text(why, out)
+}
+
+/// Adds how severe a problem is, and whether it is suppressed.
+fn add_kind(
+    alloc: Global,
+    severity: u8,
+    suppressed: bool,
+    out: &mut Bytes,
+) -> Result<(), OutOfMemory>
+    ensures { OnOk result (out.new ≡ out.old ++ flat_map barred (decimal severity ∷ suppressed_text suppressed ∷ [])) }
+{
+    add_number(alloc, u64::from(severity), out)?;
+    out.extend(b"|")?;
+    out.extend(suppressed_text(suppressed))
+}
+
+fn add_names(host: &Text, trigger: &Text, name: &Text, out: &mut Bytes) -> Result<(), OutOfMemory>
+    ensures { OnOk result (out.new ≡ out.old ++ flat_map barred (escaped host.now ∷ escaped trigger.now ∷ escaped name.now ∷ [])) }
+{
+    add_text(host, out)?;
+    add_text(trigger, out)?;
+    add_text(name, out)
+}
+
+fn add_tag(tag: &Tag, out: &mut Bytes) -> Result<(), OutOfMemory>
+    ensures { OnOk result (out.new ≡ out.old ++ flat_map barred (tag_fields tag.now)) }
+{
+    add_text(&tag.tag, out)?;
+    add_text(&tag.value, out)
+}
+
+fn add_tags(tags: &[Tag], out: &mut Bytes) -> Result<(), OutOfMemory>
+    ensures { OnOk result (out.new ≡ out.old ++ flat_map barred (flat_map tag_fields tags.now)) }
+{
+    for tag in tags {
+        add_tag(tag, out)?;
+    }
+    Ok(())
+}
+
+fn put_recovery(
+    alloc: Global,
+    event: EventId,
+    by: u64,
+    now: Moment,
+    cause: Cause2,
+    out: &mut Bytes,
+) -> Result<(), OutOfMemory>
+    ensures { OnOk result (out.new ≡ out.old ++ joined (fields_of (Rec.Recovery event by now cause))) }
+{
+    out.extend(b"R")?;
+    add_event(alloc, event, out)?;
+    add_number(alloc, by, out)?;
+    add_moment(alloc, now, out)?;
+    out.extend(b"|")?;
+    out.extend(cause_text(cause))
+}
+
+fn put_step(
+    alloc: Global,
+    event: EventId,
+    action: &Text,
+    step: u32,
+    now: Moment,
+    out: &mut Bytes,
+) -> Result<(), OutOfMemory>
+    ensures { OnOk result (out.new ≡ out.old ++ joined (fields_of (Rec.Step event action.now step now))) }
+{
+    out.extend(b"S")?;
+    add_event(alloc, event, out)?;
+    add_text(action, out)?;
+    add_number(alloc, u64::from(step), out)?;
+    add_moment(alloc, now, out)
+}
+
+fn put_fields(alloc: Global, rec: &Rec, out: &mut Bytes) -> Result<(), OutOfMemory>
+    ensures { OnOk result (out.new ≡ out.old ++ joined (fields_of rec.now)) }
+{
+    match rec {
+        Rec::Failure {
+            number,
+            host,
+            key,
+            why,
+        } => put_failure(alloc, *number, host, key, why, out),
+        Rec::Problem {
+            event,
+            now,
+            severity,
+            suppressed,
+            host,
+            trigger,
+            name,
+            tags,
+        } => {
+            out.extend(b"P")?;
+            add_event(alloc, *event, out)?;
+            add_moment(alloc, *now, out)?;
+            add_kind(alloc, *severity, *suppressed, out)?;
+            add_names(host, trigger, name, out)?;
+            add_tags(tags.as_slice(), out)
+        }
+        Rec::Recovery {
+            event,
+            by,
+            now,
+            cause,
+        } => put_recovery(alloc, *event, *by, *now, *cause, out),
+        Rec::Step {
+            event,
+            action,
+            step,
+            now,
+        } => put_step(alloc, *event, action, *step, *now, out),
+        Rec::Message {
+            event,
+            action,
+            step,
+            recipient,
+            subject,
+            body,
+        } => {
+            out.extend(b"M")?;
+            add_event(alloc, *event, out)?;
+            add_text(action, out)?;
+            add_number(alloc, u64::from(*step), out)?;
+            add_names(recipient, subject, body, out)
+        }
+    }
+}
+
+fn put_line(alloc: Global, rec: &Rec, out: &mut Bytes) -> Result<(), OutOfMemory>
+    ensures { OnOk result (out.new ≡ out.old ++ line_of rec.now) }
+{
+    put_fields(alloc, rec, out)?;
+    out.extend(b"\n")
+}
+
+fn put_lines(alloc: Global, records: &[Rec], out: &mut Bytes) -> Result<(), OutOfMemory>
+    ensures { OnOk result (out.new ≡ out.old ++ lines_of records.now) }
+{
+    for rec in records {
+        put_line(alloc, rec, out)?;
+    }
+    Ok(())
+}
+
+/// Adds the line of a record at the end of `out`, in the format that the crate's comment tells (this project's own).
+///
+/// The one error is want of memory, and `out` is then as before.
+pub fn line(alloc: Global, rec: &Rec, out: &mut Bytes) -> Result<(), OutOfMemory>
+    ensures ok { OnOk result (out.new ≡ out.old ++ line_of rec.now) }
+    ensures err { OnErr result (out.new ≡ out.old) }
+{
+    let mut text = Bytes::new(alloc);
+    put_line(alloc, rec, &mut text)?;
+    out.extend(text.as_slice())
+}
+
+/// Adds the lines of records at the end of `out`, in their order, with nothing between them (this project's own).
+///
+/// The one error is want of memory, and `out` is then as before: no line was added.
+pub fn lines(alloc: Global, records: &[Rec], out: &mut Bytes) -> Result<(), OutOfMemory>
+    ensures ok { OnOk result (out.new ≡ out.old ++ lines_of records.now) }
+    ensures err { OnErr result (out.new ≡ out.old) }
+{
+    let mut text = Bytes::new(alloc);
+    put_lines(alloc, records, &mut text)?;
+    out.extend(text.as_slice())
+}

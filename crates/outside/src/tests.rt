@@ -1,0 +1,154 @@
+use super::*;
+use std::alloc::Global;
+use std::test::Fail;
+use zbx_types::{Bytes, Many, Moment, OutOfMemory};
+
+fn source(alloc: Global, text: &[u8]) -> Result<MemSource, OutOfMemory> {
+    Ok(MemSource::new(Bytes::of(alloc, text)?, Many::new(alloc)))
+}
+
+fn only(alloc: Global, number: u64) -> Result<Many<u64>, OutOfMemory> {
+    let mut numbers = Many::new(alloc);
+    numbers.push(number)?;
+    Ok(numbers)
+}
+
+#[test]
+fn a_source_gives_its_bytes_and_fails_where_told(rt: HostRuntime) -> Result<(), Fail> {
+    let alloc = rt.alloc();
+    let mut source = MemSource::new(Bytes::of(alloc, b"abc")?, only(alloc, 2)?);
+    let mut into = [0; 2];
+    assert_eq!(rt; source.read(&mut into), Ok(2));
+    assert_eq!(rt; into, *b"ab");
+    assert_eq!(rt; source.read(&mut into), Err(Failed));
+    assert_eq!(rt; source.faults(), 1);
+    assert_eq!(rt; source.read(&mut into), Ok(1));
+    assert_eq!(rt; into[0], b'c');
+    assert_eq!(rt; source.read(&mut into), Ok(0));
+    Ok(())
+}
+
+#[test]
+fn a_sink_holds_what_is_written(rt: HostRuntime) -> Result<(), Fail> {
+    let alloc = rt.alloc();
+    let mut sink = MemSink::new(Bytes::of(alloc, b"a")?, only(alloc, 2)?);
+    assert_eq!(rt; sink.write(b"bc"), Ok(2));
+    assert_eq!(rt; sink.write(b"d"), Err(Failed));
+    assert_eq!(rt; sink.faults(), 1);
+    assert_eq!(rt; sink.held(), 3);
+    assert_eq!(rt; sink.bytes().as_slice(), b"abc".as_slice());
+    Ok(())
+}
+
+#[test]
+fn a_script_gives_its_events(rt: HostRuntime) -> Result<(), Fail> {
+    let alloc = rt.alloc();
+    let script = "100.000000000 open 7\n\n100.000000001 piece 7 00ff\n0100.000000002 frame 07 a b\n\
+        101.000000000 end 7\n102.000000000 broke 8\n103.000000000 quiet\n104.000000000 closed";
+    let mut wire = ScriptWire::new(alloc, source(alloc, script.as_bytes())?, Many::new(alloc));
+    for want in [
+        "Opened { conn: 7, at: Moment { sec: 100, ns: 0 } }",
+        "Piece { conn: 7, bytes: Bytes { bytes: [0, 255] }, at: Moment { sec: 100, ns: 1 } }",
+        "Piece { conn: 7, bytes: Bytes { bytes: [90, 66, 88, 68, 1, 3, 0, 0, 0, 0, 0, 0, 0, 97, 32, 98] }, at: Moment { sec: 100, ns: 2 } }",
+        "Ended { conn: 7, at: Moment { sec: 101, ns: 0 } }",
+        "Broke { conn: 8, at: Moment { sec: 102, ns: 0 } }",
+        "Quiet { at: Moment { sec: 103, ns: 0 } }",
+        "Closed { at: Moment { sec: 104, ns: 0 } }",
+        "Closed { at: Moment { sec: 104, ns: 0 } }",
+    ] {
+        let event = wire.next(alloc)?;
+        assert_eq!(rt; format!(in alloc; "{event:?}")?.as_str(), want);
+    }
+    assert!(rt; matches!(wire.next(alloc), Err(Trouble::Failed)));
+    assert_eq!(rt; wire.faults(), 1);
+    Ok(())
+}
+
+#[test]
+fn a_bad_line_fails_and_is_passed(rt: HostRuntime) -> Result<(), Fail> {
+    let alloc = rt.alloc();
+    for bad in [
+        "quiet",
+        "1.00000000 quiet",
+        ".000000000 quiet",
+        "4294967296.000000000 quiet",
+        "1.000000000  quiet",
+        "1.000000000 quiet\r",
+        "1.000000000 open ",
+        "1.000000000 open 18446744073709551616",
+        "1.000000000 piece 1",
+        "1.000000000 piece 1 0",
+        "1.000000000 piece 1 0A",
+        "1.000000000 frame 1",
+        "1.000000000 shut 1",
+    ] {
+        let script = format!(in alloc; "{bad}\n2.000000000 quiet")?;
+        let mut wire = ScriptWire::new(alloc, source(alloc, script.as_bytes())?, Many::new(alloc));
+        assert!(rt; matches!(wire.next(alloc), Err(Trouble::Failed)), "{bad}");
+        assert_eq!(rt; wire.faults(), 1);
+        assert_eq!(rt; wire.next(alloc)?.at(), Moment { sec: 2, ns: 0 }, "{bad}");
+    }
+    Ok(())
+}
+
+#[test]
+fn a_wire_keeps_what_is_sent_and_closed(rt: HostRuntime) -> Result<(), Fail> {
+    let alloc = rt.alloc();
+    let mut wire = ScriptWire::new(alloc, source(alloc, b"")?, only(alloc, 2)?);
+    assert_eq!(rt; wire.send(3, b"xy"), Ok(()));
+    assert_eq!(rt; wire.send(3, b"z"), Err(Failed));
+    assert_eq!(rt; wire.unsent(), 1);
+    wire.close(3);
+    assert!(rt; matches!(wire.next(alloc)?, WireEvent::Closed { at: Moment { sec: 0, ns: 0 } }));
+    assert_eq!(rt; wire.sent().len(), 1);
+    for (conn, bytes) in wire.sent().as_slice() {
+        assert_eq!(rt; *conn, 3);
+        assert_eq!(rt; bytes.as_slice(), b"xy".as_slice());
+    }
+    assert_eq!(rt; wire.closed().map(|c| c.as_slice()), Some([3].as_slice()));
+    Ok(())
+}
+
+/// Line feeds, and then a line.
+#[derive(Drop)]
+struct Blanks {
+    before: u64,
+    line: MemSource,
+}
+
+impl Source for Blanks {
+    ghost use Rattle.std.specs.Prelude.{None};
+
+    ghost left = { λ _. None };
+
+    ghost faults = { λ b. b.line.faults };
+
+    fn faults(&self) -> u64 {
+        self.line.faults()
+    }
+
+    fn read(&mut self, into: &mut [u8]) -> Result<usize, Failed> {
+        if self.before == 0 {
+            return self.line.read(into);
+        }
+        let Some(first) = into.first_mut() else {
+            return Ok(0);
+        };
+        *first = b'\n';
+        self.before -= 1;
+        Ok(1)
+    }
+}
+
+#[test]
+fn a_call_takes_only_so_many_bytes(rt: HostRuntime) -> Result<(), Fail> {
+    let alloc = rt.alloc();
+    for (before, failures) in [(3_000_000, 0)] {
+        let line = source(alloc, b"1.000000000 quiet\n")?;
+        let mut wire = ScriptWire::new(alloc, Blanks { before, line }, Many::new(alloc));
+        let first = wire.next(alloc);
+        assert_eq!(rt; wire.faults(), failures);
+        assert_eq!(rt; first.is_err(), failures == 1);
+    }
+    Ok(())
+}
