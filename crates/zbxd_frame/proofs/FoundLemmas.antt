@@ -1,13 +1,11 @@
 -- What bytes are, stage by stage of the header.
-use Rattle.std.proofs.Common.{◌≡◌, ℕ, zero, suc, ◌+◌, ◌-◌, ◌*◌, ◌<◌, ◌≤◌, Bool, true, false, ◌&&◌, List, [], ◌∷◌, ◌++◌, length, take, drop, get_or, refl, ap, sym, subst, arith, ◌∙◌, inl, inr}
+use Rattle.std.proofs.Common.{◌≡◌, ℕ, ◌+◌, ◌<◌, ◌≤◌, true, false, List, [], ◌∷◌, ◌++◌, length, take, drop, get_or, refl, subst, arith, ◌∙◌, inl, inr}
 use Rattle.std.proofs.lemmas.Bool.{cases_lt, cases_eq, cases_Bool, and_parts, and_cases, and_left, and_right, and_from, eqb-true}
 use Rattle.std.proofs.lemmas.Bool.Decides.{nat_tests}
-use Rattle.std.proofs.lemmas.Grind.{common_steps}
 use Rattle.std.specs.Int.{w32, from_le_bytes}
 use Rattle.std.specs.Prelude.{◌==◌}
-
 use Rattle.zbx_types.specs.Frames.{longest_data}
-use Rattle.zbxd_frame.specs.Found.{Found, short, whole, bad, found, found_magic, found_long, agrees, magic}
+use Rattle.zbxd_frame.specs.Found.{short, whole, bad, found, found_magic, found_long, agrees, magic}
 use Rattle.zbxd_frame.specs.declared.fault.Fault.TheVariants as faults
 
 -- agreement with a start
@@ -108,9 +106,9 @@ stage_headed bytes head =
     elim (cases_lt longest_data (length_at bytes)) [
       | inl over ↦ no_length head over (is_long ∙ found_long-over bytes over)
       | inr fits ↦ elim (cases_lt (length bytes) (13 + length_at bytes)) [
-          | inl below ↦ in_body head fits below (is_long ∙ found_long-in bytes fits below)
-          | inr above ↦ at_end head fits above (is_long ∙ found_long-whole bytes fits above)
-        ]
+        | inl below ↦ in_body head fits below (is_long ∙ found_long-in bytes fits below)
+        | inr above ↦ at_end head fits above (is_long ∙ found_long-whole bytes fits above)
+      ]
     ]
 
 stage_agreed : (bytes : List ℕ) → agrees bytes magic ≡ true → Stage bytes
@@ -118,12 +116,12 @@ stage_agreed bytes h =
     elim (cases_lt 4 (length bytes)) [
       | inr few ↦ in_magic h few (found-magic bytes h ∙ found_magic-in bytes few)
       | inl some ↦ elim (cases_eq (get_or bytes 4 0) 1) [
-          | inr other ↦ no_flags h some other (found-magic bytes h ∙ found_magic-flags bytes some other)
-          | inl one ↦ elim (cases_lt (length bytes) 9) [
-              | inl below ↦ in_length h some one below (found-magic bytes h ∙ found_magic-length bytes some one below)
-              | inr long ↦ stage_headed bytes (record { magic_is = h; flags_are = one; long = long })
-            ]
+        | inr other ↦ no_flags h some other (found-magic bytes h ∙ found_magic-flags bytes some other)
+        | inl one ↦ elim (cases_lt (length bytes) 9) [
+          | inl below ↦ in_length h some one below (found-magic bytes h ∙ found_magic-length bytes some one below)
+          | inr long ↦ stage_headed bytes (record { magic_is = h; flags_are = one; long = long })
         ]
+      ]
     ]
 
 pub stage : (bytes : List ℕ) → Stage bytes

@@ -1,5 +1,5 @@
 -- Laws of frames and of what is found.
-use Rattle.std.proofs.Common.{◌≡◌, ◌≢◌, ℕ, zero, suc, ◌+◌, ◌-◌, ◌*◌, ◌<◌, ◌≤◌, ◌^◌, Bool, true, false, List, [], ◌∷◌, ◌++◌, length, take, drop, get_or, replicate, refl, ap, sym, subst, arith, ◌∙◌, ◌⊎◌, inl, inr, length-append, append_assoc, append-nil}
+use Rattle.std.proofs.Common.{◌≡◌, ◌≢◌, ℕ, zero, suc, ◌+◌, ◌-◌, ◌<◌, ◌≤◌, ◌^◌, true, List, [], ◌∷◌, ◌++◌, length, take, drop, get_or, replicate, refl, ap, sym, subst, arith, ◌∙◌, ◌⊎◌, inl, inr, length-append, append_assoc, append-nil}
 use Rattle.std.proofs.lemmas.Bool.{cases_lt}
 use Rattle.std.proofs.lemmas.List.{take_at, drop_at, take-append-drop, take-append-le, drop-append-le, drop_more, drop-drop, drop-take, length-drop, length-take, length-take-le, length-replicate, get_or-take, get_or-drop, get_or_past, get_or_append_left, get_or-append_right}
 use Rattle.std.proofs.lemmas.Nat.{le_bytes_4, from_le_bytes-to_le_bytes_4}
@@ -10,7 +10,7 @@ use Rattle.zbxd_frame.specs.declared.fault.Fault.{Fault}
 use Rattle.zbxd_frame.specs.Found.{Found, short, whole, bad, found, agrees, magic}
 use Rattle.zbxd_frame.specs.Answers.{fed_with, is_short}
 use Rattle.zbxd_frame.specs.Laws.{BeginsWithFrame, EndsWith, IsPartOfFrame, IsNoFrame, IsFoundRight, found_onward}
-use Rattle.zbxd_frame.proofs.FoundLemmas.{IsHeaded, Stage, no_magic, in_magic, no_flags, in_length, no_length, in_body, at_end, stage, length_at, agrees-long, agrees-more, agrees-short, agrees-unequal, found-whole, found-no_magic, found-magic, found_magic-flags, found_magic-long, found_long-over}
+use Rattle.zbxd_frame.proofs.FoundLemmas.{IsHeaded, no_magic, in_magic, no_flags, in_length, no_length, in_body, at_end, stage, length_at, agrees-long, agrees-more, agrees-short, agrees-unequal, found-whole, found-no_magic, found-magic, found_magic-flags, found_magic-long, found_long-over}
 
 -- each of them is a byte
 abbrev pub AreBytes : List ℕ → Type 0
@@ -149,9 +149,10 @@ bad-more bytes more fault is =
     ]
 
 pub IsNoFrame-found : (bytes : List ℕ) (fault : Fault) → found bytes ≡ bad fault → IsNoFrame bytes
-IsNoFrame-found bytes fault is body front more f =
-    ((λ same. let stays = bad-more bytes more fault is in let there = found-IsFrame body front [] f in let ends = append-nil front in cc),
-     (λ same. let there = found-IsFrame body front more f in cc))
+IsNoFrame-found bytes fault is body front more f = (
+  (λ same. let stays = bad-more bytes more fault is in let there = found-IsFrame body front [] f in let ends = append-nil front in cc),
+  (λ same. let there = found-IsFrame body front more f in cc),
+)
 
 -- the beginning of the beginning of a frame is one
 IsPartOfFrame-front : (bytes more : List ℕ) → IsPartOfFrame (bytes ++ more) → IsPartOfFrame bytes
@@ -247,11 +248,11 @@ whole-more bytes more body behind (front, e, f) = ap found (ap (λ u. u ++ more)
 -- what is found of bytes is true of them, and more bytes don't change it
 pub IsFoundRight-bytes : (bytes : List ℕ) → AreBytes bytes → IsFoundRight bytes
 IsFoundRight-bytes bytes small = record {
-    whole_is = λ body behind. BeginsWithFrame-found bytes body behind small;
-    short_is = IsPartOfFrame-found bytes small;
-    bad_is = IsNoFrame-found bytes;
-    onward = λ more decided. by_found (found bytes) refl more decided;
-  }
+  whole_is = λ body behind. BeginsWithFrame-found bytes body behind small;
+  short_is = IsPartOfFrame-found bytes small;
+  bad_is = IsNoFrame-found bytes;
+  onward = λ more decided. by_found (found bytes) refl more decided;
+}
   where
     by_found : (f : Found) → found bytes ≡ f → (more : List ℕ) → found bytes ≢ short → found (bytes ++ more) ≡ found_onward (found bytes) more
     by_found short e more decided = absurd (decided e)

@@ -1,0 +1,4 @@
+pub mod DigitLemmas
+pub mod LengthLemmas
+pub mod ListLemmas
+pub mod RequestLaws

@@ -1,0 +1,97 @@
+-- The request that a body is, by the reading of JSON that `serde_json` states.
+use Rattle.std.specs.Prelude.{ℕ, ◌+◌, ◌*◌, nat_le, Bool, false, ◌&&◌, ◌==◌, List, [], ◌∷◌, length, Option, Some, None, if◌then◌else◌, codes}
+use Rattle.std.specs.Option.{option_map, option_and_then}
+use Rattle.std.specs.Str.{bytes_eq}
+use Rattle.std.specs.Str.Lossy.{utf8_valid_len}
+use Rattle.std.specs.Fmt.{signed_decimal}
+use Rattle.serde_json.specs.Data.{Data, null, boolean, number, string, array, object, Items, no_items, item}
+use Rattle.serde_json.specs.Read.{read as read_json}
+use Rattle.serde_json.specs.Find.{get, as_str, as_array, as_u64, as_integer}
+use Rattle.zbx_types.specs.Numerals.{all_digits, digits_after}
+use Rattle.sender_json.specs.declared.asked.Asked.{Asked}
+use Rattle.sender_json.specs.declared.asked.Clock.{Clock}
+use Rattle.sender_json.specs.declared.asked.Clock.TheVariants.{Absent, Bad, At}
+use Rattle.sender_json.specs.declared.request.Request.{Request}
+use Rattle.sender_json.specs.declared.request.Request.TheVariants.{NotJson, Other, Values}
+
+-- the value of a JSON text; bytes that aren't UTF-8 have none
+unfoldable pub json_of : List ℕ → Option Data
+json_of body = if utf8_valid_len body == length body then read_json body else None
+
+-- the value's text: a text, or the digits of a whole number that the reading holds as one
+unfoldable pub value_text : Data → Option (List ℕ)
+value_text null = None
+value_text (boolean b) = None
+value_text (number n) = option_map signed_decimal (as_integer n)
+value_text (string s) = Some s
+value_text (array ds) = None
+value_text (object ms) = None
+
+-- a number that isn't above the greatest
+abbrev pub up_to : ℕ → ℕ → Option ℕ
+up_to most n = if nat_le n most then Some n else None
+
+-- the number that a text of decimal digits writes, up to the greatest
+unfoldable pub digits_within : ℕ → List ℕ → Option ℕ
+digits_within most text = if nat_le 1 (length text) && all_digits text then up_to most (digits_after 0 text) else None
+
+-- a whole number up to the greatest, as a number or as a text of digits
+unfoldable pub whole_within : ℕ → Data → Option ℕ
+whole_within most null = None
+whole_within most (boolean b) = None
+whole_within most (number n) = option_and_then (up_to most) (as_u64 n)
+whole_within most (string s) = digits_within most s
+whole_within most (array ds) = None
+whole_within most (object ms) = None
+
+-- the nanoseconds of `ns`, 0 where it isn't there
+unfoldable pub ns_of : Option Data → Option ℕ
+ns_of None = Some 0
+ns_of (Some d) = whole_within 999999999 d
+
+-- a moment, where both parts are of their form
+unfoldable pub moment_of : Option ℕ → Option ℕ → Clock
+moment_of (Some sec) (Some ns) = At (sec * 1000000000 + ns)
+moment_of (Some sec) None = Bad
+moment_of None ns = Bad
+
+-- what `clock` and `ns` say
+unfoldable pub clock_of : Option Data → Option Data → Clock
+clock_of None ns = Absent
+clock_of (Some d) ns = moment_of (whole_within 4294967295 d) (ns_of ns)
+
+-- the asked value that an element is
+unfoldable pub asked_of : Data → Asked
+asked_of d = record {
+  host = option_and_then as_str (get (codes "host") d);
+  key = option_and_then as_str (get (codes "key") d);
+  value = option_and_then value_text (get (codes "value") d);
+  clock = clock_of (get (codes "clock") d) (get (codes "ns") d);
+}
+
+-- the asked values of all elements
+abbrev pub all_asked : Items → List Asked
+all_asked no_items = []
+all_asked (item d ds) = asked_of d ∷ all_asked ds
+
+abbrev pub is_sender_data : Option (List ℕ) → Bool
+is_sender_data None = false
+is_sender_data (Some name) = bytes_eq name (codes "sender data")
+
+abbrev pub values_or_other : Option Items → Request
+values_or_other None = Other
+values_or_other (Some ds) = Values (all_asked ds)
+
+-- the request that a JSON value is
+unfoldable pub sender_request : Data → Request
+sender_request d =
+    if is_sender_data (option_and_then as_str (get (codes "request") d))
+    then values_or_other (option_and_then as_array (get (codes "data") d)) else Other
+
+abbrev pub request_of_json : Option Data → Request
+request_of_json None = NotJson
+request_of_json (Some d) = sender_request d
+
+-- the request that a body is
+unfoldable pub request_of : List ℕ → Request
+request_of body = request_of_json (json_of body)

@@ -1,0 +1,40 @@
+//! The sender protocol: requests that bring values, and the replies to them.
+//!
+//! A body, the data of a frame, is a request where it is a JSON object with the member `"request":"sender data"` and
+//! an array `data`, whose elements are the asked values (the Zabbix 6.0 manual, section "Zabbix sender protocol"). The
+//! contract in a sentence: `read` gives `request_of` of the body, a definition over the reading of JSON that
+//! `serde_json` states, and `reply` and `refusal` give the bytes of their text in a frame.
+//!
+//! ```text
+//! {"request":"sender data","data":[{"host":"h","key":"k","value":"10","clock":50,"ns":7}]}
+//! {"response":"success","info":"processed: 1; failed: 0; total: 1; seconds spent: 0.002500"}
+//! ```
+//!
+//! A body is `NotJson`, `Other` (JSON of another form) or `Values`. An element of any form is an asked value: a part
+//! that isn't of its form is `None`, and its `Clock` says whether a moment is absent, bad or there. Other members are
+//! ignored, also a `clock` beside `data`. Nothing is known here of hosts, items or what a value may be.
+//!
+//! ```text
+//! match read(alloc, body)? {
+//!     Request::NotJson => refusal(alloc, Refusal::NotJson),
+//!     Request::Other => refusal(alloc, Refusal::Unsupported),
+//!     Request::Values(all) => .. reply(alloc, processed, failed, spent),
+//! }
+//! ```
+#![tactic(auto)]
+
+mod asked;
+mod json;
+mod reading;
+mod refused;
+mod replying;
+mod request;
+
+pub use asked::{Asked, Clock};
+pub use reading::read;
+pub use refused::Refusal;
+pub use replying::{refusal, reply};
+pub use request::Request;
+
+#[cfg(test)]
+mod tests;

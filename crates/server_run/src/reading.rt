@@ -1,0 +1,44 @@
+//! Reading a source to its end.
+
+ghost use Rattle.std.specs.Prelude.{◌≡◌, ◌<◌, ◌^◌, IfSome, IfOk};
+ghost use Rattle.server_run.specs.Ports.{HasReadCause, IsTextUpTo};
+
+use outside::{Failed, Source};
+use std::alloc::Global;
+use zbx_types::Bytes;
+
+/// Why a source was not read to its end.
+#[derive(Clone, Copy, Debug, PartialEq, Eq)]
+pub(crate) enum ReadError {
+    Failed,
+    OutOfMemory,
+}
+
+/// Reads a source to its end, or until it has given more than this many bytes.
+pub(crate) fn read_all<S: Source>(
+    alloc: Global,
+    most: u32,
+    source: &mut S,
+) -> Result<Bytes, ReadError>
+    requires { most < 2 ^ 31 }
+    ensures cause { HasReadCause (S.faults source.old) (S.faults source.new) result }
+    ensures text { IfSome (S.left source.old) (λ all. IfOk result (IsTextUpTo most all)) }
+{
+    let mut text = Bytes::new(alloc);
+    let mut piece = [0; 4096];
+    for _ in 0..most + 1 {
+        match source.read(&mut piece) {
+            Ok(0) => return Ok(text),
+            Ok(count) => {
+                if text.extend(&piece[..count]).is_err() {
+                    return Err(ReadError::OutOfMemory);
+                }
+                if text.len() > most as usize {
+                    return Ok(text);
+                }
+            }
+            Err(Failed) => return Err(ReadError::Failed),
+        }
+    }
+    Ok(text)
+}

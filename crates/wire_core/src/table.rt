@@ -1,0 +1,176 @@
+//! The table of the connections that are there.
+
+ghost use Rattle.std.specs.Prelude.{◌≡◌, ◌≤◌, ◌<◌, ◌++◌, length, IfOk, OnOk, OnErr, Some, position, slice_set, slice_index_or, if◌then◌else◌, ℕ};
+ghost use Rattle.wire_core.specs.Peers.{no_peers, turn_of, after_event, LeavesOthers, without, is_of, may_open, opened, peer_of, piece_turn, after_piece, most_peers, with_piece};
+ghost use Rattle.wire_core.specs.declared.turn.Turn.TheVariants as turns;
+ghost use Rattle.wire_core.specs.declared.peer.Peer.{Peer};
+ghost use Rattle.zbxd_frame.specs.Found.{found, short};
+ghost use Rattle.zbxd_frame.specs.Answers.{Answers};
+
+use crate::peer::Peer;
+use crate::turn::Turn;
+use outside::WireEvent;
+use std::alloc::Global;
+use std::marker::Model;
+use zbx_types::{Moment, OutOfMemory};
+use zbxd_frame::{Fed, Feed};
+
+/// At most so many connections are there at once.
+const MOST_PEERS: usize = 128;
+
+/// The connections of a wire that are there, each with the moment at which it opened and its bytes
+/// since then. Contracts see them as a list of peers, `Peers`. There are at most 128, no two of one
+/// number, and each has brought less than a frame.
+#[derive(Debug, Drop)]
+pub struct Table {
+    peers: Vec<Peer>,
+}
+
+impl Model for Table {
+    ghost use Rattle.std.specs.Prelude.{List};
+    ghost use Rattle.wire_core.specs.Peers.{Peers};
+    ghost use Rattle.wire_core.specs.Kept.{AreKept};
+
+    ghost Value = { Peers };
+
+    ghost view = { λ t. t.peers.items };
+
+    ghost invariant = { λ t. AreKept t.peers.items };
+}
+
+impl Table {
+    /// No connection is there. Takes no memory.
+    pub fn new(alloc: Global) -> Table
+        ensures { result ≡ no_peers }
+    {
+        Table {
+            peers: Vec::new(alloc),
+        }
+    }
+
+    /// Takes an event of the wire, and says what it comes to. `now` is the moment of the run at the
+    /// event, at which a connection that opens begins; the event's own moment isn't looked at. A
+    /// piece takes time for its own bytes and a look-up, and for a copy of the body of a frame that
+    /// it ends. At `Err`, where memory was refused, nothing has changed, and the same event may be
+    /// taken again. The rules are this project's own.
+    pub fn on(&mut self, alloc: Global, event: &WireEvent, now: Moment) -> Result<Turn, OutOfMemory>
+        ensures turn { IfOk result (λ t. t ≡ turn_of self.old now event.now) }
+        ensures after { OnOk result (self.new ≡ after_event self.old now event.now) }
+        ensures err { OnErr result (self.new ≡ self.old) }
+        ensures few { length self.new ≤ most_peers }
+        ensures others { LeavesOthers event.now self.old self.new }
+    {
+        let turn = self.take(alloc, event, now);
+        // The bound is true of every table: a look at the fields tells it.
+        let _ = &self.peers;
+        turn
+    }
+
+    /// Takes an event, each kind by its own rule.
+    #[tactic(auto, unfolding(crate::specs::Peers::turn_of, crate::specs::Peers::after_event))]
+    fn take(&mut self, alloc: Global, event: &WireEvent, now: Moment) -> Result<Turn, OutOfMemory>
+        ensures turn { IfOk result (λ t. t ≡ turn_of self.old now event.now) }
+        ensures after { OnOk result (self.new ≡ after_event self.old now event.now) }
+        ensures err { OnErr result (self.new ≡ self.old) }
+    {
+        match event {
+            WireEvent::Opened { conn, .. } => self.begin(alloc, *conn, now),
+            WireEvent::Piece { conn, bytes, .. } => self.bring(alloc, *conn, bytes.as_slice()),
+            WireEvent::Ended { conn, .. } | WireEvent::Broke { conn, .. } => {
+                self.end(*conn);
+                Ok(Turn::Nothing)
+            }
+            WireEvent::Quiet { .. } | WireEvent::Closed { .. } => Ok(Turn::Nothing),
+        }
+    }
+
+    /// A connection opens: one that is there begins anew, another joins where there is room.
+    fn begin(&mut self, alloc: Global, conn: u64, now: Moment) -> Result<Turn, OutOfMemory>
+        ensures turn { IfOk result (λ t. t ≡ (if may_open self.old conn then turns.Nothing else turns.Shut conn)) }
+        ensures after { OnOk result (self.new ≡ (if may_open self.old conn then opened self.old conn now else self.old)) }
+        ensures err { OnErr result (self.new ≡ self.old) }
+    {
+        let peer = Peer {
+            conn,
+            since: now,
+            bytes: Feed::new(alloc),
+        };
+        match place_of(&self.peers, conn) {
+            Some(place) => {
+                self.peers[place] = peer;
+                Ok(Turn::Nothing)
+            }
+            None => {
+                if self.peers.len() < MOST_PEERS {
+                    self.peers.push(peer)?;
+                    Ok(Turn::Nothing)
+                } else {
+                    Ok(Turn::Shut { conn })
+                }
+            }
+        }
+    }
+
+    /// A connection brings a piece.
+    fn bring(&mut self, alloc: Global, conn: u64, piece: &[u8]) -> Result<Turn, OutOfMemory>
+        ensures turn { IfOk result (λ t. t ≡ piece_turn piece.now (peer_of self.old conn)) }
+        ensures after { OnOk result (self.new ≡ after_piece self.old piece.now (peer_of self.old conn)) }
+        ensures err { OnErr result (self.new ≡ self.old) }
+    {
+        match place_of(&self.peers, conn) {
+            None => Ok(Turn::Nothing),
+            Some(place) => {
+                let since = self.peers[place].since;
+                match feed_at(&mut self.peers, place, alloc, piece)? {
+                    Fed::More => Ok(Turn::Nothing),
+                    Fed::Frame { body, .. } => {
+                        forget(&mut self.peers, conn);
+                        Ok(Turn::Whole { conn, body, since })
+                    }
+                    Fed::Refused(_) => {
+                        forget(&mut self.peers, conn);
+                        Ok(Turn::Shut { conn })
+                    }
+                }
+            }
+        }
+    }
+
+    /// A connection is there no more, if it was.
+    fn end(&mut self, conn: u64)
+        ensures { self.new ≡ without self.old conn }
+    {
+        forget(&mut self.peers, conn);
+    }
+}
+
+/// Where the peer of a connection stands.
+fn place_of(peers: &[Peer], conn: u64) -> Option<usize>
+    ensures { result ≡ position (is_of conn) peers.now }
+{
+    peers.iter().position(|peer| peer.conn == conn)
+}
+
+/// Gives a piece to the feed of the peer at a place. At `Err` nothing has changed.
+fn feed_at(
+    peers: &mut Vec<Peer>,
+    place: usize,
+    alloc: Global,
+    piece: &[u8],
+) -> Result<Fed, OutOfMemory>
+    requires place { place < length peers.old.items }
+    requires waits { (d : Peer) → found (slice_index_or peers.old.items place d).bytes ≡ short }
+    ensures answer { IfOk result (λ fed. (d : Peer) → Answers fed (found ((slice_index_or peers.old.items place d).bytes ++ piece.now))) }
+    ensures after { OnOk result ((d : Peer) → peers.new.items ≡ slice_set peers.old.items place (with_piece (slice_index_or peers.old.items place d) piece.now)) }
+    ensures err { OnErr result (peers.new.items ≡ peers.old.items) }
+{
+    let peer = &mut peers[place];
+    peer.bytes.push(alloc, piece)
+}
+
+/// A connection is there no more, if it was.
+fn forget(peers: &mut Vec<Peer>, conn: u64)
+    ensures { peers.new.items ≡ without peers.old.items conn }
+{
+    peers.retain(|peer| peer.conn != conn);
+}
