@@ -4,4 +4,5 @@ pub mod Tally
 pub mod Standing
 pub mod Sending
 pub mod Course
+pub mod Stepped
 pub mod Outcome

@@ -12,11 +12,15 @@ SendsReply before after unsent unsent' (Some r) =
     (after ≡ Some (before ++ (r.conn, r.bytes) ∷ []))
     ⊎ (Rose unsent unsent' × ((after ≡ Some before) ⊎ ((n : ℕ) × (n ≤ length r.bytes) × (after ≡ Some (before ++ (r.conn, take n r.bytes) ∷ [])))))
 
--- what a wire that tells shows of an answer: its reply was sent, and its connection closed
+-- these were closed, where the wire tells the closed connections and still does; it doesn't begin to tell
+abbrev pub Closed : Option (List ℕ) → Option (List ℕ) → List ℕ → Type 0
+Closed None after shut = after ≡ None
+Closed (Some before) after shut = IfSome after (λ now. now ≡ before ++ shut)
+
+-- what a wire shows of an answer: its reply was sent, and its connection closed
 pub record Delivers (sent sent' : Option (List (ℕ × List ℕ))) (closed closed' : Option (List ℕ)) (unsent unsent' : ℕ) (answer : Answer) : Type 0 where
   pub reply : IfSome sent (λ before. SendsReply before sent' unsent unsent' answer.reply)
-  pub shut : IfSome closed (λ before. IfSome closed' (λ after. after ≡ before ++ option_to_list answer.shut))
-  pub stays : closed ≡ None → closed' ≡ None
+  pub shut : Closed closed closed' (option_to_list answer.shut)
   pub later : unsent ≤ unsent'
 
 -- Replies and what was sent of them, in order: each whole, except for so many of which some from the front was sent, or

@@ -2,7 +2,7 @@
 
 ghost use Rattle.std.specs.Prelude.{◌≡◌, count_by, [], length};
 ghost use Rattle.event_text.specs.Lines.{lines_of};
-ghost use Rattle.server_run.specs.Tally.{is_problem, is_recovery, is_message, tally_of, tally_with, counts_with};
+ghost use Rattle.server_run.specs.Tally.{is_counted, tally_of, tally_with, counts_with};
 
 use server_words::Counts;
 use zbx_types::Rec;
@@ -16,22 +16,36 @@ pub(crate) struct Tally {
     pub bytes: u64,
 }
 
-fn problems(records: &[Rec]) -> usize
-    ensures { result ≡ count_by is_problem records.now }
-{
-    records.iter().filter(|r| matches!(r, Rec::Problem { .. })).count()
+/// A kind of record that is counted.
+#[derive(Clone, Copy, Debug, PartialEq, Eq)]
+pub(crate) enum Counted {
+    Problems,
+    Recoveries,
+    Messages,
 }
 
-fn recoveries(records: &[Rec]) -> usize
-    ensures { result ≡ count_by is_recovery records.now }
+#[tactic(auto, unfolding(crate::specs::Tally::is_counted))]
+fn is_counted(kind: Counted, rec: &Rec) -> bool
+    ensures { result ≡ is_counted kind rec.now }
 {
-    records.iter().filter(|r| matches!(r, Rec::Recovery { .. })).count()
+    match rec {
+        Rec::Problem { .. } => kind == Counted::Problems,
+        Rec::Recovery { .. } => kind == Counted::Recoveries,
+        Rec::Message { .. } => kind == Counted::Messages,
+        Rec::Failure { .. } | Rec::Step { .. } => false,
+    }
 }
 
-fn messages(records: &[Rec]) -> usize
-    ensures { result ≡ count_by is_message records.now }
+fn count(kind: Counted, records: &[Rec]) -> u64
+    ensures { result ≡ count_by (is_counted kind) records.now }
 {
-    records.iter().filter(|r| matches!(r, Rec::Message { .. })).count()
+    let mut count = 0;
+    for rec in records {
+        if is_counted(kind, rec) {
+            count += 1;
+        }
+    }
+    count
 }
 
 impl Tally {
@@ -55,9 +69,15 @@ impl Tally {
         ensures { self.new ≡ tally_with self.old records.now }
     {
         *self = Tally {
-            problems: self.problems.saturating_add(problems(records) as u64),
-            recoveries: self.recoveries.saturating_add(recoveries(records) as u64),
-            messages: self.messages.saturating_add(messages(records) as u64),
+            problems: self
+                .problems
+                .saturating_add(count(Counted::Problems, records)),
+            recoveries: self
+                .recoveries
+                .saturating_add(count(Counted::Recoveries, records)),
+            messages: self
+                .messages
+                .saturating_add(count(Counted::Messages, records)),
             bytes: self.bytes.saturating_add(bytes as u64),
         };
     }

@@ -1,0 +1,173 @@
+-- What events keep of the intake's entries.
+use Rattle.std.proofs.Common.{◌≡◌, ℕ, ◌+◌, ◌≤◌, ◌<◌, max, min, Bool, true, false, not, List, [], ◌∷◌, ◌++◌, length, reverse, take, refl, ap, sym, ◌∙◌, subst, arith, append_assoc, append-nil, length-append, eqb, cond}
+use Rattle.std.specs.Prelude.{◌&&◌, if◌then◌else◌, option_and_then, Option, Some, None, nat_le, Result, Ok, Err}
+use Rattle.std.specs.List.{All, flat_map}
+use Rattle.std.proofs.lemmas.List.{reverse-append, length-reverse, take-append-le}
+use Rattle.std.proofs.lemmas.Bool.{ne_eqb}
+use Rattle.std.proofs.lemmas.List.Elements.{All-nil, All-cons, All-head, All-tail, All-append}
+use Rattle.std.proofs.lemmas.List.Concat.{flat_map-cons}
+use Rattle.zbx_types.specs.Ids.{at_id}
+use Rattle.zbx_types.specs.declared.conf.Conf.{Conf}
+use Rattle.zbx_types.specs.declared.conf.Item.{Item}
+use Rattle.zbx_types.specs.declared.conf.ItemKind.{ItemKind}
+use Rattle.zbx_types.specs.declared.conf.ItemKind.TheVariants as kinds
+use Rattle.zbx_types.specs.declared.entries.Entry.{Entry}
+use Rattle.zbx_types.specs.declared.entries.Entry.TheVariants.{Config, Value, Tick}
+use Rattle.zbx_types.specs.declared.entries.Numbered.{Numbered}
+use Rattle.outside.specs.Script.{moment_at}
+use Rattle.outside.specs.declared.event.WireEvent.{WireEvent}
+use Rattle.outside.specs.declared.event.WireEvent.TheVariants.{Opened, Piece, Ended, Broke, Quiet, Closed}
+use Rattle.wire_core.specs.Peers.{turn_of}
+use Rattle.wire_core.specs.declared.turn.Turn.{Turn}
+use Rattle.wire_core.specs.declared.turn.Turn.TheVariants as turn
+use Rattle.sender_json.specs.declared.asked.Asked.{Asked}
+use Rattle.sender_json.specs.declared.asked.Clock.{Clock}
+use Rattle.sender_json.specs.declared.asked.Clock.TheVariants as clock
+use Rattle.sender_json.specs.declared.request.Request.{Request}
+use Rattle.sender_json.specs.declared.request.Request.TheVariants as request
+use Rattle.sender_json.specs.Requests.{request_of}
+use Rattle.entry_step.specs.Log.{log_of, last_moment, moment_of, is_config, is_trapper, IsFitting, Follows, Fits}
+use Rattle.intake_front.specs.Taking.{clocked, valued, keyed, hosted, taken_of, entry_in, group_of, is_enabled_host, is_enabled_item, is_trapper_kind, is_trapper_item, host_named, item_keyed}
+use Rattle.intake_front.specs.Intake.{Intake, Made, numbered_from, with_group, is_due, half_minute, ticks_at, answered_values, answered_request, turned, behind_tick, ticked, handled, stop_of, start, IsSound}
+use Rattle.intake_front.specs.declared.refusal.ValueRefusal.{ValueRefusal}
+use Rattle.intake_front.specs.declared.refusal.ValueRefusal.TheVariants.{UnknownHost, UnknownKey, Disabled, NotTrapper, BadValue, BadClock}
+use Rattle.intake_front.specs.declared.answer.Stop.{Stop}
+use Rattle.intake_front.specs.declared.answer.Stop.TheVariants as stop
+
+-- an entry that is taken at a moment: it is no Config, and fits
+record IsTakenAt (conf : Conf) (now : ℕ) (e : Entry) : Type 0 where
+  moment : moment_of e ≡ now
+  plain : is_config e ≡ false
+  fitting : IsFitting conf e
+
+-- entries that are sound at a moment
+record Stand (conf : Conf) (now : ℕ) (entries : List Numbered) : Type 0 where
+  fits : Fits conf (log_of entries)
+  moments : last_moment (log_of entries) ≤ now
+  begun : 0 < length entries
+
+stand_one : (conf : Conf) (now : ℕ) (entries : List Numbered) (e : Entry) → Stand conf now entries → IsTakenAt conf now e
+    → Stand conf now (entries ++ record { number = length entries + 1; entry = e } ∷ [])
+stand_one conf now entries e s t =
+    let one : Numbered = record { number = length entries + 1; entry = e } in
+    let log : log_of (entries ++ one ∷ []) ≡ one ∷ log_of entries = reverse-append entries (one ∷ []) in
+    let count : length (log_of entries) ≡ length entries = length-reverse entries in
+    let some : length entries ≡ 0 → ⊥ = λ none. let begun = s.begun in omega arith in
+    let follows : Follows conf one (log_of entries) = record {
+        numbered = rw count refl;
+        first = t.plain ∙ sym (ap (λ n. eqb n 0) count ∙ ne_eqb (length entries) 0 some);
+        moments = rw t.moment s.moments;
+        fitting = t.fitting;
+      } in
+    record {
+      fits = rw log (s.fits, follows);
+      moments = rw (log, t.moment) (omega arith);
+      begun = omega (arith, length-append entries (one ∷ []));
+    }
+
+stand_group : (conf : Conf) (now : ℕ) (entries : List Numbered) (group : List Entry) → Stand conf now entries → All (IsTakenAt conf now) group
+    → Stand conf now (with_group entries group)
+stand_group conf now entries [] s all = rw append-nil s
+stand_group conf now entries (e ∷ rest) s all =
+    let P : Entry → Type 0 = IsTakenAt conf now in
+    let one : Numbered = record { number = length entries + 1; entry = e } in
+    let more = stand_group conf now (entries ++ one ∷ []) rest (stand_one conf now entries e s (All-head P e rest all)) (All-tail P e rest all) in
+    let next : length (entries ++ one ∷ []) + 1 ≡ length entries + 1 + 1 = omega (arith, length-append entries (one ∷ [])) in
+    let joined : (entries ++ one ∷ []) ++ numbered_from (length entries + 1 + 1) rest ≡ with_group entries (e ∷ rest) = append_assoc entries (one ∷ []) _ in
+    subst (Stand conf now) (ap (λ n. (entries ++ one ∷ []) ++ numbered_from n rest) next ∙ joined) more
+
+-- what a refusal leaves out needs no proof
+unless : (P : Entry → Type 0) (b : Bool) (cause : ValueRefusal) (r : Result Entry ValueRefusal) → (b ≡ false → All P (entry_in r)) → All P (entry_in (if b then Err cause else r))
+unless P true cause r h = All-nil P
+unless P false cause r h = h refl
+
+only_where : (P : Entry → Type 0) (b : Bool) (cause : ValueRefusal) (r : Result Entry ValueRefusal) → All P (entry_in r) → All P (entry_in (if b then r else Err cause))
+only_where P true cause r h = h
+only_where P false cause r h = All-nil P
+
+module _ (conf : Conf) (now : ℕ) where
+  clocked_fits : (item : ℕ) (value : List ℕ) (c : Clock) → is_trapper (at_id conf.items item) ≡ true → All (IsTakenAt conf now) (entry_in (clocked now item value c))
+  unfolding clocked
+  clocked_fits item value clock.Absent fits = All-cons (IsTakenAt conf now) _ [] (record { moment = refl; plain = refl; fitting = (fits, omega arith) }) (All-nil (IsTakenAt conf now))
+  clocked_fits item value clock.Bad fits = All-nil (IsTakenAt conf now)
+  clocked_fits item value (clock.At time) fits = All-cons (IsTakenAt conf now) _ [] (record { moment = refl; plain = refl; fitting = (fits, omega arith) }) (All-nil (IsTakenAt conf now))
+
+  valued_fits : (item : ℕ) (c : Clock) (value : Option (List ℕ)) → is_trapper (at_id conf.items item) ≡ true → All (IsTakenAt conf now) (entry_in (valued now item c value))
+  unfolding valued
+  valued_fits item c None fits = All-nil (IsTakenAt conf now)
+  valued_fits item c (Some value) fits = only_where (IsTakenAt conf now) (nat_le (length value) 65535) BadValue (clocked now item value c) (clocked_fits item value c fits)
+
+both_true : (a b : Bool) → not (a && b) ≡ false → b ≡ true
+both_true true true h = refl
+both_true true false h = absurd (cc)
+both_true false b h = absurd (cc)
+
+only_trapper : (kind : ItemKind) → not (is_trapper_kind kind) ≡ false → kind ≡ kinds.Trapper
+only_trapper kinds.Trapper h = refl
+only_trapper kinds.Dependent h = absurd (cc)
+
+trapper : (o : Option Item) → is_enabled_item o ≡ true → not (is_trapper_item o) ≡ false → is_trapper o ≡ true
+trapper None enabled takes = absurd (cc)
+trapper (Some item) enabled takes = rw (only_trapper item.kind takes) enabled
+
+module _ (conf : Conf) (now : ℕ) where
+  keyed_fits : (asked : Asked) (host : ℕ) (item : Option ℕ) → All (IsTakenAt conf now) (entry_in (keyed conf now asked host item))
+  unfolding keyed
+  keyed_fits asked host None = All-nil (IsTakenAt conf now)
+  keyed_fits asked host (Some item) =
+      let P : Entry → Type 0 = IsTakenAt conf now in
+      let there = at_id conf.items item in
+      unless P (not (is_enabled_host (at_id conf.hosts host) && is_enabled_item there)) Disabled _ (λ enabled.
+          unless P (not (is_trapper_item there)) NotTrapper _ (λ takes.
+              valued_fits conf now item asked.clock asked.value (trapper there (both_true (is_enabled_host (at_id conf.hosts host)) (is_enabled_item there) enabled) takes)))
+
+  hosted_fits : (asked : Asked) (host : Option ℕ) → All (IsTakenAt conf now) (entry_in (hosted conf now asked host))
+  unfolding hosted
+  hosted_fits asked None = All-nil (IsTakenAt conf now)
+  hosted_fits asked (Some host) = keyed_fits asked host (option_and_then (item_keyed conf host) asked.key)
+
+  taken_fits : (asked : Asked) → All (IsTakenAt conf now) (entry_in (taken_of conf now asked))
+  unfolding taken_of
+  taken_fits asked = hosted_fits asked (option_and_then (host_named conf) asked.host)
+
+  group_fits : (all : List Asked) → All (IsTakenAt conf now) (group_of conf now all)
+  group_fits [] = All-nil (IsTakenAt conf now)
+  group_fits (asked ∷ rest) =
+      subst (All (IsTakenAt conf now)) (sym (flat_map-cons (λ a. entry_in (taken_of conf now a)) asked rest))
+          (All-append (IsTakenAt conf now) (entry_in (taken_of conf now asked)) (group_of conf now rest) (taken_fits asked) (group_fits rest))
+
+  request_fits : (conn since : ℕ) (r : Request) → All (IsTakenAt conf now) (answered_request conf now conn since r).group
+  unfolding answered_request answered_values
+  request_fits conn since request.NotJson = All-nil (IsTakenAt conf now)
+  request_fits conn since request.Other = All-nil (IsTakenAt conf now)
+  request_fits conn since (request.Values all) = group_fits all
+
+  turned_fits : (t : Turn) → All (IsTakenAt conf now) (turned conf now t).group
+  unfolding turned
+  turned_fits turn.Nothing = All-nil (IsTakenAt conf now)
+  turned_fits (turn.Shut conn) = All-nil (IsTakenAt conf now)
+  turned_fits (turn.Whole conn body since) = request_fits conn since (request_of body)
+
+  tick_fits : (due : Bool) → All (IsTakenAt conf now) (if due then Tick now ∷ [] else [])
+  tick_fits true = All-cons (IsTakenAt conf now) (Tick now) [] (record { moment = refl; plain = refl; fitting = tt }) (All-nil (IsTakenAt conf now))
+  tick_fits false = All-nil (IsTakenAt conf now)
+
+-- a run that begins is sound
+pub sound_start : (conf : Conf) (text : List ℕ) → IsSound conf (start text)
+sound_start conf text = record { fits = (tt, record { numbered = refl; first = refl; moments = omega arith; fitting = tt }); moments = omega arith; begun = omega arith }
+
+-- an event keeps the intake sound
+pub sound_handled : (conf : Conf) (i : Intake) (e : WireEvent) → IsSound conf i → IsSound conf (handled conf i e).intake
+unfolding handled behind_tick ticked
+sound_handled conf i e s =
+    let now = max i.now (moment_at e) in
+    let due = is_due i.tick (half_minute now) in
+    let begun : Stand conf now i.entries = let before = s.moments in record { fits = s.fits; moments = omega arith; begun = s.begun } in
+    let tick = stand_group conf now i.entries (ticks_at i.tick now) begun (tick_fits conf now due) in
+    let made = turned conf now (turn_of i.peers now e) in
+    let all = stand_group conf now (with_group i.entries (ticks_at i.tick now)) made.group tick (turned_fits conf now (turn_of i.peers now e)) in
+    record { fits = all.fits; moments = all.moments; begun = all.begun }
+
+-- what an event leaves is as sound as what was there
+pub kept : (conf : Conf) (old new : Intake) (e : WireEvent) → new ≡ (handled conf old e).intake → IsSound conf old → IsSound conf new
+kept conf old new e is s = subst (IsSound conf) (sym is) (sound_handled conf old e s)

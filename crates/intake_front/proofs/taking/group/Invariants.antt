@@ -1,0 +1,7 @@
+use Rattle.std.proofs.Common.{◌≡◌}
+use Rattle.intake_front.specs.Taking.{group_of}
+use Rattle.intake_front.specs.Intake.{numbered_from}
+use Rattle.intake_front.proofs.taking.group.Given as goal
+
+abbrev pub invariant-loop-asked : goal.invariant-loop-asked
+invariant-loop-asked l = l.made ≡ numbered_from l.first (group_of l.conf l.now l.yielded)

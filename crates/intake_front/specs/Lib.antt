@@ -1,0 +1,4 @@
+pub mod Taking
+pub mod Intake
+pub mod Served
+pub mod Draft

@@ -1,0 +1,38 @@
+-- What a list of events makes, one after another up to the first that stops.
+use Rattle.std.specs.Prelude.{ℕ, List, [], ◌∷◌, ◌++◌, Option, Some, None}
+use Rattle.std.specs.Option.{option_to_list}
+use Rattle.zbx_types.specs.declared.conf.Conf.{Conf}
+use Rattle.outside.specs.declared.event.WireEvent.{WireEvent}
+use Rattle.intake_front.specs.Intake.{Intake, Handled, handled}
+use Rattle.intake_front.specs.declared.answer.Answer.{Answer}
+use Rattle.intake_front.specs.declared.answer.Reply.{Reply}
+use Rattle.intake_front.specs.declared.answer.Stop.{Stop}
+
+-- the intake behind the events, the replies and the connections that were closed, each in order, and what stopped
+pub record Served : Type 0 where
+  pub intake : Intake
+  pub replies : List Reply
+  pub shut : List ℕ
+  pub stop : Option Stop
+
+-- with what one more event does
+abbrev pub grown : Served → Handled → Served
+grown s h = record {
+  intake = h.intake;
+  replies = s.replies ++ option_to_list h.answer.reply;
+  shut = s.shut ++ option_to_list h.answer.shut;
+  stop = h.answer.stop;
+}
+
+-- one event more, unless one has stopped
+abbrev pub served_on : Option Stop → Conf → Served → WireEvent → Served
+served_on (Some reason) conf s e = s
+served_on None conf s e = grown s (handled conf s.intake e)
+
+abbrev pub served_from : Conf → Served → List WireEvent → Served
+served_from conf s [] = s
+served_from conf s (e ∷ es) = served_from conf (served_on s.stop conf s e) es
+
+-- what the events make of an intake
+abbrev pub served : Conf → Intake → List WireEvent → Served
+served conf i events = served_from conf (record { intake = i; replies = []; shut = []; stop = None }) events

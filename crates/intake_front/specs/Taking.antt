@@ -1,0 +1,85 @@
+-- What becomes of an asked value.
+use Rattle.std.specs.Prelude.{ℕ, ◌+◌, ◌^◌, ◌<◌, ◌==◌, nat_le, nat_eq, min, Bool, true, false, not, ◌&&◌, List, [], ◌∷◌, ◌++◌, length, position, Option, Some, None, Result, Ok, Err, if◌then◌else◌, option_map, option_and_then}
+use Rattle.std.specs.List.{flat_map}
+use Rattle.std.specs.Cmp.Lexicographic.{pointwise}
+use Rattle.zbx_types.specs.Ids.{at_id}
+use Rattle.zbx_types.specs.declared.conf.Conf.{Conf}
+use Rattle.zbx_types.specs.declared.conf.Host.{Host}
+use Rattle.zbx_types.specs.declared.conf.Item.{Item}
+use Rattle.zbx_types.specs.declared.conf.ItemKind.{ItemKind}
+use Rattle.zbx_types.specs.declared.conf.ItemKind.TheVariants as kinds
+use Rattle.zbx_types.specs.declared.entries.Entry.{Entry}
+use Rattle.zbx_types.specs.declared.entries.Entry.TheVariants.{Config, Value, Tick}
+use Rattle.sender_json.specs.declared.asked.Asked.{Asked}
+use Rattle.sender_json.specs.declared.asked.Clock.{Clock}
+use Rattle.sender_json.specs.declared.asked.Clock.TheVariants as clock
+use Rattle.intake_front.specs.declared.refusal.ValueRefusal.{ValueRefusal}
+use Rattle.intake_front.specs.declared.refusal.ValueRefusal.TheVariants.{UnknownHost, UnknownKey, Disabled, NotTrapper, BadValue, BadClock}
+
+-- each host and each item has an id of 32 bits
+pub record HasIds (conf : Conf) : Type 0 where
+  pub hosts : length conf.hosts < 2 ^ 32
+  pub items : length conf.items < 2 ^ 32
+
+-- two texts are the same
+abbrev pub same_text : List ℕ → List ℕ → Bool
+same_text a b = pointwise nat_eq a b
+
+-- the id of the first host with a name
+abbrev pub host_named : Conf → List ℕ → Option ℕ
+host_named conf name = option_map (λ place. place + 1) (position (λ h. same_text h.name name) conf.hosts)
+
+-- the id of a host's first item with a key
+abbrev pub item_keyed : Conf → ℕ → List ℕ → Option ℕ
+item_keyed conf host key = option_map (λ place. place + 1) (position (λ i. (i.host == host) && same_text i.key key) conf.items)
+
+abbrev pub is_enabled_host : Option Host → Bool
+is_enabled_host None = false
+is_enabled_host (Some host) = host.enabled
+
+abbrev pub is_enabled_item : Option Item → Bool
+is_enabled_item None = false
+is_enabled_item (Some item) = item.enabled
+
+abbrev pub is_trapper_kind : ItemKind → Bool
+is_trapper_kind kinds.Trapper = true
+is_trapper_kind kinds.Dependent = false
+
+-- the item takes values from senders
+abbrev pub is_trapper_item : Option Item → Bool
+is_trapper_item None = false
+is_trapper_item (Some item) = is_trapper_kind item.kind
+
+-- The cause for which an asked value is refused, or the entry that it becomes. The causes are looked for in this order:
+-- the host, the key, whether both are enabled, whether the item takes values from senders, the value, the clock.
+-- A value's time is its clock, or the moment at which it is taken, and never later than that.
+unfoldable pub clocked : ℕ → ℕ → List ℕ → Clock → Result Entry ValueRefusal
+clocked now item value clock.Absent = Ok (Value now item now value)
+clocked now item value clock.Bad = Err BadClock
+clocked now item value (clock.At time) = Ok (Value now item (min time now) value)
+
+unfoldable pub valued : ℕ → ℕ → Clock → Option (List ℕ) → Result Entry ValueRefusal
+valued now item c None = Err BadValue
+valued now item c (Some value) = if nat_le (length value) 65535 then clocked now item value c else Err BadValue
+
+unfoldable pub keyed : Conf → ℕ → Asked → ℕ → Option ℕ → Result Entry ValueRefusal
+keyed conf now asked host None = Err UnknownKey
+keyed conf now asked host (Some item) =
+    if not (is_enabled_host (at_id conf.hosts host) && is_enabled_item (at_id conf.items item)) then Err Disabled
+    else if not (is_trapper_item (at_id conf.items item)) then Err NotTrapper
+    else valued now item asked.clock asked.value
+
+unfoldable pub hosted : Conf → ℕ → Asked → Option ℕ → Result Entry ValueRefusal
+hosted conf now asked None = Err UnknownHost
+hosted conf now asked (Some host) = keyed conf now asked host (option_and_then (item_keyed conf host) asked.key)
+
+unfoldable pub taken_of : Conf → ℕ → Asked → Result Entry ValueRefusal
+taken_of conf now asked = hosted conf now asked (option_and_then (host_named conf) asked.host)
+
+-- the entries of the values that are taken, in their order: one group
+abbrev pub entry_in : Result Entry ValueRefusal → List Entry
+entry_in (Ok entry) = entry ∷ []
+entry_in (Err cause) = []
+
+abbrev pub group_of : Conf → ℕ → List Asked → List Entry
+group_of conf now all = flat_map (λ asked. entry_in (taken_of conf now asked)) all

@@ -1,0 +1,88 @@
+//! Entries are applied, and their lines go out.
+
+ghost use Rattle.std.specs.Prelude.{◌≡◌, ◌≤◌, ◌++◌, ◌∷◌, ℕ, List, length, OnOk, IfOk};
+ghost use Rattle.zbx_types.specs.declared.entries.Numbered.{Numbered};
+ghost use Rattle.outside.specs.Causes.{Rose};
+ghost use Rattle.entry_step.specs.Log.{Fits};
+ghost use Rattle.server_run.specs.Standing.{onto, Applied, log_lines, Settles};
+
+use crate::tally::Tally;
+use crate::writing::write_all;
+use entry_step::{Cells, step};
+use outside::{Failed, Sink};
+use std::alloc::Global;
+use zbx_types::{Bytes, Conf, Numbered, OutOfMemory};
+
+/// The cells of the entries so far, and the counts of their records.
+#[derive(Drop)]
+pub(crate) struct Ledger {
+    pub cells: Cells,
+    pub tally: Tally,
+}
+
+/// What became of entries.
+#[derive(Clone, Copy, Debug, PartialEq, Eq)]
+pub(crate) enum Settled {
+    /// They are applied, and all their lines are out.
+    Done,
+    /// The outbox failed. Some of their lines from the front are out.
+    OutboxFault,
+    /// Memory was refused. None of their lines is out.
+    OutOfMemory,
+}
+
+/// Applies an entry, and adds its lines.
+fn apply(
+    alloc: Global,
+    conf: &Conf,
+    ledger: &mut Ledger,
+    entry: &Numbered,
+    lines: &mut Bytes,
+) -> Result<(), OutOfMemory>
+    ensures { OnOk result ((log : List Numbered) → Applied conf.now ledger.old.cells ledger.old.tally log → Fits conf.now (entry.now ∷ log)
+        → Applied conf.now ledger.new.cells ledger.new.tally (entry.now ∷ log) × ((more : List ℕ) × (lines.new ≡ lines.old ++ more) × (log_lines conf.now (entry.now ∷ log) ≡ log_lines conf.now log ++ more))) }
+{
+    let records = step(alloc, conf, &mut ledger.cells, entry)?;
+    let before = lines.len();
+    event_text::lines(alloc, records.as_slice(), lines)?;
+    ledger.tally.add(records.as_slice(), lines.len() - before);
+    Ok(())
+}
+
+/// Applies entries in their order, and gives their lines.
+fn apply_all(
+    alloc: Global,
+    conf: &Conf,
+    ledger: &mut Ledger,
+    entries: &[Numbered],
+) -> Result<Bytes, OutOfMemory>
+    ensures { IfOk result (λ lines. (log : List Numbered) → Applied conf.now ledger.old.cells ledger.old.tally log → Fits conf.now (onto log entries.now)
+        → Applied conf.now ledger.new.cells ledger.new.tally (onto log entries.now) × (log_lines conf.now (onto log entries.now) ≡ log_lines conf.now log ++ lines)) }
+{
+    let mut lines = Bytes::new(alloc);
+    for entry in entries {
+        apply(alloc, conf, ledger, entry, &mut lines)?;
+    }
+    Ok(lines)
+}
+
+/// Applies entries in their order, and writes their lines to the outbox.
+pub(crate) fn settle<O: Sink>(
+    alloc: Global,
+    conf: &Conf,
+    ledger: &mut Ledger,
+    outbox: &mut O,
+    entries: &[Numbered],
+) -> Settled
+    ensures later { O.faults outbox.old ≤ O.faults outbox.new }
+    ensures failed { result ≡ Settled.OutboxFault → Rose (O.faults outbox.old) (O.faults outbox.new) }
+    ensures settled { Settles conf.now ledger.old ledger.new entries.now (O.bytes outbox.old) (O.bytes outbox.new) (O.held outbox.old) (O.held outbox.new) result }
+{
+    match apply_all(alloc, conf, ledger, entries) {
+        Err(OutOfMemory) => Settled::OutOfMemory,
+        Ok(lines) => match write_all(outbox, lines.as_slice()) {
+            Ok(()) => Settled::Done,
+            Err(Failed) => Settled::OutboxFault,
+        },
+    }
+}

@@ -1,0 +1,281 @@
+//! The top call.
+
+ghost use Rattle.std.specs.Prelude.{◌≡◌, ◌⊎◌, ◌≤◌, ◌+◌, ℕ, List, [], length, take, true, false, IfSome, IfOk, IfErr, Some, None, OnOk};
+ghost use Rattle.outside.specs.Causes.{Rose};
+ghost use Rattle.outside.specs.declared.event.WireEvent.{WireEvent};
+ghost use Rattle.intake_front.specs.Intake.{start};
+ghost use Rattle.intake_front.specs.Served.{served};
+ghost use Rattle.intake_front.specs.declared.answer.Stop.TheVariants as stop;
+ghost use Rattle.server_words.specs.declared.words.Plan.{Plan};
+ghost use Rattle.server_words.specs.Words.{plan_of};
+ghost use Rattle.config_templates.specs.Flat.{flat_of};
+ghost use Rattle.zbx_types.specs.declared.conf.Conf.{Conf};
+ghost use Rattle.server_run.specs.Replayed.{run_lines};
+ghost use Rattle.server_run.specs.Tally.{run_counts};
+ghost use Rattle.server_run.specs.Standing.{Applied};
+ghost use Rattle.entry_step.specs.Log.{log_of};
+ghost use Rattle.server_run.specs.Outcome.{Opened, Refuses, Followed, LinesAre, SizeIs, Prints, EndsPrinted, cut_short, IsRefusal, IsCourse};
+
+use crate::book::Ledger;
+use crate::reading::{ReadError, read_all};
+use crate::serving::serve;
+use crate::tally::Tally;
+use crate::writing::write_all;
+use config_templates::{FlatError, flat};
+use entry_step::Cells;
+use intake_front::Front;
+use outside::{Failed, Sink, Source, Wire};
+use server_words::{Counts, PlanError, Status, plan, printed};
+use std::alloc::Global;
+use std::convert::AsStr;
+use zbx_types::{Bytes, Conf, Many, Numbered, OutOfMemory, Text};
+
+/// What a run answers.
+#[derive(Drop)]
+pub struct Ended<O> {
+    /// How it ended.
+    pub status: Status,
+    /// Whether its opening went well, so that it took events.
+    pub began: bool,
+    /// The outbox that was handed in.
+    pub outbox: O,
+    /// All entries, in the order of their numbers. Entry 1 holds the configuration's text.
+    pub entries: Many<Numbered>,
+}
+
+/// The longest text of a configuration, in bytes.
+const LONGEST_CONFIG: u32 = 16_777_216;
+
+/// What a run has begun with.
+#[derive(Drop)]
+struct Begun {
+    turns: u64,
+    conf: Conf,
+    front: Front,
+    ledger: Ledger,
+}
+
+/// Turns a configuration's bytes into the configuration, with its text.
+fn configure(alloc: Global, bytes: &[u8]) -> Result<(Conf, Text), Status>
+    ensures ok { IfOk result (λ made. (flat_of bytes.now ≡ Some made.0) × (made.1 ≡ bytes.now)) }
+    ensures err { IfErr result (λ status. (status ≡ Status.OutOfMemory) ⊎ ((status ≡ Status.Unbuilt) × (flat_of bytes.now ≡ None))) }
+{
+    let conf = match flat(alloc, bytes) {
+        Ok(conf) => conf,
+        Err(FlatError::Unbuilt) => return Err(Status::Unbuilt),
+        Err(FlatError::OutOfMemory) => return Err(Status::OutOfMemory),
+    };
+    match Text::from_utf8(alloc, bytes) {
+        Ok(Some(text)) => Ok((conf, text)),
+        Ok(None) => Err(Status::Unbuilt),
+        Err(OutOfMemory) => Err(Status::OutOfMemory),
+    }
+}
+
+/// Opens a run: the words, the configuration, entry 1. Takes no event.
+fn open<S: Source>(alloc: Global, words: &[Text], config: &mut S) -> Result<Begun, Status>
+    ensures later { S.faults config.old ≤ S.faults config.new }
+    ensures ok { IfOk result (λ b. Opened words.now (S.left config.old) b.turns b.conf b.front b.ledger) }
+    ensures err { IfErr result (Refuses words.now (S.left config.old) (S.faults config.old) (S.faults config.new)) }
+{
+    let plan = match plan(alloc, words) {
+        Ok(plan) => plan,
+        Err(PlanError::Usage) => return Err(Status::Usage),
+        Err(PlanError::OutOfMemory) => return Err(Status::OutOfMemory),
+    };
+    let bytes = match read_all(alloc, LONGEST_CONFIG, config) {
+        Ok(bytes) => bytes,
+        Err(ReadError::Failed) => return Err(Status::SourceFault),
+        Err(ReadError::OutOfMemory) => return Err(Status::OutOfMemory),
+    };
+    let (conf, text) = match configure(alloc, bytes.as_slice()) {
+        Ok(read) => read,
+        Err(status) => return Err(status),
+    };
+    match begin(alloc, &conf, text) {
+        Ok((front, ledger)) => Ok(Begun {
+            turns: plan.turns,
+            conf,
+            front,
+            ledger,
+        }),
+        Err(OutOfMemory) => Err(Status::OutOfMemory),
+    }
+}
+
+/// The intake with entry 1, and the cells and counts behind it.
+fn begin(alloc: Global, conf: &Conf, text: Text) -> Result<(Front, Ledger), OutOfMemory>
+    ensures front { IfOk result (λ made. made.0 ≡ start text) }
+    ensures ledger { IfOk result (λ made. Applied conf.now made.1.cells made.1.tally (log_of (start text).entries)) }
+{
+    let front = Front::new(alloc, text)?;
+    let cells = Cells::new(alloc, conf)?;
+    Ok((
+        front,
+        Ledger {
+            cells,
+            tally: Tally::new(),
+        },
+    ))
+}
+
+/// How a run went, before it is printed.
+#[derive(Drop)]
+struct Course {
+    status: Status,
+    began: bool,
+    counts: Counts,
+    entries: Many<Numbered>,
+}
+
+/// No counts, for a run that didn't begin.
+const NOTHING: Counts = Counts {
+    entries: 0,
+    problems: 0,
+    recoveries: 0,
+    messages: 0,
+    bytes: 0,
+};
+
+/// Runs up to the printed line.
+fn go<S: Source, W: Wire, O: Sink>(
+    alloc: Global,
+    words: &[Text],
+    config: &mut S,
+    wire: &mut W,
+    outbox: &mut O,
+) -> Course
+    ensures wire { result.status ≡ Status.WireFault → Rose (W.faults wire.old) (W.faults wire.new) }
+    ensures outbox { result.status ≡ Status.OutboxFault → Rose (O.faults outbox.old) (O.faults outbox.new) }
+    ensures no_print { result.status ≡ Status.PrintFault → ⊥ }
+    ensures not_begun { result.began ≡ false → Refuses words.now (S.left config.old) (S.faults config.old) (S.faults config.new) result.status × (wire.new ≡ wire.old) × (outbox.new ≡ outbox.old) × (result.entries ≡ []) }
+    ensures followed { result.began ≡ true → Followed words.now (S.left config.old) (W.left wire.old) (W.sent wire.old) (W.sent wire.new) (W.closed wire.old) (W.closed wire.new) (W.unsent wire.old) (W.unsent wire.new) result.status result.entries }
+    ensures lines { result.began ≡ true → LinesAre result.status (O.bytes outbox.old) (O.bytes outbox.new) (run_lines result.entries) }
+    ensures size { result.began ≡ true → SizeIs result.status (O.held outbox.old) (O.held outbox.new) (length (run_lines result.entries)) }
+    ensures counts { result.status ≡ Status.Ok → result.counts ≡ run_counts result.entries }
+{
+    let Begun {
+        turns,
+        conf,
+        mut front,
+        mut ledger,
+    } = match open(alloc, words, config) {
+        Ok(begun) => begun,
+        Err(status) => {
+            return Course {
+                status,
+                began: false,
+                counts: NOTHING,
+                entries: Many::new(alloc),
+            };
+        }
+    };
+    let status = serve(
+        alloc,
+        turns,
+        &conf,
+        wire,
+        &mut front,
+        &mut ledger,
+        outbox,
+    );
+    let entries = front.into_entries();
+    let count = entries.as_slice().len() as u64;
+    Course {
+        status,
+        began: true,
+        counts: ledger.tally.counts(count),
+        entries,
+    }
+}
+
+/// Prints the line of a status, and answers how the run ended.
+fn report<P: Sink>(alloc: Global, status: Status, counts: &Counts, print: &mut P) -> Status
+    ensures later { P.faults print.old ≤ P.faults print.new }
+    ensures ends { EndsPrinted status result }
+    ensures print { result ≡ Status.PrintFault → (status ≡ Status.PrintFault) ⊎ Rose (P.faults print.old) (P.faults print.new) }
+    ensures prints { (status ≡ Status.PrintFault → ⊥) → Prints result counts.now (P.bytes print.old) (P.bytes print.new) (P.faults print.old) (P.faults print.new) }
+{
+    let Ok(line) = printed(alloc, &status, counts) else {
+        return Status::OutOfMemory;
+    };
+    match write_all(print, line.as_bytes()) {
+        Ok(()) => status,
+        Err(Failed) => cut_short(status),
+    }
+}
+
+/// What a run ends with whose line couldn't be printed.
+fn cut_short(status: Status) -> Status
+    ensures { result ≡ cut_short status }
+{
+    match status {
+        Status::Ok => Status::PrintFault,
+        other => other,
+    }
+}
+
+/// Runs the server on one thread: reads the configuration, takes the wire's events, writes the lines of their records to
+/// the outbox and prints one line. It takes at most as many events as the plan of the words allows, and always returns.
+///
+/// # Statuses
+///
+/// `Usage`, `SourceFault` and `Unbuilt` end the opening, so that no event was taken and the outbox is untouched. `Ok`
+/// comes where the wire was read to its end. `TurnLimit` comes where as many events as the plan allows were taken and
+/// none closed the wire. `WireFault`, `OutboxFault` and `PrintFault` come where that object failed. `OutOfMemory` may come
+/// wherever memory is taken.
+pub fn run_single<S: Source, W: Wire, O: Sink, P: Sink>(
+    alloc: Global,
+    words: &[Text],
+    config: &mut S,
+    wire: &mut W,
+    outbox: O,
+    print: &mut P,
+) -> Ended<O>
+    // Usage comes exactly where the words have no plan.
+    ensures usage { result.status ≡ Status.Usage → plan_of words.now ≡ None }
+    ensures not_command { plan_of words.now ≡ None → (result.status ≡ Status.Usage) ⊎ (result.status ≡ Status.OutOfMemory) }
+
+    // Unbuilt comes exactly where the configuration has no form that is built.
+    ensures unbuilt { result.status ≡ Status.Unbuilt → IfSome (S.left config.old) (λ text. flat_of text ≡ None) }
+    ensures not_flat { (text : List ℕ) → S.left config.old ≡ Some text → flat_of text ≡ None
+        → (result.status ≡ Status.Unbuilt) ⊎ ((result.status ≡ Status.SourceFault) ⊎ ((result.status ≡ Status.Usage) ⊎ (result.status ≡ Status.OutOfMemory))) }
+
+    // A fault comes only where the count of its object rose.
+    ensures source { result.status ≡ Status.SourceFault → Rose (S.faults config.old) (S.faults config.new) }
+    ensures wire { result.status ≡ Status.WireFault → Rose (W.faults wire.old) (W.faults wire.new) }
+    ensures outbox { result.status ≡ Status.OutboxFault → Rose (O.faults outbox) (O.faults result.outbox) }
+    ensures print { result.status ≡ Status.PrintFault → Rose (P.faults print.old) (P.faults print.new) }
+
+    // A run that hasn't begun was refused at its opening, and left the wire and the outbox alone.
+    ensures not_begun { result.began ≡ false → IsRefusal result.status × (wire.new ≡ wire.old) × (result.outbox ≡ outbox) × (result.entries ≡ []) }
+    ensures begun { result.began ≡ true → IsCourse result.status }
+
+    // Replies and entries, reading to the end, the limit of turns.
+    ensures followed { result.began ≡ true → Followed words.now (S.left config.old) (W.left wire.old) (W.sent wire.old) (W.sent wire.new) (W.closed wire.old) (W.closed wire.new) (W.unsent wire.old) (W.unsent wire.new) result.status result.entries }
+
+    // The lines in the outbox are those of one thread that replays the entries.
+    ensures lines { result.began ≡ true → LinesAre result.status (O.bytes outbox) (O.bytes result.outbox) (run_lines result.entries) }
+    ensures size { result.began ≡ true → SizeIs result.status (O.held outbox) (O.held result.outbox) (length (run_lines result.entries)) }
+
+    // The printed line is that of the status, over the counts of the entries.
+    ensures printed { Prints result.status (run_counts result.entries) (P.bytes print.old) (P.bytes print.new) (P.faults print.old) (P.faults print.new) }
+
+    // What is accepted and doesn't fail ends well, if memory is there.
+    ensures complete { (plan : Plan) (text : List ℕ) (conf : Conf) (all : List WireEvent)
+        → plan_of words.now ≡ Some plan → S.left config.old ≡ Some text → flat_of text ≡ Some conf → W.left wire.old ≡ Some all
+        → (served conf (start text) (take plan.turns all)).stop ≡ Some stop.Closed
+        → (Rose (S.faults config.old) (S.faults config.new) → ⊥) → (Rose (W.faults wire.old) (W.faults wire.new) → ⊥)
+        → (Rose (O.faults outbox) (O.faults result.outbox) → ⊥) → (Rose (P.faults print.old) (P.faults print.new) → ⊥)
+        → (result.status ≡ Status.Ok) ⊎ (result.status ≡ Status.OutOfMemory) }
+{
+    let mut outbox = outbox;
+    let course = go(alloc, words, config, wire, &mut outbox);
+    let status = report(alloc, course.status, &course.counts, print);
+    Ended {
+        status,
+        began: course.began,
+        outbox,
+        entries: course.entries,
+    }
+}
