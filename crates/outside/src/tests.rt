@@ -1,4 +1,5 @@
 use super::*;
+use crate::script::advance;
 use std::alloc::Global;
 use std::test::Fail;
 use zbx_types::{Bytes, Many, Moment, OutOfMemory};
@@ -99,7 +100,14 @@ fn a_wire_keeps_what_is_sent_and_closed(rt: HostRuntime) -> Result<(), Fail> {
     assert_eq!(rt; wire.send(3, b"z"), Err(Failed));
     assert_eq!(rt; wire.unsent(), 1);
     wire.close(3);
-    assert!(rt; matches!(wire.next(alloc)?, WireEvent::Closed { at: Moment { sec: 0, ns: 0 } }));
+    assert!(rt;
+        matches!(
+            wire.next(alloc)?,
+            WireEvent::Closed {
+                at: Moment { sec: 0, ns: 0 }
+            }
+        )
+    );
     assert_eq!(rt; wire.sent().len(), 1);
     for (conn, bytes) in wire.sent().as_slice() {
         assert_eq!(rt; *conn, 3);
@@ -109,46 +117,17 @@ fn a_wire_keeps_what_is_sent_and_closed(rt: HostRuntime) -> Result<(), Fail> {
     Ok(())
 }
 
-/// Line feeds, and then a line.
-#[derive(Drop)]
-struct Blanks {
-    before: u64,
-    line: MemSource,
-}
-
-impl Source for Blanks {
-    ghost use Rattle.std.specs.Prelude.{None};
-
-    ghost left = { λ _. None };
-
-    ghost faults = { λ b. b.line.faults };
-
-    fn faults(&self) -> u64 {
-        self.line.faults()
-    }
-
-    fn read(&mut self, into: &mut [u8]) -> Result<usize, Failed> {
-        if self.before == 0 {
-            return self.line.read(into);
-        }
-        let Some(first) = into.first_mut() else {
-            return Ok(0);
-        };
-        *first = b'\n';
-        self.before -= 1;
-        Ok(1)
-    }
-}
-
 #[test]
 fn a_call_takes_only_so_many_bytes(rt: HostRuntime) -> Result<(), Fail> {
     let alloc = rt.alloc();
-    for (before, failures) in [(3_000_000, 0)] {
-        let line = source(alloc, b"1.000000000 quiet\n")?;
-        let mut wire = ScriptWire::new(alloc, Blanks { before, line }, Many::new(alloc));
-        let first = wire.next(alloc);
-        assert_eq!(rt; wire.faults(), failures);
-        assert_eq!(rt; first.is_err(), failures == 1);
-    }
+    let mut script = source(alloc, b"\n\n\n1.000000000 quiet\n")?;
+    let last = Moment::zero();
+    assert!(rt; advance(alloc, &mut script, last, 3).is_err());
+    assert!(rt;
+        matches!(
+            advance(alloc, &mut script, last, 18)?,
+            Some(WireEvent::Quiet { .. })
+        )
+    );
     Ok(())
 }

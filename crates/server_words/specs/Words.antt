@@ -4,7 +4,7 @@ use Rattle.std.specs.Cmp.Lexicographic.{pointwise}
 use Rattle.server_words.specs.declared.words.Plan.{Plan}
 use Rattle.server_words.specs.declared.words.Mode.TheVariants.{Feed}
 
--- the word at a place
+-- the word at a place, counted from 0; empty behind the last one
 abbrev pub word_at : List (List ℕ) → ℕ → List ℕ
 word_at words place = slice_index_or words place []
 
@@ -16,7 +16,7 @@ has_word words place word = pointwise nat_eq (word_at words place) word
 abbrev pub is_command : List (List ℕ) → Bool
 is_command words = length words == 6 && has_word words 0 (codes "--mode") && has_word words 1 (codes "feed") && has_word words 2 (codes "--config") && has_word words 4 (codes "--script")
 
--- a feed from these paths, with the defaults of all other options
+-- the plan of a feed with the paths of its configuration and its script; all other options have their defaults
 abbrev pub feed_plan : List ℕ → List ℕ → Plan
 feed_plan config script = record {
   mode = Feed;
@@ -32,6 +32,6 @@ feed_plan config script = record {
   values = 1000;
 }
 
--- the plan of a list of words, where they are of the command
+-- the plan of a list of words, or none where they aren't the command
 unfoldable pub plan_of : List (List ℕ) → Option Plan
 plan_of words = if is_command words then Some (feed_plan (word_at words 3) (word_at words 5)) else None

@@ -41,7 +41,8 @@ fn ok_line(alloc: Global, counts: &Counts) -> Result<Text, OutOfMemory>
     Ok(line)
 }
 
-/// The line that a run prints, with its line feed. It is empty for PrintFault, and has the counts for Ok alone.
+/// The line that a run prints last, with its line feed: `status: ` and the status, and for Ok alone the counts. It is empty
+/// for PrintFault. [`OutOfMemory`] where there is no room for it.
 pub fn printed(alloc: Global, status: &Status, counts: &Counts) -> Result<Text, OutOfMemory>
     ensures { IfOk result (λ line. line ≡ printed_text status.now counts.now) }
 {

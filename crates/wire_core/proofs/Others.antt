@@ -1,11 +1,8 @@
 -- An event leaves the connections of which it is not.
-use Rattle.std.specs.Prelude.{◌≡◌, ℕ, List, [], ◌∷◌, ◌++◌, ◌==◌, if◌then◌else◌, Bool, true, false, cond, Option, Some, None, refl, Result, Ok, Err, OnOk, OnErr}
-use Rattle.std.specs.List.{find, list_any}
-use Rattle.std.specs.Option.{option_or}
-use Rattle.std.proofs.Common.{sym, ap, ◌∙◌, inl, inr}
-use Rattle.std.proofs.lemmas.Bool.{eq-eqb, eqb-true, cases_Bool}
+use Rattle.std.specs.Prelude.{◌≡◌, ℕ, List, [], ◌∷◌, ◌++◌, ◌==◌, false, Option, Some, None, refl, Result, Ok, Err, OnOk, OnErr}
+use Rattle.std.proofs.Common.{sym, inl, inr}
+use Rattle.std.proofs.lemmas.Bool.{eqb-true, cases_Bool}
 use Rattle.std.proofs.lemmas.Bool.Decides.{eqb_tells}
-use Rattle.std.proofs.lemmas.List.Folds.{find-append}
 use Rattle.zbxd_frame.specs.Found.{Found, short, whole, bad, found}
 use Rattle.outside.specs.declared.event.WireEvent.{WireEvent}
 use Rattle.outside.specs.declared.event.WireEvent.TheVariants.{Opened, Piece, Ended, Broke, Quiet, Closed}

@@ -1,6 +1,6 @@
 -- Laws of the connections that are there.
-use Rattle.std.specs.Prelude.{◌≡◌, ℕ, ◌+◌, ◌<◌, ◌≤◌, List, [], ◌∷◌, ◌++◌, length, map, ◌==◌, if◌then◌else◌, Bool, true, false, not, cond, ◌||◌, ◌⊎◌, Option, Some, None, refl, slice_index_or, slice_set, position, nat_lt}
-use Rattle.std.specs.List.{filter, find, list_any, All, slice_get, position_from, position_or_len}
+use Rattle.std.specs.Prelude.{◌≡◌, ℕ, ◌+◌, ◌<◌, ◌≤◌, List, [], ◌∷◌, ◌++◌, length, if◌then◌else◌, Bool, true, false, not, ◌||◌, Option, Some, None, refl, slice_index_or, slice_set, position, nat_lt}
+use Rattle.std.specs.List.{find, list_any, slice_get, position_from, position_or_len}
 use Rattle.std.proofs.Common.{arith, sym, ap, ◌∙◌, subst, inl, inr, zero, suc, length-append}
 use Rattle.std.proofs.lemmas.List.{length-map}
 use Rattle.std.proofs.lemmas.Bool.{eq-eqb, eqb-true, lt-ltb, le-ltb, cases_Bool}
@@ -102,7 +102,7 @@ without-replaced (p ∷ ps) q =
     let rest = without-replaced ps q in
     elim (eqb_tells p.conn q.conn) [ inl h ↦ rw (h.0, eq-eqb q.conn q.conn refl, rest) | inr h ↦ rw (h.0, h.0, rest) ]
 
--- what holds of an element that passes, the first of its list
+-- where no place is found, no element passes
 from_none : {X : Type 0} (t : X → Bool) (i : ℕ) (xs : List X) → position_from t i xs ≡ None → list_any t xs ≡ false
 from_none t i [] none = refl
 from_none t i (x ∷ xs) none =
@@ -111,12 +111,13 @@ from_none t i (x ∷ xs) none =
       | inr e ↦ let rest : position_from t (i + 1) xs ≡ None = rw e at none in rw (e, from_none t (i + 1) xs rest)
     ]
 
+-- and none is found
 find_none : {X : Type 0} (t : X → Bool) (xs : List X) → list_any t xs ≡ false → find t xs ≡ None
 find_none t [] none = refl
 find_none t (x ∷ xs) none =
     let h = both_false (t x) (list_any t xs) none in rw (h.0, find_none t xs h.1)
 
--- the first that passes is the one that is found
+-- a place that is found is the first that passes
 place_or_len : {X : Type 0} (t : X → Bool) (xs : List X) (i : ℕ) → position t xs ≡ Some i → position_or_len t xs ≡ i
 place_or_len t xs i at =
     elim (cases_Bool (nat_lt (position_or_len t xs) (length xs))) [

@@ -1,5 +1,5 @@
 -- The connections of a wire, and what an event means for them.
-use Rattle.std.specs.Prelude.{◌≡◌, ℕ, ◌+◌, ◌≤◌, List, [], ◌∷◌, ◌++◌, length, map, nat_lt, ◌==◌, if◌then◌else◌, Bool, true, false, not, ◌||◌, Option, Some, None}
+use Rattle.std.specs.Prelude.{◌≡◌, ℕ, List, [], ◌∷◌, ◌++◌, length, map, nat_lt, ◌==◌, if◌then◌else◌, Bool, false, not, ◌||◌, Option, Some, None}
 use Rattle.std.specs.List.{filter, find, list_any}
 use Rattle.zbxd_frame.specs.Found.{Found, short, whole, bad, found}
 use Rattle.outside.specs.declared.event.WireEvent.{WireEvent}

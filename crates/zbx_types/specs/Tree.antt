@@ -23,6 +23,7 @@ tree_size (binary op a b) = tree_size a + tree_size b + 1
 
 -- ---- how the logic stores a tree: its nodes, operands first
 
+-- the tag of an operator's node, and the operator of a tag
 abbrev op_tag : Op → ℕ
 op_tag Or = 4
 op_tag And = 5
@@ -42,6 +43,7 @@ tag_op n =
     cond (n == 4) Or (cond (n == 5) And (cond (n == 6) Eq (cond (n == 7) Ne (cond (n == 8) Lt (cond (n == 9) Le
     (cond (n == 10) Gt (cond (n == 11) Ge (cond (n == 12) Add (cond (n == 13) Sub (cond (n == 14) Mul Div))))))))))
 
+-- a tree's nodes, each a tag with a number, before those of the rest
 abbrev nodes : Tree → List (ℕ × ℤ) → List (ℕ × ℤ)
 nodes (constant z) rest = (0, z) ∷ rest
 nodes (call place) rest = (1, pos place) ∷ rest
@@ -49,6 +51,7 @@ nodes (negative a) rest = nodes a ((2, pos 0) ∷ rest)
 nodes (negation a) rest = nodes a ((3, pos 0) ∷ rest)
 nodes (binary op a b) rest = nodes a (nodes b ((op_tag op, pos 0) ∷ rest))
 
+-- the stack of trees after the node of an operator
 abbrev negative_top : List Tree → List Tree
 negative_top [] = []
 negative_top (a ∷ stack) = negative a ∷ stack
@@ -62,16 +65,18 @@ binary_top op [] = []
 binary_top op (b ∷ []) = []
 binary_top op (b ∷ a ∷ stack) = binary op a b ∷ stack
 
--- the stack after one node
+-- the stack after a node with this tag and number
 abbrev stacked : ℕ → ℤ → List Tree → List Tree
 stacked n z stack =
     cond (n == 0) (constant z ∷ stack) (cond (n == 1) (call (unsigned_abs z) ∷ stack)
     (cond (n == 2) (negative_top stack) (cond (n == 3) (negation_top stack) (binary_top (tag_op n) stack))))
 
+-- the tree that is left
 abbrev top : List Tree → Tree
 top [] = call 0
 top (a ∷ stack) = a
 
+-- the stack after all these nodes
 abbrev rebuilt : List Tree → List (ℕ × ℤ) → List Tree
 rebuilt stack [] = stack
 rebuilt stack (node ∷ rest) = rebuilt (stacked node.0 node.1 stack) rest
@@ -99,6 +104,7 @@ nodes_back (binary op a b) stack rest =
     nodes_back a stack (nodes b ((op_tag op, pos 0) ∷ rest)) ∙ nodes_back b (a ∷ stack) ((op_tag op, pos 0) ∷ rest)
     ∙ ap (λ s. rebuilt s rest) (binary_back op a b stack)
 
+-- the nodes of a tree give it back
 pub tree_back : (t : Tree) → top (rebuilt [] (nodes t [])) ≡ t
 tree_back t = ap top (nodes_back t [] [])
 

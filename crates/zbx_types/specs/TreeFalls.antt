@@ -1,5 +1,5 @@
 -- Each operand has a smaller tree than its expression.
-use Rattle.std.specs.Prelude.{ℕ, ◌+◌, ◌≤◌, max}
+use Rattle.std.specs.Prelude.{◌≤◌, max}
 use Rattle.std.proofs.Common.{arith}
 use Rattle.zbx_types.specs.Tree.{tree_size}
 use Rattle.zbx_types.specs.Trees.{tree_of}

@@ -1,7 +1,5 @@
 -- The tree of an expression.
-use Rattle.std.specs.Prelude.{ℕ, ◌+◌, ◌≤◌, max}
-use Rattle.std.proofs.Common.{arith}
-use Rattle.zbx_types.specs.Tree.{Tree, constant, call, negative, negation, binary, tree_size}
+use Rattle.zbx_types.specs.Tree.{Tree, constant, call, negative, negation, binary}
 use Rattle.zbx_types.specs.declared.expr.Expr.{Expr}
 use Rattle.zbx_types.specs.declared.expr.Expr.TheVariants.{Const, Call, Neg, Not, Bin}
 

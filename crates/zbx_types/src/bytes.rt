@@ -1,4 +1,4 @@
-//! Bytes.
+//! Lists of bytes.
 
 ghost use Rattle.std.specs.Prelude.{◌≡◌, ◌++◌, [], length, take, OnOk, OnErr, IfOk};
 
@@ -6,7 +6,7 @@ use crate::memory::OutOfMemory;
 use std::alloc::Global;
 use std::marker::Model;
 
-/// A list of bytes, of any content. Contracts see the list.
+/// A list of bytes, of any content and length. Contracts see the list, each byte as its number from 0 to 255.
 #[derive(Debug, Drop)]
 pub struct Bytes {
     bytes: Vec<u8>,
@@ -30,7 +30,7 @@ impl Bytes {
         }
     }
 
-    /// A copy of bytes.
+    /// A copy of bytes. [`OutOfMemory`] where there is no room for it.
     pub fn of(alloc: Global, bytes: &[u8]) -> Result<Bytes, OutOfMemory>
         ensures { IfOk result (λ made. made ≡ bytes.now) }
     {
@@ -53,7 +53,7 @@ impl Bytes {
         self.bytes.len()
     }
 
-    /// Adds bytes at the end. At `Err` the list is as before.
+    /// Adds bytes at the end. At [`OutOfMemory`] the list is as before.
     pub fn extend(&mut self, more: &[u8]) -> Result<(), OutOfMemory>
         ensures ok { OnOk result (self.new ≡ self.old ++ more.now) }
         ensures err { OnErr result (self.new ≡ self.old) }
@@ -62,7 +62,8 @@ impl Bytes {
         Ok(())
     }
 
-    /// Adds two pieces at the end, one behind the other, or at `Err` nothing.
+    /// Adds two pieces at the end, one behind the other. At [`OutOfMemory`] the list is as before: never is one piece
+    /// added without the other.
     pub fn extend_both(&mut self, first: &[u8], second: &[u8]) -> Result<(), OutOfMemory>
         ensures ok { OnOk result (self.new ≡ self.old ++ first.now ++ second.now) }
         ensures err { OnErr result (self.new ≡ self.old) }
@@ -73,7 +74,7 @@ impl Bytes {
         Ok(())
     }
 
-    /// Drops all bytes behind the first ones of this number.
+    /// Keeps the first bytes, as many as `length`, or all where there are fewer. Takes no memory.
     pub fn truncate(&mut self, length: usize)
         ensures { self.new ≡ take length self.old }
     {

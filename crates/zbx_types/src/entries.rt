@@ -1,100 +1,163 @@
-//! Journal entries, and the records that they make.
+//! Journal entries, the records that they make, and the values that items keep.
 
 use crate::fix::Fix;
 use crate::many::Many;
 use crate::moment::Moment;
 use crate::text::Text;
 
-#[derive(Debug, Drop)]
+/// An entry of the journal (this project's own): what came from outside, in the order in which it was taken. Entries are
+/// numbered from 1, their moments don't fall, and all records follow from them.
+#[derive(Drop)]
 pub enum Entry {
+    /// The configuration that holds from here on. The first entry is one.
     Config {
+        /// When it was taken.
         now: Moment,
+        /// The configuration document, as it was read.
         text: Text,
     },
+    /// A value for an item.
     Value {
+        /// When it was taken.
         now: Moment,
+        /// The item's id.
         item: u32,
+        /// The moment that the value is of, as its sender says. It isn't after `now`.
         time: Moment,
+        /// The value as it came, before preprocessing.
         value: Text,
     },
+    /// Another half minute began: functions of time are evaluated, and escalation steps that are due run.
     Tick {
+        /// When it was taken.
         now: Moment,
     },
 }
 
-#[derive(Debug, Drop)]
+/// An entry with its number.
+#[derive(Drop)]
 pub struct Numbered {
+    /// Its number. The first entry of a journal has 1, the next one 2, and so on.
     pub number: u64,
+    /// The entry.
     pub entry: Entry,
 }
 
+/// The name of a problem event (this project's own): no two problems have the same.
 #[derive(Clone, Copy, Debug, PartialEq, Eq, PartialOrd, Ord)]
 pub struct EventId {
+    /// The number of the entry that opened the problem.
     pub number: u64,
+    /// The id of the trigger that is in it.
     pub trigger: u32,
 }
 
-#[derive(Debug, Drop)]
+/// A tag of a trigger or of a problem (the Zabbix 6.0 manual, "Tagging").
+#[derive(Drop)]
 pub struct Tag {
+    /// Its name.
     pub tag: Text,
+    /// Its value, which may be empty.
     pub value: Text,
 }
 
+/// Why a problem closed.
 #[derive(Clone, Copy, Debug, PartialEq, Eq)]
 pub enum Cause2 {
+    /// Its trigger's recovery: the expression, or the recovery expression, says so.
     Expression,
+    /// A rule of global correlation (the Zabbix 6.0 manual, "Global event correlation").
     Correlation,
 }
 
-#[derive(Debug, Drop)]
+/// A record: something that an entry made (this project's own). Each record becomes one line of the outbox.
+#[derive(Drop)]
 pub enum Rec {
+    /// A value that an item couldn't take, as its preprocessing failed.
     Failure {
+        /// The number of the entry that brought the value.
         number: u64,
+        /// The item's host, by name.
         host: Text,
+        /// The item's key.
         key: Text,
+        /// What failed.
         why: Text,
     },
+    /// A problem that opened.
     Problem {
+        /// Its event.
         event: EventId,
+        /// When it opened: the moment of its entry.
         now: Moment,
+        /// The trigger's severity, from 0 (Not classified) to 5 (Disaster).
         severity: u8,
+        /// Whether a maintenance suppresses it.
         suppressed: bool,
+        /// The trigger's host, by name.
         host: Text,
+        /// The trigger's name.
         trigger: Text,
+        /// The name of the event: the trigger's title with its macros resolved.
         name: Text,
+        /// Its tags, in the trigger's order.
         tags: Many<Tag>,
     },
+    /// A problem that closed.
     Recovery {
+        /// The problem's event.
         event: EventId,
+        /// The number of the entry that closed it.
         by: u64,
+        /// When it closed: the moment of that entry.
         now: Moment,
+        /// Why it closed.
         cause: Cause2,
     },
+    /// An escalation step that ran.
     Step {
+        /// The problem's event.
         event: EventId,
+        /// The action, by name.
         action: Text,
+        /// The step's number, counted from 1.
         step: u32,
+        /// When it ran.
         now: Moment,
     },
+    /// A message to one recipient.
     Message {
+        /// The problem's event.
         event: EventId,
+        /// The action that sends it, by name.
         action: Text,
+        /// The number of the escalation step that sends it, counted from 1, or 0 where the problem's recovery does.
         step: u32,
+        /// To whom it goes.
         recipient: Text,
+        /// Its subject, with macros resolved.
         subject: Text,
+        /// Its body, with macros resolved.
         body: Text,
     },
 }
 
-#[derive(Debug, Drop)]
+/// A value that an item keeps.
+#[derive(Drop)]
 pub enum Held {
+    /// That of a number item.
     Number(Fix),
+    /// That of a text item.
     Words(Text),
 }
 
-#[derive(Debug, Drop)]
+/// A value in the history of an item.
+#[derive(Drop)]
 pub struct Stored {
+    /// The moment that the value is of.
     pub time: Moment,
+    /// The number of the entry that stored it. Of values with one time the greater number is the later one.
     pub number: u64,
+    /// The value.
     pub value: Held,
 }

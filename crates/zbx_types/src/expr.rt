@@ -8,31 +8,50 @@ use crate::memory::OutOfMemory;
 use std::alloc::Global;
 use std::marker::Model;
 
-/// A binary operator (the Zabbix 6.0 manual, "Trigger expression syntax", operators).
+/// A binary operator (the Zabbix 6.0 manual, "Trigger expression", operators).
+///
+/// Comparisons, `and` and `or` give 1 or 0, and a number other than 0 counts as true.
 #[derive(Clone, Copy, Debug, PartialEq, Eq)]
 pub enum Op {
+    /// `or`: 1 where an operand is true.
     Or,
+    /// `and`: 1 where both operands are true.
     And,
+    /// `=`: equal.
     Eq,
+    /// `<>`: not equal.
     Ne,
+    /// `<`: less than.
     Lt,
+    /// `<=`: at most.
     Le,
+    /// `>`: greater than.
     Gt,
+    /// `>=`: at least.
     Ge,
+    /// `+`: the sum.
     Add,
+    /// `-`: the difference.
     Sub,
+    /// `*`: the product.
     Mul,
+    /// `/`: the quotient.
     Div,
 }
 
-/// An expression. A `Call` holds the place of a call, counted from 0, in its trigger's list of calls.
+/// An expression of a trigger (the Zabbix 6.0 manual, "Trigger expression").
 #[cycle(expr)]
 #[derive(Drop)]
 pub enum Expr {
+    /// A constant, its suffix multiplied in.
     Const(Fix),
+    /// The value of a call, named by its place in its trigger's list of calls, counted from 0.
     Call(u32),
+    /// `-`: the operand with the other sign.
     Neg(Operand),
+    /// `not`: 1 where the operand is 0, else 0.
     Not(Operand),
+    /// A binary operator with its left and its right operand.
     Bin(Op, Operand, Operand),
 }
 
@@ -62,7 +81,7 @@ impl Model for Operand {
 }
 
 impl Operand {
-    /// An operand that holds an expression.
+    /// An operand that holds an expression. [`OutOfMemory`] where there is no room for its box.
     pub fn new(alloc: Global, expr: Expr) -> Result<Operand, OutOfMemory>
         ensures { IfOk result (λ made. made ≡ tree_of expr) }
     {

@@ -1,4 +1,27 @@
-//! The plain types that every other crate stands on.
+//! The plain types that every other crate stands on: texts, bytes, lists, moments and numbers, journal entries with the
+//! records that they make, and the configuration in the flat form in which it is used.
+//!
+//! The one contract: each call gives exactly what its definition says of the values that contracts see, and a call that
+//! takes memory answers [`OutOfMemory`] and leaves what it was to change as it was.
+//!
+//! Contracts see each type as a plain value, so that a clause names no memory and no representation:
+//!
+//! ```text
+//! Text, Bytes     the list of its bytes
+//! Many<T>         the list of its items
+//! Moment          its nanoseconds since moment 0, a natural number
+//! Fix             its millionths, an integer, from -10^30 to 10^30
+//! Operand         its expression as a tree
+//! Entry, Rec, Conf and the others     themselves, each field seen as above
+//! ```
+//!
+//! Ids of hosts, items and triggers count from 1, and 0 stands for none; [`by_id`] looks them up. A short use:
+//!
+//! ```text
+//! let mut name = Text::of(alloc, "cpu")?;
+//! name.push_str(" load")?;                                  // "cpu load"
+//! let value = Fix::read(b"1.5").map(|f| f.raw());           // Some(1500000)
+//! ```
 #![tactic(auto)]
 
 mod bytes;

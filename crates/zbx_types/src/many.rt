@@ -7,7 +7,7 @@ use crate::text::Text;
 use std::alloc::{AllocFailed, Global};
 use std::marker::Model;
 
-/// A list. Contracts see its items in order.
+/// A list of any length. Contracts see its items in order.
 #[derive(Debug, Drop)]
 pub struct Many<T> {
     items: Vec<T>,
@@ -45,7 +45,8 @@ impl<T> Many<T> {
         self.items.len()
     }
 
-    /// Adds an item at the end. At `Err` the list is as before, and the item comes back.
+    /// Adds an item at the end. Where there is no room the list is as before, and the item comes back in the error.
+    /// `?` turns that error into [`OutOfMemory`] where the item may be dropped.
     pub fn push(&mut self, item: T) -> Result<(), AllocFailed<T>>
         ensures ok { OnOk result (self.new ≡ self.old ++ item ∷ []) }
         ensures err { IfErr result (λ failed. failed.value ≡ item) }
@@ -70,7 +71,7 @@ impl<T> Many<T> {
 }
 
 impl<T: Drop> Many<T> {
-    /// Moves a list's items to the end. At `Err` the list is as before, and what was to be added is gone.
+    /// Moves a list's items to the end. At [`OutOfMemory`] the list is as before, and what was to be added is gone.
     pub fn append(&mut self, more: Many<T>) -> Result<(), OutOfMemory>
         ensures ok { OnOk result (self.new ≡ self.old ++ more) }
         ensures err { OnErr result (self.new ≡ self.old) }
@@ -82,7 +83,7 @@ impl<T: Drop> Many<T> {
 }
 
 impl<T: Copy> Many<T> {
-    /// A copy.
+    /// A copy. [`OutOfMemory`] where there is no room for it.
     pub fn copy(&self, alloc: Global) -> Result<Many<T>, OutOfMemory>
         ensures { IfOk result (λ made. made ≡ self.now) }
     {
@@ -92,7 +93,7 @@ impl<T: Copy> Many<T> {
     }
 }
 
-/// A copy of a list of texts.
+/// A copy of a list of texts, each text copied. [`OutOfMemory`] where there is no room for all of them.
 pub fn copy_texts(alloc: Global, texts: &Many<Text>) -> Result<Many<Text>, OutOfMemory>
     ensures { IfOk result (λ made. made ≡ texts.now) }
 {

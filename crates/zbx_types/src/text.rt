@@ -1,4 +1,4 @@
-//! Texts.
+//! Texts in UTF-8.
 
 ghost use Rattle.std.specs.Prelude.{◌≡◌, ◌++◌, [], length, string_bytes, OnOk, OnErr, IfOk, MatchOption, IsUtf8};
 
@@ -8,9 +8,9 @@ use std::cmp::Ordering;
 use std::convert::AsStr;
 use std::marker::Model;
 
-/// A text in UTF-8. Contracts see its bytes.
+/// A text in UTF-8, of any length. Contracts see the list of its bytes.
 ///
-/// Texts are equal where their bytes are, and are ordered by their bytes.
+/// Texts are equal where their bytes are, and are ordered by their bytes, a prefix before what it begins.
 #[derive(Debug, Drop)]
 pub struct Text {
     text: String,
@@ -35,7 +35,7 @@ impl Text {
         }
     }
 
-    /// A copy of a text.
+    /// A copy of a text. [`OutOfMemory`] where there is no room for it.
     pub fn of(alloc: Global, text: &str) -> Result<Text, OutOfMemory>
         ensures { IfOk result (λ made. made ≡ text.now) }
     {
@@ -44,7 +44,8 @@ impl Text {
         })
     }
 
-    /// A copy of bytes as a text, or None where they aren't UTF-8.
+    /// A copy of bytes as a text, or None where they aren't UTF-8. [`OutOfMemory`] where there is no
+    /// room for the copy.
     pub fn from_utf8(alloc: Global, bytes: &[u8]) -> Result<Option<Text>, OutOfMemory>
         ensures { IfOk result (λ read. MatchOption read (¬ (IsUtf8 bytes.now)) (λ made. made ≡ bytes.now)) }
     {
@@ -71,7 +72,7 @@ impl Text {
         self.text.as_bytes().len()
     }
 
-    /// Adds a text at the end. At `Err` the text is as before.
+    /// Adds a text at the end. At [`OutOfMemory`] the text is as before.
     pub fn push_str(&mut self, more: &str) -> Result<(), OutOfMemory>
         ensures ok { OnOk result (self.new ≡ self.old ++ more.now) }
         ensures err { OnErr result (self.new ≡ self.old) }
@@ -80,7 +81,7 @@ impl Text {
         Ok(())
     }
 
-    /// A copy.
+    /// A copy. [`OutOfMemory`] where there is no room for it.
     pub fn copy(&self, alloc: Global) -> Result<Text, OutOfMemory>
         ensures { IfOk result (λ made. made ≡ self.now) }
     {

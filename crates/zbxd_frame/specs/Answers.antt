@@ -21,7 +21,7 @@ is_short (bad fault) = false
 abbrev pub fed_with : List ℕ → List ℕ → List ℕ
 fed_with bytes piece = if is_short (found bytes) then bytes ++ piece else bytes
 
--- what parts of bytes say that was found
+-- what was found, told by the parts of the bytes
 abbrev pub found_by : Seen → Found
 found_by Short = short
 found_by (Whole body behind) = whole body.now behind.now

@@ -1,4 +1,4 @@
-use Rattle.std.proofs.Common.{◌≡◌, ℕ, Some, None, sym, ap, ◌∙◌, position, List, length, false, ◌<◌, ◌≤◌, arith}
+use Rattle.std.proofs.Common.{◌≡◌, ℕ, Some, None, sym, position, length, false, ◌<◌, ◌≤◌, arith}
 use Rattle.wire_core.specs.declared.peer.Peer.{Peer}
 use Rattle.wire_core.specs.Peers.{Peers, is_of, is_there}
 use Rattle.wire_core.proofs.PeerLaws.{place_found, place_none, found_nothing, AreKept-set, AreKept-push, reopened, joined, no_room, room_again}

@@ -1,4 +1,4 @@
-use Rattle.std.proofs.Common.{◌≡◌, ℕ, List, Some, None, sym, ap, subst, ◌++◌, position, slice_set, slice_index_or}
+use Rattle.std.proofs.Common.{◌≡◌, ℕ, List, Some, sym, subst, ◌++◌, position, slice_set, slice_index_or}
 use Rattle.zbx_types.specs.declared.bytes.Bytes.{Bytes}
 use Rattle.zbxd_frame.specs.Found.{found}
 use Rattle.zbxd_frame.specs.Answers.{Answers}
