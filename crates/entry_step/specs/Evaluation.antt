@@ -1,13 +1,12 @@
 -- The values of history functions and expressions. None is Unknown.
-use Rattle.std.specs.Prelude.{ℕ, ◌-◌, ◌*◌, ◌==◌, nat_le, Bool, true, false, ◌&&◌, ◌||◌, List, [], ◌∷◌, Option, Some, None, if◌then◌else◌, ℤ, pos, int_lt, filter, slice_get, option_map, option_and_then}
+use Rattle.std.specs.Prelude.{ℕ, ◌==◌, nat_le, Bool, true, false, ◌&&◌, List, [], ◌∷◌, Option, Some, None, if◌then◌else◌, ℤ, pos, int_lt, filter, slice_get, option_and_then}
 use Rattle.zbx_types.specs.Tree.{Tree, constant, call, negative, negation, binary}
 use Rattle.zbx_types.specs.declared.expr.Op.{Op}
 use Rattle.zbx_types.specs.declared.expr.Op.TheVariants as op
-use Rattle.zbx_types.specs.declared.conf.Call.{Call}
 use Rattle.zbx_types.specs.declared.conf.Fun.{Fun}
 use Rattle.zbx_types.specs.declared.conf.Fun.TheVariants as function
 use Rattle.zbx_types.specs.declared.conf.Range.{Range}
-use Rattle.zbx_types.specs.declared.conf.Range.TheVariants.{Count, Period}
+use Rattle.zbx_types.specs.declared.conf.Range.TheVariants.{Count}
 use Rattle.zbx_types.specs.declared.conf.Trigger.{Trigger}
 use Rattle.zbx_types.specs.declared.entries.Held.{Held}
 use Rattle.zbx_types.specs.declared.entries.Held.TheVariants as held
@@ -48,14 +47,15 @@ greater None b = None
 greater (Some x) None = None
 greater (Some x) (Some y) = Some (truth (int_lt y x))
 
+-- a binary operator over the values of its operands
+abbrev pub operated : Op → Option ℤ → Option ℤ → Option ℤ
+operated op.Gt x y = greater x y
+operated other x y = None
+
 -- an expression over the values of its calls, by their places. Built so far are constants, calls and `>`.
 abbrev pub expression_value : (ℕ → Option ℤ) → Tree → Option ℤ
 expression_value calls (constant z) = Some z
 expression_value calls (call place) = calls place
 expression_value calls (negative a) = None
 expression_value calls (negation a) = None
-expression_value calls (binary o a b) = applied o (expression_value calls a) (expression_value calls b)
-  where
-    applied : Op → Option ℤ → Option ℤ → Option ℤ
-    applied op.Gt x y = greater x y
-    applied other x y = None
+expression_value calls (binary o a b) = operated o (expression_value calls a) (expression_value calls b)

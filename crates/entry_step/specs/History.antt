@@ -1,5 +1,5 @@
 -- What entries store of an item.
-use Rattle.std.specs.Prelude.{ℕ, ◌==◌, nat_le, Bool, List, [], ◌∷◌, Option, Some, None, if◌then◌else◌, option_map}
+use Rattle.std.specs.Prelude.{ℕ, ◌==◌, nat_le, List, [], ◌∷◌, Option, Some, None, if◌then◌else◌, option_map}
 use Rattle.zbx_types.specs.Ids.{at_id}
 use Rattle.zbx_types.specs.Numerals.{read_number}
 use Rattle.zbx_types.specs.declared.conf.Conf.{Conf}
@@ -12,10 +12,12 @@ use Rattle.zbx_types.specs.declared.entries.Numbered.{Numbered}
 use Rattle.zbx_types.specs.declared.entries.Held.{Held}
 use Rattle.zbx_types.specs.declared.entries.Held.TheVariants as held
 use Rattle.zbx_types.specs.declared.entries.Stored.{Stored}
+use Rattle.entry_step.specs.Blanks.{unpadded}
 
--- a value as an item of this type keeps it: a number item's as the number that it writes, where it writes one
+-- a value as an item of this type keeps it: a number item's as the number that it writes between blanks, where it writes
+-- one; an item's of texts as it stands
 unfoldable pub held_of : ValueType → List ℕ → Option Held
-held_of types.Number value = option_map held.Number (read_number value)
+held_of types.Number value = option_map held.Number (read_number (unpadded value))
 held_of types.Words value = Some (held.Words value)
 
 -- a value as this item keeps it

@@ -1,6 +1,10 @@
 pub mod Log
+pub mod Blanks
 pub mod History
 pub mod Evaluation
 pub mod Problems
 pub mod Records
 pub mod Cells
+pub mod Kept
+pub mod Calls
+pub mod Changes

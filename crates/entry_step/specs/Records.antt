@@ -1,5 +1,5 @@
 -- The records that entries make.
-use Rattle.std.specs.Prelude.{ℕ, ◌+◌, ◌==◌, Bool, true, false, ◌&&◌, List, [], ◌∷◌, ◌++◌, map, filter, Option, Some, None, if◌then◌else◌, ℤ, pos, codes}
+use Rattle.std.specs.Prelude.{ℕ, ◌==◌, Bool, false, ◌&&◌, List, [], ◌∷◌, ◌++◌, map, filter, Option, Some, None, if◌then◌else◌, ℤ, pos, codes}
 use Rattle.std.specs.Ordering.{int_eq}
 use Rattle.std.specs.List.{list_any}
 use Rattle.zbx_types.specs.Ids.{at_id, ids_from}
@@ -13,7 +13,7 @@ use Rattle.zbx_types.specs.declared.entries.Entry.TheVariants.{Config, Value, Ti
 use Rattle.zbx_types.specs.declared.entries.Numbered.{Numbered}
 use Rattle.zbx_types.specs.declared.entries.EventId.{EventId}
 use Rattle.zbx_types.specs.declared.entries.Rec.{Rec}
-use Rattle.zbx_types.specs.declared.entries.Rec.TheVariants.{Failure, Problem, Recovery, Step, Message}
+use Rattle.zbx_types.specs.declared.entries.Rec.TheVariants.{Failure, Problem, Recovery}
 use Rattle.zbx_types.specs.declared.entries.Cause2.TheVariants as causes
 use Rattle.zbx_types.specs.declared.entries.Stored.{Stored}
 use Rattle.entry_step.specs.History.{stored_of, history_of}
@@ -29,29 +29,34 @@ unfoldable pub problem_of : Conf → ℕ → ℕ → ℕ → Trigger → Rec
 problem_of conf number now id trigger =
     Problem (record { number = number; trigger = id }) now trigger.severity false (host_name (at_id conf.hosts trigger.host)) trigger.name trigger.title []
 
--- the Recovery record of a problem at an entry
-abbrev pub recovery_of : ℕ → ℕ → Rec → Rec
-recovery_of number now problem = Recovery (event_of problem) number now causes.Expression
+-- the Recovery record of an event at an entry
+abbrev pub recovery_of : ℕ → ℕ → EventId → Rec
+recovery_of number now event = Recovery event number now causes.Expression
 
--- What a trigger adds where its expression has this value and these are its open problems: where the value is unknown
--- nothing; where it is 0 the open problems close; else there is a new problem where none is open.
-unfoldable pub verdict_records : Conf → ℕ → ℕ → ℕ → Trigger → List Rec → Option ℤ → List Rec
-verdict_records conf number now id trigger problems None = []
-verdict_records conf number now id trigger problems (Some p) =
-    if int_eq p (pos 0) then map (recovery_of number now) problems else if_none problems
-  where
-    if_none : List Rec → List Rec
-    if_none [] = problem_of conf number now id trigger ∷ []
-    if_none (problem ∷ rest) = []
+-- a new problem where none is open
+abbrev pub opened : Conf → ℕ → ℕ → ℕ → Trigger → List EventId → List Rec
+opened conf number now id trigger [] = problem_of conf number now id trigger ∷ []
+opened conf number now id trigger (event ∷ rest) = []
 
--- what an evaluated trigger adds, over the histories of the items
+-- What a trigger adds where its expression has this value and these are the events of its open problems: where the value
+-- is unknown nothing; where it is 0 the open problems close; else there is a new problem where none is open.
+unfoldable pub verdict_records : Conf → ℕ → ℕ → ℕ → Trigger → List EventId → Option ℤ → List Rec
+verdict_records conf number now id trigger events None = []
+verdict_records conf number now id trigger events (Some p) =
+    if int_eq p (pos 0) then map (recovery_of number now) events else opened conf number now id trigger events
+
+-- what a trigger adds where it is evaluated over the histories of the items
+unfoldable pub judged : Conf → (ℕ → List Stored) → ℕ → ℕ → ℕ → Trigger → List EventId → List Rec
+judged conf items number now id trigger events =
+    verdict_records conf number now id trigger events (expression_value (call_value items now trigger) (tree_of trigger.expr))
+
+abbrev pub judged_by : Conf → (ℕ → List Stored) → ℕ → ℕ → ℕ → Option Trigger → List EventId → List Rec
+judged_by conf items number now id None events = []
+judged_by conf items number now id (Some trigger) events = judged conf items number now id trigger events
+
+-- what the trigger with an id adds, over its open problems
 unfoldable pub evaluated : Conf → (ℕ → List Stored) → ℕ → ℕ → ℕ → List Rec → List Rec
-evaluated conf items number now id problems = of_trigger (at_id conf.triggers id)
-  where
-    of_trigger : Option Trigger → List Rec
-    of_trigger None = []
-    of_trigger (Some trigger) =
-        verdict_records conf number now id trigger problems (expression_value (call_value items now trigger) (tree_of trigger.expr))
+evaluated conf items number now id problems = judged_by conf items number now id (at_id conf.triggers id) (map event_of problems)
 
 -- the records of evaluating triggers one after another, behind these records
 abbrev pub phase : (ℕ → List Rec → List Rec) → List Rec → List ℕ → List Rec
@@ -71,13 +76,14 @@ evaluation_order conf = ids_from 1 conf.triggers
 unfoldable pub triggers_over : Conf → ℕ → List ℕ
 triggers_over conf item = filter (λ id. is_over item (at_id conf.triggers id)) (evaluation_order conf)
 
--- the Failure record of a value that its item can't keep
+-- the Failure record of a value that this item can't keep
+abbrev pub failure_by : Conf → ℕ → Option Item → List Rec
+failure_by conf number None = []
+failure_by conf number (Some item) = Failure number (host_name (at_id conf.hosts item.host)) item.key (codes "value: not a number") ∷ []
+
+-- the Failure record of a value that the item with an id can't keep
 unfoldable pub failure_of : Conf → ℕ → ℕ → List Rec
-failure_of conf number item = of_item (at_id conf.items item)
-  where
-    of_item : Option Item → List Rec
-    of_item None = []
-    of_item (Some i) = Failure number (host_name (at_id conf.hosts i.host)) i.key (codes "value: not a number") ∷ []
+failure_of conf number item = failure_by conf number (at_id conf.items item)
 
 -- the records of a value: a Failure where it isn't stored, else those of the triggers over its item
 abbrev pub value_records : Conf → List Numbered → Numbered → ℕ → ℕ → List Rec → Option Stored → List Rec

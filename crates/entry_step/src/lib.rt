@@ -1,15 +1,37 @@
-//! One entry at a time.
+//! One entry at a time: what an entry stores, which triggers it evaluates, and which problems begin and end.
+//!
+//! `Cells` keep what a run needs between entries: the latest stored value of each item, and for each trigger the events
+//! of its open problems. `step` takes one numbered entry and answers the records that it makes.
+//!
+//! The contract: over cells that stand for a log and its records, and with an entry that may follow the log, `step`
+//! answers the records that the definitions find by searching the log and those records, and leaves cells that stand
+//! for the log with the entry and all records. At `Err` the cells are as before.
+//!
+//! A log has its newest entry first (`specs/Log.antt`), records stand in the order in which they were made. A value
+//! goes into the history of its item by its time (`specs/History.antt`). Where an item stored a value, the enabled
+//! triggers with a call over it are evaluated (`specs/Evaluation.antt`, `specs/Records.antt`): a value other than 0
+//! makes a problem where none is open, 0 closes the open ones, an unknown value does nothing. A number item reads a value
+//! without the blanks around it (`specs/Blanks.antt`). A value that its item can't keep makes a Failure. Entries of other
+//! kinds make no records.
+//!
+//! Built so far are the function `last(#1)`, constants and the operator `>`. Everything else is unknown.
+//!
+//! ```text
+//! let mut cells = Cells::new(alloc, &conf)?;
+//! let made = step(alloc, &conf, &mut cells, &entry)?;
+//! ```
 #![tactic(auto)]
 
-ghost use Rattle.std.specs.Prelude.{◌≡◌, []};
-ghost use Rattle.entry_step.specs.Records.{replay};
-ghost use Rattle.entry_step.specs.Cells.{StandFor};
-ghost use Rattle.entry_step.specs.Log.{Fits};
+mod blanks;
+mod cells;
+mod changes;
+mod evaluation;
+mod history;
+mod records;
+mod stepping;
 
-use zbx_types::Conf;
+pub use cells::Cells;
+pub use stepping::step;
 
-pub fn nothing(conf: &Conf) -> u8
-    ensures { replay conf.now [] ≡ replay conf.now [] }
-{
-    1
-}
+#[cfg(test)]
+mod tests;

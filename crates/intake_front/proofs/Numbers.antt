@@ -1,14 +1,12 @@
 -- Laws of numbered groups.
-use Rattle.std.proofs.Common.{◌≡◌, ℕ, ◌+◌, ◌≤◌, List, [], ◌∷◌, ◌++◌, length, suc, refl, ap, sym, ◌∙◌, arith, append_assoc, append-nil, length-append}
-use Rattle.std.specs.Prelude.{Result, Ok, Err}
-use Rattle.std.specs.List.{flat_map}
+use Rattle.std.proofs.Common.{◌≡◌, ℕ, ◌+◌, List, [], ◌∷◌, ◌++◌, length, suc, refl, ap, sym, ◌∙◌, arith, append-nil}
 use Rattle.std.proofs.lemmas.Grind.{flat_map-append}
 use Rattle.zbx_types.specs.declared.conf.Conf.{Conf}
 use Rattle.zbx_types.specs.declared.entries.Entry.{Entry}
 use Rattle.zbx_types.specs.declared.entries.Numbered.{Numbered}
 use Rattle.sender_json.specs.declared.asked.Asked.{Asked}
 use Rattle.intake_front.specs.Taking.{taken_of, entry_in, group_of}
-use Rattle.intake_front.specs.Intake.{numbered_from, with_group}
+use Rattle.intake_front.specs.Intake.{numbered_from}
 
 pub length_numbered : (n : ℕ) (group : List Entry) → length (numbered_from n group) ≡ length group
 length_numbered n [] = refl
@@ -35,4 +33,4 @@ group_more conf now first made new asked one is more =
     let all : group_of conf now (asked ++ one ∷ []) ≡ group ++ behind = flat_map-append _ asked (one ∷ []) ∙ ap (λ t. group ++ t) (append-nil behind) in
     let count : length made ≡ length group = ap length is ∙ length_numbered first group in
     more ∙ (ap (λ k. made ++ numbered_from (first + k) behind) count ∙ (ap (λ t. t ++ numbered_from (first + length group) behind) is
-        ∙ (sym (numbered-append first group behind) ∙ ap (numbered_from first) (sym all))))
+    ∙ (sym (numbered-append first group behind) ∙ ap (numbered_from first) (sym all))))

@@ -1,8 +1,8 @@
 -- What events keep of the intake's entries.
-use Rattle.std.proofs.Common.{◌≡◌, ℕ, ◌+◌, ◌≤◌, ◌<◌, max, min, Bool, true, false, not, List, [], ◌∷◌, ◌++◌, length, reverse, take, refl, ap, sym, ◌∙◌, subst, arith, append_assoc, append-nil, length-append, eqb, cond}
-use Rattle.std.specs.Prelude.{◌&&◌, if◌then◌else◌, option_and_then, Option, Some, None, nat_le, Result, Ok, Err}
-use Rattle.std.specs.List.{All, flat_map}
-use Rattle.std.proofs.lemmas.List.{reverse-append, length-reverse, take-append-le}
+use Rattle.std.proofs.Common.{◌≡◌, ℕ, ◌+◌, ◌≤◌, ◌<◌, max, Bool, true, false, not, List, [], ◌∷◌, ◌++◌, length, refl, ap, sym, ◌∙◌, subst, arith, append_assoc, append-nil, length-append, eqb}
+use Rattle.std.specs.Prelude.{◌&&◌, if◌then◌else◌, option_and_then, Option, Some, None, nat_le, Result, Err}
+use Rattle.std.specs.List.{All}
+use Rattle.std.proofs.lemmas.List.{reverse-append, length-reverse}
 use Rattle.std.proofs.lemmas.Bool.{ne_eqb}
 use Rattle.std.proofs.lemmas.List.Elements.{All-nil, All-cons, All-head, All-tail, All-append}
 use Rattle.std.proofs.lemmas.List.Concat.{flat_map-cons}
@@ -12,11 +12,10 @@ use Rattle.zbx_types.specs.declared.conf.Item.{Item}
 use Rattle.zbx_types.specs.declared.conf.ItemKind.{ItemKind}
 use Rattle.zbx_types.specs.declared.conf.ItemKind.TheVariants as kinds
 use Rattle.zbx_types.specs.declared.entries.Entry.{Entry}
-use Rattle.zbx_types.specs.declared.entries.Entry.TheVariants.{Config, Value, Tick}
+use Rattle.zbx_types.specs.declared.entries.Entry.TheVariants.{Tick}
 use Rattle.zbx_types.specs.declared.entries.Numbered.{Numbered}
 use Rattle.outside.specs.Script.{moment_at}
 use Rattle.outside.specs.declared.event.WireEvent.{WireEvent}
-use Rattle.outside.specs.declared.event.WireEvent.TheVariants.{Opened, Piece, Ended, Broke, Quiet, Closed}
 use Rattle.wire_core.specs.Peers.{turn_of}
 use Rattle.wire_core.specs.declared.turn.Turn.{Turn}
 use Rattle.wire_core.specs.declared.turn.Turn.TheVariants as turn
@@ -28,11 +27,9 @@ use Rattle.sender_json.specs.declared.request.Request.TheVariants as request
 use Rattle.sender_json.specs.Requests.{request_of}
 use Rattle.entry_step.specs.Log.{log_of, last_moment, moment_of, is_config, is_trapper, IsFitting, Follows, Fits}
 use Rattle.intake_front.specs.Taking.{clocked, valued, keyed, hosted, taken_of, entry_in, group_of, is_enabled_host, is_enabled_item, is_trapper_kind, is_trapper_item, host_named, item_keyed}
-use Rattle.intake_front.specs.Intake.{Intake, Made, numbered_from, with_group, is_due, half_minute, ticks_at, answered_values, answered_request, turned, behind_tick, ticked, handled, stop_of, start, IsSound}
+use Rattle.intake_front.specs.Intake.{Intake, numbered_from, with_group, is_due, half_minute, ticks_at, answered_values, answered_request, turned, behind_tick, ticked, handled, start, IsSound}
 use Rattle.intake_front.specs.declared.refusal.ValueRefusal.{ValueRefusal}
-use Rattle.intake_front.specs.declared.refusal.ValueRefusal.TheVariants.{UnknownHost, UnknownKey, Disabled, NotTrapper, BadValue, BadClock}
-use Rattle.intake_front.specs.declared.answer.Stop.{Stop}
-use Rattle.intake_front.specs.declared.answer.Stop.TheVariants as stop
+use Rattle.intake_front.specs.declared.refusal.ValueRefusal.TheVariants.{Disabled, NotTrapper, BadValue}
 
 -- an entry that is taken at a moment: it is no Config, and fits
 record IsTakenAt (conf : Conf) (now : ℕ) (e : Entry) : Type 0 where
@@ -54,11 +51,11 @@ stand_one conf now entries e s t =
     let count : length (log_of entries) ≡ length entries = length-reverse entries in
     let some : length entries ≡ 0 → ⊥ = λ none. let begun = s.begun in omega arith in
     let follows : Follows conf one (log_of entries) = record {
-        numbered = rw count refl;
-        first = t.plain ∙ sym (ap (λ n. eqb n 0) count ∙ ne_eqb (length entries) 0 some);
-        moments = rw t.moment s.moments;
-        fitting = t.fitting;
-      } in
+      numbered = rw count refl;
+      first = t.plain ∙ sym (ap (λ n. eqb n 0) count ∙ ne_eqb (length entries) 0 some);
+      moments = rw t.moment s.moments;
+      fitting = t.fitting;
+    } in
     record {
       fits = rw log (s.fits, follows);
       moments = rw (log, t.moment) (omega arith);
@@ -118,8 +115,8 @@ module _ (conf : Conf) (now : ℕ) where
       let P : Entry → Type 0 = IsTakenAt conf now in
       let there = at_id conf.items item in
       unless P (not (is_enabled_host (at_id conf.hosts host) && is_enabled_item there)) Disabled _ (λ enabled.
-          unless P (not (is_trapper_item there)) NotTrapper _ (λ takes.
-              valued_fits conf now item asked.clock asked.value (trapper there (both_true (is_enabled_host (at_id conf.hosts host)) (is_enabled_item there) enabled) takes)))
+      unless P (not (is_trapper_item there)) NotTrapper _ (λ takes.
+      valued_fits conf now item asked.clock asked.value (trapper there (both_true (is_enabled_host (at_id conf.hosts host)) (is_enabled_item there) enabled) takes)))
 
   hosted_fits : (asked : Asked) (host : Option ℕ) → All (IsTakenAt conf now) (entry_in (hosted conf now asked host))
   unfolding hosted
@@ -134,7 +131,7 @@ module _ (conf : Conf) (now : ℕ) where
   group_fits [] = All-nil (IsTakenAt conf now)
   group_fits (asked ∷ rest) =
       subst (All (IsTakenAt conf now)) (sym (flat_map-cons (λ a. entry_in (taken_of conf now a)) asked rest))
-          (All-append (IsTakenAt conf now) (entry_in (taken_of conf now asked)) (group_of conf now rest) (taken_fits asked) (group_fits rest))
+      (All-append (IsTakenAt conf now) (entry_in (taken_of conf now asked)) (group_of conf now rest) (taken_fits asked) (group_fits rest))
 
   request_fits : (conn since : ℕ) (r : Request) → All (IsTakenAt conf now) (answered_request conf now conn since r).group
   unfolding answered_request answered_values

@@ -1,9 +1,9 @@
 -- What a wire event does: the entries that it numbers, and the reply to its sender.
-use Rattle.std.specs.Prelude.{◌≡◌, ◌≤◌, ◌<◌, ℕ, ◌+◌, ◌-◌, ◌/◌, max, nat_lt, Bool, true, false, List, [], ◌∷◌, ◌++◌, length, Option, Some, None, if◌then◌else◌}
+use Rattle.std.specs.Prelude.{◌≤◌, ◌<◌, ℕ, ◌+◌, ◌-◌, ◌/◌, max, nat_lt, Bool, true, List, [], ◌∷◌, ◌++◌, length, Option, Some, None, if◌then◌else◌}
 use Rattle.zbx_types.specs.Frames.{frame}
 use Rattle.zbx_types.specs.declared.conf.Conf.{Conf}
 use Rattle.zbx_types.specs.declared.entries.Entry.{Entry}
-use Rattle.zbx_types.specs.declared.entries.Entry.TheVariants.{Config, Value, Tick}
+use Rattle.zbx_types.specs.declared.entries.Entry.TheVariants.{Config, Tick}
 use Rattle.zbx_types.specs.declared.entries.Numbered.{Numbered}
 use Rattle.outside.specs.Script.{moment_at}
 use Rattle.outside.specs.declared.event.WireEvent.{WireEvent}
@@ -16,12 +16,10 @@ use Rattle.sender_json.specs.Replies.{reply_text, refusal_text}
 use Rattle.sender_json.specs.declared.asked.Asked.{Asked}
 use Rattle.sender_json.specs.declared.request.Request.{Request}
 use Rattle.sender_json.specs.declared.request.Request.TheVariants as request
-use Rattle.sender_json.specs.declared.refused.Refusal.{Refusal}
 use Rattle.sender_json.specs.declared.refused.Refusal.TheVariants as refusal
 use Rattle.entry_step.specs.Log.{log_of, last_moment, Fits}
 use Rattle.intake_front.specs.Taking.{group_of}
 use Rattle.intake_front.specs.declared.answer.Answer.{Answer}
-use Rattle.intake_front.specs.declared.answer.Reply.{Reply}
 use Rattle.intake_front.specs.declared.answer.Stop.{Stop}
 use Rattle.intake_front.specs.declared.answer.Stop.TheVariants as stop
 
@@ -56,7 +54,7 @@ is_due (Some last) half = nat_lt last half
 abbrev pub half_minute : ℕ → ℕ
 half_minute now = now / 30000000000
 
--- the Tick that is due at a moment, where the last one was of this half minute
+-- the Tick that is due at a moment, given the half minute of the last one
 abbrev pub ticks_at : Option ℕ → ℕ → List Entry
 ticks_at last now = if is_due last (half_minute now) then Tick now ∷ [] else []
 
@@ -70,6 +68,7 @@ ticked i at =
     let now = max i.now at in
     record { now = now; tick = tick_after i.tick now; peers = i.peers; entries = with_group i.entries (ticks_at i.tick now) }
 
+-- nothing is answered
 abbrev pub silent : Answer
 silent = record { reply = None; shut = None; stop = None }
 
@@ -77,6 +76,7 @@ silent = record { reply = None; shut = None; stop = None }
 abbrev pub replying : ℕ → List ℕ → Answer
 replying conn bytes = record { reply = Some (record { conn = conn; bytes = bytes }); shut = Some conn; stop = None }
 
+-- a connection is closed, with no reply
 abbrev pub shutting : ℕ → Answer
 shutting conn = record { reply = None; shut = Some conn; stop = None }
 
@@ -85,6 +85,7 @@ pub record Made : Type 0 where
   pub group : List Entry
   pub answer : Answer
 
+-- no entries
 abbrev pub only : Answer → Made
 only answer = record { group = []; answer = answer }
 
@@ -94,6 +95,7 @@ answered_values conf now conn since all =
     let group = group_of conf now all in
     record { group = group; answer = replying conn (frame (reply_text (length group) (length all - length group) ((now - since) / 1000))) }
 
+-- a request that brings no values is refused by its reply
 unfoldable pub answered_request : Conf → ℕ → ℕ → ℕ → Request → Made
 answered_request conf now conn since request.NotJson = only (replying conn (frame (refusal_text refusal.NotJson)))
 answered_request conf now conn since request.Other = only (replying conn (frame (refusal_text refusal.Unsupported)))
@@ -105,6 +107,7 @@ turned conf now turn.Nothing = only silent
 turned conf now (turn.Shut conn) = only (shutting conn)
 turned conf now (turn.Whole conn body since) = answered_request conf now conn since (request_of body)
 
+-- Closed is the last event
 abbrev pub stop_of : WireEvent → Option Stop
 stop_of (Closed at) = Some stop.Closed
 stop_of (Opened conn at) = None
@@ -113,6 +116,7 @@ stop_of (Ended conn at) = None
 stop_of (Broke conn at) = None
 stop_of (Quiet at) = None
 
+-- an answer that tells whether its event is the last
 abbrev pub stopping : Answer → Option Stop → Answer
 stopping answer s = record { reply = answer.reply; shut = answer.shut; stop = s }
 
@@ -120,13 +124,13 @@ stopping answer s = record { reply = answer.reply; shut = answer.shut; stop = s 
 abbrev pub grown_by : Intake → Peers → List Entry → Intake
 grown_by i peers group = record { now = i.now; tick = i.tick; peers = peers; entries = with_group i.entries group }
 
--- an event behind its Tick
+-- what an event does behind its Tick
 unfoldable pub behind_tick : Conf → Intake → WireEvent → Handled
 behind_tick conf i e =
     let made = turned conf i.now (turn_of i.peers i.now e) in
     record { intake = grown_by i (after_event i.peers i.now e) made.group; answer = stopping made.answer (stop_of e) }
 
--- an event
+-- what an event does
 unfoldable pub handled : Conf → Intake → WireEvent → Handled
 handled conf i e = behind_tick conf (ticked i (moment_at e)) e
 

@@ -4,7 +4,6 @@ use Rattle.std.specs.Option.{option_to_list}
 use Rattle.zbx_types.specs.declared.conf.Conf.{Conf}
 use Rattle.outside.specs.declared.event.WireEvent.{WireEvent}
 use Rattle.intake_front.specs.Intake.{Intake, Handled, handled}
-use Rattle.intake_front.specs.declared.answer.Answer.{Answer}
 use Rattle.intake_front.specs.declared.answer.Reply.{Reply}
 use Rattle.intake_front.specs.declared.answer.Stop.{Stop}
 
@@ -29,6 +28,7 @@ abbrev pub served_on : Option Stop → Conf → Served → WireEvent → Served
 served_on (Some reason) conf s e = s
 served_on None conf s e = grown s (handled conf s.intake e)
 
+-- a list of events more
 abbrev pub served_from : Conf → Served → List WireEvent → Served
 served_from conf s [] = s
 served_from conf s (e ∷ es) = served_from conf (served_on s.stop conf s e) es

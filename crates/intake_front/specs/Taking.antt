@@ -1,5 +1,5 @@
 -- What becomes of an asked value.
-use Rattle.std.specs.Prelude.{ℕ, ◌+◌, ◌^◌, ◌<◌, ◌==◌, nat_le, nat_eq, min, Bool, true, false, not, ◌&&◌, List, [], ◌∷◌, ◌++◌, length, position, Option, Some, None, Result, Ok, Err, if◌then◌else◌, option_map, option_and_then}
+use Rattle.std.specs.Prelude.{ℕ, ◌+◌, ◌^◌, ◌<◌, ◌==◌, nat_le, nat_eq, min, Bool, true, false, not, ◌&&◌, List, [], ◌∷◌, length, position, Option, Some, None, Result, Ok, Err, if◌then◌else◌, option_map, option_and_then}
 use Rattle.std.specs.List.{flat_map}
 use Rattle.std.specs.Cmp.Lexicographic.{pointwise}
 use Rattle.zbx_types.specs.Ids.{at_id}
@@ -9,7 +9,7 @@ use Rattle.zbx_types.specs.declared.conf.Item.{Item}
 use Rattle.zbx_types.specs.declared.conf.ItemKind.{ItemKind}
 use Rattle.zbx_types.specs.declared.conf.ItemKind.TheVariants as kinds
 use Rattle.zbx_types.specs.declared.entries.Entry.{Entry}
-use Rattle.zbx_types.specs.declared.entries.Entry.TheVariants.{Config, Value, Tick}
+use Rattle.zbx_types.specs.declared.entries.Entry.TheVariants.{Value}
 use Rattle.sender_json.specs.declared.asked.Asked.{Asked}
 use Rattle.sender_json.specs.declared.asked.Clock.{Clock}
 use Rattle.sender_json.specs.declared.asked.Clock.TheVariants as clock
@@ -33,35 +33,41 @@ host_named conf name = option_map (λ place. place + 1) (position (λ h. same_te
 abbrev pub item_keyed : Conf → ℕ → List ℕ → Option ℕ
 item_keyed conf host key = option_map (λ place. place + 1) (position (λ i. (i.host == host) && same_text i.key key) conf.items)
 
+-- there is a host, and it is enabled
 abbrev pub is_enabled_host : Option Host → Bool
 is_enabled_host None = false
 is_enabled_host (Some host) = host.enabled
 
+-- there is an item, and it is enabled
 abbrev pub is_enabled_item : Option Item → Bool
 is_enabled_item None = false
 is_enabled_item (Some item) = item.enabled
 
+-- items of this kind take values from senders
 abbrev pub is_trapper_kind : ItemKind → Bool
 is_trapper_kind kinds.Trapper = true
 is_trapper_kind kinds.Dependent = false
 
--- the item takes values from senders
+-- there is an item, and it takes values from senders
 abbrev pub is_trapper_item : Option Item → Bool
 is_trapper_item None = false
 is_trapper_item (Some item) = is_trapper_kind item.kind
 
--- The cause for which an asked value is refused, or the entry that it becomes. The causes are looked for in this order:
--- the host, the key, whether both are enabled, whether the item takes values from senders, the value, the clock.
--- A value's time is its clock, or the moment at which it is taken, and never later than that.
+-- What an asked value becomes: an entry, or the first cause for which it is refused, in the order host, key, whether both
+-- are enabled, whether the item takes values from senders, value, clock. Below, the last test stands first.
+
+-- by its clock: a value's time is its clock, or the moment at which it is taken, and never later than that
 unfoldable pub clocked : ℕ → ℕ → List ℕ → Clock → Result Entry ValueRefusal
 clocked now item value clock.Absent = Ok (Value now item now value)
 clocked now item value clock.Bad = Err BadClock
 clocked now item value (clock.At time) = Ok (Value now item (min time now) value)
 
+-- by its value, which has at most 65535 bytes
 unfoldable pub valued : ℕ → ℕ → Clock → Option (List ℕ) → Result Entry ValueRefusal
 valued now item c None = Err BadValue
 valued now item c (Some value) = if nat_le (length value) 65535 then clocked now item value c else Err BadValue
 
+-- by the item that its key names
 unfoldable pub keyed : Conf → ℕ → Asked → ℕ → Option ℕ → Result Entry ValueRefusal
 keyed conf now asked host None = Err UnknownKey
 keyed conf now asked host (Some item) =
@@ -69,17 +75,20 @@ keyed conf now asked host (Some item) =
     else if not (is_trapper_item (at_id conf.items item)) then Err NotTrapper
     else valued now item asked.clock asked.value
 
+-- by the host that it names
 unfoldable pub hosted : Conf → ℕ → Asked → Option ℕ → Result Entry ValueRefusal
 hosted conf now asked None = Err UnknownHost
 hosted conf now asked (Some host) = keyed conf now asked host (option_and_then (item_keyed conf host) asked.key)
 
+-- what an asked value becomes at a moment
 unfoldable pub taken_of : Conf → ℕ → Asked → Result Entry ValueRefusal
 taken_of conf now asked = hosted conf now asked (option_and_then (host_named conf) asked.host)
 
--- the entries of the values that are taken, in their order: one group
+-- the entry of a value that is taken
 abbrev pub entry_in : Result Entry ValueRefusal → List Entry
 entry_in (Ok entry) = entry ∷ []
 entry_in (Err cause) = []
 
+-- the entries of the values that are taken, in their order: one group
 abbrev pub group_of : Conf → ℕ → List Asked → List Entry
 group_of conf now all = flat_map (λ asked. entry_in (taken_of conf now asked)) all

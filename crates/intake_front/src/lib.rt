@@ -29,3 +29,6 @@ mod taking;
 pub use answer::{Answer, Reply, Stop};
 pub use front::Front;
 pub use refusal::ValueRefusal;
+
+#[cfg(test)]
+mod tests;

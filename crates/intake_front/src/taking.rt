@@ -7,7 +7,9 @@ ghost use Rattle.intake_front.specs.Intake.{numbered_from};
 use crate::refusal::ValueRefusal;
 use sender_json::{Asked, Clock};
 use std::alloc::Global;
-use zbx_types::{Conf, Entry, Host, Item, ItemKind, Many, Moment, Numbered, OutOfMemory, Text, by_id};
+use zbx_types::{
+    Conf, Entry, Host, Item, ItemKind, Many, Moment, Numbered, OutOfMemory, Text, by_id,
+};
 
 /// The longest value, in bytes.
 const LONGEST_VALUE: usize = 65_535;
@@ -142,12 +144,7 @@ fn clocked(now: Moment, item: u32, value: Text, clock: Clock) -> Result<Entry, V
 }
 
 #[tactic(auto, unfolding(crate::specs::Taking::valued))]
-fn valued(
-    now: Moment,
-    item: u32,
-    clock: Clock,
-    value: Option<Text>,
-) -> Result<Entry, ValueRefusal>
+fn valued(now: Moment, item: u32, clock: Clock, value: Option<Text>) -> Result<Entry, ValueRefusal>
     ensures { result ≡ valued now item clock value }
 {
     match value {
@@ -208,7 +205,11 @@ fn taken(conf: &Conf, now: Moment, asked: Asked) -> Result<Entry, ValueRefusal>
 }
 
 /// Numbers a value that was taken behind those of its group, whose first has this number.
-fn add(made: &mut Many<Numbered>, first: u64, taken: Result<Entry, ValueRefusal>) -> Result<(), OutOfMemory>
+fn add(
+    made: &mut Many<Numbered>,
+    first: u64,
+    taken: Result<Entry, ValueRefusal>,
+) -> Result<(), OutOfMemory>
     requires { first ≤ 2 ^ 63 }
     ensures { OnOk result (made.new ≡ made.old ++ numbered_from (first + length made.old) (entry_in taken)) }
 {

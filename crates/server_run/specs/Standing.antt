@@ -65,4 +65,3 @@ Settles conf old new entries told told' held held' settled.OutboxFault =
     (log : List Numbered) → Applied conf old.cells old.tally log → Fits conf (onto log entries)
     → (more : List ℕ) × (log_lines conf (onto log entries) ≡ log_lines conf log ++ more) × AppendsPart told told' more
 Settles conf old new entries told told' held held' settled.OutOfMemory = told' ≡ told
-

@@ -4,6 +4,8 @@ ghost use Rattle.std.specs.Prelude.{◌≡◌, ◌≤◌, ◌++◌, ◌∷◌, �
 ghost use Rattle.zbx_types.specs.declared.entries.Numbered.{Numbered};
 ghost use Rattle.outside.specs.Causes.{Rose};
 ghost use Rattle.entry_step.specs.Log.{Fits};
+ghost use Rattle.event_text.specs.Lines.{lines_of};
+ghost use Rattle.server_run.specs.Tally.{tally_with};
 ghost use Rattle.server_run.specs.Standing.{onto, Applied, log_lines, Settles};
 
 use crate::tally::Tally;
@@ -11,7 +13,7 @@ use crate::writing::write_all;
 use entry_step::{Cells, step};
 use outside::{Failed, Sink};
 use std::alloc::Global;
-use zbx_types::{Bytes, Conf, Numbered, OutOfMemory};
+use zbx_types::{Bytes, Conf, Numbered, OutOfMemory, Rec};
 
 /// The cells of the entries so far, and the counts of their records.
 #[derive(Drop)]
@@ -43,9 +45,24 @@ fn apply(
         → Applied conf.now ledger.new.cells ledger.new.tally (entry.now ∷ log) × ((more : List ℕ) × (lines.new ≡ lines.old ++ more) × (log_lines conf.now (entry.now ∷ log) ≡ log_lines conf.now log ++ more))) }
 {
     let records = step(alloc, conf, &mut ledger.cells, entry)?;
+    add_lines(alloc, records.as_slice(), &mut ledger.tally, lines)?;
+    Ok(())
+}
+
+/// Adds the lines of records, and counts them.
+#[tactic(auto, using(crate::proofs::Logs::length_append))]
+fn add_lines(
+    alloc: Global,
+    records: &[Rec],
+    tally: &mut Tally,
+    lines: &mut Bytes,
+) -> Result<(), OutOfMemory>
+    ensures lines { OnOk result (lines.new ≡ lines.old ++ lines_of records.now) }
+    ensures tally { OnOk result (tally.new ≡ tally_with tally.old records.now) }
+{
     let before = lines.len();
-    event_text::lines(alloc, records.as_slice(), lines)?;
-    ledger.tally.add(records.as_slice(), lines.len() - before);
+    event_text::lines(alloc, records, lines)?;
+    tally.add(records, lines.len() - before);
     Ok(())
 }
 

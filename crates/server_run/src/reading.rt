@@ -27,7 +27,8 @@ pub(crate) fn read_all<S: Source>(
     let mut text = Bytes::new(alloc);
     let mut piece = [0; 4096];
     for _ in 0..most + 1 {
-        match source.read(&mut piece) {
+        let room = piece.len().min(most as usize + 1 - text.len());
+        match source.read(&mut piece[..room]) {
             Ok(0) => return Ok(text),
             Ok(count) => {
                 if text.extend(&piece[..count]).is_err() {

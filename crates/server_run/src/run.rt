@@ -170,15 +170,7 @@ fn go<S: Source, W: Wire, O: Sink>(
             };
         }
     };
-    let status = serve(
-        alloc,
-        turns,
-        &conf,
-        wire,
-        &mut front,
-        &mut ledger,
-        outbox,
-    );
+    let status = serve(alloc, turns, &conf, wire, &mut front, &mut ledger, outbox);
     let entries = front.into_entries();
     let count = entries.as_slice().len() as u64;
     Course {

@@ -1,6 +1,6 @@
 //! Events are taken one after another, up to the one that ends the run.
 
-ghost use Rattle.std.specs.Prelude.{◌≡◌, ◌≤◌, ℕ, List, Option};
+ghost use Rattle.std.specs.Prelude.{◌≡◌, ◌≤◌, ℕ, List, Option, drop};
 ghost use Rattle.outside.specs.Causes.{Rose};
 ghost use Rattle.server_run.specs.Standing.{Standing};
 ghost use Rattle.server_run.specs.Stepped.{Advances, Stands, step_of};
@@ -12,7 +12,7 @@ use intake_front::{Front, Stop};
 use outside::{Sink, Wire};
 use server_words::Status;
 use std::alloc::Global;
-use zbx_types::Conf;
+use zbx_types::{Conf, Numbered};
 
 /// What one turn came to.
 #[derive(Clone, Copy, Debug, PartialEq, Eq)]
@@ -44,6 +44,18 @@ fn step_of(settled: Settled, stop: Option<Stop>) -> Step
     }
 }
 
+/// The entries behind the first ones of this number.
+#[tactic(auto, using(std::proofs::lemmas::List::drop_all))]
+fn behind(entries: &[Numbered], first: usize) -> &[Numbered]
+    ensures { result.now ≡ drop first entries.now }
+{
+    if first <= entries.len() {
+        &entries[first..]
+    } else {
+        &[]
+    }
+}
+
 /// Takes an event, and applies its entries.
 fn turn<W: Wire, O: Sink>(
     alloc: Global,
@@ -66,7 +78,7 @@ fn turn<W: Wire, O: Sink>(
         Taking::Failed => Step::WireFault,
         Taking::Refused => Step::Refused,
         Taking::Went { stop } => {
-            let entries = &front.entries().as_slice()[from..];
+            let entries = behind(front.entries().as_slice(), from);
             step_of(settle(alloc, conf, ledger, outbox, entries), stop)
         }
     }
@@ -84,6 +96,7 @@ pub(crate) fn serve<W: Wire, O: Sink>(
 ) -> Status
     ensures wire { result ≡ Status.WireFault → Rose (W.faults wire.old) (W.faults wire.new) }
     ensures outbox { result ≡ Status.OutboxFault → Rose (O.faults outbox.old) (O.faults outbox.new) }
+    ensures no_print { result ≡ Status.PrintFault → ⊥ }
     ensures finished { Finished conf.now front.old front.new.entries turns (W.left wire.old) (W.sent wire.old) (W.sent wire.new) (W.closed wire.old) (W.closed wire.new) (W.unsent wire.old) (W.unsent wire.new) result }
     ensures leaves { (told : Option (List ℕ)) (held : ℕ) → Standing conf.now front.old ledger.old.cells ledger.old.tally told (O.bytes outbox.old) held (O.held outbox.old)
         → Leaves conf.now front.new.entries ledger.new.tally told (O.bytes outbox.new) held (O.held outbox.new) result }

@@ -21,12 +21,7 @@ pub(crate) enum Taking {
 }
 
 /// Takes the next event, numbers its entries and sends its reply.
-pub(crate) fn take<W: Wire>(
-    alloc: Global,
-    conf: &Conf,
-    wire: &mut W,
-    front: &mut Front,
-) -> Taking
+pub(crate) fn take<W: Wire>(alloc: Global, conf: &Conf, wire: &mut W, front: &mut Front) -> Taking
     ensures later { W.faults wire.old ≤ W.faults wire.new }
     ensures failed { result ≡ Taking.Failed → Rose (W.faults wire.old) (W.faults wire.new) }
     ensures taken { Takes conf.now front.old front.new (W.left wire.old) (W.left wire.new) (W.sent wire.old) (W.sent wire.new) (W.closed wire.old) (W.closed wire.new) (W.unsent wire.old) (W.unsent wire.new) result }
