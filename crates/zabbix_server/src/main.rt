@@ -1,0 +1,47 @@
+//! The monitoring core of a Zabbix server, as a program.
+//!
+//! ```text
+//! zabbix_server --mode feed --config CONFIG --script SCRIPT
+//! ```
+//!
+//! reads the configuration document in the file CONFIG, takes the events of the script in the file SCRIPT, and writes a
+//! line for each problem and recovery to standard output, and behind them one line with the status of the run and its
+//! counts. It exits with the number of the status: 0 for Ok, 2 for Usage, 5 for SourceFault, 11 for OutboxFault, 12 for
+//! PrintFault, 13 for WireFault, 15 for TurnLimit, 16 for OutOfMemory, 17 for Unbuilt. Nothing goes to standard error.
+//!
+//! All that the run does is [`server_run::run_single`]. This crate hands it the files and standard output:
+//! [`FileSource`](source::FileSource) reads a file, [`FileSink`](sink::FileSink) adds to one, and
+//! [`StdSink`](standard::StdSink) writes to standard output. Each tells its bytes where the reader or the writer behind
+//! it does, and an error comes only where its count of faults rose.
+//!
+//! The one contract: the program's status is Usage exactly where its words have no plan, unless memory was refused.
+#![tactic(auto)]
+
+mod arguments;
+mod running;
+mod sink;
+mod source;
+mod standard;
+mod writer;
+
+use server_words::Status;
+use std::process::ExitCode;
+use zbx_types::OutOfMemory;
+
+fn main(rt: HostRuntime) -> ExitCode {
+    let status = match status(&rt) {
+        Ok(status) => status,
+        Err(OutOfMemory) => Status::OutOfMemory,
+    };
+    ExitCode::from(status.exit())
+}
+
+/// How the program ended. [`OutOfMemory`] where there is no memory for its words or what they name; nothing was printed
+/// then.
+fn status(rt: &HostRuntime) -> Result<Status, OutOfMemory> {
+    let words = arguments::words(rt, rt.alloc())?;
+    running::run(rt, rt.alloc(), words.as_slice())
+}
+
+#[cfg(test)]
+mod tests;

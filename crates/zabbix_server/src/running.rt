@@ -1,0 +1,84 @@
+//! From words to a run over files and standard output.
+
+ghost use Rattle.std.specs.Prelude.{◌≡◌, ◌⊎◌, None, IfOk, IsSome, OnErr};
+ghost use Rattle.server_words.specs.Words.{plan_of};
+ghost use Rattle.server_words.specs.declared.status.Status.TheVariants as Status;
+
+use crate::sink::FileSink;
+use crate::source::FileSource;
+use crate::standard::StdSink;
+use outside::{MemSink, MemSource, ScriptWire, Sink, Source, Wire};
+use server_run::run_single;
+use server_words::{Plan, PlanError, Status, plan};
+use std::alloc::Global;
+use std::convert::AsStr;
+use zbx_types::{Bytes, Many, OutOfMemory, Text};
+
+/// Runs the server as the words ask, over files and standard output, and answers how the run ended. [`OutOfMemory`] where
+/// there is no memory for what the words name; nothing was printed then.
+pub(crate) fn run(rt: &HostRuntime, alloc: Global, words: &[Text]) -> Result<Status, OutOfMemory>
+    ensures usage { IfOk result (λ status. status ≡ Status.Usage → plan_of words.now ≡ None) }
+    ensures not_command { plan_of words.now ≡ None → IfOk result (λ status. (status ≡ Status.Usage) ⊎ (status ≡ Status.OutOfMemory)) }
+    ensures memory { OnErr result (IsSome (plan_of words.now)) }
+{
+    match plan(alloc, words) {
+        Ok(plan) => run_planned(rt, alloc, words, &plan),
+        Err(PlanError::Usage) => Ok(run_nothing(rt, alloc, words)),
+        Err(PlanError::OutOfMemory) => Err(OutOfMemory),
+    }
+}
+
+/// Runs the server over the files that a plan names. A path that it doesn't name is the empty one, at which no file is.
+fn run_planned(
+    rt: &HostRuntime,
+    alloc: Global,
+    words: &[Text],
+    plan: &Plan,
+) -> Result<Status, OutOfMemory>
+    ensures usage { IfOk result (λ status. status ≡ Status.Usage → plan_of words.now ≡ None) }
+    ensures not_command { plan_of words.now ≡ None → IfOk result (λ status. (status ≡ Status.Usage) ⊎ (status ≡ Status.OutOfMemory)) }
+{
+    let nowhere = Text::new(alloc);
+    let config = FileSource::at(rt, alloc, plan.config.as_ref().unwrap_or(&nowhere))?;
+    let script = FileSource::at(rt, alloc, plan.script.as_ref().unwrap_or(&nowhere))?;
+    let wire = ScriptWire::new(alloc, script, Many::new(alloc));
+    let printer = StdSink::new(rt.stdout());
+    if plan.outbox.as_str() == "-" {
+        let outbox = StdSink::new(rt.stdout());
+        Ok(status_of(alloc, words, config, wire, outbox, printer))
+    } else {
+        let outbox = FileSink::at(rt, &plan.outbox);
+        Ok(status_of(alloc, words, config, wire, outbox, printer))
+    }
+}
+
+/// Runs the server over empty objects in memory, for words without a plan.
+fn run_nothing(rt: &HostRuntime, alloc: Global, words: &[Text]) -> Status
+    ensures usage { result ≡ Status.Usage → plan_of words.now ≡ None }
+    ensures not_command { plan_of words.now ≡ None → (result ≡ Status.Usage) ⊎ (result ≡ Status.OutOfMemory) }
+{
+    let config = MemSource::new(Bytes::new(alloc), Many::new(alloc));
+    let script = MemSource::new(Bytes::new(alloc), Many::new(alloc));
+    let wire = ScriptWire::new(alloc, script, Many::new(alloc));
+    let outbox = MemSink::new(Bytes::new(alloc), Many::new(alloc));
+    let printer = StdSink::new(rt.stdout());
+    status_of(alloc, words, config, wire, outbox, printer)
+}
+
+/// How a run over these objects ended.
+fn status_of<S: Source + Drop, W: Wire + Drop, O: Sink + Drop, P: Sink + Drop>(
+    alloc: Global,
+    words: &[Text],
+    config: S,
+    wire: W,
+    outbox: O,
+    printer: P,
+) -> Status
+    ensures usage { result ≡ Status.Usage → plan_of words.now ≡ None }
+    ensures not_command { plan_of words.now ≡ None → (result ≡ Status.Usage) ⊎ (result ≡ Status.OutOfMemory) }
+{
+    let mut config = config;
+    let mut wire = wire;
+    let mut printer = printer;
+    run_single(alloc, words, &mut config, &mut wire, outbox, &mut printer).status
+}
