@@ -1,12 +1,11 @@
 -- Laws of counts.
-use Rattle.std.proofs.Common.{◌≡◌, ℕ, ◌+◌, min, List, [], ◌++◌, length, refl, sym, ap, ◌∙◌, arith, length-append, count_by}
+use Rattle.std.proofs.Common.{◌≡◌, ℕ, ◌+◌, List, ◌++◌, length, refl, ap, ◌∙◌, arith, length-append, count_by}
 use Rattle.std.proofs.lemmas.List.Sums.{sum_by-append}
 use Rattle.std.specs.Prelude.{cond}
 use Rattle.zbx_types.specs.declared.entries.Rec.{Rec}
 use Rattle.event_text.specs.Lines.{lines_of}
 use Rattle.server_run.specs.declared.tally.Counted.{Counted}
 use Rattle.server_run.specs.declared.tally.Counted.TheVariants as kinds
-use Rattle.server_run.specs.declared.tally.Tally.{Tally}
 use Rattle.server_run.specs.Tally.{capped, is_counted, tally_of, tally_with}
 use Rattle.server_run.proofs.Logs.{lines_of-append}
 

@@ -1,14 +1,14 @@
 -- Laws of the taking of events.
-use Rattle.std.proofs.Common.{◌≡◌, ℕ, ◌+◌, ◌≤◌, ◌<◌, List, [], ◌∷◌, ◌++◌, length, refl, sym, ap, ◌∙◌, subst, append_assoc, length-append, arith}
+use Rattle.std.proofs.Common.{◌≡◌, ℕ, ◌+◌, ◌≤◌, List, [], ◌∷◌, ◌++◌, refl, sym, ap, ◌∙◌, subst, append_assoc, length-append, arith}
 use Rattle.std.specs.Prelude.{Option, Some, None, IfSome}
 use Rattle.std.specs.Option.{option_to_list}
 use Rattle.zbx_types.specs.declared.conf.Conf.{Conf}
 use Rattle.zbx_types.specs.declared.entries.Numbered.{Numbered}
 use Rattle.outside.specs.declared.event.WireEvent.{WireEvent}
-use Rattle.intake_front.specs.Intake.{Intake, Handled, handled}
+use Rattle.intake_front.specs.Intake.{Intake, handled}
 use Rattle.intake_front.specs.Served.{Served, grown, served_on, served_from, served}
 use Rattle.intake_front.specs.declared.answer.Stop.{Stop}
-use Rattle.server_run.specs.Sending.{Delivers, Closed}
+use Rattle.server_run.specs.Sending.{Closed}
 use Rattle.server_run.specs.Course.{Took, Ran, Sent}
 use Rattle.server_run.specs.Outcome.{Finished, EndsAs}
 use Rattle.server_words.specs.declared.status.Status.{Status}

@@ -1,35 +1,29 @@
 -- Laws of how runs begin and end.
-use Rattle.std.proofs.Common.{◌≡◌, ◌⊎◌, ℕ, ◌+◌, ◌≤◌, ◌<◌, List, [], ◌∷◌, ◌++◌, length, take, refl, sym, ap, ◌∙◌, subst, arith, inl, inr, append-nil}
+use Rattle.std.proofs.Common.{◌≡◌, ◌⊎◌, ℕ, ◌+◌, List, [], length, take, refl, sym, ap, ◌∙◌, subst, arith, inl, inr, append-nil}
 use Rattle.std.specs.Prelude.{Option, Some, None, IfSome, IsSome, is_some}
 use Rattle.std.specs.Io.KnownBytes.{Appends}
 use Rattle.std.proofs.KnownBytes.{Appends-nil}
 use Rattle.std.proofs.Math.Seq.{take-append_seam}
 use Rattle.zbx_types.specs.declared.conf.Conf.{Conf}
 use Rattle.zbx_types.specs.declared.entries.Numbered.{Numbered}
-use Rattle.outside.specs.Causes.{Rose}
 use Rattle.outside.specs.declared.event.WireEvent.{WireEvent}
 use Rattle.config_templates.specs.Flat.{flat_of}
 use Rattle.event_text.specs.Lines.{lines_of}
 use Rattle.entry_step.specs.Log.{log_of}
 use Rattle.entry_step.specs.Records.{replay, out_of}
 use Rattle.intake_front.specs.Intake.{Intake, start}
-use Rattle.intake_front.specs.Served.{served}
-use Rattle.intake_front.specs.declared.answer.Stop.{Stop}
-use Rattle.intake_front.specs.declared.answer.Stop.TheVariants as stop
 use Rattle.intake_front.proofs.Sound.{sound_start}
 use Rattle.server_words.specs.declared.words.Plan.{Plan}
 use Rattle.server_words.specs.declared.status.Status.{Status}
 use Rattle.server_words.specs.declared.status.Status.TheVariants as status
-use Rattle.server_words.specs.declared.status.Counts.{Counts}
 use Rattle.server_words.specs.Words.{plan_of}
-use Rattle.server_words.specs.Printed.{printed_text}
 use Rattle.server_run.specs.declared.book.Ledger.{Ledger}
 use Rattle.server_run.specs.declared.tally.Tally.{Tally}
 use Rattle.server_run.specs.Ports.{IsTextUpTo}
 use Rattle.server_run.specs.Replayed.{conf_of_run, replay_under, replayed, run_lines}
 use Rattle.server_run.specs.Tally.{tally_of, counts_with, run_counts}
 use Rattle.server_run.specs.Standing.{Applied, Standing, Whole, Broken, AppendsPart, log_lines}
-use Rattle.server_run.specs.Outcome.{EndsAs, Finished, Leaves, Opened, Refuses, Followed, LinesAre, SizeIs, Prints, CutShort, EndsPrinted}
+use Rattle.server_run.specs.Outcome.{Finished, Leaves, Opened, Refuses, Followed, LinesAre, SizeIs, EndsPrinted}
 use Rattle.server_run.proofs.Texts.{text_told, unbuilt_told}
 
 some_plan : (o : Option Plan) (plan : Plan) → o ≡ Some plan → IsSome o
@@ -72,6 +66,7 @@ stands_start words source turns conf intake ledger told held o =
   where
     no_lines : (conf : Conf) (text : List ℕ) (told : Option (List ℕ)) → Appends told told (log_lines conf (log_of (start text).entries))
     no_lines conf text told = Appends-nil told
+
     no_size : (conf : Conf) (text : List ℕ) (held : ℕ) → held ≡ held + length (log_lines conf (log_of (start text).entries))
     no_size conf text held = omega arith
 

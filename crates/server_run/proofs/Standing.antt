@@ -1,5 +1,5 @@
 -- Laws of what the parts of a run stand for.
-use Rattle.std.proofs.Common.{◌≡◌, ℕ, ◌+◌, ◌≤◌, ◌<◌, List, [], ◌∷◌, ◌++◌, length, take, drop, refl, sym, ap, ◌∙◌, subst, append_assoc, append-nil, arith, length-append}
+use Rattle.std.proofs.Common.{◌≡◌, ℕ, ◌+◌, ◌≤◌, List, [], ◌∷◌, ◌++◌, length, take, drop, refl, sym, ap, ◌∙◌, subst, append-nil, arith, length-append}
 use Rattle.std.specs.Prelude.{Option, Some, None}
 use Rattle.std.specs.Io.KnownBytes.{Appends}
 use Rattle.std.proofs.KnownBytes.{Appends-trans}
@@ -22,8 +22,7 @@ use Rattle.server_run.specs.declared.book.Ledger.{Ledger}
 use Rattle.server_run.specs.declared.book.Settled.{Settled}
 use Rattle.server_run.specs.declared.book.Settled.TheVariants as settled
 use Rattle.server_run.specs.Tally.{tally_of, tally_with}
-use Rattle.server_run.specs.Standing.{onto, Applied, log_lines, Standing, AppendsPart, Broken, Whole, Settles}
-use Rattle.server_run.specs.declared.serving.Step.{Step}
+use Rattle.server_run.specs.Standing.{onto, Applied, log_lines, Standing, Broken, Whole, Settles}
 use Rattle.server_run.specs.declared.serving.Step.TheVariants as step
 use Rattle.server_run.specs.Stepped.{Advances, Stands, step_of}
 use Rattle.server_run.specs.Course.{Took}
@@ -41,13 +40,12 @@ pub applied_more : (conf : Conf) (cells cells' : CellsView) (tally tally' : Tall
 applied_more conf cells cells' tally tally' e records lines lines' out after counts written log applied fits =
     let rs = replay conf log in
     let made : records ≡ out_of conf log e e.entry rs = out log rs applied.cells_stand fits in
-    let all : rs ++ records ≡ replay conf (e ∷ log) = ap (λ l. rs ++ l) made in
-    (
+    let all : rs ++ records ≡ replay conf (e ∷ log) = ap (λ l. rs ++ l) made in (
       record {
         cells_stand = subst (StandFor conf cells' (e ∷ log)) all (after log rs applied.cells_stand fits);
         tally_is = counts ∙ ap (λ t. tally_with t records) applied.tally_is ∙ tally_more rs records ∙ ap tally_of all;
       },
-      (lines_of records, written, lines_next conf log e ∙ ap (λ l. log_lines conf log ++ lines_of l) (sym made))
+      (lines_of records, written, lines_next conf log e ∙ ap (λ l. log_lines conf log ++ lines_of l) (sym made)),
     )
 
 -- cells that stand for nothing stand for the configuration's entry
@@ -97,7 +95,7 @@ module _ (conf : Conf) (old new : Intake) (ledger ledger' : Ledger) (told told0 
       let set = settles (log_of old.entries) s.applied fits_onto in
       let lines : before ++ set.0 ≡ log_lines conf (log_of new.entries) = sym set.1 ∙ ap (log_lines conf) same_log in
       let part : before ++ take set.2.0 set.0 ≡ take (length before + set.2.0) (log_lines conf (log_of new.entries)) =
-          sym (take-append-add before set.0 set.2.0) ∙ ap (take (length before + set.2.0)) lines in
+      sym (take-append-add before set.0 set.2.0) ∙ ap (take (length before + set.2.0)) lines in
       record {
         fits = sound.fits;
         conf_is = conf_is_new;

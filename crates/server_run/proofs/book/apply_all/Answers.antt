@@ -1,7 +1,6 @@
-use Rattle.std.proofs.Common.{◌≡◌, ◌∷◌, [], ◌++◌, ◌∙◌, ap, sym, subst, refl, append-nil, append_assoc, drop, suc, add-one, ◌+◌, rules, ◌<◌, ◌≤◌, length, List}
+use Rattle.std.proofs.Common.{◌≡◌, ◌∷◌, [], ◌++◌, ◌∙◌, ap, sym, subst, refl, append-nil, append_assoc, drop, suc, add-one, ◌+◌, rules, ◌<◌, ◌≤◌, length}
 use Rattle.std.proofs.Math.Seq.{drop-cons}
 use Rattle.std.proofs.lemmas.List.{drop_all}
-use Rattle.zbx_types.specs.declared.entries.Numbered.{Numbered}
 use Rattle.entry_step.specs.Log.{Fits}
 use Rattle.server_run.specs.Standing.{onto, Applied, log_lines}
 use Rattle.server_run.proofs.Logs.{fits_front}

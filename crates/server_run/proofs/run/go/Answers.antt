@@ -1,8 +1,8 @@
-use Rattle.std.proofs.Common.{◌≡◌, ◌∙◌, ap, sym, subst, length, List}
+use Rattle.std.proofs.Common.{◌∙◌, ap, sym, subst, length, List}
 use Rattle.zbx_types.specs.declared.entries.Numbered.{Numbered}
 use Rattle.server_run.specs.Replayed.{run_lines}
 use Rattle.server_run.specs.Tally.{counts_with, run_counts}
-use Rattle.server_run.specs.Outcome.{LinesAre, SizeIs, Leaves}
+use Rattle.server_run.specs.Outcome.{LinesAre, SizeIs}
 use Rattle.server_run.proofs.Outcome.{stands_start, lines_left, size_left, counts_left}
 use Rattle.server_run.proofs.run.go.Goals as goal
 

@@ -1,4 +1,3 @@
-use Rattle.std.proofs.Common.{sym, subst}
 use Rattle.server_run.proofs.Outcome.{refuses, opened}
 use Rattle.server_run.proofs.run.open.Goals as goal
 

@@ -1,4 +1,4 @@
-use Rattle.std.proofs.Common.{arith, ◌≡◌, ◌++◌, sym, append_assoc, length, take, drop, ap, ◌∙◌, ◌≤◌, length-append}
+use Rattle.std.proofs.Common.{arith, ◌≡◌, ◌++◌, sym, append_assoc, length, take, drop, ap, ◌∙◌, length-append}
 use Rattle.std.proofs.lemmas.List.{take-append-drop, length-take-le}
 use Rattle.std.proofs.Math.Seq.{take-append_seam}
 use Rattle.std.proofs.KnownBytes.{Appends-trans, Appends-kept}
