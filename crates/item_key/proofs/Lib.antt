@@ -1,0 +1,5 @@
+pub mod Complete
+pub mod FrontKeys
+pub mod Meanings
+pub mod Runs
+pub mod Sound

@@ -1,0 +1,4 @@
+pub mod Fault
+pub mod Grammar
+pub mod Machine
+pub mod Meaning

@@ -1,0 +1,28 @@
+//! User macros in texts: a reference such as `{$MAX}` is replaced by the value that a list gives for it.
+//!
+//! The one contract: [`expand`] gives exactly the text that the definition `expanded` says, or [`OutOfMemory`].
+//!
+//! A reference is `{$`, a name and `}`. A name is one or more of the letters A to Z, the digits 0 to 9, `_` and `.`.
+//! Each reference is replaced once, by the first definition in the list whose name is that reference as it is written.
+//! One that has no definition stays as it is, and so does all that is no reference, as `{$}`, `{$max}` and `{$MAX`. A
+//! value that was put in is not looked through again, so references in it stay.
+//!
+//! References follow the Zabbix 6.0 manual, "User macros". That they are replaced wherever a text holds them is this
+//! project's own. Contexts are not known: `{$MAX:disk}` is no reference, and stays.
+//!
+//! ```text
+//! lookup: {$MAX} is 4
+//!
+//! let shown = expand(alloc, &Text::of(alloc, "load>{$MAX}")?, &lookup)?;      // "load>4"
+//! ```
+//!
+//! [`OutOfMemory`]: zbx_types::OutOfMemory
+#![tactic(auto)]
+
+mod references;
+mod replacing;
+
+pub use replacing::{Macro, expand};
+
+#[cfg(test)]
+mod tests;
