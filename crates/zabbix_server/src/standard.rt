@@ -1,6 +1,6 @@
 //! Standard output as a sink.
 
-ghost use Rattle.std.specs.Prelude.{◌≡◌, None};
+ghost use Rattle.std.specs.Prelude.{◌≡◌, true, None};
 
 use crate::writer::WriterSink;
 use std::io::Stdout;
@@ -11,7 +11,7 @@ pub type StdSink = WriterSink<Stdout>;
 impl WriterSink<Stdout> {
     /// A sink that writes to standard output.
     pub fn new(to: Stdout) -> StdSink
-        ensures { result ≡ record { bytes = None; held = 0; faults = 0 } }
+        ensures { result ≡ record { has_writer = true; bytes = None; held = 0; faults = 0 } }
     {
         WriterSink::over(to, 0)
     }

@@ -1,6 +1,6 @@
 //! Sinks over writers.
 
-ghost use Rattle.std.specs.Prelude.{◌≡◌, ◌≤◌, ◌<◌, length, None, IfOk};
+ghost use Rattle.std.specs.Prelude.{◌≡◌, ◌≤◌, ◌<◌, true, false, length, None, IfOk};
 ghost use Rattle.std.specs.Option.{option_and_then};
 ghost use Rattle.std.specs.Io.KnownBytes.{WriteAppends};
 ghost use Rattle.zabbix_server.specs.Adapters.{counted};
@@ -21,18 +21,18 @@ pub struct WriterSink<W: Write> {
 }
 
 impl<W: Write> Model for WriterSink<W> {
-    ghost use Rattle.std.specs.Option.{option_and_then};
+    ghost use Rattle.std.specs.Option.{option_and_then, is_some};
     ghost use Rattle.zabbix_server.specs.Adapters.{Holding, counted};
 
     ghost Value = { Holding };
 
-    ghost view = { λ s. record { bytes = counted s.held (option_and_then W.contents s.writer); held = s.held; faults = s.faults } };
+    ghost view = { λ s. record { has_writer = is_some s.writer; bytes = counted s.held (option_and_then W.contents s.writer); held = s.held; faults = s.faults } };
 }
 
 impl<W: Write> WriterSink<W> {
     /// A sink over a writer that holds this many bytes.
     pub fn over(writer: W, held: u64) -> WriterSink<W>
-        ensures { result ≡ record { bytes = counted held (W.contents writer); held = held; faults = 0 } }
+        ensures { result ≡ record { has_writer = true; bytes = counted held (W.contents writer); held = held; faults = 0 } }
     {
         WriterSink {
             writer: Some(writer),
@@ -43,7 +43,7 @@ impl<W: Write> WriterSink<W> {
 
     /// A sink without a writer, at which every call fails.
     pub fn without() -> WriterSink<W>
-        ensures { result ≡ record { bytes = None; held = 0; faults = 0 } }
+        ensures { result ≡ record { has_writer = false; bytes = None; held = 0; faults = 0 } }
     {
         WriterSink {
             writer: None,
