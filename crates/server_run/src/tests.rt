@@ -1,0 +1,421 @@
+use super::*;
+use outside::{MemSink, MemSource, ScriptWire};
+use server_words::Status;
+use std::alloc::Global;
+use std::convert::AsStr;
+use std::test::Fail;
+use zbx_types::{Bytes, Entry, Many, Numbered, OutOfMemory, Text, frame_header};
+
+// Scripts and expected reports are functions, so that a test's proof doesn't carry their bytes.
+
+/// The host `h` with the item `k`, whose trigger `hot` has a problem while the last value is above 5.
+fn plain_config() -> &'static str {
+    "{\"hosts\":[{\"name\":\"h\",\"groups\":[\"g\"],\"items\":[{\"key\":\"k\"}],\"triggers\":[{\"name\":\"hot\",\"expression\":\"last(/h/k)>5\",\"severity\":3}]}]}"
+}
+
+/// The numbers of the calls that fail, counted from 1. At 0 none fails.
+#[derive(Clone, Copy)]
+struct Fails {
+    source: u64,
+    wire: u64,
+    outbox: u64,
+    print: u64,
+}
+
+fn none_fails() -> Fails {
+    Fails {
+        source: 0,
+        wire: 0,
+        outbox: 0,
+        print: 0,
+    }
+}
+
+/// A run that has ended, with the wire and the printer that it had.
+#[derive(Drop)]
+struct Over {
+    ended: Ended<MemSink>,
+    wire: ScriptWire<MemSource>,
+    print: MemSink,
+}
+
+fn only(alloc: Global, number: u64) -> Result<Many<u64>, OutOfMemory> {
+    let mut numbers = Many::new(alloc);
+    numbers.push(number)?;
+    Ok(numbers)
+}
+
+fn source(alloc: Global, text: &str, fails: u64) -> Result<MemSource, OutOfMemory> {
+    Ok(MemSource::new(Bytes::of(alloc, text.as_bytes())?, only(alloc, fails)?))
+}
+
+fn sink(alloc: Global, fails: u64) -> Result<MemSink, OutOfMemory> {
+    Ok(MemSink::new(Bytes::new(alloc), only(alloc, fails)?))
+}
+
+/// The words of a command, cut at blanks.
+fn words_of(alloc: Global, words: &str) -> Result<Many<Text>, OutOfMemory> {
+    let mut made = Many::new(alloc);
+    for word in words.split_whitespace() {
+        made.push(Text::of(alloc, word)?)?;
+    }
+    Ok(made)
+}
+
+fn run(
+    alloc: Global,
+    words: &str,
+    config: &str,
+    script: &str,
+    fails: Fails,
+) -> Result<Over, OutOfMemory> {
+    let words = words_of(alloc, words)?;
+    let mut config = source(alloc, config, fails.source)?;
+    let mut wire = ScriptWire::new(alloc, source(alloc, script, 0)?, only(alloc, fails.wire)?);
+    let outbox = sink(alloc, fails.outbox)?;
+    let mut print = sink(alloc, fails.print)?;
+    let ended = run_single(
+        alloc,
+        words.as_slice(),
+        &mut config,
+        &mut wire,
+        outbox,
+        &mut print,
+    );
+    Ok(Over { ended, wire, print })
+}
+
+/// Adds the kind and the number of each entry, as `C1T2V3`.
+fn put_entries(alloc: Global, report: &mut Bytes, entries: &[Numbered]) -> Result<(), Fail> {
+    for entry in entries {
+        let kind = match &entry.entry {
+            Entry::Config { .. } => "C",
+            Entry::Tick { .. } => "T",
+            Entry::Value { .. } => "V",
+        };
+        report.extend(kind.as_bytes())?;
+        report.extend(entry.number.to_string(alloc)?.as_bytes())?;
+    }
+    Ok(())
+}
+
+/// Adds what was sent behind its headers, each with its connection before it, in lines.
+fn put_sent(alloc: Global, report: &mut Bytes, sent: &[(u64, Bytes)]) -> Result<(), Fail> {
+    for (conn, bytes) in sent {
+        report.extend(conn.to_string(alloc)?.as_bytes())?;
+        report.extend(b" ")?;
+        report.extend(bytes.as_slice().get(13..).unwrap_or(&[]))?;
+        report.extend(b"\n")?;
+    }
+    Ok(())
+}
+
+fn put_closed(alloc: Global, report: &mut Bytes, closed: Option<&Many<u64>>) -> Result<(), Fail> {
+    if let Some(closed) = closed {
+        for conn in closed.as_slice() {
+            report.extend(b" ")?;
+            report.extend(conn.to_string(alloc)?.as_bytes())?;
+        }
+    }
+    Ok(())
+}
+
+fn status_name(status: Status) -> &'static str {
+    match status {
+        Status::Ok => "Ok",
+        Status::Usage => "Usage",
+        Status::SourceFault => "SourceFault",
+        Status::Unbuilt => "Unbuilt",
+        Status::WireFault => "WireFault",
+        Status::OutboxFault => "OutboxFault",
+        Status::PrintFault => "PrintFault",
+        Status::TurnLimit => "TurnLimit",
+        Status::OutOfMemory => "OutOfMemory",
+    }
+}
+
+/// Status, whether the run began, entries, closed connections; replies; the outbox; the printed line.
+fn report(alloc: Global, over: &Over) -> Result<Bytes, Fail> {
+    let mut report = Bytes::of(alloc, status_name(over.ended.status).as_bytes())?;
+    report.extend(if over.ended.began {
+        b" begun "
+    } else {
+        b" not.. "
+    })?;
+    put_entries(alloc, &mut report, over.ended.entries.as_slice())?;
+    put_closed(alloc, &mut report, over.wire.closed())?;
+    report.extend(b"\n")?;
+    put_sent(alloc, &mut report, over.wire.sent().as_slice())?;
+    report.extend(over.ended.outbox.bytes().as_slice())?;
+    report.extend(over.print.bytes().as_slice())?;
+    Ok(report)
+}
+
+/// The report of a run over the plain configuration.
+fn told(alloc: Global, script: &str, fails: Fails) -> Result<Bytes, Fail> {
+    let over = run(
+        alloc,
+        "--mode feed --config c --script s",
+        plain_config(),
+        script,
+        fails,
+    )?;
+    report(alloc, &over)
+}
+
+fn is(report: &Bytes, expected: &str) -> bool {
+    report.as_slice() == expected.as_bytes()
+}
+
+/// A report ends with these bytes.
+fn ends(report: &Bytes, expected: &str) -> bool {
+    report.as_slice().ends_with(expected.as_bytes())
+}
+
+/// One connection brings the value 10.
+fn one_frame() -> &'static str {
+    "100.000000000 open 1\n100.000000000 frame 1 {\"request\":\"sender data\",\"data\":[{\"host\":\"h\",\"key\":\"k\",\"value\":\"10\"}]}\n100.000000000 closed\n"
+}
+
+fn one_frame_report() -> &'static str {
+    "Ok begun C1T2V3 1\n1 {\"response\":\"success\",\"info\":\"processed: 1; failed: 0; total: 1; seconds spent: 0.000000\"}\nP|3-1|100.000000000|3|0|h|hot|hot\nstatus: Ok; entries: 3; problems: 1; recoveries: 0; messages: 0; outbox bytes: 34\n"
+}
+
+#[test]
+fn one_frame_gives_one_problem_line(rt: HostRuntime) -> Result<(), Fail> {
+    let report = told(rt.alloc(), one_frame(), none_fails())?;
+    assert!(rt; is(&report, one_frame_report()));
+    Ok(())
+}
+
+/// Connections take turns and bring no value, 10, 1, `x`, and last a value of an earlier time beside one that fails.
+fn many_frames() -> &'static str {
+    "100.000000000 open 1\n100.000000000 open 2\n100.000000000 frame 2 {\"request\":\"sender data\",\"data\":[]}\n100.000000000 frame 1 {\"request\":\"sender data\",\"data\":[{\"host\":\"h\",\"key\":\"k\",\"value\":\"10\"}]}\n100.000000000 open 3\n100.000000000 open 4\n100.000000000 frame 4 {\"request\":\"sender data\",\"data\":[{\"host\":\"h\",\"key\":\"k\",\"value\":\"1\"}]}\n100.000000000 frame 3 {\"request\":\"sender data\",\"data\":[{\"host\":\"h\",\"key\":\"k\",\"value\":\"x\"}]}\n100.000000000 open 5\n100.000000000 frame 5 {\"request\":\"sender data\",\"data\":[{\"host\":\"h\",\"key\":\"k\",\"value\":10,\"clock\":\"50\",\"ns\":\"7\"},{\"host\":\"h\",\"key\":\"k\",\"value\":1.5}]}\n100.000000000 closed\n"
+}
+
+fn many_frames_report() -> &'static str {
+    "Ok begun C1T2V3V4V5V6 2 1 4 3 5\n2 {\"response\":\"success\",\"info\":\"processed: 0; failed: 0; total: 0; seconds spent: 0.000000\"}\n1 {\"response\":\"success\",\"info\":\"processed: 1; failed: 0; total: 1; seconds spent: 0.000000\"}\n4 {\"response\":\"success\",\"info\":\"processed: 1; failed: 0; total: 1; seconds spent: 0.000000\"}\n3 {\"response\":\"success\",\"info\":\"processed: 1; failed: 0; total: 1; seconds spent: 0.000000\"}\n5 {\"response\":\"success\",\"info\":\"processed: 1; failed: 1; total: 2; seconds spent: 0.000000\"}\nP|3-1|100.000000000|3|0|h|hot|hot\nR|3-1|4|100.000000000|e\nF|5|h|k|value: not a number\nstatus: Ok; entries: 6; problems: 1; recoveries: 1; messages: 0; outbox bytes: 86\n"
+}
+
+#[test]
+fn values_are_counted_and_dated(rt: HostRuntime) -> Result<(), Fail> {
+    let report = told(rt.alloc(), many_frames(), none_fails())?;
+    assert!(rt; is(&report, many_frames_report()));
+    Ok(())
+}
+
+/// A header with the flag of compression, a body that isn't JSON, one that asks for nothing, and a value.
+fn bad_frames() -> &'static str {
+    "100.000000000 open 1\n100.000000000 open 2\n100.000000000 open 3\n100.000000000 open 4\n100.000000000 piece 1 5a42584403\n100.000000000 frame 2 [1\n100.000000000 frame 3 {}\n100.000000000 frame 4 {\"request\":\"sender data\",\"data\":[{\"host\":\"h\",\"key\":\"k\",\"value\":\"1\"}]}\n100.000000000 closed\n"
+}
+
+fn bad_frames_report() -> &'static str {
+    "Ok begun C1T2V3 1 2 3 4\n2 {\"response\":\"failed\",\"info\":\"not JSON\"}\n3 {\"response\":\"failed\",\"info\":\"unsupported request\"}\n4 {\"response\":\"success\",\"info\":\"processed: 1; failed: 0; total: 1; seconds spent: 0.000000\"}\nstatus: Ok; entries: 3; problems: 0; recoveries: 0; messages: 0; outbox bytes: 0\n"
+}
+
+#[test]
+fn bad_bytes_get_a_clear_answer(rt: HostRuntime) -> Result<(), Fail> {
+    let report = told(rt.alloc(), bad_frames(), none_fails())?;
+    assert!(rt; is(&report, bad_frames_report()));
+    Ok(())
+}
+
+/// A request for so many values of 3, and then one of 6.
+fn threes_and_a_six(alloc: Global, threes: u32) -> Result<Bytes, OutOfMemory> {
+    let mut body = Bytes::of(alloc, b"{\"request\":\"sender data\",\"data\":[")?;
+    for _ in 0..threes {
+        body.extend(b"{\"host\":\"h\",\"key\":\"k\",\"value\":\"3\"},")?;
+    }
+    body.extend(b"{\"host\":\"h\",\"key\":\"k\",\"value\":\"6\"}]}")?;
+    Ok(body)
+}
+
+fn framed(alloc: Global, body: &[u8], length: u32) -> Result<Bytes, OutOfMemory> {
+    let mut frame = Bytes::new(alloc);
+    frame.extend_both(&frame_header(length), body)?;
+    Ok(frame)
+}
+
+/// A line in which connection 1 brings a byte.
+fn byte_line(alloc: Global, is_last: bool, byte: u8) -> Result<String, Fail> {
+    let at = if is_last {
+        "100.002500000"
+    } else {
+        "100.000000000"
+    };
+    Ok(format!(in alloc; "{at} piece 1 {byte:02x}\n")?)
+}
+
+/// A script in which connection 1 brings these bytes one by one, the last one 2.5 milliseconds later.
+fn one_by_one(alloc: Global, bytes: &[u8]) -> Result<String, Fail> {
+    let mut script = String::from_str(alloc, "100.000000000 open 1\n")?;
+    let mut left = bytes.len();
+    for byte in bytes {
+        left = left.saturating_sub(1);
+        script.push_str(byte_line(alloc, left == 0, *byte)?.as_str())?;
+    }
+    Ok(script)
+}
+
+fn many_values_report() -> &'static str {
+    "processed: 250; failed: 0; total: 250; seconds spent: 0.002500\"}\nP|252-1|100.002500000|3|0|h|hot|hot\nstatus: Ok; entries: 252; problems: 1; recoveries: 0; messages: 0; outbox bytes: 36\n"
+}
+
+#[test]
+fn many_values_come_in_pieces_of_one_byte(rt: HostRuntime) -> Result<(), Fail> {
+    let alloc = rt.alloc();
+    let body = threes_and_a_six(alloc, 249)?;
+    let frame = framed(alloc, body.as_slice(), 8784)?;
+    let script = one_by_one(alloc, frame.as_slice())?;
+    let report = told(alloc, script.as_str(), none_fails())?;
+    assert!(rt; ends(&report, many_values_report()));
+    Ok(())
+}
+
+/// The beginning of a frame with an unknown host, an unknown key, an element that is no object, and a clock past its range.
+fn mixed_begin() -> &'static str {
+    "100.000000000 open 1\n100.000000000 frame 1 {\"request\":\"sender data\",\"data\":[{\"host\":\"x\",\"key\":\"k\",\"value\":\"9\"},{\"host\":\"h\",\"key\":\"x\",\"value\":\"9\"},null,{\"host\":\"h\",\"key\":\"k\",\"value\":\"9\",\"clock\":4294967296},{\"host\":\"h\",\"key\":\"k\",\"value\":\""
+}
+
+/// And then a value of 65,536 bytes, and one that is taken.
+fn mixed(alloc: Global) -> Result<String, Fail> {
+    let mut script = String::from_str(alloc, mixed_begin())?;
+    for _ in 0..4096 {
+        script.push_str("9999999999999999")?;
+    }
+    script.push_str("\"},{\"host\":\"h\",\"key\":\"k\",\"value\":\"1\"}]}\n")?;
+    Ok(script)
+}
+
+fn mixed_report() -> &'static str {
+    "Ok begun C1T2V3 1\n1 {\"response\":\"success\",\"info\":\"processed: 1; failed: 5; total: 6; seconds spent: 0.000000\"}\nstatus: Ok; entries: 3; problems: 0; recoveries: 0; messages: 0; outbox bytes: 0\n"
+}
+
+#[test]
+fn each_bad_value_fails_alone(rt: HostRuntime) -> Result<(), Fail> {
+    let alloc = rt.alloc();
+    let script = mixed(alloc)?;
+    let report = told(alloc, script.as_str(), none_fails())?;
+    assert!(rt; is(&report, mixed_report()));
+    Ok(())
+}
+
+/// As `zabbix_sender -T` writes its frames.
+fn from_the_sender() -> &'static str {
+    "1700000030.000000000 open 1\n1700000030.000000000 frame 1 {\"request\":\"sender data\",\"data\":[{\"host\":\"h\",\"key\":\"k\",\"value\":\"7\",\"clock\":1700000001,\"ns\":123456789},{\"host\":\"h\",\"key\":\"k\",\"value\":\"4.5\",\"clock\":1700000002,\"ns\":5}],\"clock\":1700000029,\"ns\":998877665}\n"
+}
+
+fn from_the_sender_report() -> &'static str {
+    "processed: 2; failed: 0; total: 2; seconds spent: 0.000000\"}\nP|3-1|1700000030.000000000|3|0|h|hot|hot\nR|3-1|4|1700000030.000000000|e\nstatus: Ok; entries: 4; problems: 1; recoveries: 1; messages: 0; outbox bytes: 72\n"
+}
+
+#[test]
+fn what_the_real_sender_writes_is_taken(rt: HostRuntime) -> Result<(), Fail> {
+    let report = told(rt.alloc(), from_the_sender(), none_fails())?;
+    assert!(rt; ends(&report, from_the_sender_report()));
+    Ok(())
+}
+
+/// How the report of a run ends whose n-th read of the configuration fails.
+fn source_report(number: u64) -> &'static str {
+    match number {
+        1 | 2 => "SourceFault not.. \nstatus: SourceFault\n",
+        _ => one_frame_report(),
+    }
+}
+
+/// The same of the n-th write to the outbox, where there are three lines.
+fn outbox_report(number: u64) -> &'static str {
+    match number {
+        1 => "0.000000\"}\nstatus: OutboxFault\n",
+        2 => "0.000000\"}\nP|3-1|100.000000000|3|0|h|hot|hot\nstatus: OutboxFault\n",
+        3 => "|hot\nR|3-1|4|100.000000000|e\nstatus: OutboxFault\n",
+        _ => many_frames_report(),
+    }
+}
+
+#[test]
+fn each_fault_ends_the_run_in_its_way(rt: HostRuntime) -> Result<(), Fail> {
+    let alloc = rt.alloc();
+    for source in 1..4u64 {
+        let fails = Fails {
+            source,
+            ..none_fails()
+        };
+        assert!(rt;
+            is(&told(alloc, one_frame(), fails)?, source_report(source)),
+            "read {source}"
+        );
+    }
+    for outbox in 1..5u64 {
+        let fails = Fails {
+            outbox,
+            ..none_fails()
+        };
+        assert!(rt;
+            ends(&told(alloc, many_frames(), fails)?, outbox_report(outbox)),
+            "write {outbox}"
+        );
+    }
+    Ok(())
+}
+
+fn wire_report() -> &'static str {
+    "WireFault begun C1T2\nstatus: WireFault\n"
+}
+
+fn unsent_report() -> &'static str {
+    "Ok begun C1T2V3 1\nP|3-1|100.000000000|3|0|h|hot|hot\nstatus: Ok; entries: 3; problems: 1; recoveries: 0; messages: 0; outbox bytes: 34\n"
+}
+
+fn unprinted_report() -> &'static str {
+    "0.000000\"}\nP|3-1|100.000000000|3|0|h|hot|hot\n"
+}
+
+#[test]
+fn a_wire_or_a_printer_may_fail(rt: HostRuntime) -> Result<(), Fail> {
+    let alloc = rt.alloc();
+    let second = Fails {
+        wire: 2,
+        ..none_fails()
+    };
+    assert!(rt; is(&told(alloc, one_frame(), second)?, wire_report()));
+    let sending = Fails {
+        wire: 3,
+        ..none_fails()
+    };
+    assert!(rt; is(&told(alloc, one_frame(), sending)?, unsent_report()));
+    let printing = Fails {
+        print: 1,
+        ..none_fails()
+    };
+    assert!(rt; ends(&told(alloc, one_frame(), printing)?, unprinted_report()));
+    Ok(())
+}
+
+#[test]
+fn other_words_or_another_configuration_begin_no_run(rt: HostRuntime) -> Result<(), Fail> {
+    let alloc = rt.alloc();
+    let usage = run(
+        alloc,
+        "--mode feed",
+        plain_config(),
+        one_frame(),
+        none_fails(),
+    )?;
+    assert!(rt; is(&report(alloc, &usage)?, "Usage not.. \nstatus: Usage\n"));
+    let unbuilt = run(
+        alloc,
+        "--mode feed --config c --script s",
+        "{}",
+        one_frame(),
+        none_fails(),
+    )?;
+    assert!(rt;
+        is(
+            &report(alloc, &unbuilt)?,
+            "Unbuilt not.. \nstatus: Unbuilt\n"
+        )
+    );
+    Ok(())
+}
