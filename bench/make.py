@@ -8,7 +8,6 @@ FOLDER = sys.argv[1]
 PART = int(sys.argv[2])
 
 LONGEST = 16_777_216 // PART
-SMALL = 1_048_576 // PART
 FRAMES = max(1, 1_000 // PART)
 VALUES = 250
 
@@ -65,9 +64,9 @@ def main():
     with open(os.path.join(FOLDER, "config.json"), "w", encoding="ascii") as config:
         config.write(CONFIG)
     rows = []
-    for length, size in [(LONGEST, 1_000), (LONGEST, 65_536), (SMALL, 1)]:
-        values = fitting(length)
-        whole = frame(request(values))
+    values = fitting(LONGEST)
+    whole = frame(request(values))
+    for size in [1, 1_000, 65_536]:
         name = f"pieces-{size}"
         write(name, pieces(whole, size))
         rows.append((name, values, len(whole), f"one frame in pieces of {size}"))
