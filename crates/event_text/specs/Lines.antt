@@ -1,7 +1,8 @@
 -- Lines of records: fields joined by `|`, and a line feed behind the last.
-use Rattle.std.specs.Prelude.{ℕ, ◌+◌, ◌/◌, ◌%◌, ◌==◌, Bool, List, [], ◌∷◌, ◌++◌, if◌then◌else◌, codes}
+use Rattle.std.specs.Prelude.{ℕ, ◌/◌, ◌%◌, ◌==◌, Bool, List, [], ◌∷◌, ◌++◌, if◌then◌else◌, codes}
 use Rattle.std.specs.List.{flat_map}
 use Rattle.std.specs.Fmt.{decimal}
+use Rattle.zbx_types.specs.Digits.{digit_at, last_six_digits}
 use Rattle.zbx_types.specs.declared.entries.EventId.{EventId}
 use Rattle.zbx_types.specs.declared.entries.Tag.{Tag}
 use Rattle.zbx_types.specs.declared.entries.Cause2.{Cause2}
@@ -9,16 +10,9 @@ use Rattle.zbx_types.specs.declared.entries.Cause2.TheVariants.{Expression, Corr
 use Rattle.zbx_types.specs.declared.entries.Rec.{Rec}
 use Rattle.zbx_types.specs.declared.entries.Rec.TheVariants.{Failure, Problem, Recovery, Step, Message}
 
--- the digit of a number at a power of ten
-abbrev pub digit_at : ℕ → ℕ → ℕ
-digit_at n power = 48 + n / power % 10
-
--- the last six digits of a number, and the last nine
-abbrev pub six_digits : ℕ → List ℕ
-six_digits n = digit_at n 100000 ∷ digit_at n 10000 ∷ digit_at n 1000 ∷ digit_at n 100 ∷ digit_at n 10 ∷ digit_at n 1 ∷ []
-
+-- the last nine digits of a number
 abbrev pub nine_digits : ℕ → List ℕ
-nine_digits n = digit_at n 100000000 ∷ digit_at n 10000000 ∷ digit_at n 1000000 ∷ six_digits n
+nine_digits n = digit_at n 100000000 ∷ digit_at n 10000000 ∷ digit_at n 1000000 ∷ last_six_digits n
 
 -- seconds, a point and nine digits of nanoseconds
 abbrev pub seconds_text : ℕ → ℕ → List ℕ

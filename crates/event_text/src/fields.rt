@@ -1,31 +1,11 @@
 //! Fields of lines.
 
-ghost use Rattle.std.specs.Prelude.{◌≡◌, ◌<◌, ◌++◌, OnOk, codes};
+ghost use Rattle.std.specs.Prelude.{◌≡◌, ◌++◌, OnOk, codes};
 ghost use Rattle.std.specs.Fmt.{decimal};
-ghost use Rattle.event_text.specs.Lines.{digit_at, six_digits, seconds_text, moment_text, event_text_of, escaped_byte, escaped, barred};
+ghost use Rattle.event_text.specs.Lines.{seconds_text, moment_text, event_text_of, escaped_byte, escaped, barred};
 
 use std::alloc::Global;
-use zbx_types::{Bytes, EventId, Moment, OutOfMemory, Text};
-
-fn digit_at(n: u32, power: u32) -> u8
-    requires { 0 < power }
-    ensures { result ≡ digit_at n power }
-{
-    b'0' + (n / power % 10) as u8
-}
-
-fn six_digits(n: u32) -> [u8; 6]
-    ensures { result ≡ six_digits n }
-{
-    [
-        digit_at(n, 100_000),
-        digit_at(n, 10_000),
-        digit_at(n, 1000),
-        digit_at(n, 100),
-        digit_at(n, 10),
-        digit_at(n, 1),
-    ]
-}
+use zbx_types::{Bytes, EventId, Moment, OutOfMemory, Text, digit_at, last_six_digits};
 
 fn put_decimal(alloc: Global, n: u64, out: &mut Bytes) -> Result<(), OutOfMemory>
     ensures { OnOk result (out.new ≡ out.old ++ decimal n) }
@@ -36,6 +16,7 @@ fn put_decimal(alloc: Global, n: u64, out: &mut Bytes) -> Result<(), OutOfMemory
 fn put_seconds(alloc: Global, sec: u32, ns: u32, out: &mut Bytes) -> Result<(), OutOfMemory>
     ensures { OnOk result (out.new ≡ out.old ++ seconds_text sec ns) }
 {
+    let ns = u64::from(ns);
     put_decimal(alloc, u64::from(sec), out)?;
     out.extend(b".")?;
     out.extend(&[
@@ -43,7 +24,7 @@ fn put_seconds(alloc: Global, sec: u32, ns: u32, out: &mut Bytes) -> Result<(), 
         digit_at(ns, 10_000_000),
         digit_at(ns, 1_000_000),
     ])?;
-    out.extend(&six_digits(ns))
+    out.extend(&last_six_digits(ns))
 }
 
 fn put_moment(alloc: Global, moment: Moment, out: &mut Bytes) -> Result<(), OutOfMemory>

@@ -1,33 +1,13 @@
 //! Replies in frames.
 
-ghost use Rattle.std.specs.Prelude.{◌≡◌, ◌≤◌, ◌<◌, ◌++◌, ◌+◌, length, IfOk, OnOk};
+ghost use Rattle.std.specs.Prelude.{◌≡◌, ◌≤◌, ◌++◌, ◌+◌, length, IfOk, OnOk};
 ghost use Rattle.std.specs.Fmt.{decimal};
 ghost use Rattle.zbx_types.specs.Frames.{frame, longest_data};
-ghost use Rattle.sender_json.specs.Replies.{digit_at, six_digits, seconds_text, counts_text, reply_text, refusal_text};
+ghost use Rattle.sender_json.specs.Replies.{seconds_text, counts_text, reply_text, refusal_text};
 
 use crate::refused::Refusal;
 use std::alloc::Global;
-use zbx_types::{Bytes, OutOfMemory};
-
-fn digit_at(n: u64, power: u64) -> u8
-    requires { 0 < power }
-    ensures { result ≡ digit_at n power }
-{
-    b'0' + (n / power % 10) as u8
-}
-
-fn six_digits(n: u64) -> [u8; 6]
-    ensures { result ≡ six_digits n }
-{
-    [
-        digit_at(n, 100_000),
-        digit_at(n, 10_000),
-        digit_at(n, 1000),
-        digit_at(n, 100),
-        digit_at(n, 10),
-        digit_at(n, 1),
-    ]
-}
+use zbx_types::{Bytes, OutOfMemory, last_six_digits};
 
 fn put_number(alloc: Global, out: &mut Bytes, n: u128) -> Result<(), OutOfMemory>
     ensures { OnOk result (out.new ≡ out.old ++ decimal n) }
@@ -40,7 +20,7 @@ fn put_seconds(alloc: Global, out: &mut Bytes, spent: u64) -> Result<(), OutOfMe
 {
     put_number(alloc, out, u128::from(spent / 1_000_000))?;
     out.extend(b".")?;
-    out.extend(&six_digits(spent % 1_000_000))
+    out.extend(&last_six_digits(spent % 1_000_000))
 }
 
 /// The reply as far as its counts.

@@ -10,6 +10,8 @@ use crate::text::Text;
 /// expanded, and names of hosts, items and triggers are ids where that is possible. Ids count from 1.
 #[derive(Drop)]
 pub struct Conf {
+    /// The text of the configuration document.
+    pub text: Text,
     /// Local time less UTC, in seconds, from -50,400 to 50,400.
     pub utc_offset: i32,
     /// The hosts, in the document's order.

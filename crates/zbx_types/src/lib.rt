@@ -21,11 +21,15 @@
 //! let mut name = Text::of(alloc, "cpu")?;
 //! name.push_str(" load")?;                                  // "cpu load"
 //! let value = Fix::read(b"1.5").map(|f| f.raw());           // Some(1500000)
+//! if let Some(third) = one.div(three) {                     // cut towards zero: 333333 millionths
+//!     third.write(&mut name)?;                              // "cpu load0.333333"
+//! }
 //! ```
 #![tactic(auto)]
 
 mod bytes;
 mod conf;
+mod digits;
 mod entries;
 mod expr;
 mod fix;
@@ -37,6 +41,7 @@ mod moment;
 mod numerals;
 mod pieces;
 mod text;
+mod writing;
 
 pub use bytes::Bytes;
 pub use conf::{
@@ -44,6 +49,7 @@ pub use conf::{
     OnFail, Operation, Period, Range, RecoveryMode, Rule, RuleCond, Sending, SeverityOp, StepKind,
     StepSpec, TagOp, TagTest, Trigger, ValueType,
 };
+pub use digits::{digit_at, last_six_digits};
 pub use entries::{Cause2, Entry, EventId, Held, Numbered, Rec, Stored, Tag};
 pub use expr::{Expr, Op, Operand};
 pub use fix::Fix;

@@ -72,6 +72,11 @@ impl Text {
         self.text.as_bytes().len()
     }
 
+    /// Where it takes its memory from.
+    pub(crate) fn allocator(&self) -> Global {
+        *self.text.allocator()
+    }
+
     /// Adds a text at the end. At [`OutOfMemory`] the text is as before.
     pub fn push_str(&mut self, more: &str) -> Result<(), OutOfMemory>
         ensures ok { OnOk result (self.new ≡ self.old ++ more.now) }
