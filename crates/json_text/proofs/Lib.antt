@@ -1,0 +1,16 @@
+pub mod Finishing
+pub mod Runs
+pub mod CharBytes
+pub mod CompleteStrings
+pub mod CompleteNumbers
+pub mod Complete
+pub mod SoundStrings
+pub mod SoundNumbers
+pub mod Standing
+pub mod Sound
+pub mod CharCodes
+pub mod Places
+pub mod TreeLemmas
+pub mod WrittenLemmas
+pub mod AgainStrings
+pub mod Again

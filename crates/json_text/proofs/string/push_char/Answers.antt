@@ -1,0 +1,12 @@
+use Rattle.std.proofs.Common.{arith}
+use Rattle.json_text.proofs.CharBytes.{encode_two, encode_three, encode_four}
+use Rattle.json_text.proofs.string.push_char.Goals as goal
+
+pub returns-then-code-lt2048 : goal.returns-then-code-lt2048
+returns-then-code-lt2048 c = rw (encode_two c.args.code (omega arith) (omega arith)) c.extend-then-code-lt2048.ensures.ok
+
+pub returns-then-code-lt65536 : goal.returns-then-code-lt65536
+returns-then-code-lt65536 c = rw (encode_three c.args.code (omega arith) (omega arith)) c.extend-then-code-lt65536.ensures.ok
+
+pub returns-else-code-lt65536 : goal.returns-else-code-lt65536
+returns-else-code-lt65536 c = rw (encode_four c.args.code (omega arith)) c.extend-else-code-lt65536.ensures.ok

@@ -1,0 +1,12 @@
+pub mod Fault
+pub mod Json
+pub mod JsonCode
+pub mod Trees
+pub mod TreeFalls
+pub mod Bytes
+pub mod Grammar
+pub mod Tokens
+pub mod Machine
+pub mod Sane
+pub mod Parts
+pub mod Written

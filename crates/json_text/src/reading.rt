@@ -1,0 +1,54 @@
+//! Reading of JSON texts.
+
+ghost use Rattle.std.specs.Prelude.{◌≡◌, IfOk, IfErr, ℕ};
+ghost use Rattle.json_text.specs.Fault.{IsFault};
+ghost use Rattle.json_text.specs.Grammar.{IsJson, IsText};
+ghost use Rattle.json_text.specs.Json.{Json};
+ghost use Rattle.json_text.specs.declared.reading.ReadError.TheVariants.{At};
+ghost use Rattle.json_text.specs.Trees.{json_of};
+
+use crate::machine::State;
+use crate::tree::Tree;
+use std::alloc::Global;
+use thiserror::Error;
+
+/// Why a text was not read.
+#[derive(Clone, Copy, Debug, PartialEq, Eq, Error)]
+pub enum ReadError {
+    /// It is no JSON text: this is the place of the first byte where none goes on, counted from 0, or the length of the
+    /// text where that comes first.
+    #[error("no JSON text goes on at byte {0}")]
+    At(u64),
+    /// No memory was to be had.
+    #[error("out of memory")]
+    OutOfMemory,
+}
+
+/// Reads a JSON text (RFC 8259), in a time that grows as its length does.
+///
+/// `Ok` is the value that the text is, and no other is. At most 64 brackets are open at one place (this project's own);
+/// the 65th has no place. Numbers keep their text, a surrogate escape stands only in a pair of a high and a low one, and a
+/// repeated name puts the later value in the earlier place (this project's own).
+///
+/// [`ReadError::At`] comes exactly where the text is no value; [`ReadError::OutOfMemory`] where memory is refused.
+pub fn read(alloc: Global, bytes: &[u8]) -> Result<Tree, ReadError>
+    ensures found { IfOk result (λ tree. IsJson bytes.now (json_of tree)) }
+    ensures only { IfOk result (λ tree. (j : Json) → IsJson bytes.now j → j ≡ json_of tree) }
+    ensures none { IfErr result (λ e. (at : ℕ) → e ≡ At at → IsText bytes.now → ⊥) }
+    ensures place { IfErr result (λ e. (at : ℕ) → e ≡ At at → IsFault IsText bytes.now at) }
+{
+    let mut state = State::start(alloc);
+    let mut count = 0;
+    for byte in bytes {
+        match state.next(alloc, *byte) {
+            Ok(Some(next)) => state = next,
+            Ok(None) => return Err(ReadError::At(count)),
+            Err(_) => return Err(ReadError::OutOfMemory),
+        }
+        count += 1;
+    }
+    match state.end() {
+        Some(tree) => Ok(tree),
+        None => Err(ReadError::At(count)),
+    }
+}
