@@ -1,0 +1,16 @@
+mod Checked
+mod Runs
+mod Utf8Texts
+mod TokenRuns
+mod TextRuns
+mod ConditionRuns
+mod SelectorRuns
+mod PathRuns
+mod TokenPasts
+mod ConditionPasts
+mod SelectorPasts
+mod PathPasts
+mod Finishing
+mod Endings
+mod Reaching
+mod SelectionLemmas
