@@ -1,0 +1,10 @@
+pub mod Words
+pub mod Naming
+pub mod Ranges
+pub mod Steps
+pub mod Triggers
+pub mod Hosts
+pub mod Rules
+pub mod Maintenances
+pub mod Actions
+pub mod Document

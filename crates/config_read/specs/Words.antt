@@ -1,0 +1,79 @@
+-- The words of the document, and the names that may stand in it.
+use Rattle.std.specs.Prelude.{ℕ, Bool, ◌&&◌, ◌||◌, ◌==◌, ◌-◌, nat_le, List, [], ◌∷◌, length, slice_index, slice_range, Option, Result, codes}
+use Rattle.std.specs.Char.{is_ascii_alphanumeric, is_ascii_uppercase, is_ascii_digit}
+use Rattle.std.specs.List.{list_all}
+use Rattle.zbx_types.specs.declared.conf.ItemKind.{ItemKind}
+use Rattle.zbx_types.specs.declared.conf.ItemKind.TheVariants as kinds
+use Rattle.zbx_types.specs.declared.conf.ValueType.{ValueType}
+use Rattle.zbx_types.specs.declared.conf.ValueType.TheVariants as types
+use Rattle.zbx_types.specs.declared.conf.StepKind.{StepKind}
+use Rattle.zbx_types.specs.declared.conf.StepKind.TheVariants as steps
+use Rattle.zbx_types.specs.declared.conf.OnFail.{OnFail}
+use Rattle.zbx_types.specs.declared.conf.OnFail.TheVariants as fails
+use Rattle.zbx_types.specs.declared.conf.RecoveryMode.{RecoveryMode}
+use Rattle.zbx_types.specs.declared.conf.RecoveryMode.TheVariants as modes
+use Rattle.zbx_types.specs.declared.conf.Matching.{Matching}
+use Rattle.zbx_types.specs.declared.conf.Matching.TheVariants as matches
+use Rattle.zbx_types.specs.declared.conf.TagOp.{TagOp}
+use Rattle.zbx_types.specs.declared.conf.TagOp.TheVariants as ops
+use Rattle.json_form.specs.Faults.{Fault, ◌>>=◌}
+use Rattle.json_form.specs.Places.{Place, text_that, free}
+use Rattle.json_form.specs.Wording.{first_of_word}
+
+-- letters, digits, space, `_`, `-`, `.`
+abbrev pub is_name_byte : ℕ → Bool
+is_name_byte c = is_ascii_alphanumeric c || c == 32 || c == 95 || c == 45 || c == 46
+
+-- the name of a host or template: 1 to 128 of these bytes
+abbrev pub is_host_name : List ℕ → Bool
+is_host_name name = nat_le 1 (length name) && nat_le (length name) 128 && list_all is_name_byte name
+
+-- A to Z, 0 to 9, `_`, `.`
+abbrev pub is_macro_byte : ℕ → Bool
+is_macro_byte c = is_ascii_uppercase c || is_ascii_digit c || c == 95 || c == 46
+
+-- `{$NAME}` with a NAME of such bytes, at most 255 bytes in all
+abbrev pub is_macro_name : List ℕ → Bool
+is_macro_name name = nat_le 4 (length name) && nat_le (length name) 255 && slice_index name 0 == 123 && slice_index name 1 == 36 && slice_index name (length name - 1) == 125 && list_all is_macro_byte (slice_range name 2 (length name - 1))
+
+-- any other name: 1 to 255 bytes
+abbrev pub is_title : List ℕ → Bool
+is_title name = nat_le 1 (length name) && nat_le (length name) 255
+
+-- a name of this form that isn't taken
+unfoldable pub new_name : (List ℕ → Bool) → List (List ℕ) → Place → Result (List ℕ) Fault
+new_name form taken at = text_that form at >>= λ name. free taken at name
+
+-- where the values of an item come from
+abbrev pub item_kind : List ℕ → Option ItemKind
+item_kind = first_of_word ((codes "trapper", kinds.Trapper) ∷ (codes "dependent", kinds.Dependent) ∷ [])
+
+-- what the values of an item are
+abbrev pub value_type : List ℕ → Option ValueType
+value_type = first_of_word ((codes "number", types.Number) ∷ (codes "text", types.Words) ∷ [])
+
+-- what a step does
+abbrev pub step_kind : List ℕ → Option StepKind
+step_kind = first_of_word (
+    (codes "regex", steps.Regex) ∷ (codes "replace", steps.Replace) ∷ (codes "trim", steps.Trim) ∷ (codes "ltrim", steps.LTrim) ∷ (codes "rtrim", steps.RTrim)
+    ∷ (codes "jsonpath", steps.JsonPath) ∷ (codes "multiplier", steps.Multiplier) ∷ (codes "simple_change", steps.SimpleChange) ∷ (codes "change_per_second", steps.ChangePerSecond)
+    ∷ (codes "bool_to_decimal", steps.BoolToDecimal) ∷ (codes "octal_to_decimal", steps.OctalToDecimal) ∷ (codes "hex_to_decimal", steps.HexToDecimal)
+    ∷ (codes "in_range", steps.InRange) ∷ (codes "matches", steps.Matches) ∷ (codes "not_matches", steps.NotMatches)
+    ∷ (codes "json_error", steps.JsonError) ∷ (codes "regex_error", steps.RegexError)
+    ∷ (codes "throttle", steps.Throttle) ∷ (codes "throttle_heartbeat", steps.ThrottleHeartbeat) ∷ [])
+
+-- what comes of a value at which a step fails
+abbrev pub on_fail : List ℕ → Option OnFail
+on_fail = first_of_word ((codes "empty", fails.Empty) ∷ (codes "discard", fails.Discard) ∷ (codes "value", fails.Value) ∷ (codes "error", fails.Error) ∷ [])
+
+-- how the problems of a trigger close
+abbrev pub recovery_mode : List ℕ → Option RecoveryMode
+recovery_mode = first_of_word ((codes "expression", modes.Expression) ∷ (codes "recovery_expression", modes.RecoveryExpression) ∷ (codes "none", modes.Nothing) ∷ [])
+
+-- how conditions are joined
+abbrev pub matching : List ℕ → Option Matching
+matching = first_of_word ((codes "and", matches.And) ∷ (codes "or", matches.Or) ∷ [])
+
+-- how the value of a tag is compared
+abbrev pub tag_op : List ℕ → Option TagOp
+tag_op = first_of_word ((codes "equals", ops.Equals) ∷ (codes "contains", ops.Contains) ∷ (codes "not_equals", ops.NotEquals) ∷ (codes "not_contains", ops.NotContains) ∷ [])

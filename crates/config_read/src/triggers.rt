@@ -1,0 +1,162 @@
+//! Triggers.
+
+ghost use Rattle.std.specs.Prelude.{◌≡◌, []};
+ghost use Rattle.json_form.specs.Faults.{Gives};
+ghost use Rattle.json_form.specs.Places.{place_of, object_of, given_or, number_between};
+ghost use Rattle.config_read.specs.Triggers.{tag_of, depend_of, unused_text, recovery_text, recovery_of, closing_of, tags_of, links_of, trigger_of, triggers_of};
+
+use crate::naming::{Form, new_name};
+use crate::raw::{RawDepend, RawTrigger};
+use crate::words::RecoveryModes;
+use json_form::{At, Element, Named, Names, Object, ReadError, distinct, list};
+use serde_json::Value;
+use std::alloc::Global;
+use zbx_types::{Cause, Many, RecoveryMode, Tag, Text};
+
+/// The reader of tags.
+struct TagReader;
+
+impl Element for TagReader {
+    type Made = Tag;
+
+    ghost reads = { tag_of };
+
+    #[tactic(auto, unfolding(crate::specs::Triggers::tag_of))]
+    fn read(alloc: Global, path: &str, value: &Value) -> Result<Tag, ReadError> {
+        let object = Object::at(alloc, path, value)?;
+        let tag = object.member("tag").text(alloc)?;
+        let value = object.member("value").text_or(alloc, "")?;
+        Ok(Tag { tag, value })
+    }
+}
+
+/// The reader of the triggers that one depends on.
+struct DependReader;
+
+impl Element for DependReader {
+    type Made = RawDepend;
+
+    ghost reads = { depend_of };
+
+    #[tactic(auto, unfolding(crate::specs::Triggers::depend_of))]
+    fn read(alloc: Global, path: &str, value: &Value) -> Result<RawDepend, ReadError> {
+        let object = Object::at(alloc, path, value)?;
+        let host = object.member("host").text_or(alloc, "")?;
+        let trigger = object.member("trigger").text(alloc)?;
+        Ok(RawDepend { host, trigger })
+    }
+}
+
+/// A text that may be given and isn't used: the empty text stands for it.
+#[tactic(auto, unfolding(crate::specs::Triggers::unused_text))]
+pub(crate) fn unused_text(alloc: Global, at: &At<'_, '_>) -> Result<Text, ReadError>
+    ensures { Gives result (unused_text (place_of at.now)) }
+{
+    let _given = at.text_or(alloc, "")?;
+    Ok(Text::new(alloc))
+}
+
+#[tactic(auto, unfolding(crate::specs::Triggers::recovery_text))]
+fn recovery_text(alloc: Global, mode: RecoveryMode, at: &At<'_, '_>) -> Result<Text, ReadError>
+    ensures { Gives result (recovery_text mode (place_of at.now)) }
+{
+    match mode {
+        RecoveryMode::RecoveryExpression => at.text(alloc),
+        RecoveryMode::Expression | RecoveryMode::Nothing => unused_text(alloc, at),
+    }
+}
+
+/// How problems close, and the recovery expression.
+#[tactic(auto, unfolding(crate::specs::Triggers::recovery_of))]
+fn recovery(alloc: Global, object: &Object<'_, '_>) -> Result<(RecoveryMode, Text), ReadError>
+    ensures { Gives result (recovery_of (object_of object.now)) }
+{
+    let mode = object
+        .member("recovery")
+        .word_or::<RecoveryModes>(alloc, RecoveryMode::Expression)?;
+    let expression = recovery_text(alloc, mode, &object.member("recovery_expression"))?;
+    Ok((mode, expression))
+}
+
+/// Whether problems stand side by side, and the tag by which they close.
+#[tactic(auto, unfolding(crate::specs::Triggers::closing_of))]
+fn closing(alloc: Global, object: &Object<'_, '_>) -> Result<(bool, Text), ReadError>
+    ensures { Gives result (closing_of (object_of object.now)) }
+{
+    let multiple = object.member("multiple").truth_or(alloc, false)?;
+    let tag = object.member("close_tag").text_or(alloc, "")?;
+    Ok((multiple, tag))
+}
+
+fn severity(alloc: Global, at: &At<'_, '_>) -> Result<u8, ReadError>
+    ensures { Gives result (given_or 0 (number_between 0 5) (place_of at.now)) }
+{
+    let severity = at.number_or(alloc, 0, 0, 5)?;
+    Ok(severity as u8)
+}
+
+#[tactic(auto, unfolding(crate::specs::Triggers::tags_of))]
+fn tags(alloc: Global, at: &At<'_, '_>) -> Result<Many<Tag>, ReadError>
+    ensures { Gives result (tags_of (place_of at.now)) }
+{
+    let few = at.at_most(alloc, 16, Cause::TooMany)?;
+    list::<TagReader>(alloc, &few)
+}
+
+/// The tags, and the triggers that it depends on.
+#[tactic(auto, unfolding(crate::specs::Triggers::links_of))]
+fn links(alloc: Global, object: &Object<'_, '_>) -> Result<(Many<Tag>, Many<RawDepend>), ReadError>
+    ensures { Gives result (links_of (object_of object.now)) }
+{
+    let tags = tags(alloc, &object.member("tags"))?;
+    let depends = list::<DependReader>(alloc, &object.member("depends"))?;
+    Ok((tags, depends))
+}
+
+/// The reader of triggers.
+struct TriggerReader;
+
+impl Named for TriggerReader {
+    type Made = RawTrigger;
+
+    ghost name = { λ t. t.name };
+
+    ghost reads = { trigger_of };
+
+    #[tactic(auto, unfolding(crate::specs::Triggers::trigger_of))]
+    fn read(
+        alloc: Global,
+        taken: &mut Names,
+        path: &str,
+        value: &Value,
+    ) -> Result<RawTrigger, ReadError> {
+        let object = Object::at(alloc, path, value)?;
+        let name = new_name(alloc, Form::Title, taken, &object.member("name"))?;
+        let expression = object.member("expression").text(alloc)?;
+        let (recovery, recovery_expression) = recovery(alloc, &object)?;
+        let (multiple, close_tag) = closing(alloc, &object)?;
+        let severity = severity(alloc, &object.member("severity"))?;
+        let (tags, depends) = links(alloc, &object)?;
+        let enabled = object.member("enabled").truth_or(alloc, true)?;
+        Ok(RawTrigger {
+            name,
+            expression,
+            recovery,
+            recovery_expression,
+            multiple,
+            close_tag,
+            severity,
+            tags,
+            depends,
+            enabled,
+        })
+    }
+}
+
+/// The triggers of a host or template, with distinct names.
+#[tactic(auto, unfolding(crate::specs::Triggers::triggers_of))]
+pub(crate) fn triggers(alloc: Global, at: &At<'_, '_>) -> Result<Many<RawTrigger>, ReadError>
+    ensures { Gives result (triggers_of (place_of at.now)) }
+{
+    distinct::<TriggerReader>(alloc, at)
+}
