@@ -1,7 +1,6 @@
 -- One entry, over cells that stand for a log and its records.
 use Rattle.std.proofs.Common.{◌≡◌, ℕ, suc, ◌+◌, ◌-◌, ◌<◌, ◌==◌, Bool, true, false, cond, Option, Some, None, List, [], ◌∷◌, ◌++◌, length, get_or, map, flat_map, refl, sym, ◌∙◌, ap, subst, eqb-true, eq-eqb, arith, ℤ, pos, Result, Ok, Err, IfOk}
 use Rattle.std.specs.Ordering.{int_eq}
-use Rattle.std.proofs.lemmas.Bool.{lt-ltb}
 use Rattle.zbx_types.specs.Ids.{at_id, ids_from}
 use Rattle.zbx_types.specs.Trees.{tree_of}
 use Rattle.zbx_types.specs.declared.conf.Conf.{Conf}
@@ -18,9 +17,9 @@ use Rattle.entry_step.specs.Evaluation.{call_value, expression_value}
 use Rattle.entry_step.specs.Records.{problem_of, recovery_of, opened, verdict_records, judged, judged_by, evaluated, phase, is_over, triggers_over, failure_by, failure_of, value_records, out_of}
 use Rattle.entry_step.specs.Cells.{CellsView, first_of, StandFor}
 use Rattle.entry_step.specs.Kept.{kept, with_value}
-use Rattle.entry_step.specs.Changes.{events_at, judged_over, added_at, events_after, TakesIn, Takes}
+use Rattle.entry_step.specs.Changes.{events_at, added_at, is_among, events_after, TakesIn, Takes}
 use Rattle.entry_step.proofs.Problems.{open_events, events_append, Homes, homes_open, AllLand, off}
-use Rattle.entry_step.proofs.Phases.{flat_filter, ids_same, phase_is, own_only}
+use Rattle.entry_step.proofs.Phases.{flat_filter, ids_same, any_id, phase_is, own_only}
 use Rattle.entry_step.proofs.Histories.{SameAt, judged_same, kept_same, value_latest, latest_get, length-with_value, stored_other}
 
 -- What a trigger adds is about itself
@@ -47,12 +46,34 @@ unfolding judged
 judged_lands conf items number now id None es h = tt
 judged_lands conf items number now id (Some trigger) es h = verdict_lands conf number now id trigger es (expression_value (call_value items now trigger) (tree_of trigger.expr)) h
 
-over_lands : (conf : Conf) (items : ℕ → List Stored) (number now item id : ℕ) (trigger : Option Trigger) (es : List EventId) → Homes id es → AllLand id (judged_over conf items number now item id trigger es)
-over_lands conf items number now item id trigger es h = go (is_over item trigger)
+-- what it adds where it is over an item
+abbrev over : Conf → (ℕ → List Stored) → ℕ → ℕ → ℕ → List (List EventId) → ℕ → List Rec
+over conf items number now item cells id = cond (is_over item (at_id conf.triggers id)) (added_at conf items number now cells id) []
+
+over_lands : (conf : Conf) (items : ℕ → List Stored) (number now item : ℕ) (cells : List (List EventId)) (id : ℕ) → Homes id (events_at cells id) → AllLand id (over conf items number now item cells id)
+over_lands conf items number now item cells id h = go (is_over item (at_id conf.triggers id))
   where
-    go : (b : Bool) → AllLand id (cond b (judged_by conf items number now id trigger es) [])
-    go true = judged_lands conf items number now id trigger es h
+    go : (b : Bool) → AllLand id (cond b (added_at conf items number now cells id) [])
+    go true = judged_lands conf items number now id (at_id conf.triggers id) (events_at cells id) h
     go false = tt
+
+-- the records of the triggers over an item
+over_all : (conf : Conf) (items : ℕ → List Stored) (number now item : ℕ) (cells : List (List EventId))
+    → flat_map (added_at conf items number now cells) (triggers_over conf item) ≡ flat_map (over conf items number now item cells) (ids_from 1 conf.triggers)
+unfolding triggers_over
+over_all conf items number now item cells = flat_filter (λ id. is_over item (at_id conf.triggers id)) (added_at conf items number now cells) (ids_from 1 conf.triggers)
+
+-- the events of a trigger's problems behind what it adds where it is over an item
+over_events : (conf : Conf) (items : ℕ → List Stored) (number now item : ℕ) (cells : List (List EventId)) (k : ℕ) (es : List EventId) → k < length conf.triggers
+    → cond (is_among (triggers_over conf item) k) (events_after (k + 1) es (added_at conf items number now cells (k + 1))) es ≡ events_after (k + 1) es (over conf items number now item cells (k + 1))
+unfolding triggers_over
+over_events conf items number now item cells k es l =
+    ap (λ b. cond b (events_after (k + 1) es (added_at conf items number now cells (k + 1))) es) (any_id (λ id. is_over item (at_id conf.triggers id)) (k + 1) 1 conf.triggers (omega arith) (omega arith))
+    ∙ go (is_over item (at_id conf.triggers (k + 1)))
+  where
+    go : (b : Bool) → cond b (events_after (k + 1) es (added_at conf items number now cells (k + 1))) es ≡ events_after (k + 1) es (cond b (added_at conf items number now cells (k + 1)) [])
+    go true = refl
+    go false = refl
 
 -- The events in cells that stand for records
 events_are : (conf : Conf) (cells : CellsView) (log : List Numbered) (rs : List Rec) → StandFor conf cells log rs → (k : ℕ) → k < length conf.triggers → events_at cells.problems (1 + k) ≡ open_events rs (1 + k)
@@ -63,10 +84,11 @@ events_are conf cells log rs h k l =
 
 -- The records of the triggers over an item
 made_is : (conf : Conf) (cells : CellsView) (log : List Numbered) (rs : List Rec) (items history : ℕ → List Stored) (number now item : ℕ) → StandFor conf cells log rs → SameAt now items history
-    → flat_map (added_at conf items number now item cells.problems) (ids_from 1 conf.triggers) ≡ phase (evaluated conf history number now) rs (triggers_over conf item)
+    → flat_map (added_at conf items number now cells.problems) (triggers_over conf item) ≡ phase (evaluated conf history number now) rs (triggers_over conf item)
 unfolding triggers_over evaluated
 made_is conf cells log rs items history number now item h same =
-    ids_same (added_at conf items number now item cells.problems) (λ id. judged_over conf history number now item id (at_id conf.triggers id) (open_events rs id)) 1 conf.triggers
+    over_all conf items number now item cells.problems
+    ∙ ids_same (over conf items number now item cells.problems) (λ id. cond (is_over item (at_id conf.triggers id)) (judged_by conf history number now id (at_id conf.triggers id) (open_events rs id)) []) 1 conf.triggers
     (λ k l. ap (λ xs. cond (is_over item (at_id conf.triggers (1 + k))) xs []) (judged_same conf number now (1 + k) items history (at_id conf.triggers (1 + k)) (events_at cells.problems (1 + k)) same
     ∙ ap (judged_by conf history number now (1 + k) (at_id conf.triggers (1 + k))) (events_are conf cells log rs h k l)))
     ∙ sym (flat_filter (λ id. is_over item (at_id conf.triggers id)) (λ id. judged_by conf history number now id (at_id conf.triggers id) (open_events rs id)) (ids_from 1 conf.triggers))
@@ -88,18 +110,18 @@ module _ (conf : Conf) (cells : CellsView) (log : List Numbered) (rs : List Rec)
     latest = λ i l. let next : suc i ≡ i + 1 = omega arith in ap (λ xs. get_or xs i None) t.latest ∙ sym (latest_get (with_value cells.latest item s) i (let a = length-with_value cells.latest item s in let b = h.items in omega arith))
         ∙ value_latest conf cells log rs e now item time value s is stored h (suc i) ∙ ap (λ n. first_of (history_of conf (e ∷ log) n)) next;
     problems = λ k l. t.events k (let b = h.triggers in omega arith)
-        ∙ ap (λ b. cond b (events_after (k + 1) (get_or cells.problems k []) (one (k + 1))) (get_or cells.problems k [])) (lt-ltb k (length conf.triggers) l)
+        ∙ over_events conf (kept (with_value cells.latest item s)) e.number now item cells.problems k (get_or cells.problems k []) l
         ∙ ap (λ es. events_after (k + 1) es (one (k + 1))) (h.problems k l)
         ∙ own k l
-        ∙ ap (events_after (k + 1) (open_events rs (k + 1))) (sym t.records)
+        ∙ ap (events_after (k + 1) (open_events rs (k + 1))) (sym (t.records ∙ over_all conf (kept (with_value cells.latest item s)) e.number now item cells.problems))
         ∙ sym (events_append (k + 1) rs made);
   }
     where
       one : ℕ → List Rec
-      one = added_at conf (kept (with_value cells.latest item s)) e.number now item cells.problems
+      one = over conf (kept (with_value cells.latest item s)) e.number now item cells.problems
 
       lands : (k : ℕ) → k < length conf.triggers → AllLand (1 + k) (one (1 + k))
-      lands k l = over_lands conf (kept (with_value cells.latest item s)) e.number now item (1 + k) (at_id conf.triggers (1 + k)) (events_at cells.problems (1 + k))
+      lands k l = over_lands conf (kept (with_value cells.latest item s)) e.number now item cells.problems (1 + k)
           (subst (Homes (1 + k)) (sym (events_are conf cells log rs h k l)) (homes_open (1 + k) rs))
 
       own : (k : ℕ) → k < length conf.triggers → events_after (k + 1) (open_events rs (k + 1)) (one (k + 1)) ≡ events_after (k + 1) (open_events rs (k + 1)) (flat_map one (ids_from 1 conf.triggers))

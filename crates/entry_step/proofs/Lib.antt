@@ -5,3 +5,5 @@ pub mod Plans
 pub mod Histories
 pub mod Phases
 pub mod Entries
+pub mod Naming
+pub mod Listing

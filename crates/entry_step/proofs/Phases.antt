@@ -1,5 +1,6 @@
 -- Triggers evaluated one after another: each sees its own problems as they were.
-use Rattle.std.proofs.Common.{◌≡◌, ℕ, zero, suc, ◌+◌, ◌<◌, ◌≤◌, Bool, true, false, cond, List, [], ◌∷◌, ◌++◌, length, map, filter, flat_map, refl, sym, ◌∙◌, ap, ap₂, subst, arith}
+use Rattle.std.proofs.Common.{◌≡◌, ℕ, zero, suc, ◌+◌, ◌<◌, ◌≤◌, ◌==◌, Bool, true, false, cond, List, [], ◌∷◌, ◌++◌, length, map, filter, flat_map, refl, sym, ◌∙◌, ap, ap₂, subst, arith, eqb-true, eq-eqb, ne_eqb}
+use Rattle.std.specs.List.{list_any}
 use Rattle.zbx_types.specs.Ids.{ids_from}
 use Rattle.zbx_types.specs.declared.entries.EventId.{EventId}
 use Rattle.zbx_types.specs.declared.entries.Rec.{Rec}
@@ -32,6 +33,31 @@ ids_above {A} {B} f g p n (x ∷ xs) h = go (p n) (ids_above f g p (n + 1) xs (�
         → flat_map f (cond b (n ∷ filter p (ids_from (n + 1) xs)) (filter p (ids_from (n + 1) xs))) ≡ flat_map g (cond b (n ∷ filter p (ids_from (n + 1) xs)) (filter p (ids_from (n + 1) xs)))
     go true e = ap₂ (λ a b. a ++ b) (h n (omega arith)) e
     go false e = e
+
+-- an id is among those that pass a test where it passes
+any_above : {A : Type 0} (p : ℕ → Bool) (j n : ℕ) (xs : List A) → j < n → list_any (λ i. i == j) (filter p (ids_from n xs)) ≡ false
+any_above p j n [] l = refl
+any_above {A} p j n (x ∷ xs) l = go (p n) (any_above p j (n + 1) xs (omega arith))
+  where
+    go : (b : Bool) → list_any (λ i. i == j) (filter p (ids_from (n + 1) xs)) ≡ false → list_any (λ i. i == j) (cond b (n ∷ filter p (ids_from (n + 1) xs)) (filter p (ids_from (n + 1) xs))) ≡ false
+    go true h = rw (ne_eqb n j (λ q. absurd (omega arith))) h
+    go false h = h
+
+pub any_id : {A : Type 0} (p : ℕ → Bool) (j n : ℕ) (xs : List A) → n ≤ j → j < n + length xs → list_any (λ i. i == j) (filter p (ids_from n xs)) ≡ p j
+any_id p j n [] l m = absurd (omega arith)
+any_id {A} p j n (x ∷ xs) l m = go (λ k. any_id p j (n + 1) xs k (omega arith)) (n == j) refl (p n) refl
+  where
+    rest : List ℕ
+    rest = filter p (ids_from (n + 1) xs)
+
+    below : (n == j) ≡ false → n + 1 ≤ j
+    below e = let ne : n ≡ j → ⊥ = λ q. let t : (n == j) ≡ true = eq-eqb n j q in cc in omega arith
+
+    go : (n + 1 ≤ j → list_any (λ i. i == j) rest ≡ p j) → (a : Bool) → (n == j) ≡ a → (b : Bool) → p n ≡ b → list_any (λ i. i == j) (cond b (n ∷ rest) rest) ≡ p j
+    go h true e true t = rw e (sym (ap p (sym (eqb-true n j e)) ∙ t))
+    go h true e false t = let q = eqb-true n j e in any_above p j (n + 1) xs (omega arith) ∙ sym (ap p (sym q) ∙ t)
+    go h false e true t = rw e (h (below e))
+    go h false e false t = h (below e)
 
 -- what a trigger adds is about itself, where its problems are
 abbrev pub IsOwn : (ℕ → List EventId → List Rec) → Type 0

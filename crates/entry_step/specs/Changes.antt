@@ -1,13 +1,13 @@
 -- How records change the open problems that cells keep.
-use Rattle.std.specs.Prelude.{◌≡◌, ℕ, ◌+◌, ◌-◌, ◌<◌, nat_lt, not, List, [], ◌∷◌, ◌++◌, Option, Some, None, filter, if◌then◌else◌, get_or, slice_set, length, flat_map}
-use Rattle.zbx_types.specs.Ids.{at_id, ids_from}
+use Rattle.std.specs.Prelude.{◌≡◌, ℕ, ◌+◌, ◌-◌, ◌<◌, ◌==◌, Bool, not, List, [], ◌∷◌, ◌++◌, Option, Some, None, filter, if◌then◌else◌, get_or, slice_set, length, flat_map}
+use Rattle.std.specs.List.{list_any}
+use Rattle.zbx_types.specs.Ids.{at_id}
 use Rattle.zbx_types.specs.declared.conf.Conf.{Conf}
-use Rattle.zbx_types.specs.declared.conf.Trigger.{Trigger}
 use Rattle.zbx_types.specs.declared.entries.EventId.{EventId}
 use Rattle.zbx_types.specs.declared.entries.Rec.{Rec}
 use Rattle.zbx_types.specs.declared.entries.Stored.{Stored}
 use Rattle.entry_step.specs.Problems.{event_of, opens, recovers}
-use Rattle.entry_step.specs.Records.{judged_by, is_over, failure_of}
+use Rattle.entry_step.specs.Records.{judged_by, triggers_over, failure_of}
 use Rattle.entry_step.specs.Cells.{CellsView}
 use Rattle.entry_step.specs.Kept.{kept, with_value}
 use Rattle.entry_step.specs.declared.changes.Change.{Change}
@@ -45,26 +45,26 @@ changed cells (c ∷ cs) = changed (slice_set cells c.index c.events) cs
 abbrev pub events_at : List (List EventId) → ℕ → List EventId
 events_at cells id = get_or cells (id - 1) []
 
--- what a trigger adds where an item stored a value
-abbrev pub judged_over : Conf → (ℕ → List Stored) → ℕ → ℕ → ℕ → ℕ → Option Trigger → List EventId → List Rec
-judged_over conf items number now item id trigger events = if is_over item trigger then judged_by conf items number now id trigger events else []
+-- what the trigger with an id adds to cells where it is evaluated
+abbrev pub added_at : Conf → (ℕ → List Stored) → ℕ → ℕ → List (List EventId) → ℕ → List Rec
+added_at conf items number now cells id = judged_by conf items number now id (at_id conf.triggers id) (events_at cells id)
 
--- what the trigger with an id adds to cells where an item stored a value
-abbrev pub added_at : Conf → (ℕ → List Stored) → ℕ → ℕ → ℕ → List (List EventId) → ℕ → List Rec
-added_at conf items number now item cells id = judged_over conf items number now item id (at_id conf.triggers id) (events_at cells id)
+-- whether the trigger at a place, counted from 0, is among those with these ids
+abbrev pub is_among : List ℕ → ℕ → Bool
+is_among ids t = list_any (λ id. id == t + 1) ids
 
--- a plan of triggers over cells, where `one` is what the trigger with an id adds
-pub record IsPlan (one : ℕ → List Rec) (cells : List (List EventId)) (triggers : List Trigger) (plan : Plan) : Type 0 where
-  pub records : plan.records ≡ flat_map one (ids_from 1 triggers)
-  pub events : (t : ℕ) → t < length cells → get_or (changed cells plan.changes) t [] ≡ (if nat_lt t (length triggers) then events_after (t + 1) (get_or cells t []) (one (t + 1)) else get_or cells t [])
+-- a plan of the triggers with these ids over cells, where `one` is what the trigger with an id adds
+pub record IsPlan (one : ℕ → List Rec) (cells : List (List EventId)) (ids : List ℕ) (plan : Plan) : Type 0 where
+  pub records : plan.records ≡ flat_map one ids
+  pub events : (t : ℕ) → t < length cells → get_or (changed cells plan.changes) t [] ≡ (if is_among ids t then events_after (t + 1) (get_or cells t []) (one (t + 1)) else get_or cells t [])
 
 -- the cells take in a value that an item stored
 pub record TakesIn (conf : Conf) (number now item : ℕ) (s : Stored) (before : CellsView) (made : List Rec) (after : CellsView) : Type 0 where
-  pub records : made ≡ flat_map (added_at conf (kept (with_value before.latest item s)) number now item before.problems) (ids_from 1 conf.triggers)
+  pub records : made ≡ flat_map (added_at conf (kept (with_value before.latest item s)) number now before.problems) (triggers_over conf item)
   pub latest : after.latest ≡ with_value before.latest item s
   pub size : length after.problems ≡ length before.problems
   pub events : (t : ℕ) → t < length before.problems → get_or after.problems t []
-      ≡ (if nat_lt t (length conf.triggers) then events_after (t + 1) (get_or before.problems t []) (added_at conf (kept (with_value before.latest item s)) number now item before.problems (t + 1)) else get_or before.problems t [])
+      ≡ (if is_among (triggers_over conf item) t then events_after (t + 1) (get_or before.problems t []) (added_at conf (kept (with_value before.latest item s)) number now before.problems (t + 1)) else get_or before.problems t [])
 
 -- the cells take a value of an item, which may store it
 abbrev pub Takes : Conf → ℕ → ℕ → ℕ → Option Stored → CellsView → List Rec → CellsView → Type 0

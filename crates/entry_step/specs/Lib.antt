@@ -8,3 +8,5 @@ pub mod Cells
 pub mod Kept
 pub mod Calls
 pub mod Changes
+pub mod Names
+pub mod Index

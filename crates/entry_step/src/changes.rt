@@ -1,6 +1,6 @@
 //! How an entry's records change the open problems that cells keep.
 
-ghost use Rattle.std.specs.Prelude.{◌≡◌, ◌++◌, OnOk};
+ghost use Rattle.std.specs.Prelude.{◌≡◌, ◌++◌, ◌-◌, OnOk};
 ghost use Rattle.entry_step.specs.Changes.{outcome_records, outcome_changes, changed};
 
 use zbx_types::{EventId, Many, OutOfMemory, Rec};
@@ -27,15 +27,15 @@ pub(crate) struct Plan {
 }
 
 impl Plan {
-    /// Adds the outcome of the trigger at a place.
-    pub(crate) fn add(&mut self, index: usize, outcome: Option<Outcome>) -> Result<(), OutOfMemory>
+    /// Adds the outcome of the trigger with an id.
+    pub(crate) fn add(&mut self, id: u32, outcome: Option<Outcome>) -> Result<(), OutOfMemory>
         ensures records { OnOk result (self.new.records ≡ self.old.records ++ outcome_records outcome) }
-        ensures changes { OnOk result (self.new.changes ≡ self.old.changes ++ outcome_changes index outcome) }
+        ensures changes { OnOk result (self.new.changes ≡ self.old.changes ++ outcome_changes (id - 1) outcome) }
     {
         if let Some(outcome) = outcome {
             self.records.append(outcome.records)?;
             self.changes.push(Change {
-                index,
+                index: id.saturating_sub(1) as usize,
                 events: outcome.events,
             })?;
         }

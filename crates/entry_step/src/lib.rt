@@ -1,7 +1,9 @@
 //! One entry at a time: what an entry stores, which triggers it evaluates, and which problems begin and end.
 //!
-//! `Cells` keep what a run needs between entries: the latest stored value of each item, and for each trigger the events
-//! of its open problems. `step` takes one numbered entry and answers the records that it makes.
+//! `Ready` is a configuration with indexes that are made once: hosts by their names, items by their keys, triggers by the
+//! items that they have calls over. So what is done for a value takes no walk over the configuration. `Cells` keep what a
+//! run needs between entries: the latest stored value of each item, and for each trigger the events of its open problems.
+//! `step` takes one numbered entry and answers the records that it makes.
 //!
 //! The contract: over cells that stand for a log and its records, and with an entry that may follow the log, `step`
 //! answers the records that the definitions find by searching the log and those records, and leaves cells that stand
@@ -17,8 +19,9 @@
 //! Built so far are the function `last(#1)`, constants and the operator `>`. Everything else is unknown.
 //!
 //! ```text
-//! let mut cells = Cells::new(alloc, &conf)?;
-//! let made = step(alloc, &conf, &mut cells, &entry)?;
+//! let ready = Ready::build(alloc, conf)?;
+//! let mut cells = Cells::new(alloc, ready.conf())?;
+//! let made = step(alloc, &ready, &mut cells, &entry)?;
 //! ```
 #![tactic(auto)]
 
@@ -27,10 +30,14 @@ mod cells;
 mod changes;
 mod evaluation;
 mod history;
+mod index;
+mod lists;
+mod names;
 mod records;
 mod stepping;
 
 pub use cells::Cells;
+pub use index::Ready;
 pub use stepping::step;
 
 #[cfg(test)]

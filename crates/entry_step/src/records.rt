@@ -1,10 +1,9 @@
 //! The records that an entry makes.
 
-ghost use Rattle.std.specs.Prelude.{◌≡◌, ◌∷◌, [], Some, map, IfOk, ◌==◌};
-ghost use Rattle.std.specs.List.{list_any};
+ghost use Rattle.std.specs.Prelude.{◌≡◌, ◌∷◌, [], map, IfOk};
 ghost use Rattle.zbx_types.specs.Ids.{at_id};
-ghost use Rattle.entry_step.specs.Records.{host_name, problem_of, recovery_of, failure_of, opened, verdict_records, judged, is_over};
-ghost use Rattle.entry_step.specs.Changes.{outcome_records, outcome_events, events_after, judged_over};
+ghost use Rattle.entry_step.specs.Records.{host_name, problem_of, recovery_of, failure_of, opened, verdict_records, judged};
+ghost use Rattle.entry_step.specs.Changes.{outcome_records, outcome_events, events_after};
 ghost use Rattle.entry_step.specs.Calls.{histories};
 
 use crate::changes::Outcome;
@@ -182,21 +181,7 @@ fn verdict(
     }
 }
 
-/// Whether an id is among some.
-fn is_among(id: u32, ids: &[u32]) -> bool
-    ensures { result ≡ list_any (λ i. i == id) ids.now }
-{
-    ids.iter().any(|i| *i == id)
-}
-
-/// A trigger is enabled and has a call over this item.
-fn is_over(item: u32, trigger: &Trigger) -> bool
-    ensures { result ≡ is_over item (Some trigger.now) }
-{
-    trigger.enabled && is_among(item, trigger.call_items.as_slice())
-}
-
-/// What a trigger adds where an item stored a value. None: nothing changes.
+/// What a trigger adds where it is evaluated. None: nothing changes.
 #[tactic(auto, unfolding(crate::specs::Records::judged))]
 pub(crate) fn judge(
     alloc: Global,
@@ -206,12 +191,9 @@ pub(crate) fn judge(
     calls: &Calls,
     events: &[EventId],
 ) -> Result<Option<Outcome>, OutOfMemory>
-    ensures records { IfOk result (λ made. outcome_records made ≡ judged_over conf.now (histories calls.entry.now) number calls.entry.now.now calls.entry.now.item id (Some calls.entry.now.trigger.now) events.now) }
+    ensures records { IfOk result (λ made. outcome_records made ≡ judged conf.now (histories calls.entry.now) number calls.entry.now.now id calls.entry.now.trigger.now events.now) }
     ensures events { IfOk result (λ made. outcome_events events.now made ≡ events_after id events.now (outcome_records made)) }
 {
-    if !is_over(calls.item, calls.trigger) {
-        return Ok(None);
-    }
     let value = expression_value(calls, &calls.trigger.expr);
     verdict(
         alloc,

@@ -3,31 +3,33 @@ use std::alloc::Global;
 use std::convert::AsStr;
 use std::test::Fail;
 use zbx_types::{
-    Call, Cause2, Conf, Entry, EventId, Expr, Fix, Fun, Host, Item, ItemKind, Many, Moment,
-    Numbered, Op, Operand, OutOfMemory, Range, Rec, RecoveryMode, Text, Trigger, ValueType,
+    Call, Cause2, Conf, Entry, Expr, Fix, Fun, Host, Item, ItemKind, Many, Moment, Numbered, Op,
+    Operand, OutOfMemory, Range, Rec, RecoveryMode, Text, Trigger, ValueType,
 };
+
+/// A list of one.
+fn one<T: Drop>(alloc: Global, made: T) -> Result<Many<T>, OutOfMemory> {
+    let mut list = Many::new(alloc);
+    list.push(made)?;
+    Ok(list)
+}
 
 /// One item, and a trigger `last(#1) > 5` over it.
 fn configuration(alloc: Global) -> Result<Conf, OutOfMemory> {
-    let mut hosts = Many::new(alloc);
-    hosts.push(Host {
-        name: Text::of(alloc, "h")?,
-        groups: Many::new(alloc),
-        enabled: true,
-    })?;
-    let mut items = Many::new(alloc);
-    items.push(Item {
-        host: 1,
-        key: Text::of(alloc, "k")?,
-        kind: ItemKind::Trapper,
-        master: 0,
-        value_type: ValueType::Number,
-        enabled: true,
-        steps: Many::new(alloc),
-    })?;
-    let mut triggers = Many::new(alloc);
-    triggers.push(trigger(alloc)?)?;
+    let hosts = one(alloc, host(alloc, "h")?)?;
+    let items = one(alloc, item(alloc, 1, "k")?)?;
+    let triggers = one(alloc, trigger(alloc, 1, true)?)?;
+    of_these(alloc, hosts, items, triggers)
+}
+
+fn of_these(
+    alloc: Global,
+    hosts: Many<Host>,
+    items: Many<Item>,
+    triggers: Many<Trigger>,
+) -> Result<Conf, OutOfMemory> {
     Ok(Conf {
+        text: Text::new(alloc),
         utc_offset: 0,
         hosts,
         items,
@@ -40,19 +42,34 @@ fn configuration(alloc: Global) -> Result<Conf, OutOfMemory> {
     })
 }
 
-fn trigger(alloc: Global) -> Result<Trigger, OutOfMemory> {
+fn host(alloc: Global, name: &str) -> Result<Host, OutOfMemory> {
+    Ok(Host {
+        name: Text::of(alloc, name)?,
+        groups: Many::new(alloc),
+        enabled: true,
+    })
+}
+
+fn item(alloc: Global, host: u32, key: &str) -> Result<Item, OutOfMemory> {
+    Ok(Item {
+        host,
+        key: Text::of(alloc, key)?,
+        kind: ItemKind::Trapper,
+        master: 0,
+        value_type: ValueType::Number,
+        enabled: true,
+        steps: Many::new(alloc),
+    })
+}
+
+/// A trigger with two calls over one item.
+fn trigger(alloc: Global, item: u32, enabled: bool) -> Result<Trigger, OutOfMemory> {
     let mut calls = Many::new(alloc);
-    calls.push(Call {
-        fun: Fun::Last,
-        host: Text::of(alloc, "h")?,
-        key: Text::of(alloc, "k")?,
-        range: Range::Count(1),
-        shift: 0,
-        op: Text::new(alloc),
-        arg: Text::new(alloc),
-    })?;
+    calls.push(call(alloc)?)?;
+    calls.push(call(alloc)?)?;
     let mut call_items = Many::new(alloc);
-    call_items.push(1)?;
+    call_items.push(item)?;
+    call_items.push(item)?;
     let bound = Fix::of_raw(5_000_000).ok_or(OutOfMemory)?;
     Ok(Trigger {
         host: 1,
@@ -72,42 +89,53 @@ fn trigger(alloc: Global) -> Result<Trigger, OutOfMemory> {
         severity: 3,
         tags: Many::new(alloc),
         depends: Many::new(alloc),
-        enabled: true,
+        enabled,
         depth: 0,
     })
 }
 
-/// Takes a value whose time is so many seconds, at 100 seconds.
-fn taken(
-    alloc: Global,
-    conf: &Conf,
-    cells: &mut Cells,
-    number: u64,
-    sec: u32,
-    value: &str,
-) -> Result<Many<Rec>, OutOfMemory> {
-    let entry = Numbered {
+fn call(alloc: Global) -> Result<Call, OutOfMemory> {
+    Ok(Call {
+        fun: Fun::Last,
+        host: Text::of(alloc, "h")?,
+        key: Text::of(alloc, "k")?,
+        range: Range::Count(1),
+        shift: 0,
+        op: Text::new(alloc),
+        arg: Text::new(alloc),
+    })
+}
+
+/// A value of the item whose time is so many seconds, taken at 100 seconds.
+fn value(alloc: Global, number: u64, sec: u32, text: &str) -> Result<Numbered, OutOfMemory> {
+    Ok(Numbered {
         number,
         entry: Entry::Value {
             now: Moment { sec: 100, ns: 0 },
             item: 1,
             time: Moment { sec, ns: 0 },
-            value: Text::of(alloc, value)?,
+            value: Text::of(alloc, text)?,
         },
-    };
-    step(alloc, conf, cells, &entry)
+    })
+}
+
+/// The records of the last of some values, numbered from 3 on, each with the seconds of its time.
+fn records(alloc: Global, values: &[(u32, &str)]) -> Result<Many<Rec>, OutOfMemory> {
+    let ready = Ready::build(alloc, configuration(alloc)?)?;
+    let mut cells = Cells::new(alloc, ready.conf())?;
+    let mut made = Many::new(alloc);
+    let mut number = 3;
+    for (sec, text) in values {
+        let entry = value(alloc, number, *sec, text)?;
+        made = step(alloc, &ready, &mut cells, &entry)?;
+        number = if number < 100 { number + 1 } else { number };
+    }
+    Ok(made)
 }
 
 #[test]
-fn a_problem_begins_and_ends(rt: HostRuntime) -> Result<(), Fail> {
-    let alloc = rt.alloc();
-    let conf = configuration(alloc)?;
-    let mut cells = Cells::new(alloc, &conf)?;
-    let made = taken(alloc, &conf, &mut cells, 3, 100, "10")?;
-    let event_wanted = EventId {
-        number: 3,
-        trigger: 1,
-    };
+fn a_problem_begins(rt: HostRuntime) -> Result<(), Fail> {
+    let made = records(rt.alloc(), &[(100, "10")])?;
     match made.as_slice() {
         [
             Rec::Problem {
@@ -121,8 +149,8 @@ fn a_problem_begins_and_ends(rt: HostRuntime) -> Result<(), Fail> {
                 tags,
             },
         ] => {
-            assert_eq!(rt; *event, event_wanted);
-            assert_eq!(rt; *now, Moment { sec: 100, ns: 0 });
+            assert_eq!(rt; (event.number, event.trigger), (3, 1));
+            assert_eq!(rt; now.sec, 100);
             assert_eq!(rt; (*severity, *suppressed), (3, false));
             assert_eq!(rt; host.as_str(), "h");
             assert_eq!(rt; trigger.as_str(), "hot");
@@ -131,9 +159,13 @@ fn a_problem_begins_and_ends(rt: HostRuntime) -> Result<(), Fail> {
         }
         _ => assert!(rt; false),
     }
-    let made = taken(alloc, &conf, &mut cells, 4, 100, "10")?;
-    assert_eq!(rt; made.len(), 0);
-    let made = taken(alloc, &conf, &mut cells, 5, 100, "1")?;
+    Ok(())
+}
+
+#[test]
+fn a_problem_ends_once_and_begins_once(rt: HostRuntime) -> Result<(), Fail> {
+    assert_eq!(rt; records(rt.alloc(), &[(100, "10"), (100, "10")])?.len(), 0);
+    let made = records(rt.alloc(), &[(100, "10"), (100, "10"), (100, "1")])?;
     match made.as_slice() {
         [
             Rec::Recovery {
@@ -143,8 +175,8 @@ fn a_problem_begins_and_ends(rt: HostRuntime) -> Result<(), Fail> {
                 cause,
             },
         ] => {
-            assert_eq!(rt; *event, event_wanted);
-            assert_eq!(rt; *now, Moment { sec: 100, ns: 0 });
+            assert_eq!(rt; (event.number, event.trigger), (3, 1));
+            assert_eq!(rt; now.sec, 100);
             assert_eq!(rt; (*by, *cause), (5, Cause2::Expression));
         }
         _ => assert!(rt; false),
@@ -154,10 +186,7 @@ fn a_problem_begins_and_ends(rt: HostRuntime) -> Result<(), Fail> {
 
 #[test]
 fn a_value_that_is_no_number_fails(rt: HostRuntime) -> Result<(), Fail> {
-    let alloc = rt.alloc();
-    let conf = configuration(alloc)?;
-    let mut cells = Cells::new(alloc, &conf)?;
-    let made = taken(alloc, &conf, &mut cells, 6, 100, "x")?;
+    let made = records(rt.alloc(), &[(100, "x")])?;
     match made.as_slice() {
         [
             Rec::Failure {
@@ -167,7 +196,7 @@ fn a_value_that_is_no_number_fails(rt: HostRuntime) -> Result<(), Fail> {
                 why,
             },
         ] => {
-            assert_eq!(rt; *number, 6);
+            assert_eq!(rt; *number, 3);
             assert_eq!(rt; host.as_str(), "h");
             assert_eq!(rt; key.as_str(), "k");
             assert_eq!(rt; why.as_str(), "value: not a number");
@@ -177,66 +206,48 @@ fn a_value_that_is_no_number_fails(rt: HostRuntime) -> Result<(), Fail> {
     Ok(())
 }
 
-#[test]
-fn blanks_around_a_number_are_dropped(rt: HostRuntime) -> Result<(), Fail> {
-    let alloc = rt.alloc();
-    let conf = configuration(alloc)?;
-    let mut cells = Cells::new(alloc, &conf)?;
-    let made = taken(alloc, &conf, &mut cells, 3, 100, "\t 6 \r\n")?;
-    match made.as_slice() {
-        [Rec::Problem { trigger, .. }] => {
-            assert_eq!(rt; trigger.as_str(), "hot");
-        }
-        _ => assert!(rt; false),
+fn is_problem(made: &[Rec]) -> bool {
+    match made {
+        [Rec::Problem { .. }] => true,
+        _ => false,
     }
-    Ok(())
+}
+
+fn is_failure(made: &[Rec]) -> bool {
+    match made {
+        [Rec::Failure { .. }] => true,
+        _ => false,
+    }
 }
 
 #[test]
-fn blanks_alone_are_no_number(rt: HostRuntime) -> Result<(), Fail> {
-    let alloc = rt.alloc();
-    let conf = configuration(alloc)?;
-    let mut cells = Cells::new(alloc, &conf)?;
-    let made = taken(alloc, &conf, &mut cells, 3, 100, " ")?;
-    match made.as_slice() {
-        [Rec::Failure { why, .. }] => {
-            assert_eq!(rt; why.as_str(), "value: not a number");
-        }
-        _ => assert!(rt; false),
-    }
+fn blanks_around_a_number_are_dropped(rt: HostRuntime) -> Result<(), Fail> {
+    assert!(rt; is_problem(records(rt.alloc(), &[(100, "\t 6 \r\n")])?.as_slice()));
+    assert!(rt; is_failure(records(rt.alloc(), &[(100, " ")])?.as_slice()));
     Ok(())
 }
 
 #[test]
 fn a_late_value_is_not_the_latest(rt: HostRuntime) -> Result<(), Fail> {
-    let alloc = rt.alloc();
-    let conf = configuration(alloc)?;
-    let mut cells = Cells::new(alloc, &conf)?;
-    taken(alloc, &conf, &mut cells, 3, 100, "1")?;
-    let made = taken(alloc, &conf, &mut cells, 4, 99, "9")?;
-    assert_eq!(rt; made.len(), 0);
+    assert_eq!(rt; records(rt.alloc(), &[(100, "1"), (99, "9")])?.len(), 0);
     Ok(())
 }
 
+/// The id of the item with a key of the host with a name.
+fn found(alloc: Global, name: &str, key: &str) -> Result<Option<u32>, OutOfMemory> {
+    let ready = Ready::build(alloc, configuration(alloc)?)?;
+    let name = Text::of(alloc, name)?;
+    let key = Text::of(alloc, key)?;
+    match ready.host_named(&name) {
+        Some(host) => Ok(ready.item_keyed(host, &key)),
+        None => Ok(None),
+    }
+}
+
 #[test]
-fn other_entries_make_nothing(rt: HostRuntime) -> Result<(), Fail> {
-    let alloc = rt.alloc();
-    let conf = configuration(alloc)?;
-    let mut cells = Cells::new(alloc, &conf)?;
-    let first = Numbered {
-        number: 1,
-        entry: Entry::Config {
-            now: Moment::zero(),
-            text: Text::new(alloc),
-        },
-    };
-    assert_eq!(rt; step(alloc, &conf, &mut cells, &first)?.len(), 0);
-    let second = Numbered {
-        number: 2,
-        entry: Entry::Tick {
-            now: Moment { sec: 100, ns: 0 },
-        },
-    };
-    assert_eq!(rt; step(alloc, &conf, &mut cells, &second)?.len(), 0);
+fn an_item_is_found_by_its_host_and_its_key(rt: HostRuntime) -> Result<(), Fail> {
+    assert_eq!(rt; found(rt.alloc(), "h", "k")?, Some(1));
+    assert_eq!(rt; found(rt.alloc(), "h", "j")?, None);
+    assert_eq!(rt; found(rt.alloc(), "a", "k")?, None);
     Ok(())
 }

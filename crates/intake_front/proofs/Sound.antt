@@ -26,7 +26,8 @@ use Rattle.sender_json.specs.declared.request.Request.{Request}
 use Rattle.sender_json.specs.declared.request.Request.TheVariants as request
 use Rattle.sender_json.specs.Requests.{request_of}
 use Rattle.entry_step.specs.Log.{log_of, last_moment, moment_of, is_config, is_trapper, IsFitting, Follows, Fits}
-use Rattle.intake_front.specs.Taking.{clocked, valued, keyed, hosted, taken_of, entry_in, group_of, is_enabled_host, is_enabled_item, is_trapper_kind, is_trapper_item, host_named, item_keyed}
+use Rattle.entry_step.specs.Names.{host_named, item_keyed}
+use Rattle.intake_front.specs.Taking.{clocked, valued, keyed, hosted, taken_of, entry_in, group_of, is_enabled_host, is_enabled_item, is_trapper_kind, is_trapper_item}
 use Rattle.intake_front.specs.Intake.{Intake, numbered_from, with_group, is_due, half_minute, ticks_at, answered_values, answered_request, turned, behind_tick, ticked, handled, start, IsSound}
 use Rattle.intake_front.specs.declared.refusal.ValueRefusal.{ValueRefusal}
 use Rattle.intake_front.specs.declared.refusal.ValueRefusal.TheVariants.{Disabled, NotTrapper, BadValue}

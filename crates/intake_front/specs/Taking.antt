@@ -1,7 +1,6 @@
 -- What becomes of an asked value.
-use Rattle.std.specs.Prelude.{ℕ, ◌+◌, ◌^◌, ◌<◌, ◌==◌, nat_le, nat_eq, min, Bool, true, false, not, ◌&&◌, List, [], ◌∷◌, length, position, Option, Some, None, Result, Ok, Err, if◌then◌else◌, option_map, option_and_then}
+use Rattle.std.specs.Prelude.{ℕ, nat_le, min, Bool, true, false, not, ◌&&◌, List, [], ◌∷◌, length, Option, Some, None, Result, Ok, Err, if◌then◌else◌, option_and_then}
 use Rattle.std.specs.List.{flat_map}
-use Rattle.std.specs.Cmp.Lexicographic.{pointwise}
 use Rattle.zbx_types.specs.Ids.{at_id}
 use Rattle.zbx_types.specs.declared.conf.Conf.{Conf}
 use Rattle.zbx_types.specs.declared.conf.Host.{Host}
@@ -13,25 +12,9 @@ use Rattle.zbx_types.specs.declared.entries.Entry.TheVariants.{Value}
 use Rattle.sender_json.specs.declared.asked.Asked.{Asked}
 use Rattle.sender_json.specs.declared.asked.Clock.{Clock}
 use Rattle.sender_json.specs.declared.asked.Clock.TheVariants as clock
+use Rattle.entry_step.specs.Names.{host_named, item_keyed}
 use Rattle.intake_front.specs.declared.refusal.ValueRefusal.{ValueRefusal}
 use Rattle.intake_front.specs.declared.refusal.ValueRefusal.TheVariants.{UnknownHost, UnknownKey, Disabled, NotTrapper, BadValue, BadClock}
-
--- each host and each item has an id of 32 bits
-pub record HasIds (conf : Conf) : Type 0 where
-  pub hosts : length conf.hosts < 2 ^ 32
-  pub items : length conf.items < 2 ^ 32
-
--- two texts are the same
-abbrev pub same_text : List ℕ → List ℕ → Bool
-same_text a b = pointwise nat_eq a b
-
--- the id of the first host with a name
-abbrev pub host_named : Conf → List ℕ → Option ℕ
-host_named conf name = option_map (λ place. place + 1) (position (λ h. same_text h.name name) conf.hosts)
-
--- the id of a host's first item with a key
-abbrev pub item_keyed : Conf → ℕ → List ℕ → Option ℕ
-item_keyed conf host key = option_map (λ place. place + 1) (position (λ i. (i.host == host) && same_text i.key key) conf.items)
 
 -- there is a host, and it is enabled
 abbrev pub is_enabled_host : Option Host → Bool

@@ -5,12 +5,13 @@ ghost use Rattle.intake_front.specs.Intake.{numbered_from, ticks_at, tick_after,
 ghost use Rattle.intake_front.specs.Draft.{Holds};
 
 use crate::answer::{Answer, Reply, Stop};
-use crate::taking::{group, has_ids};
+use crate::taking::group;
+use entry_step::Ready;
 use outside::WireEvent;
 use sender_json::{Asked, Refusal, Request, read, refusal, reply};
 use std::alloc::Global;
 use wire_core::Turn;
-use zbx_types::{Bytes, Conf, Entry, Many, Moment, Numbered, OutOfMemory};
+use zbx_types::{Bytes, Entry, Many, Moment, Numbered, OutOfMemory};
 
 /// What an event has made: entries with their numbers, and the answer.
 #[derive(Drop)]
@@ -62,7 +63,7 @@ fn replying(conn: u64, bytes: Bytes) -> Answer
 #[tactic(auto, unfolding(crate::specs::Intake::answered_values), using(crate::proofs::Numbers::length_numbered))]
 fn answered_values(
     alloc: Global,
-    conf: &Conf,
+    ready: &Ready,
     now: Moment,
     first: u64,
     conn: u64,
@@ -70,13 +71,10 @@ fn answered_values(
     all: Many<Asked>,
 ) -> Result<Draft, OutOfMemory>
     requires { first ≤ 2 ^ 63 }
-    ensures { IfOk result (λ draft. Holds first draft (answered_values conf.now now conn since all)) }
+    ensures { IfOk result (λ draft. Holds first draft (answered_values ready.now now conn since all)) }
 {
-    if !has_ids(conf) {
-        return Err(OutOfMemory);
-    }
     let total = all.as_slice().len() as u64;
-    let entries = group(alloc, conf, now, first, all)?;
+    let entries = group(alloc, ready, now, first, all)?;
     let processed = entries.as_slice().len() as u64;
     let failed = total.saturating_sub(processed);
     let bytes = reply(alloc, processed, failed, now.since(since) / 1000)?;
@@ -89,7 +87,7 @@ fn answered_values(
 #[tactic(auto, unfolding(crate::specs::Intake::answered_request))]
 fn answered_request(
     alloc: Global,
-    conf: &Conf,
+    ready: &Ready,
     now: Moment,
     first: u64,
     conn: u64,
@@ -97,12 +95,12 @@ fn answered_request(
     request: Request,
 ) -> Result<Draft, OutOfMemory>
     requires { first ≤ 2 ^ 63 }
-    ensures { IfOk result (λ draft. Holds first draft (answered_request conf.now now conn since request)) }
+    ensures { IfOk result (λ draft. Holds first draft (answered_request ready.now now conn since request)) }
 {
     match request {
         Request::NotJson => Ok(only(alloc, replying(conn, refusal(alloc, Refusal::NotJson)?))),
         Request::Other => Ok(only(alloc, replying(conn, refusal(alloc, Refusal::Unsupported)?))),
-        Request::Values(all) => answered_values(alloc, conf, now, first, conn, since, all),
+        Request::Values(all) => answered_values(alloc, ready, now, first, conn, since, all),
     }
 }
 
@@ -110,20 +108,20 @@ fn answered_request(
 #[tactic(auto, unfolding(crate::specs::Intake::turned))]
 pub(crate) fn turned(
     alloc: Global,
-    conf: &Conf,
+    ready: &Ready,
     now: Moment,
     first: u64,
     turn: Turn,
 ) -> Result<Draft, OutOfMemory>
     requires { first ≤ 2 ^ 63 }
-    ensures { IfOk result (λ draft. Holds first draft (turned conf.now now turn)) }
+    ensures { IfOk result (λ draft. Holds first draft (turned ready.now now turn)) }
 {
     match turn {
         Turn::Nothing => Ok(only(alloc, silent())),
         Turn::Shut { conn } => Ok(only(alloc, shutting(conn))),
         Turn::Whole { conn, body, since } => {
             let request = read(alloc, body.as_slice())?;
-            answered_request(alloc, conf, now, first, conn, since, request)
+            answered_request(alloc, ready, now, first, conn, since, request)
         }
     }
 }

@@ -5,11 +5,12 @@ ghost use Rattle.intake_front.specs.Intake.{start, handled, IsSound};
 
 use crate::answer::Answer;
 use crate::drafts::{stopping, tick_after, ticks_at, turned};
+use entry_step::Ready;
 use outside::WireEvent;
 use std::alloc::Global;
 use std::marker::Model;
 use wire_core::Table;
-use zbx_types::{Conf, Entry, Many, Moment, Numbered, OutOfMemory, Text};
+use zbx_types::{Entry, Many, Moment, Numbered, OutOfMemory, Text};
 
 /// The intake of a run. Contracts see it as an `Intake`: its moment in nanoseconds, the half minute of the last Tick,
 /// the connections that are there, and the entries in the order of their numbers.
@@ -80,25 +81,25 @@ impl Front {
     /// connection. The answer has the reply to send, the connection to close behind it, and whether the event was the
     /// last one.
     ///
-    /// Entries that fit `conf` stay so. Each event is to be given the configuration of entry 1.
+    /// Entries that fit the configuration of `ready` stay so. Each event is to be given that of entry 1. No value is
+    /// looked up by a walk over the configuration or the entries.
     ///
     /// # Errors
     ///
-    /// `OutOfMemory` where memory was refused, which a configuration whose hosts or items can't be counted in 32 bits
-    /// stands for too. No entry was added, and no further event is to be given.
+    /// `OutOfMemory` where memory was refused. No entry was added, and no further event is to be given.
     #[tactic(auto, using(crate::proofs::Sound::kept))]
     pub fn on_event(
         &mut self,
         alloc: Global,
-        conf: &Conf,
+        ready: &Ready,
         event: &WireEvent,
     ) -> Result<Answer, OutOfMemory>
-        ensures answer { IfOk result (λ a. a ≡ (handled conf.now self.old event.now).answer) }
-        ensures after { OnOk result (self.new ≡ (handled conf.now self.old event.now).intake) }
-        ensures keeps { OnOk result (IsSound conf.now self.old → IsSound conf.now self.new) }
+        ensures answer { IfOk result (λ a. a ≡ (handled ready.now self.old event.now).answer) }
+        ensures after { OnOk result (self.new ≡ (handled ready.now self.old event.now).intake) }
+        ensures keeps { OnOk result (IsSound ready.now self.old → IsSound ready.now self.new) }
         ensures err { OnErr result (self.new.entries ≡ self.old.entries) }
     {
-        self.receive(alloc, conf, event)
+        self.receive(alloc, ready, event)
     }
 
     /// Numbers the Tick that is due and the values that are taken, all at once and behind all else that takes memory.
@@ -106,18 +107,18 @@ impl Front {
     fn receive(
         &mut self,
         alloc: Global,
-        conf: &Conf,
+        ready: &Ready,
         event: &WireEvent,
     ) -> Result<Answer, OutOfMemory>
-        ensures answer { IfOk result (λ a. a ≡ (handled conf.now self.old event.now).answer) }
-        ensures after { OnOk result (self.new ≡ (handled conf.now self.old event.now).intake) }
+        ensures answer { IfOk result (λ a. a ≡ (handled ready.now self.old event.now).answer) }
+        ensures after { OnOk result (self.new ≡ (handled ready.now self.old event.now).intake) }
         ensures err { OnErr result (self.new.entries ≡ self.old.entries) }
     {
         let now = self.now.later(event.at());
         let number = self.entries.as_slice().len() as u64 + 1;
         let mut made = ticks_at(alloc, self.tick, now, number)?;
         let turn = self.table.on(alloc, event, now)?;
-        let draft = turned(alloc, conf, now, number_behind(&self.entries, &made), turn)?;
+        let draft = turned(alloc, ready, now, number_behind(&self.entries, &made), turn)?;
         made.append(draft.entries)?;
         self.entries.append(made)?;
         self.now = now;

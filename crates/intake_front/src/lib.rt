@@ -12,9 +12,10 @@
 //! its time is its clock, but never later than the moment at which it is taken. `Closed` is the last event.
 //!
 //! ```text
-//! let mut front = Front::new(alloc, text)?;          // entry 1 is the configuration
-//! let answer = front.on_event(alloc, &conf, &event)?; // entries 2, 3 ..
-//! if let Some(reply) = &answer.reply { .. }           // send it, then close answer.shut
+//! let mut front = Front::new(alloc, text)?;            // entry 1 is the configuration
+//! let ready = Ready::build(alloc, conf)?;              // with its indexes
+//! let answer = front.on_event(alloc, &ready, &event)?; // entries 2, 3 ..
+//! if let Some(reply) = &answer.reply { .. }            // send it, then close answer.shut
 //! ```
 //!
 //! Where memory is refused no entry was added, and the front takes no further event.

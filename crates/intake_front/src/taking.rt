@@ -1,10 +1,12 @@
 //! What becomes of asked values.
 
-ghost use Rattle.std.specs.Prelude.{◌≡◌, ◌≤◌, ◌<◌, ◌++◌, ◌+◌, ◌^◌, ◌&&◌, ◌==◌, ◌↔◌, IsTrue, length, min, position, IfOk, OnOk, option_and_then, option_copied};
-ghost use Rattle.intake_front.specs.Taking.{HasIds, same_text, host_named, item_keyed, is_enabled_host, is_enabled_item, is_trapper_item, clocked, valued, keyed, hosted, taken_of, entry_in, group_of};
+ghost use Rattle.std.specs.Prelude.{◌≡◌, ◌≤◌, ◌++◌, ◌+◌, ◌^◌, length, min, IfOk, OnOk, option_and_then, option_copied};
+ghost use Rattle.entry_step.specs.Names.{host_named, item_keyed};
+ghost use Rattle.intake_front.specs.Taking.{is_enabled_host, is_enabled_item, is_trapper_item, clocked, valued, keyed, hosted, taken_of, entry_in, group_of};
 ghost use Rattle.intake_front.specs.Intake.{numbered_from};
 
 use crate::refusal::ValueRefusal;
+use entry_step::Ready;
 use sender_json::{Asked, Clock};
 use std::alloc::Global;
 use zbx_types::{
@@ -14,70 +16,20 @@ use zbx_types::{
 /// The longest value, in bytes.
 const LONGEST_VALUE: usize = 65_535;
 
-/// Each host and each item has an id of 32 bits. More of them are more than a machine's memory holds.
-pub(crate) fn has_ids(conf: &Conf) -> bool
-    ensures { IsTrue result ↔ HasIds conf.now }
-{
-    conf.hosts.as_slice().len() <= u32::MAX as usize
-        && conf.items.as_slice().len() <= u32::MAX as usize
-}
-
-fn place_of_host(conf: &Conf, name: &Text) -> Option<usize>
-    ensures { result ≡ position (λ h. same_text h.name name.now) conf.now.hosts }
-{
-    conf.hosts
-        .as_slice()
-        .iter()
-        .position(|host| host.name == *name)
-}
-
-fn place_of_item(conf: &Conf, host: u32, key: &Text) -> Option<usize>
-    ensures { result ≡ position (λ i. (i.host == host) && same_text i.key key.now) conf.now.items }
-{
-    conf.items
-        .as_slice()
-        .iter()
-        .position(|item| item.host == host && item.key == *key)
-}
-
-/// The id of the first host with a name.
-fn host_named(conf: &Conf, name: &Text) -> Option<u32>
-    requires { HasIds conf.now }
-    ensures { result ≡ host_named conf.now name.now }
-{
-    match place_of_host(conf, name) {
-        Some(place) => Some(place as u32 + 1),
-        None => None,
-    }
-}
-
-/// The id of a host's first item with a key.
-fn item_keyed(conf: &Conf, host: u32, key: &Text) -> Option<u32>
-    requires { HasIds conf.now }
-    ensures { result ≡ item_keyed conf.now host key.now }
-{
-    match place_of_item(conf, host, key) {
-        Some(place) => Some(place as u32 + 1),
-        None => None,
-    }
-}
-
-fn asked_host(conf: &Conf, name: &Option<Text>) -> Option<u32>
-    requires { HasIds conf.now }
-    ensures { result ≡ option_and_then (host_named conf.now) name.now }
+fn asked_host(ready: &Ready, name: &Option<Text>) -> Option<u32>
+    ensures { result ≡ option_and_then (host_named ready.now) name.now }
 {
     match name {
-        Some(name) => host_named(conf, name),
+        Some(name) => ready.host_named(name),
         None => None,
     }
 }
 
-fn asked_item(conf: &Conf, host: u32, key: &Option<Text>) -> Option<u32>
-    requires { HasIds conf.now }
-    ensures { result ≡ option_and_then (item_keyed conf.now host) key.now }
+fn asked_item(ready: &Ready, host: u32, key: &Option<Text>) -> Option<u32>
+    ensures { result ≡ option_and_then (item_keyed ready.now host) key.now }
 {
     match key {
-        Some(key) => item_keyed(conf, host, key),
+        Some(key) => ready.item_keyed(host, key),
         None => None,
     }
 }
@@ -183,25 +135,28 @@ fn keyed(
 }
 
 #[tactic(auto, unfolding(crate::specs::Taking::hosted))]
-fn hosted(conf: &Conf, now: Moment, asked: Asked, host: Option<u32>) -> Result<Entry, ValueRefusal>
-    requires { HasIds conf.now }
-    ensures { result ≡ hosted conf.now now asked host }
+fn hosted(
+    ready: &Ready,
+    now: Moment,
+    asked: Asked,
+    host: Option<u32>,
+) -> Result<Entry, ValueRefusal>
+    ensures { result ≡ hosted ready.now now asked host }
 {
     let Some(host) = host else {
         return Err(ValueRefusal::UnknownHost);
     };
-    let item = asked_item(conf, host, &asked.key);
-    keyed(conf, now, asked, host, item)
+    let item = asked_item(ready, host, &asked.key);
+    keyed(ready.conf(), now, asked, host, item)
 }
 
 /// The entry that an asked value becomes, or the cause for which it is refused.
 #[tactic(auto, unfolding(crate::specs::Taking::taken_of))]
-fn taken(conf: &Conf, now: Moment, asked: Asked) -> Result<Entry, ValueRefusal>
-    requires { HasIds conf.now }
-    ensures { result ≡ taken_of conf.now now asked }
+fn taken(ready: &Ready, now: Moment, asked: Asked) -> Result<Entry, ValueRefusal>
+    ensures { result ≡ taken_of ready.now now asked }
 {
-    let host = asked_host(conf, &asked.host);
-    hosted(conf, now, asked, host)
+    let host = asked_host(ready, &asked.host);
+    hosted(ready, now, asked, host)
 }
 
 /// Numbers a value that was taken behind those of its group, whose first has this number.
@@ -224,18 +179,17 @@ fn add(
 #[tactic(auto, using(crate::proofs::Numbers::group_none, crate::proofs::Numbers::group_more))]
 pub(crate) fn group(
     alloc: Global,
-    conf: &Conf,
+    ready: &Ready,
     now: Moment,
     first: u64,
     all: Many<Asked>,
 ) -> Result<Many<Numbered>, OutOfMemory>
-    requires ids { HasIds conf.now }
-    requires first { first ≤ 2 ^ 63 }
-    ensures { IfOk result (λ made. made ≡ numbered_from first (group_of conf.now now all)) }
+    requires { first ≤ 2 ^ 63 }
+    ensures { IfOk result (λ made. made ≡ numbered_from first (group_of ready.now now all)) }
 {
     let mut made = Many::new(alloc);
     for asked in all.into_vec() {
-        add(&mut made, first, taken(conf, now, asked))?;
+        add(&mut made, first, taken(ready, now, asked))?;
     }
     Ok(made)
 }

@@ -1,4 +1,5 @@
 use super::*;
+use entry_step::Ready;
 use outside::WireEvent;
 use std::alloc::Global;
 use std::convert::AsStr;
@@ -9,7 +10,7 @@ use zbx_types::{
 };
 
 /// One host, `h` in the group `g`, with one trapper item, `k`, which keeps numbers.
-fn conf(alloc: Global) -> Result<Conf, Fail> {
+fn ready(alloc: Global) -> Result<Ready, Fail> {
     let mut groups = Many::new(alloc);
     groups.push(Text::of(alloc, "g")?)?;
     let mut hosts = Many::new(alloc);
@@ -28,7 +29,8 @@ fn conf(alloc: Global) -> Result<Conf, Fail> {
         enabled: true,
         steps: Many::new(alloc),
     })?;
-    Ok(Conf {
+    let conf = Conf {
+        text: Text::new(alloc),
         utc_offset: 0,
         hosts,
         items,
@@ -38,7 +40,8 @@ fn conf(alloc: Global) -> Result<Conf, Fail> {
         actions: Many::new(alloc),
         patterns: Many::new(alloc),
         pattern_paths: Many::new(alloc),
-    })
+    };
+    Ok(Ready::build(alloc, conf)?)
 }
 
 fn hundred() -> Moment {
@@ -64,14 +67,14 @@ fn piece(alloc: Global, elements: &[u8]) -> Result<WireEvent, Fail> {
 
 /// The intake behind a connection that opened at 100 seconds and brought these elements, and the answer.
 fn brought(alloc: Global, elements: &[u8]) -> Result<(Front, Answer), Fail> {
-    let conf = conf(alloc)?;
+    let ready = ready(alloc)?;
     let mut front = Front::new(alloc, Text::of(alloc, "conf")?)?;
     let opened = WireEvent::Opened {
         conn: 1,
         at: hundred(),
     };
-    front.on_event(alloc, &conf, &opened)?;
-    let answer = front.on_event(alloc, &conf, &piece(alloc, elements)?)?;
+    front.on_event(alloc, &ready, &opened)?;
+    let answer = front.on_event(alloc, &ready, &piece(alloc, elements)?)?;
     Ok((front, answer))
 }
 
@@ -174,7 +177,7 @@ fn a_time_is_never_after_its_moment(rt: HostRuntime) -> Result<(), Fail> {
 fn closed_is_the_last_event(rt: HostRuntime) -> Result<(), Fail> {
     let alloc = rt.alloc();
     let mut front = Front::new(alloc, Text::of(alloc, "conf")?)?;
-    let answer = front.on_event(alloc, &conf(alloc)?, &WireEvent::Closed { at: hundred() })?;
+    let answer = front.on_event(alloc, &ready(alloc)?, &WireEvent::Closed { at: hundred() })?;
     assert!(rt; answer.stop == Some(Stop::Closed));
     Ok(())
 }

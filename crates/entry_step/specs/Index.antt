@@ -1,0 +1,34 @@
+-- The indexes by which hosts, items and triggers are found.
+use Rattle.std.specs.Prelude.{◌≡◌, ℕ, nat_eq, Bool, List, [], ◌∷◌, ◌++◌, String, Option, Some, None, if◌then◌else◌, option_and_then}
+use Rattle.std.specs.HashMap.{HashMap, get, get_by_text}
+use Rattle.std.specs.List.{last_or}
+use Rattle.std.specs.Option.{unwrap_or, option_or, option_eq}
+use Rattle.zbx_types.specs.declared.conf.Conf.{Conf}
+use Rattle.entry_step.specs.Names.{host_named, item_keyed}
+use Rattle.entry_step.specs.Records.{triggers_over}
+
+-- the id at a key of a host, in maps of keys by hosts
+abbrev pub id_at : {A S T : Type 0} → HashMap ℕ (HashMap (String A) ℕ S) T → ℕ → List ℕ → Option ℕ
+id_at keys host key = option_and_then (λ ids. get_by_text ids key) (get nat_eq keys host)
+
+-- the ids that are listed for an item. Where it has no list, there are none.
+abbrev pub listed : {T : Type 0} → HashMap ℕ (List ℕ) T → ℕ → List ℕ
+listed over item = unwrap_or (get nat_eq over item) []
+
+-- the indexes are those of the configuration
+pub record IsIndex {A S T U : Type 0} (conf : Conf) (hosts : HashMap (String A) ℕ S) (keys : HashMap ℕ (HashMap (String A) ℕ T) U) (over : HashMap ℕ (List ℕ) U) : Type 0 where
+  pub by_name : (name : List ℕ) → get_by_text hosts name ≡ host_named conf name
+  pub by_key : (host : ℕ) (key : List ℕ) → id_at keys host key ≡ item_keyed conf host key
+  pub by_item : (item : ℕ) → listed over item ≡ triggers_over conf item
+
+-- the id of a name with one more item, which may have the name: the first one counts
+abbrev pub noted : Option ℕ → Bool → ℕ → Option ℕ
+noted before named id = option_or before (if named then Some id else None)
+
+-- a list ends with an id
+abbrev pub ends_with : List ℕ → ℕ → Bool
+ends_with ids id = option_eq nat_eq (last_or None ids) (Some id)
+
+-- a list with an id at its end, which isn't put there twice
+abbrev pub with_last : List ℕ → ℕ → List ℕ
+with_last ids id = if ends_with ids id then ids else ids ++ id ∷ []

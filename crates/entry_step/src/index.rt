@@ -1,0 +1,95 @@
+//! A configuration made ready for a run: indexes by which its hosts, items and triggers are found.
+
+ghost use Rattle.std.specs.Prelude.{◌≡◌, IfOk};
+ghost use Rattle.entry_step.specs.Names.{host_named, item_keyed};
+ghost use Rattle.entry_step.specs.Records.{triggers_over};
+
+use crate::lists::lists_of;
+use crate::names::{hosts_of, keys_of};
+use std::alloc::Global;
+use std::collections::HashMap;
+use std::convert::AsStr;
+use std::marker::Model;
+use zbx_types::{Conf, Many, OutOfMemory, Text};
+
+/// A configuration with its indexes, which are made once (this project's own). Contracts see the configuration alone.
+///
+/// No look-up walks over the configuration.
+#[derive(Drop)]
+pub struct Ready {
+    conf: Conf,
+    hosts: HashMap<String, u32>,
+    keys: HashMap<u32, HashMap<String, u32>>,
+    over: HashMap<u32, Many<u32>>,
+}
+
+impl Model for Ready {
+    ghost use Rattle.std.specs.Coded.{codes};
+    ghost use Rattle.zbx_types.specs.Tree.{tree_code};
+    ghost use Rattle.zbx_types.specs.declared.conf.Conf.{Conf};
+    ghost use Rattle.entry_step.specs.Index.{IsIndex};
+
+    ghost Value = { Conf };
+
+    ghost coded = { Prim.hlevel (codes, tree_code) };
+
+    ghost view = { λ r. r.conf };
+
+    ghost invariant = { λ r. IsIndex r.conf r.hosts r.keys r.over };
+}
+
+impl Ready {
+    /// Makes the indexes of a configuration, in time that grows with its length.
+    ///
+    /// # Errors
+    ///
+    /// `OutOfMemory` where memory was refused, which a configuration whose hosts, items or triggers can't be counted in
+    /// 32 bits stands for too.
+    pub fn build(alloc: Global, conf: Conf) -> Result<Ready, OutOfMemory>
+        ensures { IfOk result (λ ready. ready ≡ conf) }
+    {
+        let hosts = hosts_of(alloc, &conf)?;
+        let keys = keys_of(alloc, &conf)?;
+        let over = lists_of(alloc, &conf)?;
+        Ok(Ready {
+            conf,
+            hosts,
+            keys,
+            over,
+        })
+    }
+
+    /// The configuration.
+    pub fn conf(&self) -> &Conf
+        ensures { result.now ≡ self.now }
+    {
+        &self.conf
+    }
+
+    /// The id of the first host with a name. Ids count from 1, in the order of the configuration.
+    pub fn host_named(&self, name: &Text) -> Option<u32>
+        ensures { result ≡ host_named self.now name.now }
+    {
+        self.hosts.get(name.as_str()).copied()
+    }
+
+    /// The id of a host's first item with a key. Ids count from 1, in the order of the configuration.
+    pub fn item_keyed(&self, host: u32, key: &Text) -> Option<u32>
+        ensures { result ≡ item_keyed self.now host key.now }
+    {
+        match self.keys.get(&host) {
+            None => None,
+            Some(ids) => ids.get(key.as_str()).copied(),
+        }
+    }
+
+    /// The ids of the triggers that are evaluated where an item stored a value, in the order of evaluation.
+    pub(crate) fn over(&self, item: u32) -> &[u32]
+        ensures { result.now ≡ triggers_over self.now item }
+    {
+        match self.over.get(&item) {
+            None => &[],
+            Some(ids) => ids.as_slice(),
+        }
+    }
+}
