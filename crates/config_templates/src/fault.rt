@@ -1,16 +1,25 @@
-//! Why no configuration is built.
+//! Why a document has no flat configuration.
 
 ghost use Rattle.std.specs.Prelude.{◌≡◌};
 ghost use Rattle.config_templates.specs.declared.fault.FlatError.TheVariants.{OutOfMemory};
 
 use std::alloc::AllocFailed;
 use thiserror::Error;
-use zbx_types::OutOfMemory;
+use zbx_types::{Cause, OutOfMemory, Text};
 
-/// Why a text gave no flat configuration.
-#[derive(Clone, Copy, Debug, PartialEq, Eq, Error)]
+/// Why a document gave no flat configuration.
+#[derive(Debug, Drop, Error)]
 pub enum FlatError {
-    /// The text isn't of the form that is built. This project's own.
+    /// The first fault of the document: a JSON pointer (RFC 6901) to the member at fault, as it is written in the
+    /// document, and what is wrong there. This project's own.
+    #[error("the configuration is refused")]
+    Refused {
+        /// The pointer. Of an inherited object it is that of the template's.
+        path: Text,
+        /// What is wrong.
+        cause: Cause,
+    },
+    /// The document has a form that isn't built. This project's own.
     #[error("configurations of this form are not built")]
     Unbuilt,
     /// No memory was to be had.

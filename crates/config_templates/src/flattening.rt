@@ -1,29 +1,154 @@
 //! From a text to the flat configuration.
 
-ghost use Rattle.std.specs.Prelude.{◌≡◌, Some, None, IfOk, IsErrOf, length};
-ghost use Rattle.config_templates.specs.Flat.{flat_of};
+ghost use Rattle.std.specs.Prelude.{◌≡◌, ℕ, List, Ok, Err, map, IfOk, IsErrOf, IsUtf8};
+ghost use Rattle.config_read.specs.Document.{conf_of};
+ghost use Rattle.config_templates.specs.Answers.{Gives, GivesAs};
+ghost use Rattle.config_templates.specs.Flat.{host_made, conf_made, read_of, laid_out, flat_of};
+ghost use Rattle.config_templates.specs.Laid.{lists_of};
+ghost use Rattle.config_templates.specs.Linked.{HasLinks};
+ghost use Rattle.config_templates.specs.Places.{refuse};
+ghost use Rattle.config_templates.specs.Places.Flaw.{unbuilt};
+ghost use Rattle.zbx_types.specs.declared.conf.Cause.{Cause};
 
+use crate::built::is_built;
 use crate::fault::FlatError;
-use crate::making::conf;
-use crate::plain::plain_form;
+use crate::items::items;
+use crate::links::Links;
+use crate::meanings::Scope;
+use crate::owners::host_names;
+use crate::triggers::triggers;
+use config_read::{RawConf, RawHost, ReadError, read};
 use std::alloc::Global;
-use zbx_types::Conf;
+use zbx_types::{Conf, Host, Item, Many, OutOfMemory, Text, Trigger, copy_texts};
+
+/// The document of a text.
+fn document(alloc: Global, text: &[u8]) -> Result<RawConf, FlatError>
+    ensures { Gives result (read_of (conf_of text.now)) }
+{
+    match read(alloc, text) {
+        Ok(raw) => Ok(raw),
+        Err(ReadError::Refused { path, cause }) => Err(FlatError::Refused { path, cause }),
+        Err(ReadError::OutOfMemory) => Err(FlatError::OutOfMemory),
+    }
+}
+
+/// A copy of the text of a document.
+fn text_of(alloc: Global, text: &[u8]) -> Result<Text, OutOfMemory>
+    requires { IsUtf8 text.now }
+    ensures { IfOk result (λ made. made ≡ text.now) }
+{
+    match Text::from_utf8(alloc, text)? {
+        Some(text) => Ok(text),
+        None => unreachable!(),
+    }
+}
+
+fn host(alloc: Global, raw: &RawHost) -> Result<Host, OutOfMemory>
+    ensures { IfOk result (λ made. made ≡ host_made raw.now) }
+{
+    let name = raw.name.copy(alloc)?;
+    let groups = copy_texts(alloc, &raw.groups)?;
+    Ok(Host {
+        name,
+        groups,
+        enabled: raw.enabled,
+    })
+}
+
+fn hosts(alloc: Global, raws: &Many<RawHost>) -> Result<Many<Host>, OutOfMemory>
+    ensures { IfOk result (λ made. made ≡ map host_made raws.now) }
+{
+    let mut made = Many::new(alloc);
+    for raw in raws.as_slice() {
+        made.push(host(alloc, raw)?)?;
+    }
+    Ok(made)
+}
+
+/// The configuration of a document with these items and triggers.
+fn conf(
+    alloc: Global,
+    text: &[u8],
+    raw: RawConf,
+    items: Many<Item>,
+    triggers: Many<Trigger>,
+) -> Result<Conf, OutOfMemory>
+    requires { IsUtf8 text.now }
+    ensures { IfOk result (λ made. made ≡ conf_made text.now raw items triggers) }
+{
+    let text = text_of(alloc, text)?;
+    let hosts = hosts(alloc, &raw.hosts)?;
+    Ok(Conf {
+        text,
+        utc_offset: raw.utc_offset,
+        hosts,
+        items,
+        triggers,
+        correlations: raw.correlations,
+        maintenances: raw.maintenances,
+        actions: raw.actions,
+        patterns: Many::new(alloc),
+        pattern_paths: Many::new(alloc),
+    })
+}
+
+/// The items and the triggers of a document whose links are right.
+fn lists(
+    alloc: Global,
+    raw: &RawConf,
+    links: &Links,
+) -> Result<(Many<Item>, Many<Trigger>), FlatError>
+    requires { HasLinks raw.now links.now }
+    ensures { Gives result (lists_of raw.now) }
+{
+    let items = items(alloc, raw, links)?;
+    let hosts = host_names(alloc, &raw.hosts)?;
+    let scope = Scope {
+        raw,
+        hosts: &hosts,
+        items: &items,
+    };
+    let triggers = triggers(alloc, &scope, links)?.triggers;
+    Ok((items.items, triggers))
+}
+
+/// The items and the triggers of a document.
+#[tactic(auto, using(crate::proofs::LaidOut::not_built, crate::proofs::LaidOut::links_fail, crate::proofs::LaidOut::lists_give))]
+fn laid_lists(alloc: Global, raw: &RawConf) -> Result<(Many<Item>, Many<Trigger>), FlatError>
+    ensures { (text : List ℕ) → GivesAs (λ l. conf_made text raw.now l.0 l.1) result (laid_out text raw.now) }
+{
+    if !is_built(raw) {
+        return Err(FlatError::Unbuilt);
+    }
+    let links = Links::of(alloc, raw)?;
+    lists(alloc, raw, &links)
+}
+
+/// The flat configuration of a document.
+fn flattened(alloc: Global, text: &[u8], raw: RawConf) -> Result<Conf, FlatError>
+    requires { IsUtf8 text.now }
+    ensures { Gives result (laid_out text.now raw) }
+{
+    let (items, triggers) = laid_lists(alloc, &raw)?;
+    Ok(conf(alloc, text, raw, items, triggers)?)
+}
 
 /// The flat configuration of a configuration document, a JSON text of at most 16,777,216 bytes.
 ///
-/// `Unbuilt` comes where the text isn't of the plain form, which the crate's page describes, and nowhere else.
-/// `OutOfMemory` may come on any text.
+/// `Refused` comes with the document's first fault and its path: what the reading of the document refuses, then links, the
+/// items of the hosts in their order, and the triggers of the hosts in theirs. `Unbuilt` comes where the document can be
+/// read and has a form that isn't built, and where an expression isn't plain and nothing before it is refused.
+/// `OutOfMemory` may come on any text, and says nothing of it.
 ///
-/// The form of the document is this project's own. What names, keys and severities may be, and how a trigger
-/// with one expression recovers, is from the Zabbix 6.0 manual, "Configuring a host", "Item key format",
-/// "Configuring a trigger" and "Trigger severity".
-#[tactic(auto, unfolding(crate::specs::Flat::flat_of))]
+/// The form of the document is this project's own. How hosts inherit is from the Zabbix 6.0 manual, "Linking/unlinking",
+/// and "User macros".
+#[tactic(auto, using(crate::proofs::TextsRead::is_text), unfolding(crate::specs::Flat::flat_of))]
 pub fn flat(alloc: Global, text: &[u8]) -> Result<Conf, FlatError>
-    ensures ok { IfOk result (λ conf. flat_of text.now ≡ Some conf) }
-    ensures unbuilt { IsErrOf result FlatError.Unbuilt → flat_of text.now ≡ None }
-    ensures one_item { IfOk result (λ conf. length conf.items ≡ 1) }
-    ensures one_trigger { IfOk result (λ conf. length conf.triggers ≡ 1) }
+    ensures gives { Gives result (flat_of text.now) }
+    ensures ok { IfOk result (λ conf. flat_of text.now ≡ Ok conf) }
+    ensures refused { (path : List ℕ) (cause : Cause) → IsErrOf result (FlatError.Refused path cause) → flat_of text.now ≡ refuse path cause }
+    ensures unbuilt { IsErrOf result FlatError.Unbuilt → flat_of text.now ≡ Err unbuilt }
 {
-    let form = plain_form(alloc, text)?;
-    Ok(conf(alloc, &form)?)
+    let raw = document(alloc, text)?;
+    flattened(alloc, text, raw)
 }

@@ -1,38 +1,55 @@
-//! From a configuration document to the flat configuration.
+//! The flat configuration of a document: templates are laid out over their hosts, user macros have their values, and
+//! names of hosts and items are ids.
 //!
-//! A document is a JSON text. [`flat`] answers the flat configuration that the text stands for.
+//! The contract in a sentence: [`flat`] gives `flat_of` of the text, the configuration that the document stands for or why
+//! it has none, its first fault with the JSON pointer of the member at fault or that it has a form that isn't built; only
+//! want of memory is free.
 //!
-//! Its contract in a sentence: an `Ok` holds `flat_of` of the text's bytes, and `Unbuilt` comes only where
-//! `flat_of` has no answer.
-//!
-//! One form of text is built so far, the plain form: one host with one item and one trigger, whose
-//! expression compares the item's last value with a limit.
+//! A host has its own items and triggers, then those of the templates that it is linked to, level by level, each template
+//! once. References to user macros get the value of the host, else of its templates in that order, else the global one.
+//! Of an inherited object the pointer is that of the template's.
 //!
 //! ```text
-//! {"hosts":[{"name":"h","groups":["g"],"items":[{"key":"k"}],
-//!   "triggers":[{"name":"hot","expression":"last(/h/k)>5","severity":3}]}]}
+//! built: trapper items without steps; triggers `last(/HOST/KEY)>N` that recover by their expression
+//! order of faults: what reading refuses, unbuilt forms, links, items of all hosts, triggers of all hosts
 //! ```
 //!
-//! `groups` and `severity` may be left out, for no groups and 0. Any other member makes the text unbuilt,
-//! wherever it stands. Where a name stands twice in one object, its last value counts. `specs/Plain.antt`
-//! has the bytes and lengths of names and keys, and `conf_of` in `specs/Flat.antt` is what the text becomes.
-//!
 //! ```text
-//! let conf = flat(alloc, text)?;
-//! for host in conf.hosts.as_slice() { .. }
+//! match flat(alloc, text) {
+//!     Ok(conf) => conf.items.as_slice() ..,
+//!     Err(FlatError::Refused { path, cause }) => ..,   // "/templates/0/items/1/key", Duplicate
+//!     Err(FlatError::Unbuilt) => ..,
+//!     Err(FlatError::OutOfMemory) => ..,
+//! }
 //! ```
 #![tactic(auto)]
 
+mod built;
+mod copying;
+mod cycles;
+mod expressions;
 mod fault;
+mod firsts;
 mod flattening;
-mod json;
-mod kinds;
-mod limit;
-mod making;
-mod plain;
+mod host_names;
+mod items;
+mod keys;
+mod links;
+mod macros;
+mod meanings;
+mod names;
+mod owners;
+mod pointers;
+mod ranks;
+mod refusals;
+mod sources;
+mod triggers;
+mod walks;
 
 pub use fault::FlatError;
 pub use flattening::flat;
 
 #[cfg(test)]
 mod tests;
+#[cfg(test)]
+mod tests_links;

@@ -1,6 +1,7 @@
 -- Laws of how runs begin and end.
-use Rattle.std.proofs.Common.{◌≡◌, ◌⊎◌, ℕ, ◌+◌, List, [], length, take, refl, sym, ap, ◌∙◌, subst, arith, inl, inr, append-nil}
-use Rattle.std.specs.Prelude.{Option, Some, None, IfSome, IsSome, is_some}
+use Rattle.std.proofs.Common.{◌≡◌, ℕ, ◌+◌, List, [], length, take, refl, sym, ap, ◌∙◌, subst, arith, inl, inr, append-nil}
+use Rattle.std.specs.Prelude.{Option, Some, Ok, IfSome, IsSome, is_some}
+use Rattle.std.specs.Result.{result_ok}
 use Rattle.std.specs.Io.KnownBytes.{Appends}
 use Rattle.std.proofs.KnownBytes.{Appends-nil}
 use Rattle.std.proofs.Math.Seq.{take-append_seam}
@@ -8,6 +9,7 @@ use Rattle.zbx_types.specs.declared.conf.Conf.{Conf}
 use Rattle.zbx_types.specs.declared.entries.Numbered.{Numbered}
 use Rattle.outside.specs.declared.event.WireEvent.{WireEvent}
 use Rattle.config_templates.specs.Flat.{flat_of}
+use Rattle.config_templates.specs.Places.Flaw.{refused, unbuilt}
 use Rattle.event_text.specs.Lines.{lines_of}
 use Rattle.entry_step.specs.Log.{log_of}
 use Rattle.entry_step.specs.Records.{replay, out_of}
@@ -23,21 +25,29 @@ use Rattle.server_run.specs.Ports.{IsTextUpTo}
 use Rattle.server_run.specs.Replayed.{conf_of_run, replay_under, replayed, run_lines}
 use Rattle.server_run.specs.Tally.{tally_of, counts_with, run_counts}
 use Rattle.server_run.specs.Standing.{Applied, Standing, Whole, Broken, AppendsPart, log_lines}
-use Rattle.server_run.specs.Outcome.{Finished, Leaves, Opened, Refuses, Followed, LinesAre, SizeIs, EndsPrinted}
-use Rattle.server_run.proofs.Texts.{text_told, unbuilt_told}
+use Rattle.server_run.specs.Outcome.{Finished, Leaves, Opened, Fails, Refuses, Followed, LinesAre, SizeIs, EndsPrinted}
+use Rattle.server_run.proofs.Texts.{text_told, flaw_told}
 
 some_plan : (o : Option Plan) (plan : Plan) → o ≡ Some plan → IsSome o
 some_plan o plan is = ap is_some is
 
 -- a configuration that couldn't be taken
 pub refuses : (words : List (List ℕ)) (plan : Plan) (source : Option (List ℕ)) (faults faults' : ℕ) (bytes : List ℕ) (s : Status)
-    → plan_of words ≡ Some plan → IfSome source (λ all. IsTextUpTo 16777216 all bytes) → (s ≡ status.OutOfMemory) ⊎ ((s ≡ status.Unbuilt) × (flat_of bytes ≡ None)) → Refuses words source faults faults' s
-refuses words plan source faults faults' bytes s is read (inl e) = subst (Refuses words source faults faults') (sym e) (some_plan (plan_of words) plan is)
-refuses words plan source faults faults' bytes s is read (inr (e, none)) = subst (Refuses words source faults faults') (sym e) (some_plan (plan_of words) plan is, unbuilt_told source bytes read none)
+    → plan_of words ≡ Some plan → IfSome source (λ all. IsTextUpTo 16777216 all bytes) → Fails bytes s → Refuses words source faults faults' s
+refuses words plan source faults faults' bytes status.OutOfMemory is read spent = some_plan (plan_of words) plan is
+refuses words plan source faults faults' bytes status.Unbuilt is read flaw = (some_plan (plan_of words) plan is, flaw_told source bytes unbuilt read flaw)
+refuses words plan source faults faults' bytes (status.ConfigRefused path cause) is read flaw = (some_plan (plan_of words) plan is, flaw_told source bytes (refused (record { path = path; cause = cause })) read flaw)
+refuses words plan source faults faults' bytes status.Ok is read none = absurd none
+refuses words plan source faults faults' bytes status.Usage is read none = absurd none
+refuses words plan source faults faults' bytes status.SourceFault is read none = absurd none
+refuses words plan source faults faults' bytes status.WireFault is read none = absurd none
+refuses words plan source faults faults' bytes status.OutboxFault is read none = absurd none
+refuses words plan source faults faults' bytes status.PrintFault is read none = absurd none
+refuses words plan source faults faults' bytes status.TurnLimit is read none = absurd none
 
 -- what a run begins with
 pub opened : (words : List (List ℕ)) (plan : Plan) (source : Option (List ℕ)) (bytes text : List ℕ) (conf : Conf) (intake : Intake) (ledger : Ledger)
-    → plan_of words ≡ Some plan → IfSome source (λ all. IsTextUpTo 16777216 all bytes) → flat_of bytes ≡ Some conf → text ≡ bytes → intake ≡ start text
+    → plan_of words ≡ Some plan → IfSome source (λ all. IsTextUpTo 16777216 all bytes) → flat_of bytes ≡ Ok conf → text ≡ bytes → intake ≡ start text
     → Applied conf ledger.cells ledger.tally (log_of (start text).entries) → Opened words source plan.turns conf intake ledger
 opened words plan source bytes text conf intake ledger is read found same begun applied = record {
   plan = plan;
@@ -57,7 +67,7 @@ unfolding out_of
 stands_start words source turns conf intake ledger told held o =
     let at_start : Standing conf (start o.text) ledger.cells ledger.tally told told held held = record {
       sound = sound_start conf o.text;
-      conf_is = o.conf_is;
+      conf_is = ap result_ok o.conf_is;
       applied = o.applied;
       lines = no_lines conf o.text told;
       size = no_size conf o.text held;
@@ -100,6 +110,7 @@ module _ (conf : Conf) (entries : List Numbered) (tally : Tally) (told told' : O
   lines_left status.OutOfMemory b = broken_lines b
   lines_left status.Usage no_run = absurd no_run
   lines_left status.SourceFault no_run = absurd no_run
+  lines_left (status.ConfigRefused path cause) no_run = absurd no_run
   lines_left status.Unbuilt no_run = absurd no_run
 
   pub size_left : (s : Status) → Leaves conf entries tally told told' held held' s → SizeIs s held held' (length (run_lines entries))
@@ -111,6 +122,7 @@ module _ (conf : Conf) (entries : List Numbered) (tally : Tally) (told told' : O
   size_left status.OutOfMemory b = tt
   size_left status.Usage no_run = absurd no_run
   size_left status.SourceFault no_run = absurd no_run
+  size_left (status.ConfigRefused path cause) no_run = absurd no_run
   size_left status.Unbuilt no_run = absurd no_run
 
   pub counts_left : (s : Status) → Leaves conf entries tally told told' held held' s → s ≡ status.Ok → counts_with (length entries) tally ≡ run_counts entries
@@ -122,6 +134,7 @@ module _ (conf : Conf) (entries : List Numbered) (tally : Tally) (told told' : O
   counts_left status.OutOfMemory b is = absurd (cc)
   counts_left status.Usage no_run is = absurd no_run
   counts_left status.SourceFault no_run is = absurd no_run
+  counts_left (status.ConfigRefused path cause) no_run is = absurd no_run
   counts_left status.Unbuilt no_run is = absurd no_run
 
 -- a run that was opened and took events
@@ -151,6 +164,7 @@ part_left status.OutboxFault told told' lines part = part
 part_left status.OutOfMemory told told' lines part = part
 part_left status.Usage told told' lines all = all_part told told' lines all
 part_left status.SourceFault told told' lines all = all_part told told' lines all
+part_left (status.ConfigRefused path cause) told told' lines all = all_part told told' lines all
 part_left status.Unbuilt told told' lines all = all_part told told' lines all
 
 -- printing changes no line

@@ -1,48 +1,62 @@
 -- Texts of configurations that were read in part.
-use Rattle.std.proofs.Common.{◌≡◌, ℕ, ◌<◌, Bool, true, false, List, length, sym, ap, ◌∙◌, arith, inl, inr, refl}
-use Rattle.std.specs.Prelude.{nat_le, Option, Some, None, IfSome, IsUtf8}
-use Rattle.std.specs.Str.{is_utf8}
-use Rattle.std.proofs.lemmas.Str.{IsUtf8-from_is_utf8}
+use Rattle.std.proofs.Common.{◌≡◌, ℕ, ◌<◌, false, List, [], length, sym, ap, ◌∙◌, arith, inl, inr, refl}
+use Rattle.std.specs.Prelude.{nat_le, Option, Some, None, IfSome, Result, Ok, Err}
 use Rattle.std.proofs.lemmas.Bool.Decides.{nat_tests}
+use Rattle.zbx_types.specs.declared.conf.Cause.TheVariants.{TooLong}
 use Rattle.zbx_types.specs.declared.conf.Conf.{Conf}
-use Rattle.config_templates.specs.Document.{json_of}
-use Rattle.config_templates.specs.Plain.{plain_form_of}
-use Rattle.config_templates.specs.Flat.{flat_of}
+use Rattle.json_form.specs.Json.{json_within}
+use Rattle.config_read.specs.declared.raw.RawConf.{RawConf}
+use Rattle.config_read.specs.Document.{conf_of}
+use Rattle.config_templates.specs.Flat.{conf_made, read_of, built, laid_out, flat_of}
+use Rattle.config_templates.specs.Items.{items_of}
+use Rattle.config_templates.specs.Links.{unknown_links, cycles}
+use Rattle.config_templates.specs.Places.{Flaw, refuse, unless, ◌>>=◌}
+use Rattle.config_templates.specs.Triggers.{triggers_of}
 use Rattle.server_run.specs.Ports.{IsTextUpTo}
 
--- a text that is too long is of no form that is built
-flat_of-long : (text : List ℕ) → 16777216 < length text → flat_of text ≡ None
-unfolding flat_of plain_form_of
+-- a text that is too long is refused
+flat_of-long : (text : List ℕ) → 16777216 < length text → flat_of text ≡ refuse [] TooLong
+unfolding flat_of json_within
 flat_of-long text long =
     let test : nat_le (length text) 16777216 ≡ false = grind (arith, nat_tests, long) in
     rw test refl
-
--- nor are bytes that are no text
-no_json : (text : List ℕ) (b : Bool) → is_utf8 text ≡ b → ¬ (IsUtf8 text) → json_of text ≡ None
-no_json text true is no_text = absurd (no_text (IsUtf8-from_is_utf8 text is))
-no_json text false is no_text = rw is refl
-
-pub flat_of-no_text : (text : List ℕ) → ¬ (IsUtf8 text) → flat_of text ≡ None
-unfolding flat_of plain_form_of
-flat_of-no_text text no_text = go (nat_le (length text) 16777216) refl
-  where
-    go : (b : Bool) → nat_le (length text) 16777216 ≡ b → flat_of text ≡ None
-    go true short = rw (short, no_json text (is_utf8 text) refl no_text) refl
-    go false long = rw long refl
 
 -- what was read says what the whole says
 flat_of-read : (all text : List ℕ) → IsTextUpTo 16777216 all text → flat_of text ≡ flat_of all
 flat_of-read all text (inl whole) = ap flat_of whole
 flat_of-read all text (inr long) = flat_of-long text long.0 ∙ sym (flat_of-long all long.1)
 
-text_whole : (all text : List ℕ) (conf : Conf) → IsTextUpTo 16777216 all text → flat_of text ≡ Some conf → text ≡ all
+text_whole : (all text : List ℕ) (conf : Conf) → IsTextUpTo 16777216 all text → flat_of text ≡ Ok conf → text ≡ all
 text_whole all text conf (inl whole) found = whole
-text_whole all text conf (inr long) found = let none = flat_of-long text long.0 in absurd (cc)
+text_whole all text conf (inr long) found = let refused = flat_of-long text long.0 in absurd (cc)
 
-pub text_told : (source : Option (List ℕ)) (text : List ℕ) (conf : Conf) → IfSome source (λ all. IsTextUpTo 16777216 all text) → flat_of text ≡ Some conf → IfSome source (λ all. text ≡ all)
+pub text_told : (source : Option (List ℕ)) (text : List ℕ) (conf : Conf) → IfSome source (λ all. IsTextUpTo 16777216 all text) → flat_of text ≡ Ok conf → IfSome source (λ all. text ≡ all)
 text_told None text conf is found = tt
 text_told (Some all) text conf is found = text_whole all text conf is found
 
-pub unbuilt_told : (source : Option (List ℕ)) (text : List ℕ) → IfSome source (λ all. IsTextUpTo 16777216 all text) → flat_of text ≡ None → IfSome source (λ all. flat_of all ≡ None)
-unbuilt_told None text is none = tt
-unbuilt_told (Some all) text is none = sym (flat_of-read all text is) ∙ none
+-- why what was read has no configuration is why the whole has none
+pub flaw_told : (source : Option (List ℕ)) (text : List ℕ) (flaw : Flaw) → IfSome source (λ all. IsTextUpTo 16777216 all text) → flat_of text ≡ Err flaw → IfSome source (λ all. flat_of all ≡ Err flaw)
+flaw_told None text flaw is none = tt
+flaw_told (Some all) text flaw is none = sym (flat_of-read all text is) ∙ none
+
+-- ---- a configuration has the text of its document
+
+step_ok : {A B : Type 0} (x : Result A Flaw) (f : A → Result B Flaw) (b : B) → x >>= f ≡ Ok b → (a : A) × (f a ≡ Ok b)
+step_ok (Ok a) f b is = (a, is)
+step_ok (Err flaw) f b is = absurd (cc)
+
+made_text : (text : List ℕ) (raw : RawConf) (conf : Conf) → laid_out text raw ≡ Ok conf → conf.text ≡ text
+unfolding laid_out
+made_text text raw conf is =
+    let first = step_ok (built raw) _ conf is in
+    let second = step_ok (unless first.0 (unknown_links first.0)) _ conf first.1 in
+    let third = step_ok (unless second.0 (cycles second.0)) _ conf second.1 in
+    let fourth = step_ok (items_of third.0) _ conf third.1 in
+    let fifth = step_ok (triggers_of third.0 fourth.0) _ conf fourth.1 in
+    let same = fifth.1 in
+    let equal : conf_made text third.0 fourth.0 fifth.0 ≡ conf = cc in
+    sym (ap (λ c. c.text) equal)
+
+pub text_kept : (text : List ℕ) (conf : Conf) → flat_of text ≡ Ok conf → conf.text ≡ text
+unfolding flat_of
+text_kept text conf is = let raw = step_ok (read_of (conf_of text)) (laid_out text) conf is in made_text text raw.0 conf raw.1

@@ -1,6 +1,7 @@
 -- What a run that has begun answers for.
-use Rattle.std.specs.Prelude.{◌≡◌, ◌⊎◌, ◌≤◌, ℕ, ◌+◌, List, ◌++◌, length, Option, Some, None, IfSome, IsSome, ⊤}
+use Rattle.std.specs.Prelude.{◌≡◌, ◌⊎◌, ◌≤◌, ℕ, ◌+◌, List, ◌++◌, length, Option, Some, None, Ok, Err, IfSome, IsSome, ⊤}
 use Rattle.std.specs.Io.KnownBytes.{Appends}
+use Rattle.zbx_types.specs.declared.conf.Cause.{Cause}
 use Rattle.zbx_types.specs.declared.conf.Conf.{Conf}
 use Rattle.zbx_types.specs.declared.entries.Numbered.{Numbered}
 use Rattle.outside.specs.declared.event.WireEvent.{WireEvent}
@@ -11,6 +12,8 @@ use Rattle.intake_front.specs.declared.answer.Stop.TheVariants as stop
 use Rattle.server_words.specs.declared.status.Status.{Status}
 use Rattle.server_words.specs.declared.status.Status.TheVariants as status
 use Rattle.config_templates.specs.Flat.{flat_of}
+use Rattle.config_templates.specs.Places.{refuse}
+use Rattle.config_templates.specs.Places.Flaw.{unbuilt}
 use Rattle.server_run.specs.Course.{Sent}
 use Rattle.server_run.specs.Sending.{Closed}
 use Rattle.server_run.specs.declared.book.Ledger.{Ledger}
@@ -34,6 +37,7 @@ EndsAs status.OutboxFault turns count s = ⊤
 EndsAs status.OutOfMemory turns count s = ⊤
 EndsAs status.Usage turns count s = ⊥
 EndsAs status.SourceFault turns count s = ⊥
+EndsAs (status.ConfigRefused path cause) turns count s = ⊥
 EndsAs status.Unbuilt turns count s = ⊥
 
 -- A run that began with an intake took some events, the first ones where the wire tells them. Its entries, what it sent
@@ -58,6 +62,7 @@ Leaves conf entries tally told told' held held' status.OutboxFault = Broken conf
 Leaves conf entries tally told told' held held' status.OutOfMemory = Broken conf entries told told'
 Leaves conf entries tally told told' held held' status.Usage = ⊥
 Leaves conf entries tally told told' held held' status.SourceFault = ⊥
+Leaves conf entries tally told told' held held' (status.ConfigRefused path cause) = ⊥
 Leaves conf entries tally told told' held held' status.Unbuilt = ⊥
 
 -- what a run has begun with: the plan's turns, the configuration of the text that the source told, an intake with
@@ -68,15 +73,30 @@ pub record Opened (words : List (List ℕ)) (source : Option (List ℕ)) (turns 
   pub turns_are : turns ≡ plan.turns
   pub text : List ℕ
   pub text_is : IfSome source (λ all. text ≡ all)
-  pub conf_is : flat_of text ≡ Some conf
+  pub conf_is : flat_of text ≡ Ok conf
   pub intake_is : intake ≡ start text
   pub applied : Applied conf ledger.cells ledger.tally (log_of (start text).entries)
+
+-- why a configuration couldn't be taken: memory was refused, it has a form that isn't built, or it is refused for its
+-- first fault
+abbrev pub Fails : List ℕ → Status → Type 0
+Fails text status.OutOfMemory = ⊤
+Fails text status.Unbuilt = flat_of text ≡ Err unbuilt
+Fails text (status.ConfigRefused path cause) = flat_of text ≡ refuse path cause
+Fails text status.Ok = ⊥
+Fails text status.Usage = ⊥
+Fails text status.SourceFault = ⊥
+Fails text status.WireFault = ⊥
+Fails text status.OutboxFault = ⊥
+Fails text status.PrintFault = ⊥
+Fails text status.TurnLimit = ⊥
 
 -- why a run didn't begin
 abbrev pub Refuses : List (List ℕ) → Option (List ℕ) → ℕ → ℕ → Status → Type 0
 Refuses words source faults faults' status.Usage = plan_of words ≡ None
 Refuses words source faults faults' status.SourceFault = IsSome (plan_of words) × Rose faults faults'
-Refuses words source faults faults' status.Unbuilt = IsSome (plan_of words) × IfSome source (λ text. flat_of text ≡ None)
+Refuses words source faults faults' status.Unbuilt = IsSome (plan_of words) × IfSome source (λ text. flat_of text ≡ Err unbuilt)
+Refuses words source faults faults' (status.ConfigRefused path cause) = IsSome (plan_of words) × IfSome source (λ text. flat_of text ≡ refuse path cause)
 Refuses words source faults faults' status.OutOfMemory = IsSome (plan_of words)
 Refuses words source faults faults' status.Ok = ⊥
 Refuses words source faults faults' status.PrintFault = ⊥
@@ -92,7 +112,7 @@ pub record Followed (words : List (List ℕ)) (source : Option (List ℕ)) (left
   pub text : List ℕ
   pub text_is : IfSome source (λ all. text ≡ all)
   pub conf : Conf
-  pub conf_is : flat_of text ≡ Some conf
+  pub conf_is : flat_of text ≡ Ok conf
   pub finished : Finished conf (start text) entries plan.turns left sent sent' closed closed' unsent unsent' s
 
 -- the lines of the entries are out, or, where the outbox failed or memory was refused, some from the front
@@ -105,6 +125,7 @@ LinesAre status.TurnLimit told told' lines = Appends told told' lines
 LinesAre status.WireFault told told' lines = Appends told told' lines
 LinesAre status.Usage told told' lines = Appends told told' lines
 LinesAre status.SourceFault told told' lines = Appends told told' lines
+LinesAre (status.ConfigRefused path cause) told told' lines = Appends told told' lines
 LinesAre status.Unbuilt told told' lines = Appends told told' lines
 
 -- the outbox holds as many bytes more as the lines have, unless it failed or memory was refused
@@ -117,6 +138,7 @@ SizeIs status.TurnLimit held held' size = held' ≡ held + size
 SizeIs status.WireFault held held' size = held' ≡ held + size
 SizeIs status.Usage held held' size = held' ≡ held + size
 SizeIs status.SourceFault held held' size = held' ≡ held + size
+SizeIs (status.ConfigRefused path cause) held held' size = held' ≡ held + size
 SizeIs status.Unbuilt held held' size = held' ≡ held + size
 
 -- some of a text from the front was printed, since the printer failed
@@ -131,6 +153,7 @@ Prints status.PrintFault c told told' faults faults' = CutShort told told' fault
 Prints status.OutOfMemory c told told' faults faults' = AppendsPart told told' (printed_text status.OutOfMemory c)
 Prints status.Usage c told told' faults faults' = Appends told told' (printed_text status.Usage c) ⊎ CutShort told told' faults faults' (printed_text status.Usage c)
 Prints status.SourceFault c told told' faults faults' = Appends told told' (printed_text status.SourceFault c) ⊎ CutShort told told' faults faults' (printed_text status.SourceFault c)
+Prints (status.ConfigRefused path cause) c told told' faults faults' = Appends told told' (printed_text (status.ConfigRefused path cause) c) ⊎ CutShort told told' faults faults' (printed_text (status.ConfigRefused path cause) c)
 Prints status.Unbuilt c told told' faults faults' = Appends told told' (printed_text status.Unbuilt c) ⊎ CutShort told told' faults faults' (printed_text status.Unbuilt c)
 Prints status.WireFault c told told' faults faults' = Appends told told' (printed_text status.WireFault c) ⊎ CutShort told told' faults faults' (printed_text status.WireFault c)
 Prints status.OutboxFault c told told' faults faults' = Appends told told' (printed_text status.OutboxFault c) ⊎ CutShort told told' faults faults' (printed_text status.OutboxFault c)
@@ -138,7 +161,7 @@ Prints status.TurnLimit c told told' faults faults' = Appends told told' (printe
 
 -- a status of a run that hasn't begun
 abbrev pub IsRefusal : Status → Type 0
-IsRefusal s = (s ≡ status.Usage) ⊎ ((s ≡ status.SourceFault) ⊎ ((s ≡ status.Unbuilt) ⊎ (s ≡ status.OutOfMemory)))
+IsRefusal s = (s ≡ status.Usage) ⊎ ((s ≡ status.SourceFault) ⊎ (((path : List ℕ) × (cause : Cause) × (s ≡ status.ConfigRefused path cause)) ⊎ ((s ≡ status.Unbuilt) ⊎ (s ≡ status.OutOfMemory))))
 
 -- a status of a run that has begun
 abbrev pub IsCourse : Status → Type 0
@@ -150,6 +173,7 @@ cut_short status.Ok = status.PrintFault
 cut_short status.PrintFault = status.PrintFault
 cut_short status.Usage = status.Usage
 cut_short status.SourceFault = status.SourceFault
+cut_short (status.ConfigRefused path cause) = status.ConfigRefused path cause
 cut_short status.Unbuilt = status.Unbuilt
 cut_short status.WireFault = status.WireFault
 cut_short status.OutboxFault = status.OutboxFault

@@ -1,5 +1,6 @@
 -- The lines of a run's entries, which depend on the entries alone: the first holds the configuration.
 use Rattle.std.specs.Prelude.{ℕ, List, [], ◌∷◌, Option, Some, None}
+use Rattle.std.specs.Result.{result_ok}
 use Rattle.zbx_types.specs.declared.conf.Conf.{Conf}
 use Rattle.zbx_types.specs.declared.entries.Entry.{Entry}
 use Rattle.zbx_types.specs.declared.entries.Entry.TheVariants.{Config, Value, Tick}
@@ -12,7 +13,7 @@ use Rattle.event_text.specs.Lines.{lines_of}
 
 -- the configuration that an entry holds
 abbrev pub conf_in : Entry → Option Conf
-conf_in (Config now text) = flat_of text
+conf_in (Config now text) = result_ok (flat_of text)
 conf_in (Value now item time value) = None
 conf_in (Tick now) = None
 

@@ -10,10 +10,10 @@ ghost use Rattle.server_run.specs.Standing.{onto, Applied, log_lines, Settles};
 
 use crate::tally::Tally;
 use crate::writing::write_all;
-use entry_step::{Cells, step};
+use entry_step::{Cells, Ready, step};
 use outside::{Failed, Sink};
 use std::alloc::Global;
-use zbx_types::{Bytes, Conf, Numbered, OutOfMemory, Rec};
+use zbx_types::{Bytes, Numbered, OutOfMemory, Rec};
 
 /// The cells of the entries so far, and the counts of their records.
 #[derive(Drop)]
@@ -36,15 +36,15 @@ pub(crate) enum Settled {
 /// Applies an entry, and adds its lines.
 fn apply(
     alloc: Global,
-    conf: &Conf,
+    ready: &Ready,
     ledger: &mut Ledger,
     entry: &Numbered,
     lines: &mut Bytes,
 ) -> Result<(), OutOfMemory>
-    ensures { OnOk result ((log : List Numbered) → Applied conf.now ledger.old.cells ledger.old.tally log → Fits conf.now (entry.now ∷ log)
-        → Applied conf.now ledger.new.cells ledger.new.tally (entry.now ∷ log) × ((more : List ℕ) × (lines.new ≡ lines.old ++ more) × (log_lines conf.now (entry.now ∷ log) ≡ log_lines conf.now log ++ more))) }
+    ensures { OnOk result ((log : List Numbered) → Applied ready.now ledger.old.cells ledger.old.tally log → Fits ready.now (entry.now ∷ log)
+        → Applied ready.now ledger.new.cells ledger.new.tally (entry.now ∷ log) × ((more : List ℕ) × (lines.new ≡ lines.old ++ more) × (log_lines ready.now (entry.now ∷ log) ≡ log_lines ready.now log ++ more))) }
 {
-    let records = step(alloc, conf, &mut ledger.cells, entry)?;
+    let records = step(alloc, ready, &mut ledger.cells, entry)?;
     add_lines(alloc, records.as_slice(), &mut ledger.tally, lines)?;
     Ok(())
 }
@@ -69,16 +69,16 @@ fn add_lines(
 /// Applies entries in their order, and gives their lines.
 fn apply_all(
     alloc: Global,
-    conf: &Conf,
+    ready: &Ready,
     ledger: &mut Ledger,
     entries: &[Numbered],
 ) -> Result<Bytes, OutOfMemory>
-    ensures { IfOk result (λ lines. (log : List Numbered) → Applied conf.now ledger.old.cells ledger.old.tally log → Fits conf.now (onto log entries.now)
-        → Applied conf.now ledger.new.cells ledger.new.tally (onto log entries.now) × (log_lines conf.now (onto log entries.now) ≡ log_lines conf.now log ++ lines)) }
+    ensures { IfOk result (λ lines. (log : List Numbered) → Applied ready.now ledger.old.cells ledger.old.tally log → Fits ready.now (onto log entries.now)
+        → Applied ready.now ledger.new.cells ledger.new.tally (onto log entries.now) × (log_lines ready.now (onto log entries.now) ≡ log_lines ready.now log ++ lines)) }
 {
     let mut lines = Bytes::new(alloc);
     for entry in entries {
-        apply(alloc, conf, ledger, entry, &mut lines)?;
+        apply(alloc, ready, ledger, entry, &mut lines)?;
     }
     Ok(lines)
 }
@@ -86,16 +86,16 @@ fn apply_all(
 /// Applies entries in their order, and writes their lines to the outbox.
 pub(crate) fn settle<O: Sink>(
     alloc: Global,
-    conf: &Conf,
+    ready: &Ready,
     ledger: &mut Ledger,
     outbox: &mut O,
     entries: &[Numbered],
 ) -> Settled
     ensures later { O.faults outbox.old ≤ O.faults outbox.new }
     ensures failed { result ≡ Settled.OutboxFault → Rose (O.faults outbox.old) (O.faults outbox.new) }
-    ensures settled { Settles conf.now ledger.old ledger.new entries.now (O.bytes outbox.old) (O.bytes outbox.new) (O.held outbox.old) (O.held outbox.new) result }
+    ensures settled { Settles ready.now ledger.old ledger.new entries.now (O.bytes outbox.old) (O.bytes outbox.new) (O.held outbox.old) (O.held outbox.new) result }
 {
-    match apply_all(alloc, conf, ledger, entries) {
+    match apply_all(alloc, ready, ledger, entries) {
         Err(OutOfMemory) => Settled::OutOfMemory,
         Ok(lines) => match write_all(outbox, lines.as_slice()) {
             Ok(()) => Settled::Done,

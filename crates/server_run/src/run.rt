@@ -1,6 +1,6 @@
 //! The top call.
 
-ghost use Rattle.std.specs.Prelude.{◌≡◌, ◌⊎◌, ◌≤◌, ◌+◌, ℕ, List, [], length, take, true, false, IfSome, IfOk, IfErr, Some, None, OnOk};
+ghost use Rattle.std.specs.Prelude.{◌≡◌, ◌⊎◌, ◌≤◌, ◌+◌, ℕ, List, [], length, take, true, false, IfSome, IfOk, IfErr, Some, None, Ok, Err};
 ghost use Rattle.outside.specs.Causes.{Rose};
 ghost use Rattle.outside.specs.declared.event.WireEvent.{WireEvent};
 ghost use Rattle.intake_front.specs.Intake.{start};
@@ -9,12 +9,15 @@ ghost use Rattle.intake_front.specs.declared.answer.Stop.TheVariants as stop;
 ghost use Rattle.server_words.specs.declared.words.Plan.{Plan};
 ghost use Rattle.server_words.specs.Words.{plan_of};
 ghost use Rattle.config_templates.specs.Flat.{flat_of};
+ghost use Rattle.config_templates.specs.Places.{refuse};
+ghost use Rattle.config_templates.specs.Places.Flaw.{unbuilt};
+ghost use Rattle.zbx_types.specs.declared.conf.Cause.{Cause};
 ghost use Rattle.zbx_types.specs.declared.conf.Conf.{Conf};
 ghost use Rattle.server_run.specs.Replayed.{run_lines};
 ghost use Rattle.server_run.specs.Tally.{run_counts};
 ghost use Rattle.server_run.specs.Standing.{Applied};
 ghost use Rattle.entry_step.specs.Log.{log_of};
-ghost use Rattle.server_run.specs.Outcome.{Opened, Refuses, Followed, LinesAre, SizeIs, Prints, EndsPrinted, cut_short, IsRefusal, IsCourse};
+ghost use Rattle.server_run.specs.Outcome.{Opened, Fails, Refuses, Followed, LinesAre, SizeIs, Prints, EndsPrinted, cut_short, IsRefusal, IsCourse};
 
 use crate::book::Ledger;
 use crate::reading::{ReadError, read_all};
@@ -22,7 +25,7 @@ use crate::serving::serve;
 use crate::tally::Tally;
 use crate::writing::write_all;
 use config_templates::{FlatError, flat};
-use entry_step::Cells;
+use entry_step::{Cells, Ready};
 use intake_front::Front;
 use outside::{Failed, Sink, Source, Wire};
 use server_words::{Counts, PlanError, Status, plan, printed};
@@ -50,24 +53,44 @@ const LONGEST_CONFIG: u32 = 16_777_216;
 #[derive(Drop)]
 struct Begun {
     turns: u64,
-    conf: Conf,
+    ready: Ready,
     front: Front,
     ledger: Ledger,
 }
 
-/// Turns a configuration's bytes into the configuration, with its text.
-fn configure(alloc: Global, bytes: &[u8]) -> Result<(Conf, Text), Status>
-    ensures ok { IfOk result (λ made. (flat_of bytes.now ≡ Some made.0) × (made.1 ≡ bytes.now)) }
-    ensures err { IfErr result (λ status. (status ≡ Status.OutOfMemory) ⊎ ((status ≡ Status.Unbuilt) × (flat_of bytes.now ≡ None))) }
+/// The flat configuration of these bytes.
+fn configure(alloc: Global, bytes: &[u8]) -> Result<Conf, Status>
+    ensures ok { IfOk result (λ conf. flat_of bytes.now ≡ Ok conf) }
+    ensures err { IfErr result (Fails bytes.now) }
 {
-    let conf = match flat(alloc, bytes) {
+    match flat(alloc, bytes) {
+        Ok(conf) => Ok(conf),
+        Err(FlatError::Refused { path, cause }) => Err(Status::ConfigRefused { path, cause }),
+        Err(FlatError::Unbuilt) => Err(Status::Unbuilt),
+        Err(FlatError::OutOfMemory) => Err(Status::OutOfMemory),
+    }
+}
+
+/// Makes a configuration ready, with a copy of its text.
+fn made_ready(alloc: Global, conf: Conf) -> Result<(Ready, Text), OutOfMemory>
+    ensures { IfOk result (λ made. (made.0 ≡ conf) × (made.1 ≡ conf.text)) }
+{
+    let text = conf.text.copy(alloc)?;
+    let ready = Ready::build(alloc, conf)?;
+    Ok((ready, text))
+}
+
+/// Makes the configuration of these bytes ready, with its text.
+fn prepare(alloc: Global, bytes: &[u8]) -> Result<(Ready, Text), Status>
+    ensures ok { IfOk result (λ made. (flat_of bytes.now ≡ Ok made.0) × (made.1 ≡ bytes.now)) }
+    ensures err { IfErr result (Fails bytes.now) }
+{
+    let conf = match configure(alloc, bytes) {
         Ok(conf) => conf,
-        Err(FlatError::Unbuilt) => return Err(Status::Unbuilt),
-        Err(FlatError::OutOfMemory) => return Err(Status::OutOfMemory),
+        Err(status) => return Err(status),
     };
-    match Text::from_utf8(alloc, bytes) {
-        Ok(Some(text)) => Ok((conf, text)),
-        Ok(None) => Err(Status::Unbuilt),
+    match made_ready(alloc, conf) {
+        Ok(made) => Ok(made),
         Err(OutOfMemory) => Err(Status::OutOfMemory),
     }
 }
@@ -75,7 +98,7 @@ fn configure(alloc: Global, bytes: &[u8]) -> Result<(Conf, Text), Status>
 /// Opens a run: the words, the configuration, entry 1. Takes no event.
 fn open<S: Source>(alloc: Global, words: &[Text], config: &mut S) -> Result<Begun, Status>
     ensures later { S.faults config.old ≤ S.faults config.new }
-    ensures ok { IfOk result (λ b. Opened words.now (S.left config.old) b.turns b.conf b.front b.ledger) }
+    ensures ok { IfOk result (λ b. Opened words.now (S.left config.old) b.turns b.ready b.front b.ledger) }
     ensures err { IfErr result (Refuses words.now (S.left config.old) (S.faults config.old) (S.faults config.new)) }
 {
     let plan = match plan(alloc, words) {
@@ -88,14 +111,14 @@ fn open<S: Source>(alloc: Global, words: &[Text], config: &mut S) -> Result<Begu
         Err(ReadError::Failed) => return Err(Status::SourceFault),
         Err(ReadError::OutOfMemory) => return Err(Status::OutOfMemory),
     };
-    let (conf, text) = match configure(alloc, bytes.as_slice()) {
-        Ok(read) => read,
+    let (ready, text) = match prepare(alloc, bytes.as_slice()) {
+        Ok(prepared) => prepared,
         Err(status) => return Err(status),
     };
-    match begin(alloc, &conf, text) {
+    match begin(alloc, ready.conf(), text) {
         Ok((front, ledger)) => Ok(Begun {
             turns: plan.turns,
-            conf,
+            ready,
             front,
             ledger,
         }),
@@ -156,7 +179,7 @@ fn go<S: Source, W: Wire, O: Sink>(
 {
     let Begun {
         turns,
-        conf,
+        ready,
         mut front,
         mut ledger,
     } = match open(alloc, words, config) {
@@ -170,7 +193,7 @@ fn go<S: Source, W: Wire, O: Sink>(
             };
         }
     };
-    let status = serve(alloc, turns, &conf, wire, &mut front, &mut ledger, outbox);
+    let status = serve(alloc, turns, &ready, wire, &mut front, &mut ledger, outbox);
     let entries = front.into_entries();
     let count = entries.as_slice().len() as u64;
     Course {
@@ -212,7 +235,7 @@ fn cut_short(status: Status) -> Status
 ///
 /// # Statuses
 ///
-/// `Usage`, `SourceFault` and `Unbuilt` end the opening, so that no event was taken and the outbox is untouched. `Ok`
+/// `Usage`, `SourceFault`, `ConfigRefused` and `Unbuilt` end the opening, so that no event was taken and the outbox is untouched. `Ok`
 /// comes where the wire was read to its end. `TurnLimit` comes where as many events as the plan allows were taken and
 /// none closed the wire. `WireFault`, `OutboxFault` and `PrintFault` come where that object failed. `OutOfMemory` may come
 /// wherever memory is taken.
@@ -228,10 +251,15 @@ pub fn run_single<S: Source, W: Wire, O: Sink, P: Sink>(
     ensures usage { result.status ≡ Status.Usage → plan_of words.now ≡ None }
     ensures not_command { plan_of words.now ≡ None → (result.status ≡ Status.Usage) ⊎ (result.status ≡ Status.OutOfMemory) }
 
-    // Unbuilt comes exactly where the configuration has no form that is built.
-    ensures unbuilt { result.status ≡ Status.Unbuilt → IfSome (S.left config.old) (λ text. flat_of text ≡ None) }
-    ensures not_flat { (text : List ℕ) → S.left config.old ≡ Some text → flat_of text ≡ None
+    // Unbuilt comes exactly where the configuration has a form that isn't built.
+    ensures unbuilt { result.status ≡ Status.Unbuilt → IfSome (S.left config.old) (λ text. flat_of text ≡ Err unbuilt) }
+    ensures not_built { (text : List ℕ) → S.left config.old ≡ Some text → flat_of text ≡ Err unbuilt
         → (result.status ≡ Status.Unbuilt) ⊎ ((result.status ≡ Status.SourceFault) ⊎ ((result.status ≡ Status.Usage) ⊎ (result.status ≡ Status.OutOfMemory))) }
+
+    // ConfigRefused comes exactly where the configuration is refused, with its path and cause.
+    ensures config_refused { (path : List ℕ) (cause : Cause) → result.status ≡ Status.ConfigRefused path cause → IfSome (S.left config.old) (λ text. flat_of text ≡ refuse path cause) }
+    ensures refused_text { (text path : List ℕ) (cause : Cause) → S.left config.old ≡ Some text → flat_of text ≡ refuse path cause
+        → (result.status ≡ Status.ConfigRefused path cause) ⊎ ((result.status ≡ Status.SourceFault) ⊎ ((result.status ≡ Status.Usage) ⊎ (result.status ≡ Status.OutOfMemory))) }
 
     // A fault comes only where the count of its object rose.
     ensures source { result.status ≡ Status.SourceFault → Rose (S.faults config.old) (S.faults config.new) }
@@ -255,7 +283,7 @@ pub fn run_single<S: Source, W: Wire, O: Sink, P: Sink>(
 
     // What is accepted and doesn't fail ends well, if memory is there.
     ensures complete { (plan : Plan) (text : List ℕ) (conf : Conf) (all : List WireEvent)
-        → plan_of words.now ≡ Some plan → S.left config.old ≡ Some text → flat_of text ≡ Some conf → W.left wire.old ≡ Some all
+        → plan_of words.now ≡ Some plan → S.left config.old ≡ Some text → flat_of text ≡ Ok conf → W.left wire.old ≡ Some all
         → (served conf (start text) (take plan.turns all)).stop ≡ Some stop.Closed
         → (Rose (S.faults config.old) (S.faults config.new) → ⊥) → (Rose (W.faults wire.old) (W.faults wire.new) → ⊥)
         → (Rose (O.faults outbox) (O.faults result.outbox) → ⊥) → (Rose (P.faults print.old) (P.faults print.new) → ⊥)

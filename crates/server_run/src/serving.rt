@@ -8,11 +8,12 @@ ghost use Rattle.server_run.specs.Outcome.{Finished, Leaves};
 
 use crate::book::{Ledger, Settled, settle};
 use crate::taking::{Taking, take};
+use entry_step::Ready;
 use intake_front::{Front, Stop};
 use outside::{Sink, Wire};
 use server_words::Status;
 use std::alloc::Global;
-use zbx_types::{Conf, Numbered};
+use zbx_types::Numbered;
 
 /// What one turn came to.
 #[derive(Clone, Copy, Debug, PartialEq, Eq)]
@@ -59,7 +60,7 @@ fn behind(entries: &[Numbered], first: usize) -> &[Numbered]
 /// Takes an event, and applies its entries.
 fn turn<W: Wire, O: Sink>(
     alloc: Global,
-    conf: &Conf,
+    ready: &Ready,
     wire: &mut W,
     front: &mut Front,
     ledger: &mut Ledger,
@@ -69,17 +70,17 @@ fn turn<W: Wire, O: Sink>(
     ensures wire { result ≡ Step.WireFault → Rose (W.faults wire.old) (W.faults wire.new) }
     ensures outbox_later { O.faults outbox.old ≤ O.faults outbox.new }
     ensures outbox { result ≡ Step.OutboxFault → Rose (O.faults outbox.old) (O.faults outbox.new) }
-    ensures advances { Advances conf.now front.old front.new (W.left wire.old) (W.left wire.new) (W.sent wire.old) (W.sent wire.new) (W.closed wire.old) (W.closed wire.new) (W.unsent wire.old) (W.unsent wire.new) result }
-    ensures stands { (told : Option (List ℕ)) (held : ℕ) → Standing conf.now front.old ledger.old.cells ledger.old.tally told (O.bytes outbox.old) held (O.held outbox.old)
-        → Stands conf.now front.new ledger.new told (O.bytes outbox.new) held (O.held outbox.new) result }
+    ensures advances { Advances ready.now front.old front.new (W.left wire.old) (W.left wire.new) (W.sent wire.old) (W.sent wire.new) (W.closed wire.old) (W.closed wire.new) (W.unsent wire.old) (W.unsent wire.new) result }
+    ensures stands { (told : Option (List ℕ)) (held : ℕ) → Standing ready.now front.old ledger.old.cells ledger.old.tally told (O.bytes outbox.old) held (O.held outbox.old)
+        → Stands ready.now front.new ledger.new told (O.bytes outbox.new) held (O.held outbox.new) result }
 {
     let from = front.entries().len();
-    match take(alloc, conf, wire, front) {
+    match take(alloc, ready, wire, front) {
         Taking::Failed => Step::WireFault,
         Taking::Refused => Step::Refused,
         Taking::Went { stop } => {
             let entries = behind(front.entries().as_slice(), from);
-            step_of(settle(alloc, conf, ledger, outbox, entries), stop)
+            step_of(settle(alloc, ready, ledger, outbox, entries), stop)
         }
     }
 }
@@ -88,7 +89,7 @@ fn turn<W: Wire, O: Sink>(
 pub(crate) fn serve<W: Wire, O: Sink>(
     alloc: Global,
     turns: u64,
-    conf: &Conf,
+    ready: &Ready,
     wire: &mut W,
     front: &mut Front,
     ledger: &mut Ledger,
@@ -97,12 +98,12 @@ pub(crate) fn serve<W: Wire, O: Sink>(
     ensures wire { result ≡ Status.WireFault → Rose (W.faults wire.old) (W.faults wire.new) }
     ensures outbox { result ≡ Status.OutboxFault → Rose (O.faults outbox.old) (O.faults outbox.new) }
     ensures no_print { result ≡ Status.PrintFault → ⊥ }
-    ensures finished { Finished conf.now front.old front.new.entries turns (W.left wire.old) (W.sent wire.old) (W.sent wire.new) (W.closed wire.old) (W.closed wire.new) (W.unsent wire.old) (W.unsent wire.new) result }
-    ensures leaves { (told : Option (List ℕ)) (held : ℕ) → Standing conf.now front.old ledger.old.cells ledger.old.tally told (O.bytes outbox.old) held (O.held outbox.old)
-        → Leaves conf.now front.new.entries ledger.new.tally told (O.bytes outbox.new) held (O.held outbox.new) result }
+    ensures finished { Finished ready.now front.old front.new.entries turns (W.left wire.old) (W.sent wire.old) (W.sent wire.new) (W.closed wire.old) (W.closed wire.new) (W.unsent wire.old) (W.unsent wire.new) result }
+    ensures leaves { (told : Option (List ℕ)) (held : ℕ) → Standing ready.now front.old ledger.old.cells ledger.old.tally told (O.bytes outbox.old) held (O.held outbox.old)
+        → Leaves ready.now front.new.entries ledger.new.tally told (O.bytes outbox.new) held (O.held outbox.new) result }
 {
     for _ in 0..turns {
-        match turn(alloc, conf, wire, front, ledger, outbox) {
+        match turn(alloc, ready, wire, front, ledger, outbox) {
             Step::On => {}
             Step::Closed => return Status::Ok,
             Step::WireFault => return Status::WireFault,

@@ -13,6 +13,16 @@ fn plain_config() -> &'static str {
     "{\"hosts\":[{\"name\":\"h\",\"groups\":[\"g\"],\"items\":[{\"key\":\"k\"}],\"triggers\":[{\"name\":\"hot\",\"expression\":\"last(/h/k)>5\",\"severity\":3}]}]}"
 }
 
+/// The plain configuration with its item twice.
+fn item_twice() -> &'static str {
+    "{\"hosts\":[{\"name\":\"h\",\"groups\":[\"g\"],\"items\":[{\"key\":\"k\"},{\"key\":\"k\"}],\"triggers\":[{\"name\":\"hot\",\"expression\":\"last(/h/k)>5\",\"severity\":3}]}]}"
+}
+
+/// The plain configuration with a macro in its trigger's name that isn't built.
+fn macro_in_name() -> &'static str {
+    "{\"hosts\":[{\"name\":\"h\",\"groups\":[\"g\"],\"items\":[{\"key\":\"k\"}],\"triggers\":[{\"name\":\"hot {HOST.NAME}\",\"expression\":\"last(/h/k)>5\",\"severity\":3}]}]}"
+}
+
 /// The numbers of the calls that fail, counted from 1. At 0 none fails.
 #[derive(Clone, Copy)]
 struct Fails {
@@ -120,11 +130,12 @@ fn put_closed(alloc: Global, report: &mut Bytes, closed: Option<&Many<u64>>) -> 
     Ok(())
 }
 
-fn status_name(status: Status) -> &'static str {
+fn status_name(status: &Status) -> &'static str {
     match status {
         Status::Ok => "Ok",
         Status::Usage => "Usage",
         Status::SourceFault => "SourceFault",
+        Status::ConfigRefused { .. } => "ConfigRefused",
         Status::Unbuilt => "Unbuilt",
         Status::WireFault => "WireFault",
         Status::OutboxFault => "OutboxFault",
@@ -136,7 +147,7 @@ fn status_name(status: Status) -> &'static str {
 
 /// Status, whether the run began, entries, closed connections; replies; the outbox; the printed line.
 fn report(alloc: Global, over: &Over) -> Result<Bytes, Fail> {
-    let mut report = Bytes::of(alloc, status_name(over.ended.status).as_bytes())?;
+    let mut report = Bytes::of(alloc, status_name(&over.ended.status).as_bytes())?;
     report.extend(if over.ended.began {
         b" begun "
     } else {
@@ -407,7 +418,7 @@ fn other_words_or_another_configuration_begin_no_run(rt: HostRuntime) -> Result<
     let unbuilt = run(
         alloc,
         "--mode feed --config c --script s",
-        "{}",
+        macro_in_name(),
         one_frame(),
         none_fails(),
     )?;
@@ -417,5 +428,52 @@ fn other_words_or_another_configuration_begin_no_run(rt: HostRuntime) -> Result<
             "Unbuilt not.. \nstatus: Unbuilt\n"
         )
     );
+    Ok(())
+}
+
+#[test]
+fn a_refused_configuration_begins_no_run_and_names_its_fault(rt: HostRuntime) -> Result<(), Fail> {
+    let alloc = rt.alloc();
+    let refused = run(
+        alloc,
+        "--mode feed --config c --script s",
+        item_twice(),
+        one_frame(),
+        none_fails(),
+    )?;
+    assert!(rt;
+        is(
+            &report(alloc, &refused)?,
+            "ConfigRefused not.. \nstatus: ConfigRefused; path: /hosts/0/items/1/key; cause: Duplicate\n"
+        )
+    );
+    Ok(())
+}
+
+/// A template that two hosts have, of which the first sets the template's macro anew.
+fn two_hosts() -> &'static str {
+    "{\"templates\":[{\"name\":\"T\",\"macros\":[{\"name\":\"{$MAX}\",\"value\":\"4\"}],\"items\":[{\"key\":\"k\"}],\"triggers\":[{\"name\":\"up\",\"expression\":\"last(/T/k)>{$MAX}\"}]}],\"hosts\":[{\"name\":\"web01\",\"templates\":[\"T\"],\"macros\":[{\"name\":\"{$MAX}\",\"value\":\"2\"}]},{\"name\":\"db01\",\"templates\":[\"T\"]}]}"
+}
+
+/// One connection brings 3 for the first host, and 3 and 5 for the second.
+fn three_values() -> &'static str {
+    "100.000000000 open 1\n100.000000000 frame 1 {\"request\":\"sender data\",\"data\":[{\"host\":\"web01\",\"key\":\"k\",\"value\":\"3\"},{\"host\":\"db01\",\"key\":\"k\",\"value\":\"3\"},{\"host\":\"db01\",\"key\":\"k\",\"value\":\"5\"}]}\n100.000000000 closed\n"
+}
+
+fn two_hosts_report() -> &'static str {
+    "P|3-1|100.000000000|0|0|web01|up|up\nP|5-2|100.000000000|0|0|db01|up|up\nstatus: Ok; entries: 5; problems: 2; recoveries: 0; messages: 0; outbox bytes: 71\n"
+}
+
+#[test]
+fn each_host_of_a_template_has_its_own_limit(rt: HostRuntime) -> Result<(), Fail> {
+    let alloc = rt.alloc();
+    let over = run(
+        alloc,
+        "--mode feed --config c --script s",
+        two_hosts(),
+        three_values(),
+        none_fails(),
+    )?;
+    assert!(rt; ends(&report(alloc, &over)?, two_hosts_report()));
     Ok(())
 }

@@ -1,6 +1,8 @@
 -- The line that a run prints, and the number with which the program exits.
 use Rattle.std.specs.Prelude.{ℕ, List, [], ◌++◌, codes}
 use Rattle.std.specs.Fmt.{decimal}
+use Rattle.zbx_types.specs.declared.conf.Cause.{Cause}
+use Rattle.zbx_types.specs.declared.conf.Cause.TheVariants as cause
 use Rattle.server_words.specs.declared.status.Counts.{Counts}
 use Rattle.server_words.specs.declared.status.Status.{Status}
 use Rattle.server_words.specs.declared.status.Status.TheVariants as status
@@ -9,6 +11,7 @@ use Rattle.server_words.specs.declared.status.Status.TheVariants as status
 abbrev pub exit_of : Status → ℕ
 exit_of status.Ok = 0
 exit_of status.Usage = 2
+exit_of (status.ConfigRefused path cause) = 3
 exit_of status.SourceFault = 5
 exit_of status.OutboxFault = 11
 exit_of status.PrintFault = 12
@@ -33,12 +36,36 @@ last_counts c = count_text (codes "; messages: ") c.messages ++ count_text (code
 abbrev pub ok_text : Counts → List ℕ
 ok_text c = first_counts c ++ last_counts c
 
+-- the name of a cause, and the place where it has one
+abbrev pub cause_text : Cause → List ℕ
+cause_text cause.TooLong = codes "TooLong"
+cause_text cause.NotJson = codes "NotJson"
+cause_text cause.BadMember = codes "BadMember"
+cause_text cause.Duplicate = codes "Duplicate"
+cause_text cause.TooMany = codes "TooMany"
+cause_text cause.UnknownName = codes "UnknownName"
+cause_text cause.Cycle = codes "Cycle"
+cause_text (cause.BadKey at) = count_text (codes "BadKey at ") at
+cause_text cause.TooDeep = codes "TooDeep"
+cause_text (cause.BadPath at) = count_text (codes "BadPath at ") at
+cause_text (cause.BadExpression at) = count_text (codes "BadExpression at ") at
+cause_text cause.WrongValueType = codes "WrongValueType"
+
+-- the line of a refused configuration behind its path
+abbrev pub reason_text : Cause → List ℕ
+reason_text cause = codes "; cause: " ++ cause_text cause ++ codes "\n"
+
+-- the line of a refused configuration
+abbrev pub refused_text : List ℕ → Cause → List ℕ
+refused_text path cause = codes "status: ConfigRefused; path: " ++ path ++ reason_text cause
+
 -- The line of a status, with its line feed. That of Ok alone has the counts; where the line couldn't be printed there
 -- is none.
 abbrev pub printed_text : Status → Counts → List ℕ
 printed_text status.Ok c = ok_text c
 printed_text status.Usage c = codes "status: Usage\n"
 printed_text status.SourceFault c = codes "status: SourceFault\n"
+printed_text (status.ConfigRefused path cause) c = refused_text path cause
 printed_text status.Unbuilt c = codes "status: Unbuilt\n"
 printed_text status.WireFault c = codes "status: WireFault\n"
 printed_text status.OutboxFault c = codes "status: OutboxFault\n"

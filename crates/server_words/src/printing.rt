@@ -1,11 +1,12 @@
 //! The line that a run prints.
 
-ghost use Rattle.std.specs.Prelude.{◌≡◌, ◌++◌, OnOk, IfOk};
-ghost use Rattle.server_words.specs.Printed.{printed_text, ok_text, count_text, first_counts, last_counts};
+ghost use Rattle.std.specs.Prelude.{◌≡◌, ◌++◌, OnOk, IfOk, codes};
+ghost use Rattle.server_words.specs.Printed.{printed_text, ok_text, refused_text, reason_text, cause_text, count_text, first_counts, last_counts};
 
 use crate::status::{Counts, Status};
 use std::alloc::Global;
-use zbx_types::{OutOfMemory, Text};
+use std::convert::AsStr;
+use zbx_types::{Cause, OutOfMemory, Text};
 
 #[tactic(auto, unfolding(crate::specs::Printed::count_text))]
 fn put_count(alloc: Global, line: &mut Text, name: &str, count: u64) -> Result<(), OutOfMemory>
@@ -14,6 +15,12 @@ fn put_count(alloc: Global, line: &mut Text, name: &str, count: u64) -> Result<(
     line.push_str(name)?;
     let digits = count.to_string(alloc)?;
     line.push_str(digits.as_str())
+}
+
+fn put_end(line: &mut Text) -> Result<(), OutOfMemory>
+    ensures { OnOk result (line.new ≡ line.old ++ codes "\n") }
+{
+    line.push_str("\n")
 }
 
 fn put_first(alloc: Global, line: &mut Text, counts: &Counts) -> Result<(), OutOfMemory>
@@ -29,7 +36,7 @@ fn put_last(alloc: Global, line: &mut Text, counts: &Counts) -> Result<(), OutOf
 {
     put_count(alloc, line, "; messages: ", counts.messages)?;
     put_count(alloc, line, "; outbox bytes: ", counts.bytes)?;
-    line.push_str("\n")
+    put_end(line)
 }
 
 fn ok_line(alloc: Global, counts: &Counts) -> Result<Text, OutOfMemory>
@@ -41,14 +48,52 @@ fn ok_line(alloc: Global, counts: &Counts) -> Result<Text, OutOfMemory>
     Ok(line)
 }
 
-/// The line that a run prints last, with its line feed: `status: ` and the status, and for Ok alone the counts. It is empty
-/// for PrintFault. [`OutOfMemory`] where there is no room for it.
+fn put_cause(alloc: Global, line: &mut Text, cause: Cause) -> Result<(), OutOfMemory>
+    ensures { OnOk result (line.new ≡ line.old ++ cause_text cause) }
+{
+    match cause {
+        Cause::TooLong => line.push_str("TooLong"),
+        Cause::NotJson => line.push_str("NotJson"),
+        Cause::BadMember => line.push_str("BadMember"),
+        Cause::Duplicate => line.push_str("Duplicate"),
+        Cause::TooMany => line.push_str("TooMany"),
+        Cause::UnknownName => line.push_str("UnknownName"),
+        Cause::Cycle => line.push_str("Cycle"),
+        Cause::BadKey { at } => put_count(alloc, line, "BadKey at ", u64::from(at)),
+        Cause::TooDeep => line.push_str("TooDeep"),
+        Cause::BadPath { at } => put_count(alloc, line, "BadPath at ", u64::from(at)),
+        Cause::BadExpression { at } => put_count(alloc, line, "BadExpression at ", u64::from(at)),
+        Cause::WrongValueType => line.push_str("WrongValueType"),
+    }
+}
+
+fn put_reason(alloc: Global, line: &mut Text, cause: Cause) -> Result<(), OutOfMemory>
+    ensures { OnOk result (line.new ≡ line.old ++ reason_text cause) }
+{
+    line.push_str("; cause: ")?;
+    put_cause(alloc, line, cause)?;
+    put_end(line)
+}
+
+#[tactic(auto, using(std::proofs::lemmas::List::append_assoc))]
+fn refused_line(alloc: Global, path: &Text, cause: Cause) -> Result<Text, OutOfMemory>
+    ensures { IfOk result (λ line. line ≡ refused_text path.now cause) }
+{
+    let mut line = Text::of(alloc, "status: ConfigRefused; path: ")?;
+    line.push_str(path.as_str())?;
+    put_reason(alloc, &mut line, cause)?;
+    Ok(line)
+}
+
+/// The line that a run prints last, with its line feed: `status: ` and the status, for Ok alone the counts, and for
+/// ConfigRefused the path and the cause, with ` at ` and its place where it has one. It is empty for PrintFault. [`OutOfMemory`] where there is no room for it.
 pub fn printed(alloc: Global, status: &Status, counts: &Counts) -> Result<Text, OutOfMemory>
     ensures { IfOk result (λ line. line ≡ printed_text status.now counts.now) }
 {
     match status {
         Status::Ok => ok_line(alloc, counts),
         Status::Usage => Text::of(alloc, "status: Usage\n"),
+        Status::ConfigRefused { path, cause } => refused_line(alloc, path, *cause),
         Status::SourceFault => Text::of(alloc, "status: SourceFault\n"),
         Status::Unbuilt => Text::of(alloc, "status: Unbuilt\n"),
         Status::WireFault => Text::of(alloc, "status: WireFault\n"),

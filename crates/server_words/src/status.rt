@@ -3,8 +3,10 @@
 ghost use Rattle.std.specs.Prelude.{◌≡◌};
 ghost use Rattle.server_words.specs.Printed.{exit_of};
 
+use zbx_types::{Cause, Text};
+
 /// How a run ended (this project's own).
-#[derive(Clone, Copy, Debug, PartialEq, Eq)]
+#[derive(Debug, PartialEq, Eq, Drop)]
 pub enum Status {
     /// The wire was read to its end.
     Ok,
@@ -12,6 +14,13 @@ pub enum Status {
     Usage,
     /// The configuration couldn't be read.
     SourceFault,
+    /// The configuration is refused for its first fault.
+    ConfigRefused {
+        /// A JSON pointer (RFC 6901) to the member at fault.
+        path: Text,
+        /// What is wrong there.
+        cause: Cause,
+    },
     /// The configuration has a form that isn't built yet.
     Unbuilt,
     /// The wire failed.
@@ -28,12 +37,13 @@ pub enum Status {
 
 impl Status {
     /// The number with which the program exits.
-    pub fn exit(self) -> u8
-        ensures { result ≡ exit_of self }
+    pub fn exit(&self) -> u8
+        ensures { result ≡ exit_of self.now }
     {
         match self {
             Status::Ok => 0,
             Status::Usage => 2,
+            Status::ConfigRefused { .. } => 3,
             Status::SourceFault => 5,
             Status::OutboxFault => 11,
             Status::PrintFault => 12,

@@ -2,7 +2,7 @@ use super::*;
 use std::alloc::Global;
 use std::convert::AsStr;
 use std::test::Fail;
-use zbx_types::{Many, OutOfMemory, Text};
+use zbx_types::{Cause, Many, OutOfMemory, Text};
 
 fn words_of(alloc: Global, words: &[&str]) -> Result<Many<Text>, OutOfMemory> {
     let mut made = Many::new(alloc);
@@ -60,5 +60,40 @@ fn a_run_that_ended_well_prints_its_counts(rt: HostRuntime) -> Result<(), Fail> 
         "status: Usage\n"
     );
     assert_eq!(rt; (Status::Ok.exit(), Status::Usage.exit()), (0, 2));
+    Ok(())
+}
+
+/// The line of a configuration that is refused at the first host's first key for this cause.
+fn refused_at_a_key(alloc: Global, cause: Cause) -> Result<Text, OutOfMemory> {
+    let status = Status::ConfigRefused {
+        path: Text::of(alloc, "/hosts/0/items/0/key")?,
+        cause,
+    };
+    let counts = Counts {
+        entries: 0,
+        problems: 0,
+        recoveries: 0,
+        messages: 0,
+        bytes: 0,
+    };
+    printed(alloc, &status, &counts)
+}
+
+#[test]
+fn a_refused_configuration_prints_its_path_and_cause(rt: HostRuntime) -> Result<(), Fail> {
+    let alloc = rt.alloc();
+    assert_eq!(rt;
+        refused_at_a_key(alloc, Cause::BadKey { at: 5 })?.as_str(),
+        "status: ConfigRefused; path: /hosts/0/items/0/key; cause: BadKey at 5\n"
+    );
+    assert_eq!(rt;
+        refused_at_a_key(alloc, Cause::Duplicate)?.as_str(),
+        "status: ConfigRefused; path: /hosts/0/items/0/key; cause: Duplicate\n"
+    );
+    let status = Status::ConfigRefused {
+        path: Text::new(alloc),
+        cause: Cause::NotJson,
+    };
+    assert_eq!(rt; status.exit(), 3);
     Ok(())
 }

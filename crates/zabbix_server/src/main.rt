@@ -6,8 +6,9 @@
 //!
 //! reads the configuration document in the file CONFIG, takes the events of the script in the file SCRIPT, and writes a
 //! line for each problem and recovery to standard output, and behind them one line with the status of the run and its
-//! counts. It exits with the number of the status: 0 for Ok, 2 for Usage, 5 for SourceFault, 11 for OutboxFault, 12 for
-//! PrintFault, 13 for WireFault, 15 for TurnLimit, 16 for OutOfMemory, 17 for Unbuilt. Nothing goes to standard error.
+//! counts. It exits with the number of the status: 0 for Ok, 2 for Usage, 3 for ConfigRefused, 5 for SourceFault, 11 for
+//! OutboxFault, 12 for PrintFault, 13 for WireFault, 15 for TurnLimit, 16 for OutOfMemory, 17 for Unbuilt. Nothing goes to
+//! standard error.
 //!
 //! All that the run does is [`server_run::run_single`]. This crate hands it the files and standard output:
 //! [`FileSource`](source::FileSource) reads a file, [`FileSink`](sink::FileSink) adds to one, and

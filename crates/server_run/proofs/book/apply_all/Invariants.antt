@@ -7,5 +7,5 @@ use Rattle.server_run.proofs.book.apply_all.Given as goal
 -- the entries so far are applied, behind the log that they make; the others stand behind it
 abbrev pub invariant-loop-entry : goal.invariant-loop-entry
 invariant-loop-entry l =
-    (log : List Numbered) → Applied l.fn.conf l.fn.ledger.cells l.fn.ledger.tally log → Fits l.fn.conf (onto log l.entries)
-    → (now : List Numbered) × (onto log l.entries ≡ onto now (drop l.entry-index l.entries)) × Applied l.fn.conf l.ledger.cells l.ledger.tally now × (log_lines l.fn.conf now ≡ log_lines l.fn.conf log ++ l.lines)
+    (log : List Numbered) → Applied l.fn.ready l.fn.ledger.cells l.fn.ledger.tally log → Fits l.fn.ready (onto log l.entries)
+    → (now : List Numbered) × (onto log l.entries ≡ onto now (drop l.entry-index l.entries)) × Applied l.fn.ready l.ledger.cells l.ledger.tally now × (log_lines l.fn.ready now ≡ log_lines l.fn.ready log ++ l.lines)

@@ -7,11 +7,11 @@ use Rattle.server_run.proofs.serving.turn.Goals as goal
 
 pub returns-in-Refused-clause-stands : goal.returns-in-Refused-clause-stands
 returns-in-Refused-clause-stands g c = λ told held s.
-    broken_same c.args.conf.now c.args.front.now c.take.new.front.entries c.args.ledger.now.cells c.args.ledger.now.tally told (g.O.Sink.bytes c.args.outbox.now) held (g.O.Sink.held c.args.outbox.now) c.in-Refused.ensures.taken.0 s
+    broken_same c.args.ready.now c.args.front.now c.take.new.front.entries c.args.ledger.now.cells c.args.ledger.now.tally told (g.O.Sink.bytes c.args.outbox.now) held (g.O.Sink.held c.args.outbox.now) c.in-Refused.ensures.taken.0 s
 
 pub returns-in-Went-clause-stands : goal.returns-in-Went-clause-stands
 returns-in-Went-clause-stands g c = λ told held s.
-    let conf = c.args.conf.now in
+    let conf = c.args.ready.now in
     let old = c.args.front.now in
     let new = c.take.new.front in
     let t = c.in-Went.ensures.taken in

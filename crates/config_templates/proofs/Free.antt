@@ -1,0 +1,34 @@
+-- A trigger whose name is free.
+use Rattle.std.proofs.Common.{◌≡◌, ℕ, Bool, not, true, false, List, length, refl, sym, ◌∙◌, subst, ap}
+use Rattle.std.specs.Prelude.{Result, nat_le}
+use Rattle.zbx_types.specs.declared.conf.Item.{Item}
+use Rattle.zbx_types.specs.declared.conf.Trigger.{Trigger}
+use Rattle.macro_text.specs.declared.replacing.Macro.{Macro}
+use Rattle.config_read.specs.declared.raw.RawConf.{RawConf}
+use Rattle.config_read.specs.declared.raw.RawTrigger.{RawTrigger}
+use Rattle.config_templates.specs.Answers.{Gives}
+use Rattle.config_templates.specs.Places.{Placed}
+use Rattle.config_templates.specs.Triggers.{Owner, has_trigger, trigger_of, most_triggers}
+use Rattle.config_templates.specs.Names.{Named, has_named, named_triggers}
+use Rattle.config_templates.proofs.Taken.{has_trigger_named}
+use Rattle.config_templates.specs.Written.{meant_trigger}
+use Rattle.config_templates.specs.declared.fault.FlatError.{FlatError}
+
+as_meant : (raw : RawConf) (items : List Item) (owner : Owner) (macros : List Macro) (before : List Trigger) (p : Placed RawTrigger)
+    → has_trigger before owner.id p.body.name ≡ false → nat_le most_triggers (length before) ≡ false → trigger_of raw items owner macros before p ≡ meant_trigger raw items owner macros p
+unfolding trigger_of
+as_meant raw items owner macros before p h g = rw (h, g) refl
+
+-- what a call gives of it is what it gives of the trigger, where its name is free and there is room
+pub gives_free : (r : Result Trigger FlatError) (raw : RawConf) (items : List Item) (owner : Owner) (macros : List Macro) (before : List Trigger) (p : Placed RawTrigger)
+    → has_trigger before owner.id p.body.name ≡ false → nat_le most_triggers (length before) ≡ false → Gives r (meant_trigger raw items owner macros p) → Gives r (trigger_of raw items owner macros before p)
+gives_free r raw items owner macros before p h g f = subst (λ laid. Gives r laid) (sym (as_meant raw items owner macros before p h g)) f
+
+not_true : (b : Bool) → not b ≡ true → b ≡ false
+not_true true h = absurd cc
+not_true false h = refl
+
+-- a name that was taken was free
+pub was_free : (taken : Bool) (names : List Named) (triggers : List Trigger) (host : ℕ) (name held : List ℕ) → taken ≡ true → taken ≡ not (has_named names host held) → held ≡ name → names ≡ named_triggers triggers → has_trigger triggers host name ≡ false
+was_free taken names triggers host name held t e h n =
+    sym (has_trigger_named triggers host name) ∙ ap (λ ns. has_named ns host name) (sym n) ∙ ap (has_named names host) (sym h) ∙ not_true (has_named names host held) (sym e ∙ t)

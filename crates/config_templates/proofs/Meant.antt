@@ -1,0 +1,41 @@
+-- What expressions name.
+use Rattle.std.proofs.Common.{◌≡◌, ℕ, ◌+◌, Bool, true, false, List, [], ◌∷◌, map, refl, ap, sym, ◌∙◌, get_or}
+use Rattle.std.specs.Prelude.{◌==◌, ◌&&◌, ◌||◌, cond, position, Option, Some, is_some}
+use Rattle.std.specs.List.{list_any, position_from}
+use Rattle.std.specs.Str.{bytes_eq}
+use Rattle.std.proofs.lemmas.List.Quantifiers.{position-Some}
+use Rattle.std.proofs.lemmas.Slice.Eq.{bytes_eq-Decides}
+use Rattle.std.proofs.lemmas.Iterator.Adapters.{position_from-zero}
+use Rattle.config_read.specs.declared.raw.RawHost.{RawHost}
+use Rattle.zbx_types.specs.declared.conf.Item.{Item}
+use Rattle.config_templates.specs.Names.{Named, named_item, named_items, is_named, is_keyed}
+use Rattle.config_templates.specs.Places.{Placed}
+
+any_from : {A : Type 0} (t : A → Bool) (n : ℕ) (xs : List A) → is_some (position_from t n xs) ≡ list_any t xs
+any_from t n [] = refl
+any_from t n (x ∷ xs) = at (t x) (position_from t (n + 1) xs) (list_any t xs) (any_from t (n + 1) xs)
+  where
+    at : (b : Bool) (o : Option ℕ) (rest : Bool) → is_some o ≡ rest → is_some (cond b (Some n) o) ≡ (b || rest)
+    at true o rest h = refl
+    at false o rest h = h
+
+-- a name is the host's own where it stands among those of its sources
+pub own_name : (name : List ℕ) (sources : List (Placed RawHost)) → is_some (position (λ s. bytes_eq s.body.name name) sources) ≡ list_any (λ s. bytes_eq s.body.name name) sources
+own_name name sources = ap is_some (position_from-zero (λ s. bytes_eq s.body.name name) sources) ∙ any_from (λ s. bytes_eq s.body.name name) 0 sources
+
+from_map : {A B : Type 0} (f : A → B) (t : B → Bool) (n : ℕ) (xs : List A) → position_from t n (map f xs) ≡ position_from (λ x. t (f x)) n xs
+from_map f t n [] = refl
+from_map f t n (x ∷ xs) = ap (λ o. cond (t (f x)) (Some n) o) (from_map f t (n + 1) xs)
+
+-- an item stands where its name does
+pub stands_at : (host : ℕ) (key : List ℕ) (names : List Named) (items : List Item) → names ≡ named_items items → position (is_named host key) names ≡ position (is_keyed host key) items
+stands_at host key names items e =
+    ap (position (is_named host key)) e ∙ position_from-zero (is_named host key) (named_items items) ∙ from_map named_item (is_named host key) 0 items ∙ sym (position_from-zero (is_keyed host key) items)
+
+key_of_test : (b : Bool) (a key : List ℕ) → (b && bytes_eq a key) ≡ true → a ≡ key
+key_of_test true a key h = (bytes_eq-Decides a key).0 h
+key_of_test false a key h = absurd cc
+
+-- the item that stands there has the key
+pub found_key : (host : ℕ) (key : List ℕ) (items : List Item) (place : ℕ) (i : Item) → position (is_keyed host key) items ≡ Some place → i ≡ get_or items place i → i.key ≡ key
+found_key host key items place i p s = key_of_test (i.host == host) i.key key (ap (is_keyed host key) s ∙ (position-Some (is_keyed host key) items place i p).1)

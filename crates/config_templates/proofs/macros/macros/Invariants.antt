@@ -1,0 +1,10 @@
+use Rattle.std.proofs.Common.{◌≡◌, ◌++◌, drop, map}
+use Rattle.std.specs.List.{flat_map}
+use Rattle.config_templates.specs.Macros.{macros_in}
+use Rattle.config_templates.specs.Sources.{placed_of}
+use Rattle.config_templates.proofs.macros.macros.Given as goal
+
+abbrev pub invariant-loop-source : goal.invariant-loop-source
+invariant-loop-source l =
+    l.made ++ flat_map (λ s. macros_in s.body.macros) (map placed_of (drop l.source-index l.sources))
+    ≡ flat_map (λ s. macros_in s.body.macros) (map placed_of l.sources)

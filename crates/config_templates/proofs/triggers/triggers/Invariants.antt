@@ -1,0 +1,12 @@
+use Rattle.std.proofs.Common.{◌≡◌, drop, codes}
+use Rattle.config_templates.specs.Names.{named_triggers}
+use Rattle.config_templates.specs.Places.{each_list, placed_from}
+use Rattle.config_templates.specs.Triggers.{owner_of, triggers_from, triggers_of}
+use Rattle.config_templates.proofs.triggers.triggers.Given as goal
+
+abbrev pub invariant-loop-place : goal.invariant-loop-place
+invariant-loop-place l = record {
+  gives : each_list (λ before h. triggers_from l.scope.raw.now l.scope.items.now.items (owner_of l.scope.raw.now h) before) l.list.triggers (placed_from (codes "/hosts") l.place (drop l.place l.scope.raw.now.hosts))
+      ≡ triggers_of l.scope.raw.now l.scope.items.now.items;
+  names : l.list.names ≡ named_triggers l.list.triggers;
+}

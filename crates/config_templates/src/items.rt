@@ -1,0 +1,169 @@
+//! The items of the flat configuration.
+
+ghost use Rattle.std.specs.Prelude.{◌≡◌, ◌+◌, ◌++◌, ◌∷◌, [], ◌<◌, length, Some, slice_get, IfOk, OnOk};
+ghost use Rattle.config_templates.specs.Answers.{Gives, GivesAs};
+ghost use Rattle.config_templates.specs.Elements.{placed_item, placed_host, own_items};
+ghost use Rattle.config_templates.specs.Items.{item_made, item_keyed_of, item_of, placed_items, items_from, items_of};
+ghost use Rattle.config_templates.specs.Linked.{HasLinks};
+ghost use Rattle.config_templates.specs.Links.{placed_hosts, sources_of};
+ghost use Rattle.config_templates.specs.Names.{named_item, named_items};
+ghost use Rattle.config_templates.specs.Owners.{sources_now};
+ghost use Rattle.config_templates.specs.Places.{each};
+
+use crate::copying::copy_steps;
+use crate::fault::FlatError;
+use crate::host_names::HostNames;
+use crate::keys::{is_key, key_length};
+use crate::links::Links;
+use crate::owners::{Owner, owner_at};
+use crate::refusals::{refused_element, refused_member};
+use crate::sources::Source;
+use config_read::{RawConf, RawHost, RawItem};
+use macro_text::expand;
+use std::alloc::Global;
+use zbx_types::{Cause, Item, Many, OutOfMemory, Text};
+
+/// The most items of all hosts (this project's own).
+const MOST_ITEMS: usize = 100_000;
+
+/// Items, and their names.
+#[derive(Drop)]
+pub(crate) struct ItemList {
+    pub items: Many<Item>,
+    pub names: HostNames,
+}
+
+fn make(alloc: Global, host: u32, key: Text, raw: &RawItem) -> Result<Item, OutOfMemory>
+    ensures { IfOk result (λ made. made ≡ item_made host key raw.now) }
+{
+    let steps = copy_steps(alloc, &raw.steps)?;
+    Ok(Item {
+        host,
+        key,
+        kind: raw.kind,
+        master: 0,
+        value_type: raw.value_type,
+        enabled: raw.enabled,
+        steps,
+    })
+}
+
+/// The item of a host with this key, behind those before it.
+#[tactic(auto, using(crate::proofs::Failing::refusal, crate::proofs::Taken::has_item_named), unfolding(crate::specs::Items::item_keyed_of))]
+fn keyed_item(
+    alloc: Global,
+    host: u32,
+    key: Text,
+    list: &mut ItemList,
+    source: &Source<'_>,
+    index: usize,
+    raw: &RawItem,
+) -> Result<Item, FlatError>
+    requires { list.old.names ≡ named_items list.old.items }
+    ensures gives { Gives result (item_keyed_of host key list.old.items (placed_item source.now index raw.now)) }
+    ensures items { IfOk result (λ item. list.new.items ≡ list.old.items) }
+    ensures names { IfOk result (λ item. list.new.names ≡ list.old.names ++ named_item item ∷ []) }
+{
+    if !is_key(key.as_bytes()) {
+        let cause = Cause::BadKey {
+            at: key_length(key.as_bytes()),
+        };
+        return Err(refused_member(alloc, source, "/items", index, "/key", cause));
+    }
+    if !list.names.take(alloc, host, key.as_bytes())? {
+        let cause = Cause::Duplicate;
+        return Err(refused_member(alloc, source, "/items", index, "/key", cause));
+    }
+    if MOST_ITEMS <= list.items.len() {
+        return Err(refused_element(alloc, source, "/items", index, Cause::TooMany));
+    }
+    Ok(make(alloc, host, key, raw)?)
+}
+
+/// Adds an item of a host.
+#[tactic(auto, unfolding(crate::specs::Items::item_of))]
+fn add_item(
+    alloc: Global,
+    owner: &Owner<'_>,
+    list: &mut ItemList,
+    source: &Source<'_>,
+    index: usize,
+    raw: &RawItem,
+) -> Result<(), FlatError>
+    requires { list.old.names ≡ named_items list.old.items }
+    ensures gives { GivesAs (λ _. list.new.items) result (each (item_of owner.now.id owner.now.macros) list.old.items (placed_item source.now index raw.now ∷ [])) }
+    ensures names { OnOk result (list.new.names ≡ named_items list.new.items) }
+{
+    let key = expand(alloc, &raw.key, &owner.macros)?;
+    let item = keyed_item(alloc, owner.id, key, list, source, index, raw)?;
+    list.items.push(item)?;
+    Ok(())
+}
+
+/// Adds the items of a source.
+fn add_items(
+    alloc: Global,
+    owner: &Owner<'_>,
+    list: &mut ItemList,
+    source: &Source<'_>,
+) -> Result<(), FlatError>
+    requires { list.old.names ≡ named_items list.old.items }
+    ensures gives { GivesAs (λ _. list.new.items) result (each (item_of owner.now.id owner.now.macros) list.old.items (own_items source.now)) }
+    ensures names { OnOk result (list.new.names ≡ named_items list.new.items) }
+{
+    for (index, raw) in source.body.items.as_slice().iter().enumerate() {
+        add_item(alloc, owner, list, source, index, raw)?;
+    }
+    Ok(())
+}
+
+/// Adds the items of all sources of a host.
+#[tactic(auto, using(crate::proofs::Steps::source_then, crate::proofs::Steps::source_fails))]
+fn add_owned(alloc: Global, owner: &Owner<'_>, list: &mut ItemList) -> Result<(), FlatError>
+    requires { list.old.names ≡ named_items list.old.items }
+    ensures gives { GivesAs (λ _. list.new.items) result (each (item_of owner.now.id owner.now.macros) list.old.items (placed_items (sources_now owner.now))) }
+    ensures names { OnOk result (list.new.names ≡ named_items list.new.items) }
+{
+    for source in owner.sources.as_slice() {
+        add_items(alloc, owner, list, source)?;
+    }
+    Ok(())
+}
+
+/// Adds the items of the host that stands at this place.
+#[tactic(auto, unfolding(crate::specs::Items::items_from))]
+fn add_host(
+    alloc: Global,
+    raw: &RawConf,
+    links: &Links,
+    place: usize,
+    host: &RawHost,
+    list: &mut ItemList,
+) -> Result<(), FlatError>
+    requires place { place < length raw.now.hosts }
+    requires there { slice_get (placed_hosts raw.now) place ≡ Some (placed_host place host.now) }
+    requires links { HasLinks raw.now links.now }
+    requires names { list.old.names ≡ named_items list.old.items }
+    ensures gives { GivesAs (λ _. list.new.items) result (items_from raw.now (place + 1) (sources_of raw.now (placed_host place host.now)) list.old.items) }
+    ensures names { OnOk result (list.new.names ≡ named_items list.new.items) }
+{
+    let owner = owner_at(alloc, raw, links, place, host)?;
+    add_owned(alloc, &owner, list)
+}
+
+/// The items of all hosts, in the order of the hosts.
+#[tactic(auto, unfolding(crate::specs::Items::items_of))]
+pub(crate) fn items(alloc: Global, raw: &RawConf, links: &Links) -> Result<ItemList, FlatError>
+    requires { HasLinks raw.now links.now }
+    ensures gives { GivesAs (λ l. l.items) result (items_of raw.now) }
+    ensures names { IfOk result (λ l. l.names ≡ named_items l.items) }
+{
+    let mut list = ItemList {
+        items: Many::new(alloc),
+        names: HostNames::new(alloc),
+    };
+    for (place, host) in raw.hosts.as_slice().iter().enumerate() {
+        add_host(alloc, raw, links, place, host, &mut list)?;
+    }
+    Ok(list)
+}

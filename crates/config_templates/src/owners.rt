@@ -1,0 +1,94 @@
+//! Hosts with all that they inherit from.
+
+ghost use Rattle.std.specs.Prelude.{◌≡◌, ◌+◌, ◌<◌, map, Some, slice_get, IfOk, length};
+ghost use Rattle.config_templates.specs.Elements.{placed_host};
+ghost use Rattle.config_templates.specs.Linked.{HasLinks};
+ghost use Rattle.config_templates.specs.Links.{placed_hosts};
+ghost use Rattle.config_templates.specs.Macros.{macros_of};
+ghost use Rattle.config_templates.specs.Owners.{sources_now, owner_now, KnowsHosts, KnowsSources};
+ghost use Rattle.config_templates.specs.Sources.{placed_of};
+ghost use Rattle.config_templates.specs.Triggers.{owner_of};
+
+use crate::firsts::FirstPlaces;
+use crate::links::{Links, sources};
+use crate::macros::macros;
+use crate::sources::Source;
+use config_read::{RawConf, RawHost};
+use macro_text::Macro;
+use std::alloc::Global;
+use zbx_types::{Many, OutOfMemory, Text};
+
+/// A host whose items or triggers are read.
+#[derive(Drop)]
+pub(crate) struct Owner<'r> {
+    /// Its id.
+    pub id: u32,
+    /// Its name.
+    pub name: &'r Text,
+    /// The host and the templates of its walk.
+    pub sources: Many<Source<'r>>,
+    /// Their macros, and the global ones.
+    pub macros: Many<Macro>,
+    /// Where their names stand.
+    pub names: FirstPlaces,
+}
+
+/// The id of the place of a host or an item. Ids count from 1, and there are no more than a `u32` holds.
+pub(crate) fn id_of(place: usize) -> Result<u32, OutOfMemory>
+    ensures { IfOk result (λ id. id ≡ place + 1) }
+{
+    if place < u32::MAX as usize {
+        Ok(place as u32 + 1)
+    } else {
+        Err(OutOfMemory)
+    }
+}
+
+/// The places of the hosts' names.
+pub(crate) fn host_names(alloc: Global, hosts: &Many<RawHost>) -> Result<FirstPlaces, OutOfMemory>
+    ensures { IfOk result (λ names. KnowsHosts names hosts.now) }
+{
+    let mut names = FirstPlaces::new(alloc);
+    for (place, host) in hosts.as_slice().iter().enumerate() {
+        names.add(alloc, host.name.as_bytes(), place)?;
+    }
+    Ok(names)
+}
+
+fn source_names(alloc: Global, sources: &Many<Source<'_>>) -> Result<FirstPlaces, OutOfMemory>
+    ensures { IfOk result (λ names. KnowsSources names (map placed_of sources.now)) }
+{
+    let mut names = FirstPlaces::new(alloc);
+    for (place, source) in sources.as_slice().iter().enumerate() {
+        names.add(alloc, source.body.name.as_bytes(), place)?;
+    }
+    Ok(names)
+}
+
+/// The host that stands at this place, with its sources.
+pub(crate) fn owner_at<'r>(
+    alloc: Global,
+    raw: &'r RawConf,
+    links: &Links,
+    place: usize,
+    host: &'r RawHost,
+) -> Result<Owner<'r>, OutOfMemory>
+    requires place { place < length raw.now.hosts }
+    requires there { slice_get (placed_hosts raw.now) place ≡ Some (placed_host place host.now) }
+    requires links { HasLinks raw.now links.now }
+    ensures owner { IfOk result (λ o. owner_now o ≡ owner_of raw.now (placed_host place host.now)) }
+    ensures macros { IfOk result (λ o. o.macros ≡ macros_of raw.now (sources_now o)) }
+    ensures names { IfOk result (λ o. KnowsSources o.names (sources_now o)) }
+{
+    let id = id_of(place)?;
+    let sources = sources(alloc, raw, links, place)?;
+    let macros = macros(alloc, raw, &sources)?;
+    let names = source_names(alloc, &sources)?;
+    Ok(Owner {
+        id,
+        name: &host.name,
+        sources,
+        macros,
+        names,
+    })
+}

@@ -1,0 +1,41 @@
+//! JSON pointers (RFC 6901). They are made on a refusal, and not before.
+
+ghost use Rattle.std.specs.Prelude.{◌≡◌, ◌++◌, IfOk, codes};
+ghost use Rattle.std.specs.Fmt.{decimal};
+ghost use Rattle.config_templates.specs.Sources.{list_path};
+
+use crate::sources::Origin;
+use std::alloc::Global;
+use std::convert::AsStr;
+use zbx_types::{OutOfMemory, Text};
+
+/// The pointer to the list of hosts, or to that of templates.
+pub(crate) fn list_pointer(origin: Origin) -> &'static str
+    ensures { result.now ≡ list_path origin }
+{
+    match origin {
+        Origin::Host => "/hosts",
+        Origin::Template => "/templates",
+    }
+}
+
+/// The pointer to an element of the list at this pointer, counted from 0.
+pub(crate) fn element(alloc: Global, path: &str, place: usize) -> Result<Text, OutOfMemory>
+    ensures { IfOk result (λ t. t ≡ path.now ++ codes "/" ++ decimal place) }
+{
+    Ok(Text::from(format!(in alloc; "{path}/{place}")?))
+}
+
+/// The pointer to the name of a template, by its place among those of the host or template at a place.
+pub(crate) fn link_pointer(
+    alloc: Global,
+    origin: Origin,
+    place: usize,
+    at: usize,
+) -> Result<Text, OutOfMemory>
+    ensures { IfOk result (λ t. t ≡ list_path origin ++ codes "/" ++ decimal place ++ codes "/templates" ++ codes "/" ++ decimal at) }
+{
+    let mut list = element(alloc, list_pointer(origin), place)?;
+    list.push_str("/templates")?;
+    element(alloc, list.as_str(), at)
+}

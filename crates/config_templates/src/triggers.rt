@@ -1,0 +1,265 @@
+//! The triggers of the flat configuration.
+
+ghost use Rattle.std.specs.Prelude.{◌≡◌, ◌+◌, ◌++◌, ◌∷◌, [], ◌<◌, length, Some, slice_get, IfOk, OnOk};
+ghost use Rattle.config_templates.specs.Answers.{Gives, GivesAs};
+ghost use Rattle.config_templates.specs.Elements.{placed_trigger, placed_host, own_triggers};
+ghost use Rattle.config_templates.specs.Linked.{HasLinks};
+ghost use Rattle.config_templates.specs.Links.{placed_hosts};
+ghost use Rattle.config_templates.specs.Meanings.{meant_now};
+ghost use Rattle.config_templates.specs.Names.{named_trigger, named_triggers};
+ghost use Rattle.config_templates.specs.Owners.{owner_now, sources_now, KnowsSources, IsScope};
+ghost use Rattle.config_templates.specs.Places.{each};
+ghost use Rattle.config_templates.specs.Triggers.{trigger_made, trigger_of, placed_triggers, owner_of, triggers_from, triggers_of};
+ghost use Rattle.config_templates.specs.Written.{written, meant_trigger};
+ghost use Rattle.zbx_types.specs.declared.expr.Expr.TheVariants.{Bin};
+ghost use Rattle.zbx_types.specs.declared.expr.Op.TheVariants.{Gt};
+ghost use Rattle.zbx_types.specs.Tree.{call, constant};
+
+use crate::copying::copy_tags;
+use crate::fault::FlatError;
+use crate::host_names::HostNames;
+use crate::links::Links;
+use crate::meanings::{Meaning, Scope, meaning_of};
+use crate::owners::{Owner, owner_at};
+use crate::refusals::{refused_element, refused_member};
+use crate::sources::Source;
+use config_read::{RawHost, RawTrigger};
+use macro_text::expand;
+use std::alloc::Global;
+use zbx_types::{Cause, Expr, Fix, Many, Op, Operand, OutOfMemory, Tag, Text, Trigger};
+
+/// The most triggers of all hosts (this project's own).
+const MOST_TRIGGERS: usize = 50_000;
+
+/// Triggers, and their names.
+#[derive(Drop)]
+pub(crate) struct TriggerList {
+    pub triggers: Many<Trigger>,
+    pub names: HostNames,
+}
+
+/// A list of one.
+fn one<T: Drop>(alloc: Global, item: T) -> Result<Many<T>, OutOfMemory>
+    ensures { IfOk result (λ made. made ≡ item ∷ []) }
+{
+    let mut made = Many::new(alloc);
+    made.push(item)?;
+    Ok(made)
+}
+
+/// The expression that the one call is above a limit.
+fn above(alloc: Global, limit: Fix) -> Result<Expr, OutOfMemory>
+    ensures { IfOk result (λ made. made ≡ Bin Gt (call 0) (constant limit)) }
+{
+    let call = Operand::new(alloc, Expr::Call(0))?;
+    let limit = Operand::new(alloc, Expr::Const(limit))?;
+    Ok(Expr::Bin(Op::Gt, call, limit))
+}
+
+/// What a trigger takes over as it is written.
+#[derive(Drop)]
+struct Written {
+    pub name: Text,
+    pub close_tag: Text,
+    pub tags: Many<Tag>,
+}
+
+fn write(alloc: Global, raw: &RawTrigger) -> Result<Written, OutOfMemory>
+    ensures { IfOk result (λ made. made ≡ written raw.now) }
+{
+    let name = raw.name.copy(alloc)?;
+    let close_tag = raw.close_tag.copy(alloc)?;
+    let tags = copy_tags(alloc, &raw.tags)?;
+    Ok(Written {
+        name,
+        close_tag,
+        tags,
+    })
+}
+
+fn make(
+    alloc: Global,
+    host: u32,
+    title: Text,
+    raw: &RawTrigger,
+    meaning: Meaning,
+) -> Result<Trigger, OutOfMemory>
+    ensures { IfOk result (λ made. made ≡ trigger_made host title raw.now (meant_now meaning)) }
+{
+    let Written {
+        name,
+        close_tag,
+        tags,
+    } = write(alloc, raw)?;
+    let expr = above(alloc, meaning.limit)?;
+    let calls = one(alloc, meaning.call)?;
+    let call_items = one(alloc, meaning.item)?;
+    Ok(Trigger {
+        host,
+        name,
+        title,
+        expr,
+        recovery: raw.recovery,
+        recovery_expr: None,
+        calls,
+        call_items,
+        multiple: raw.multiple,
+        close_tag,
+        severity: raw.severity,
+        tags,
+        depends: Many::new(alloc),
+        enabled: raw.enabled,
+        depth: 0,
+    })
+}
+
+/// The trigger of a host, its name and the number of triggers before it being right.
+fn meant_trigger(
+    alloc: Global,
+    scope: &Scope<'_>,
+    owner: &Owner<'_>,
+    source: &Source<'_>,
+    index: usize,
+    raw: &RawTrigger,
+) -> Result<Trigger, FlatError>
+    requires scope { IsScope scope.now }
+    requires sources { KnowsSources owner.now.names (sources_now owner.now) }
+    ensures { Gives result (meant_trigger scope.now.raw.now scope.now.items.now.items (owner_now owner.now) owner.now.macros (placed_trigger source.now index raw.now)) }
+{
+    let expression = expand(alloc, &raw.expression, &owner.macros)?;
+    let meaning = meaning_of(alloc, scope, owner, source, index, expression.as_bytes())?;
+    let title = expand(alloc, &raw.name, &owner.macros)?;
+    Ok(make(alloc, owner.id, title, raw, meaning)?)
+}
+
+/// The trigger of a host, behind those before it.
+#[tactic(auto, using(crate::proofs::Failing::refusal, crate::proofs::Taken::has_trigger_named), unfolding(crate::specs::Triggers::trigger_of))]
+fn trigger(
+    alloc: Global,
+    scope: &Scope<'_>,
+    owner: &Owner<'_>,
+    list: &mut TriggerList,
+    source: &Source<'_>,
+    index: usize,
+    raw: &RawTrigger,
+) -> Result<Trigger, FlatError>
+    requires scope { IsScope scope.now }
+    requires sources { KnowsSources owner.now.names (sources_now owner.now) }
+    requires names { list.old.names ≡ named_triggers list.old.triggers }
+    ensures gives { Gives result (trigger_of scope.now.raw.now scope.now.items.now.items (owner_now owner.now) owner.now.macros list.old.triggers (placed_trigger source.now index raw.now)) }
+    ensures triggers { IfOk result (λ t. list.new.triggers ≡ list.old.triggers) }
+    ensures names { IfOk result (λ t. list.new.names ≡ list.old.names ++ named_trigger t ∷ []) }
+{
+    if !list.names.take(alloc, owner.id, raw.name.as_bytes())? {
+        let cause = Cause::Duplicate;
+        return Err(refused_member(alloc, source, "/triggers", index, "/name", cause));
+    }
+    if MOST_TRIGGERS <= list.triggers.len() {
+        return Err(refused_element(alloc, source, "/triggers", index, Cause::TooMany));
+    }
+    meant_trigger(alloc, scope, owner, source, index, raw)
+}
+
+/// Adds a trigger of a host.
+fn add_trigger(
+    alloc: Global,
+    scope: &Scope<'_>,
+    owner: &Owner<'_>,
+    list: &mut TriggerList,
+    source: &Source<'_>,
+    index: usize,
+    raw: &RawTrigger,
+) -> Result<(), FlatError>
+    requires scope { IsScope scope.now }
+    requires sources { KnowsSources owner.now.names (sources_now owner.now) }
+    requires names { list.old.names ≡ named_triggers list.old.triggers }
+    ensures gives { GivesAs (λ _. list.new.triggers) result (each (trigger_of scope.now.raw.now scope.now.items.now.items (owner_now owner.now) owner.now.macros) list.old.triggers (placed_trigger source.now index raw.now ∷ [])) }
+    ensures names { OnOk result (list.new.names ≡ named_triggers list.new.triggers) }
+{
+    let trigger = trigger(alloc, scope, owner, list, source, index, raw)?;
+    list.triggers.push(trigger)?;
+    Ok(())
+}
+
+/// Adds the triggers of a source.
+fn add_triggers(
+    alloc: Global,
+    scope: &Scope<'_>,
+    owner: &Owner<'_>,
+    list: &mut TriggerList,
+    source: &Source<'_>,
+) -> Result<(), FlatError>
+    requires scope { IsScope scope.now }
+    requires sources { KnowsSources owner.now.names (sources_now owner.now) }
+    requires names { list.old.names ≡ named_triggers list.old.triggers }
+    ensures gives { GivesAs (λ _. list.new.triggers) result (each (trigger_of scope.now.raw.now scope.now.items.now.items (owner_now owner.now) owner.now.macros) list.old.triggers (own_triggers source.now)) }
+    ensures names { OnOk result (list.new.names ≡ named_triggers list.new.triggers) }
+{
+    for (index, raw) in source.body.triggers.as_slice().iter().enumerate() {
+        add_trigger(alloc, scope, owner, list, source, index, raw)?;
+    }
+    Ok(())
+}
+
+/// Adds the triggers of all sources of a host.
+#[tactic(auto, using(crate::proofs::Steps::source_then, crate::proofs::Steps::source_fails))]
+fn add_owned(
+    alloc: Global,
+    scope: &Scope<'_>,
+    owner: &Owner<'_>,
+    list: &mut TriggerList,
+) -> Result<(), FlatError>
+    requires scope { IsScope scope.now }
+    requires sources { KnowsSources owner.now.names (sources_now owner.now) }
+    requires names { list.old.names ≡ named_triggers list.old.triggers }
+    ensures gives { GivesAs (λ _. list.new.triggers) result (each (trigger_of scope.now.raw.now scope.now.items.now.items (owner_now owner.now) owner.now.macros) list.old.triggers (placed_triggers (sources_now owner.now))) }
+    ensures names { OnOk result (list.new.names ≡ named_triggers list.new.triggers) }
+{
+    for source in owner.sources.as_slice() {
+        add_triggers(alloc, scope, owner, list, source)?;
+    }
+    Ok(())
+}
+
+/// Adds the triggers of the host that stands at this place.
+#[tactic(auto, unfolding(crate::specs::Triggers::triggers_from))]
+fn add_host(
+    alloc: Global,
+    scope: &Scope<'_>,
+    links: &Links,
+    place: usize,
+    host: &RawHost,
+    list: &mut TriggerList,
+) -> Result<(), FlatError>
+    requires scope { IsScope scope.now }
+    requires place { place < length scope.now.raw.now.hosts }
+    requires there { slice_get (placed_hosts scope.now.raw.now) place ≡ Some (placed_host place host.now) }
+    requires links { HasLinks scope.now.raw.now links.now }
+    requires names { list.old.names ≡ named_triggers list.old.triggers }
+    ensures gives { GivesAs (λ _. list.new.triggers) result (triggers_from scope.now.raw.now scope.now.items.now.items (owner_of scope.now.raw.now (placed_host place host.now)) list.old.triggers) }
+    ensures names { OnOk result (list.new.names ≡ named_triggers list.new.triggers) }
+{
+    let owner = owner_at(alloc, scope.raw, links, place, host)?;
+    add_owned(alloc, scope, &owner, list)
+}
+
+/// The triggers of all hosts, in the order of the hosts, over the items of all hosts.
+#[tactic(auto, unfolding(crate::specs::Triggers::triggers_of))]
+pub(crate) fn triggers(
+    alloc: Global,
+    scope: &Scope<'_>,
+    links: &Links,
+) -> Result<TriggerList, FlatError>
+    requires scope { IsScope scope.now }
+    requires links { HasLinks scope.now.raw.now links.now }
+    ensures { GivesAs (λ l. l.triggers) result (triggers_of scope.now.raw.now scope.now.items.now.items) }
+{
+    let mut list = TriggerList {
+        triggers: Many::new(alloc),
+        names: HostNames::new(alloc),
+    };
+    for (place, host) in scope.raw.hosts.as_slice().iter().enumerate() {
+        add_host(alloc, scope, links, place, host, &mut list)?;
+    }
+    Ok(list)
+}
