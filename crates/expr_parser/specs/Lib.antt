@@ -1,0 +1,12 @@
+pub mod Bytes
+pub mod Fault
+pub mod Numbers
+pub mod Functions
+pub mod Calls
+pub mod Grammar
+pub mod Characters
+pub mod Figures
+pub mod Parts
+pub mod Machine
+pub mod View
+pub mod Written

@@ -1,0 +1,110 @@
+//! Expressions byte by byte.
+
+ghost use Rattle.std.specs.Prelude.{◌≡◌, ◌≤◌, ◌<◌, ◌++◌, ◌∷◌, [], IfOk, reverse, nat_le, nat_lt, Some, None, true, false, option_map, length, if◌then◌else◌, pos, is_some};
+ghost use Rattle.std.specs.Str.{is_utf8};
+ghost use Rattle.expr_parser.specs.Bytes as bytes;
+ghost use Rattle.expr_parser.specs.Calls as calls;
+ghost use Rattle.expr_parser.specs.Parts as parts;
+ghost use Rattle.expr_parser.specs.Figures as figures;
+ghost use Rattle.expr_parser.specs.Machine as machine;
+ghost use Rattle.expr_parser.specs.View.{state, slot_list, whole_of};
+ghost use Rattle.expr_parser.specs.declared.parts.Value.TheVariants.{Said};
+ghost use Rattle.expr_parser.specs.declared.pending.Pending.TheVariants.{Waits};
+ghost use Rattle.zbx_types.specs.Tree as trees;
+ghost use Rattle.zbx_types.specs.Trees.{tree_of};
+
+use crate::call_bytes::{argument, close, host, key_byte, slash};
+use crate::figures::value;
+use crate::operand_bytes::{blank_or, constant, number, operand, word};
+use crate::operator_bytes::{behind, behind_greater, behind_less, joint_byte};
+use crate::pending::reduce;
+use crate::states::{Base, Mode, State, Whole, blank};
+use std::alloc::Global;
+use zbx_types::{Expr, OutOfMemory};
+
+/// The state behind one byte more, or none where no expression goes on with it.
+pub(crate) fn move_on(alloc: Global, s: State, byte: u8) -> Result<Option<State>, OutOfMemory>
+    ensures { IfOk result (λ r. option_map state r ≡ machine.step false (state s) byte) }
+{
+    let State { mode, last, base } = s;
+    match mode {
+        Mode::Begin => operand(alloc, last, base, byte),
+        Mode::Operand => blank_or(alloc, last, base, byte),
+        Mode::Word(nots, text) => word(alloc, nots, text, base, byte),
+        Mode::Number(figures) => number(alloc, figures, last, base, byte),
+        Mode::Slash(fun) => Ok(slash(fun, alloc, base, byte)),
+        Mode::Host(fun, text) => host(alloc, fun, text, base, byte),
+        Mode::Key(fun, host, key, place, within) => {
+            key_byte(alloc, (fun, host, key), place, within, base, byte)
+        }
+        Mode::Argument(fresh, call, slot, slots, place) => {
+            argument(alloc, fresh, place, call, slot, slots, base, byte)
+        }
+        Mode::Close(call) => close(call, base, byte),
+        Mode::Done(left) => behind(alloc, left, last, base, byte),
+        Mode::Less(left) => behind_less(alloc, left, last, base, byte),
+        Mode::Greater(left) => behind_greater(alloc, left, last, base, byte),
+        Mode::Joint(op, rest, left) => joint_byte(alloc, op, rest, left, base, byte),
+    }
+}
+
+pub(crate) fn last_whole(
+    alloc: Global,
+    left: Expr,
+    last: u8,
+    base: Base,
+) -> Result<Option<Whole>, OutOfMemory>
+    ensures { IfOk result (λ r. option_map whole_of r ≡ machine.ends_by (Some (tree_of left)) last (reverse base.stack.items) base.calls) }
+{
+    if blank(last) {
+        return Ok(None);
+    }
+    let made = reduce(alloc, 0, base.stack, left)?;
+    if made.stack.is_empty() {
+        Ok(Some(Whole {
+            expr: made.operand,
+            calls: base.calls,
+        }))
+    } else {
+        Ok(None)
+    }
+}
+
+pub(crate) fn number_whole(
+    alloc: Global,
+    value: Option<u128>,
+    last: u8,
+    base: Base,
+) -> Result<Option<Whole>, OutOfMemory>
+    ensures { IfOk result (λ r. option_map whole_of r ≡ machine.ends_by (machine.constant_of value) last (reverse base.stack.items) base.calls) }
+{
+    match value {
+        None => Ok(None),
+        Some(n) => match constant(n) {
+            None => Ok(None),
+            Some(left) => last_whole(alloc, left, last, base),
+        },
+    }
+}
+
+/// The expression and its calls, where they may end here.
+pub(crate) fn finished(alloc: Global, s: State) -> Result<Option<Whole>, OutOfMemory>
+    ensures { IfOk result (λ r. option_map whole_of r ≡ machine.ends (state s)) }
+{
+    let State { mode, last, base } = s;
+    match mode {
+        Mode::Number(figures) => number_whole(alloc, value(&figures), last, base),
+        Mode::Done(left) => last_whole(alloc, left, last, base),
+        Mode::Begin => Ok(None),
+        Mode::Operand => Ok(None),
+        Mode::Word(_, _) => Ok(None),
+        Mode::Slash(_) => Ok(None),
+        Mode::Host(_, _) => Ok(None),
+        Mode::Key(_, _, _, _, _) => Ok(None),
+        Mode::Argument(_, _, _, _, _) => Ok(None),
+        Mode::Close(_) => Ok(None),
+        Mode::Less(_) => Ok(None),
+        Mode::Greater(_) => Ok(None),
+        Mode::Joint(_, _, _) => Ok(None),
+    }
+}

@@ -1,0 +1,125 @@
+//! Reading of expressions.
+
+ghost use Rattle.std.specs.Prelude.{◌≡◌, ◌≤◌, ℕ, List, [], length, true, false, IfOk, IfErr, Some, None};
+ghost use Rattle.zbx_types.specs.Tree.{Tree};
+ghost use Rattle.zbx_types.specs.Trees.{tree_of};
+ghost use Rattle.zbx_types.specs.declared.conf.Call.{Call};
+ghost use Rattle.expr_parser.specs.Fault.{IsFault};
+ghost use Rattle.expr_parser.specs.Machine as machine;
+ghost use Rattle.expr_parser.specs.View.{state};
+ghost use Rattle.expr_parser.specs.Grammar.{IsExpr, IsText, looks_at_item};
+ghost use Rattle.expr_parser.specs.declared.reading.ParseError.TheVariants.{At};
+
+use crate::moves::{finished, move_on};
+use crate::slots::dated;
+use crate::states::{Base, Mode, State};
+use std::alloc::Global;
+use thiserror::Error;
+use zbx_types::{Call, Expr, Many, OutOfMemory};
+
+/// The most bytes of an expression (this project's own).
+pub const LONGEST_EXPRESSION: u32 = 4096;
+
+/// An expression, and the calls of functions in it.
+#[derive(Drop)]
+pub struct Parsed {
+    /// The expression. [`Expr::Call`] names a call by its place in `calls`.
+    pub expr: Expr,
+    /// The calls in the order in which they stand in the text.
+    pub calls: Many<Call>,
+}
+
+/// Why a text is no expression.
+#[derive(Debug, Drop, Error)]
+pub enum ParseError {
+    /// The place, counted from 0, of the first byte where no expression goes on, or the length of the text where that
+    /// comes first; 0 for an expression that calls no function of an item's history.
+    #[error("no expression goes on at byte {0}")]
+    At(u32),
+    /// No memory was to be had.
+    #[error("out of memory")]
+    OutOfMemory,
+}
+
+/// Some call looks at an item.
+fn looks(calls: &[Call]) -> bool
+    ensures { result ≡ looks_at_item calls.now }
+{
+    for call in calls {
+        if !dated(call.fun) {
+            return true;
+        }
+    }
+    false
+}
+
+fn started(alloc: Global) -> State
+    ensures { state result ≡ machine.start }
+{
+    State {
+        mode: Mode::Begin,
+        last: b'(',
+        base: Base {
+            open_ones: 0,
+            stack: Vec::new(alloc),
+            calls: Many::new(alloc),
+        },
+    }
+}
+
+/// The answer where the text ends in a state, behind so many bytes.
+fn answer(alloc: Global, s: State, count: u32) -> Result<Parsed, ParseError>
+    ensures found { IfOk result (λ p. (machine.ends (state s) ≡ Some (tree_of p.expr, p.calls)) × (looks_at_item p.calls ≡ true)) }
+    ensures dates { IfErr result (λ x. (at : ℕ) → x ≡ At at → (e : Tree) (ks : List Call) → machine.ends (state s) ≡ Some (e, ks) → (at ≡ 0) × (looks_at_item ks ≡ false)) }
+    ensures none { IfErr result (λ x. (at : ℕ) → x ≡ At at → machine.ends (state s) ≡ None → at ≡ count) }
+{
+    match finished(alloc, s) {
+        Ok(Some(whole)) => {
+            if looks(whole.calls.as_slice()) {
+                Ok(Parsed {
+                    expr: whole.expr,
+                    calls: whole.calls,
+                })
+            } else {
+                Err(ParseError::At(0))
+            }
+        }
+        Ok(None) => Err(ParseError::At(count)),
+        Err(OutOfMemory) => Err(ParseError::OutOfMemory),
+    }
+}
+
+/// Reads an expression (the Zabbix 6.0 manual, "Trigger expression").
+///
+/// `Ok` is the expression that the text is by the grammar, with its calls in order. A number as an argument and the same
+/// text in quotes are one argument; a range, a shift and a text that aren't written have their defaults: `#1`, or `#2` of
+/// `change`, 0 and empty. [`ParseError::At`] comes where the text is no expression, with the place of the first byte where
+/// none goes on or that passes a limit (the length of the text, where that comes first), and with 0 where it is one that
+/// looks at no item. [`ParseError::OutOfMemory`] comes for want of memory alone.
+pub fn read(alloc: Global, text: &[u8]) -> Result<Parsed, ParseError>
+    ensures found { IfOk result (λ p. IsExpr text.now (tree_of p.expr) p.calls × (length text.now ≤ 4096) × (looks_at_item p.calls ≡ true)) }
+    ensures none { IfErr result (λ x. (at : ℕ) → x ≡ At at → (e : Tree) (ks : List Call) → IsExpr text.now e ks → length text.now ≤ 4096 → looks_at_item ks ≡ false) }
+    ensures dates { IfErr result (λ x. (at : ℕ) → x ≡ At at → (e : Tree) (ks : List Call) → IsExpr text.now e ks → length text.now ≤ 4096 → at ≡ 0) }
+    ensures place { IfErr result (λ x. (at : ℕ) → x ≡ At at → ((e : Tree) (ks : List Call) → IsExpr text.now e ks → length text.now ≤ 4096 → ⊥) → IsFault IsText 4096 text.now at) }
+{
+    let mut state = started(alloc);
+    let mut count = 0;
+    for byte in text {
+        if count == LONGEST_EXPRESSION {
+            return Err(ParseError::At(count));
+        }
+        match move_on(alloc, state, *byte) {
+            Ok(Some(next)) => state = next,
+            Ok(None) => return Err(ParseError::At(count)),
+            Err(OutOfMemory) => return Err(ParseError::OutOfMemory),
+        }
+        count += 1;
+    }
+    answer(alloc, state, count)
+}
+
+/// No text is two expressions: a law of the grammar, which does nothing when it is called.
+#[tactic(auto, using(crate::proofs::Complete::one))]
+pub fn one_expression()
+    ensures { (text : List ℕ) (e f : Tree) (ks js : List Call) → IsExpr text e ks → IsExpr text f js → (e ≡ f) × (ks ≡ js) }
+{}

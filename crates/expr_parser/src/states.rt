@@ -1,0 +1,115 @@
+//! Where an expression stands.
+
+ghost use Rattle.std.specs.Prelude.{◌≡◌, ◌≤◌, ◌<◌, ◌++◌, ◌∷◌, [], IfOk, reverse, nat_le, nat_lt, Some, None, true, false, option_map, length, if◌then◌else◌, pos, is_some};
+ghost use Rattle.std.specs.Str.{is_utf8};
+ghost use Rattle.expr_parser.specs.Bytes as bytes;
+ghost use Rattle.expr_parser.specs.Calls as calls;
+ghost use Rattle.expr_parser.specs.Parts as parts;
+ghost use Rattle.expr_parser.specs.Figures as figures;
+ghost use Rattle.expr_parser.specs.Machine as machine;
+ghost use Rattle.expr_parser.specs.View.{state, slot_list, whole_of};
+ghost use Rattle.expr_parser.specs.declared.parts.Value.TheVariants.{Said};
+ghost use Rattle.expr_parser.specs.declared.pending.Pending.TheVariants.{Waits};
+ghost use Rattle.zbx_types.specs.Tree as trees;
+ghost use Rattle.zbx_types.specs.Trees.{tree_of};
+
+use crate::characters::Within;
+use crate::figures::Figures;
+use crate::parts::Part;
+use crate::pending::{Half, Pending, Rest};
+use crate::slots::{Slot, Slots};
+use item_key::Place;
+use zbx_types::{Bytes, Call, Expr, Fun, Many, Op, OutOfMemory};
+
+/// A place in a token.
+#[derive(Drop)]
+pub(crate) enum Mode {
+    /// At the beginning.
+    Begin,
+    /// Before an operand.
+    Operand,
+    /// In a word, which may be `not` where the first part says so.
+    Word(bool, Bytes),
+    /// In a number.
+    Number(Figures),
+    /// Before the slash in front of a host.
+    Slash(Fun),
+    /// In a host.
+    Host(Fun, Bytes),
+    /// In a key behind a host, and in its character.
+    Key(Fun, Bytes, Bytes, Place, Within),
+    /// In an argument, or still before it where the first part says so; with the arguments behind it.
+    Argument(bool, Call, Slot, Slots, Part),
+    /// Before the parenthesis that ends a call.
+    Close(Call),
+    /// Behind an operand.
+    Done(Expr),
+    /// Behind an operand and `<`.
+    Less(Expr),
+    /// Behind an operand and `>`.
+    Greater(Expr),
+    /// Behind an operand and the first letters of a word.
+    Joint(Op, Rest, Expr),
+}
+
+/// How many parentheses are open, what waits, the innermost last, and the calls so far.
+#[derive(Drop)]
+pub(crate) struct Base {
+    pub(crate) open_ones: u32,
+    pub(crate) stack: Vec<Pending>,
+    pub(crate) calls: Many<Call>,
+}
+
+/// Where an expression stands.
+#[derive(Drop)]
+pub(crate) struct State {
+    pub(crate) mode: Mode,
+    pub(crate) last: u8,
+    pub(crate) base: Base,
+}
+
+/// An expression and its calls.
+#[derive(Drop)]
+pub(crate) struct Whole {
+    pub(crate) expr: Expr,
+    pub(crate) calls: Many<Call>,
+}
+
+pub(crate) fn blank(byte: u8) -> bool
+    ensures { result ≡ bytes.is_blank byte }
+{
+    byte == b' ' || byte == b'\t' || byte == b'\r' || byte == b'\n'
+}
+
+pub(crate) fn gap(byte: u8) -> bool
+    ensures { result ≡ bytes.is_gap byte }
+{
+    byte == b'(' || byte == b')' || blank(byte)
+}
+
+pub(crate) fn waiting(half: Half, base: Base) -> Result<Base, OutOfMemory>
+    ensures open { IfOk result (λ r. r.open_ones ≡ base.open_ones) }
+    ensures stack { IfOk result (λ r. reverse r.stack.items ≡ Waits half ∷ reverse base.stack.items) }
+    ensures calls { IfOk result (λ r. r.calls ≡ base.calls) }
+{
+    let mut base = base;
+    base.stack.push(Pending::Waits(half))?;
+    Ok(base)
+}
+
+pub(crate) fn opened(base: Base) -> Result<Option<State>, OutOfMemory>
+    ensures { IfOk result (λ r. option_map state r ≡ machine.opened base.open_ones (reverse base.stack.items) base.calls) }
+{
+    let mut base = base;
+    if base.open_ones < 32 {
+        base.stack.push(Pending::Open)?;
+        base.open_ones += 1;
+        Ok(Some(State {
+            mode: Mode::Operand,
+            last: b'(',
+            base,
+        }))
+    } else {
+        Ok(None)
+    }
+}
