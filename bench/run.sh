@@ -11,12 +11,12 @@ trap 'rm -rf "$folder"' EXIT
 
 python3 "$here/make.py" "$folder" "$part"
 cd "$folder"
-printf '%-36s %9s %11s %9s %11s %13s\n' workload values bytes seconds values/s bytes/s
-while IFS=$'\t' read -r script values bytes title; do
+printf '%-42s %9s %11s %9s %11s %13s\n' workload values bytes seconds values/s bytes/s
+while IFS=$'\t' read -r script config values bytes title; do
     seconds=
     for _ in 1 2 3; do
         begin=$(date +%s%N)
-        "$program" --mode feed --config config.json --script "$script" < /dev/null > printed || true
+        "$program" --mode feed --config "$config.json" --script "$script" < /dev/null > printed || true
         end=$(date +%s%N)
         line=$(tail -n 1 printed)
         if [[ $line != 'status: Ok; '* ]]; then
@@ -28,6 +28,6 @@ while IFS=$'\t' read -r script values bytes title; do
     # The middle one of three runs, in microseconds.
     middle=$(tr ' ' '\n' <<< "$seconds" | sed '/^$/d' | sort -n | sed -n 2p)
     awk -v title="$title" -v values="$values" -v bytes="$bytes" -v us="$middle" 'BEGIN {
-        printf "%-36s %9d %11d %9.3f %11.0f %13.0f\n", title, values, bytes, us / 1e6, values * 1e6 / us, bytes * 1e6 / us
+        printf "%-42s %9d %11d %9.3f %11.0f %13.0f\n", title, values, bytes, us / 1e6, values * 1e6 / us, bytes * 1e6 / us
     }'
 done < workloads
