@@ -1,83 +1,20 @@
 //! Periods of time, and lists of 1 to 16.
 
-ghost use Rattle.std.specs.Prelude.{◌≡◌, ◌≤◌, SomeIff, IfOk, IfSome, option_and_then};
-ghost use Rattle.zbx_types.specs.Numerals.{all_digits, digits_after};
+ghost use Rattle.zbx_types.specs.Periods.{seconds_up_to};
 ghost use Rattle.json_form.specs.Faults.{Gives, GivesAs};
 ghost use Rattle.json_form.specs.Places.{place_of, word};
-ghost use Rattle.config_read.specs.Ranges.{suffix_seconds, times, up_to, seconds_up_to, length_of, step_duration_of, operation_duration_of, one_to_16};
+ghost use Rattle.config_read.specs.Ranges.{length_of, step_duration_of, operation_duration_of, one_to_16};
 
 use json_form::{At, ReadError};
 use serde_json::Value;
 use std::alloc::Global;
-use zbx_types::Cause;
+use zbx_types::{Cause, seconds_up_to};
 
 /// The seconds of 31 days.
 const LONGEST_LENGTH: u32 = 2_678_400;
 
 /// The seconds of 7 days.
 const LONGEST_STEP: u32 = 604_800;
-
-fn suffix_seconds(c: u8) -> u32
-    ensures { result ≡ suffix_seconds c }
-{
-    match c {
-        b's' => 1,
-        b'm' => 60,
-        b'h' => 3_600,
-        b'd' => 86_400,
-        b'w' => 604_800,
-        _ => 0,
-    }
-}
-
-fn all_digits(text: &[u8]) -> bool
-    ensures { result ≡ all_digits text.now }
-{
-    text.iter().all(|c| c.is_ascii_digit())
-}
-
-/// The number that digits write, up to the greatest.
-fn number_within(most: u32, digits: &[u8]) -> Option<u32>
-    ensures { SomeIff result (digits_after 0 digits.now ≤ most) (digits_after 0 digits.now) }
-{
-    let most = u64::from(most);
-    let mut number = 0;
-    for c in digits {
-        number = number * 10 + u64::from(c.saturating_sub(b'0'));
-        if number > most {
-            return None;
-        }
-    }
-    Some(number as u32)
-}
-
-/// So many times these seconds, up to the greatest.
-fn times(most: u32, seconds: u32, digits: &[u8]) -> Option<u32>
-    ensures { result ≡ option_and_then (up_to most) (times seconds digits.now) }
-{
-    if seconds == 0 || digits.is_empty() || !all_digits(digits) {
-        return None;
-    }
-    let total = u64::from(number_within(most, digits)?) * u64::from(seconds);
-    if total > u64::from(most) {
-        return None;
-    }
-    Some(total as u32)
-}
-
-/// The seconds of a period text, up to the greatest.
-#[tactic(auto, unfolding(crate::specs::Ranges::seconds_up_to))]
-fn seconds_up_to(most: u32, text: &[u8]) -> Option<u32>
-    ensures { result ≡ seconds_up_to most text.now }
-{
-    if all_digits(text) {
-        return times(most, 1, text);
-    }
-    match text.split_last() {
-        Some((last, digits)) => times(most, suffix_seconds(*last), digits),
-        None => None,
-    }
-}
 
 #[tactic(auto, unfolding(json_form::specs::Places::word))]
 fn period(alloc: Global, at: &At<'_, '_>, most: u32) -> Result<u32, ReadError>

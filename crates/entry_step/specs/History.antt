@@ -12,7 +12,7 @@ use Rattle.zbx_types.specs.declared.entries.Numbered.{Numbered}
 use Rattle.zbx_types.specs.declared.entries.Held.{Held}
 use Rattle.zbx_types.specs.declared.entries.Held.TheVariants as held
 use Rattle.zbx_types.specs.declared.entries.Stored.{Stored}
-use Rattle.entry_step.specs.Blanks.{unpadded}
+use Rattle.zbx_types.specs.Blanks.{unpadded}
 
 -- a value as an item of this type keeps it: a number item's as the number that it writes between blanks, where it writes
 -- one; an item's of texts as it stands

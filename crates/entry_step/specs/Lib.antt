@@ -1,5 +1,4 @@
 pub mod Log
-pub mod Blanks
 pub mod History
 pub mod Evaluation
 pub mod Problems

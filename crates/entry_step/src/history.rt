@@ -6,9 +6,10 @@ ghost use Rattle.zbx_types.specs.declared.entries.Entry.TheVariants.{Value};
 ghost use Rattle.entry_step.specs.History.{held_of, stored_of};
 ghost use Rattle.entry_step.specs.Kept.{is_newer, newer, latest_at, with_value};
 
-use crate::blanks::unpadded;
 use std::alloc::Global;
-use zbx_types::{Conf, Fix, Held, Item, Moment, OutOfMemory, Stored, Text, ValueType, by_id};
+use zbx_types::{
+    Conf, Fix, Held, Item, Moment, OutOfMemory, Stored, Text, ValueType, by_id, unpadded,
+};
 
 /// A value as an item of this type keeps it. The blanks around a number don't count; those around a text do.
 #[tactic(auto, unfolding(crate::specs::History::held_of))]

@@ -13,7 +13,7 @@
 //! goes into the history of its item by its time (`specs/History.antt`). Where an item stored a value, the enabled
 //! triggers with a call over it are evaluated (`specs/Evaluation.antt`, `specs/Records.antt`): a value other than 0
 //! makes a problem where none is open, 0 closes the open ones, an unknown value does nothing. A number item reads a value
-//! without the blanks around it (`specs/Blanks.antt`). A value that its item can't keep makes a Failure. Entries of other
+//! without the blanks around it. A value that its item can't keep makes a Failure. Entries of other
 //! kinds make no records.
 //!
 //! Built so far are the function `last(#1)`, constants and the operator `>`. Everything else is unknown.
@@ -25,7 +25,6 @@
 //! ```
 #![tactic(auto)]
 
-mod blanks;
 mod cells;
 mod changes;
 mod evaluation;

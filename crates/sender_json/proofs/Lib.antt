@@ -1,4 +1,3 @@
-pub mod DigitLemmas
 pub mod LengthLemmas
 pub mod ListLemmas
 pub mod RequestLaws

@@ -8,6 +8,7 @@ use Rattle.serde_json.specs.Data.{Data, null, boolean, number, string, array, ob
 use Rattle.serde_json.specs.Read.{read as read_json}
 use Rattle.serde_json.specs.Find.{get, as_str, as_array, as_u64, as_integer}
 use Rattle.zbx_types.specs.Numerals.{all_digits, digits_after}
+use Rattle.zbx_types.specs.Periods.{up_to}
 use Rattle.sender_json.specs.declared.asked.Asked.{Asked}
 use Rattle.sender_json.specs.declared.asked.Clock.{Clock}
 use Rattle.sender_json.specs.declared.asked.Clock.TheVariants.{Absent, Bad, At}
@@ -26,10 +27,6 @@ value_text (number n) = option_map signed_decimal (as_integer n)
 value_text (string s) = Some s
 value_text (array ds) = None
 value_text (object ms) = None
-
--- a number that isn't above the greatest
-abbrev pub up_to : ℕ → ℕ → Option ℕ
-up_to most n = if nat_le n most then Some n else None
 
 -- the number that a text of decimal digits writes, up to the greatest
 unfoldable pub digits_within : ℕ → List ℕ → Option ℕ

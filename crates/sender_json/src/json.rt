@@ -1,14 +1,13 @@
 //! Looking into JSON.
 
-ghost use Rattle.std.specs.Prelude.{◌≡◌, ◌≤◌, IfOk, IfSome, SomeIff, option_map, option_and_then, codes};
+ghost use Rattle.std.specs.Prelude.{◌≡◌, ◌≤◌, IfOk, IfSome, option_map, option_and_then};
 ghost use Rattle.serde_json.specs.View.{view};
 ghost use Rattle.serde_json.specs.Find.{as_str, get};
-ghost use Rattle.zbx_types.specs.Numerals.{all_digits, digits_after};
 ghost use Rattle.sender_json.specs.Requests.{json_of, digits_within, whole_within, value_text};
 
 use serde_json::Value;
 use std::alloc::Global;
-use zbx_types::{OutOfMemory, Text};
+use zbx_types::{OutOfMemory, Text, all_digits, number_within};
 
 /// The value of a JSON text.
 #[tactic(auto, unfolding(crate::specs::Requests::json_of))]
@@ -50,27 +49,6 @@ pub(crate) fn value_text(alloc: Global, value: &Value) -> Result<Option<Text>, O
         },
         Value::Null | Value::Bool(_) | Value::Array(_) | Value::Object(_) => Ok(None),
     }
-}
-
-fn all_digits(text: &[u8]) -> bool
-    ensures { result ≡ all_digits text.now }
-{
-    text.iter().all(|c| c.is_ascii_digit())
-}
-
-/// The number that digits write, up to the greatest.
-fn number_within(most: u32, digits: &[u8]) -> Option<u32>
-    ensures { SomeIff result (digits_after 0 digits.now ≤ most) (digits_after 0 digits.now) }
-{
-    let most = u64::from(most);
-    let mut number = 0;
-    for c in digits {
-        number = number * 10 + u64::from(c.saturating_sub(b'0'));
-        if number > most {
-            return None;
-        }
-    }
-    Some(number as u32)
 }
 
 #[tactic(auto, unfolding(crate::specs::Requests::digits_within))]

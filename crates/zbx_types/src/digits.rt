@@ -1,7 +1,8 @@
 //! Decimal digits.
 
-ghost use Rattle.std.specs.Prelude.{◌≡◌, ◌<◌};
+ghost use Rattle.std.specs.Prelude.{◌≡◌, ◌≤◌, ◌<◌, SomeIff};
 ghost use Rattle.zbx_types.specs.Digits.{digit_at, last_six_digits};
+ghost use Rattle.zbx_types.specs.Numerals.{all_digits, digits_after};
 
 /// The digit of a number at a power of ten, as its ASCII byte: 1 for the last digit, 10 for the one before it.
 pub fn digit_at(n: u64, power: u64) -> u8
@@ -23,4 +24,26 @@ pub fn last_six_digits(n: u64) -> [u8; 6]
         digit_at(n, 10),
         digit_at(n, 1),
     ]
+}
+
+/// Whether a text has no byte but the digits 0 to 9.
+pub fn all_digits(text: &[u8]) -> bool
+    ensures { result ≡ all_digits text.now }
+{
+    text.iter().all(|c| c.is_ascii_digit())
+}
+
+/// The number that digits write, or None where it is above the greatest. A byte below `0` counts as `0`.
+pub fn number_within(most: u32, digits: &[u8]) -> Option<u32>
+    ensures { SomeIff result (digits_after 0 digits.now ≤ most) (digits_after 0 digits.now) }
+{
+    let most = u64::from(most);
+    let mut number = 0;
+    for c in digits {
+        number = number * 10 + u64::from(c.saturating_sub(b'0'));
+        if number > most {
+            return None;
+        }
+    }
+    Some(number as u32)
 }

@@ -1,9 +1,13 @@
 //! Journal entries, the records that they make, and the values that items keep.
 
+ghost use Rattle.std.specs.Prelude.{◌≡◌, IfOk};
+
 use crate::fix::Fix;
 use crate::many::Many;
+use crate::memory::OutOfMemory;
 use crate::moment::Moment;
 use crate::text::Text;
+use std::alloc::Global;
 
 /// An entry of the journal (this project's own): what came from outside, in the order in which it was taken. Entries are
 /// numbered from 1, their moments don't fall, and all records follow from them.
@@ -160,4 +164,29 @@ pub struct Stored {
     pub number: u64,
     /// The value.
     pub value: Held,
+}
+
+impl Held {
+    /// A copy. [`OutOfMemory`] where there is no room for it.
+    pub fn copy(&self, alloc: Global) -> Result<Held, OutOfMemory>
+        ensures { IfOk result (λ made. made ≡ self.now) }
+    {
+        match self {
+            Held::Number(number) => Ok(Held::Number(*number)),
+            Held::Words(text) => Ok(Held::Words(text.copy(alloc)?)),
+        }
+    }
+}
+
+impl Stored {
+    /// A copy. [`OutOfMemory`] where there is no room for it.
+    pub fn copy(&self, alloc: Global) -> Result<Stored, OutOfMemory>
+        ensures { IfOk result (λ made. made ≡ self.now) }
+    {
+        Ok(Stored {
+            time: self.time,
+            number: self.number,
+            value: self.value.copy(alloc)?,
+        })
+    }
 }

@@ -27,6 +27,7 @@
 //! ```
 #![tactic(auto)]
 
+mod blanks;
 mod bytes;
 mod conf;
 mod digits;
@@ -39,17 +40,20 @@ mod many;
 mod memory;
 mod moment;
 mod numerals;
+mod periods;
 mod pieces;
+mod suffixes;
 mod text;
 mod writing;
 
+pub use blanks::unpadded;
 pub use bytes::Bytes;
 pub use conf::{
     Action, ActionCond, Call, Cause, Conf, Fun, Host, Item, ItemKind, Maintenance, Matching,
     OnFail, Operation, Period, Range, RecoveryMode, Rule, RuleCond, Sending, SeverityOp, StepKind,
     StepSpec, TagOp, TagTest, Trigger, ValueType,
 };
-pub use digits::{digit_at, last_six_digits};
+pub use digits::{all_digits, digit_at, last_six_digits, number_within};
 pub use entries::{Cause2, Entry, EventId, Held, Numbered, Rec, Stored, Tag};
 pub use expr::{Expr, Op, Operand};
 pub use fix::Fix;
@@ -58,6 +62,7 @@ pub use ids::by_id;
 pub use many::{Many, copy_texts};
 pub use memory::OutOfMemory;
 pub use moment::Moment;
+pub use periods::seconds_up_to;
 pub use text::Text;
 
 #[cfg(test)]

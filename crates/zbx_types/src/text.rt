@@ -1,6 +1,6 @@
 //! Texts in UTF-8.
 
-ghost use Rattle.std.specs.Prelude.{◌≡◌, ◌++◌, [], length, string_bytes, OnOk, OnErr, IfOk, MatchOption, IsUtf8};
+ghost use Rattle.std.specs.Prelude.{◌≡◌, ◌++◌, [], length, string_bytes, OnOk, OnErr, IfOk, IfSome, MatchOption, IsUtf8};
 
 use crate::memory::OutOfMemory;
 use std::alloc::Global;
@@ -47,7 +47,8 @@ impl Text {
     /// A copy of bytes as a text, or None where they aren't UTF-8. [`OutOfMemory`] where there is no
     /// room for the copy.
     pub fn from_utf8(alloc: Global, bytes: &[u8]) -> Result<Option<Text>, OutOfMemory>
-        ensures { IfOk result (λ read. MatchOption read (¬ (IsUtf8 bytes.now)) (λ made. made ≡ bytes.now)) }
+        ensures read { IfOk result (λ read. MatchOption read (¬ (IsUtf8 bytes.now)) (λ made. made ≡ bytes.now)) }
+        ensures utf8 { IfOk result (λ read. IfSome read (λ made. IsUtf8 bytes.now)) }
     {
         match str::from_utf8(bytes) {
             Ok(text) => match Text::of(alloc, text) {

@@ -1,7 +1,7 @@
 use Rattle.std.proofs.Common.{arith, ◌+◌, ◌-◌, ◌*◌, suc, ◌<◌, length, drop, get_or}
 use Rattle.std.proofs.Math.Seq.{drop-cons}
-use Rattle.sender_json.proofs.DigitLemmas.{digits_after-ge}
-use Rattle.sender_json.proofs.json.number_within.Goals as goal
+use Rattle.zbx_types.proofs.NumeralLemmas.{digits_after-ge}
+use Rattle.zbx_types.proofs.digits.number_within.Goals as goal
 
 pub returns-then-number-most : goal.returns-then-number-most
 returns-then-number-most c fits =

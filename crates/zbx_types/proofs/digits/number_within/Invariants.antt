@@ -1,6 +1,6 @@
 use Rattle.std.proofs.Common.{◌≡◌, ◌≤◌, drop}
 use Rattle.zbx_types.specs.Numerals.{digits_after}
-use Rattle.sender_json.proofs.json.number_within.Given as goal
+use Rattle.zbx_types.proofs.digits.number_within.Given as goal
 
 abbrev pub invariant-loop-c : goal.invariant-loop-c
 invariant-loop-c l = record {

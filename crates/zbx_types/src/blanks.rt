@@ -1,7 +1,7 @@
 //! Blanks around a value (this project's own). A number item reads a value without them.
 
 ghost use Rattle.std.specs.Prelude.{◌≡◌};
-ghost use Rattle.entry_step.specs.Blanks.{is_blank, without_front, without_back, unpadded};
+ghost use Rattle.zbx_types.specs.Blanks.{is_blank, without_front, without_back, unpadded};
 
 /// Whether a byte is a space, a tab, a carriage return or a line feed.
 fn is_blank(c: u8) -> bool
@@ -36,7 +36,7 @@ fn without_back(mut text: &[u8]) -> &[u8]
 
 /// A text without the blanks at both ends.
 #[tactic(auto, unfolding(crate::specs::Blanks::unpadded))]
-pub(crate) fn unpadded(text: &[u8]) -> &[u8]
+pub fn unpadded(text: &[u8]) -> &[u8]
     ensures { result.now ≡ unpadded text.now }
 {
     without_back(without_front(text))

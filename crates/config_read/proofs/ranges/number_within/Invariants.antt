@@ -1,9 +1,0 @@
-use Rattle.std.proofs.Common.{◌≡◌, ◌≤◌, drop}
-use Rattle.zbx_types.specs.Numerals.{digits_after}
-use Rattle.config_read.proofs.ranges.number_within.Given as goal
-
-abbrev pub invariant-loop-c : goal.invariant-loop-c
-invariant-loop-c l = record {
-  in_range : l.number ≤ l.fn.most;
-  same : digits_after l.number (drop l.c-index l.digits) ≡ digits_after 0 l.digits;
-}
