@@ -1,0 +1,4 @@
+pub mod Carried
+pub mod Crossing
+pub mod Filled
+pub mod Placing

@@ -1,0 +1,4 @@
+pub mod Filling
+pub mod Patterns
+pub mod Places
+pub mod Spans

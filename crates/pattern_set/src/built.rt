@@ -1,0 +1,95 @@
+//! One pattern.
+
+ghost use Rattle.std.specs.Prelude.{◌≡◌, ◌∷◌, ℕ, List, Contains, Err, IfOk, is_some};
+ghost use Rattle.pattern_set.specs.Filling.{filled_of};
+ghost use Rattle.pattern_set.specs.Patterns.{IsPattern, IsNoPattern, leftmost};
+ghost use Rattle.pattern_set.specs.Spans.{spans_of};
+
+use crate::fault::BuildError;
+use crate::filling::filled;
+use crate::spans::{Span, spans_of};
+use regex::{Error, Regex};
+use std::alloc::Global;
+use std::marker::Model;
+use zbx_types::{Many, OutOfMemory, Text};
+
+/// A pattern, built. Contracts see its text.
+#[derive(Drop)]
+pub(crate) struct Built {
+    regex: Regex,
+}
+
+impl Model for Built {
+    ghost use Rattle.std.specs.Prelude.{◌≡◌, List, ℕ};
+    ghost use Rattle.regex.specs.Patterns.{default_config};
+    ghost use Rattle.regex.specs.Strings.{regex_source, regex_config, IsReadFromSource};
+
+    ghost Value = { List ℕ };
+
+    ghost view = { λ b. regex_source b.regex };
+
+    ghost invariant = { λ b. IsReadFromSource b.regex × (regex_config b.regex ≡ default_config) };
+}
+
+impl Built {
+    /// Builds the text that stands at a place of the configuration. The errors are those of [`BuildError`], each with this
+    /// place.
+    pub(crate) fn build(alloc: Global, text: &str, place: u32) -> Result<Built, BuildError>
+        ensures ok { IfOk result (λ built. built ≡ text.now) }
+        ensures pattern { IfOk result (λ _. IsPattern text.now) }
+        ensures refused { (at : ℕ) → result ≡ Err (BuildError.Refused at) → (at ≡ place) × IsNoPattern text.now }
+        ensures large { (at : ℕ) → result ≡ Err (BuildError.TooLarge at) → (at ≡ place) × Contains text.now 123 }
+    {
+        match Regex::new(alloc, text) {
+            Ok(regex) => Ok(Built { regex }),
+            Err(Error::Syntax(_)) => Err(BuildError::Refused { place }),
+            Err(Error::OutOfMemory) => Err(BuildError::OutOfMemory),
+            Err(_) => if text.as_bytes().contains(&b'{') {
+                Err(BuildError::TooLarge { place })
+            } else {
+                Err(BuildError::OutOfMemory)
+            },
+        }
+    }
+
+    /// The text.
+    pub(crate) fn text(&self) -> &str
+        ensures { result.now ≡ self.now }
+    {
+        self.regex.as_str()
+    }
+
+    /// The spans of groups 0 to 9 of the leftmost match, or None where nothing matches.
+    pub(crate) fn spans(&self, alloc: Global, text: &str) -> Result<Option<Many<Span>>, OutOfMemory>
+        ensures { IfOk result (λ spans. spans ≡ spans_of self.now text.now) }
+    {
+        let mut matcher = self.regex.matcher(alloc)?;
+        match matcher.captures(text) {
+            Some(groups) => Ok(Some(spans_of(alloc, &groups)?)),
+            None => Ok(None),
+        }
+    }
+    /// Whether it matches somewhere in a text.
+    pub(crate) fn matches(&self, alloc: Global, text: &str) -> Result<bool, OutOfMemory>
+        ensures { IfOk result (λ found. found ≡ is_some (leftmost self.now text.now)) }
+    {
+        let mut matcher = self.regex.matcher(alloc)?;
+        Ok(matcher.is_match(text))
+    }
+
+    /// The output, filled from the groups of the leftmost match; None where nothing matches.
+    pub(crate) fn filled(
+        &self,
+        alloc: Global,
+        text: &str,
+        output: &str,
+    ) -> Result<Option<Text>, OutOfMemory>
+        ensures { IfOk result (λ filled. filled ≡ filled_of self.now text.now output.now) }
+    {
+        let mut search = self.regex.matcher(alloc)?;
+        match search.captures(text) {
+            Some(groups) => Ok(Some(filled(alloc, &groups, output)?)),
+            None => Ok(None),
+        }
+    }
+}
