@@ -1,0 +1,5 @@
+mod Placed
+mod RadixLemmas
+mod RateLemmas
+mod Replacing
+mod Trimming

@@ -1,0 +1,69 @@
+//! Each step by its kind.
+
+ghost use Rattle.std.specs.Prelude.{◌≡◌, IfOk, Contains, true, false};
+ghost use Rattle.prep_steps.specs.Outcomes.{parameter};
+ghost use Rattle.prep_steps.specs.Steps.{looks_into_json, has_pattern, done_of};
+
+use crate::changes::{change, rate};
+use crate::digits::{bool_to_decimal, hex_to_decimal, octal_to_decimal};
+use crate::matching::{check, extract, match_none, match_one};
+use crate::memory::StepMemory;
+use crate::numbering::{multiply, range};
+use crate::outcome::{StepDone, keep, parameter};
+use crate::throttling::{throttle, throttle_within};
+use crate::words::{left_trim, replace, right_trim, trim};
+use pattern_set::Patterns;
+use std::alloc::Global;
+use std::convert::AsStr;
+use zbx_types::{Moment, OutOfMemory, StepKind, StepSpec, Text};
+
+/// What a step makes of a value that came at a moment, and what it remembers from then on, by the rules that the crate's
+/// comment tells (the Zabbix 6.0 manual, "Preprocessing details"; texts of failures and the limit of 65,535 bytes are this
+/// project's own).
+///
+/// `memory` is what the step remembers of the item's values so far. A missing parameter counts as empty. What `on_fail`
+/// sets is its caller's: a failure comes with the step's own text. [`OutOfMemory`] where there is no room for the result.
+///
+/// A step that looks into JSON texts is none of this crate's, and the pattern of a step that has one is among `patterns`.
+#[tactic(auto, unfolding(crate::specs::Steps::done_of))]
+pub fn apply(
+    alloc: Global,
+    step: &StepSpec,
+    memory: &StepMemory,
+    value: &Text,
+    time: Moment,
+    patterns: &Patterns,
+) -> Result<StepDone, OutOfMemory>
+    requires kind { looks_into_json step.now.kind ≡ false }
+    requires pattern { has_pattern step.now.kind ≡ true → Contains patterns.now (parameter step.now.params 0) }
+    ensures { IfOk result (λ done. done ≡ done_of step.now memory.now value.now time) }
+{
+    let params = &step.params;
+    let first = parameter(params, 0);
+    let second = parameter(params, 1);
+    let text = value.as_str();
+    match step.kind {
+        StepKind::Regex => keep(
+            alloc,
+            memory,
+            extract(alloc, patterns, params, second, text),
+        ),
+        StepKind::Replace => keep(alloc, memory, replace(alloc, first, second, text)),
+        StepKind::Trim => keep(alloc, memory, trim(alloc, first, text)),
+        StepKind::LTrim => keep(alloc, memory, left_trim(alloc, first, text)),
+        StepKind::RTrim => keep(alloc, memory, right_trim(alloc, first, text)),
+        StepKind::Multiplier => keep(alloc, memory, multiply(alloc, first, value)),
+        StepKind::SimpleChange => change(alloc, memory, value, time),
+        StepKind::ChangePerSecond => rate(alloc, memory, value, time),
+        StepKind::BoolToDecimal => keep(alloc, memory, bool_to_decimal(alloc, value)),
+        StepKind::OctalToDecimal => keep(alloc, memory, octal_to_decimal(alloc, value)),
+        StepKind::HexToDecimal => keep(alloc, memory, hex_to_decimal(alloc, value)),
+        StepKind::InRange => keep(alloc, memory, range(alloc, first, second, value)),
+        StepKind::Matches => keep(alloc, memory, match_one(alloc, patterns, params, text)),
+        StepKind::NotMatches => keep(alloc, memory, match_none(alloc, patterns, params, text)),
+        StepKind::RegexError => keep(alloc, memory, check(alloc, patterns, params, second, text)),
+        StepKind::Throttle => throttle(alloc, memory, value, time),
+        StepKind::ThrottleHeartbeat => throttle_within(alloc, first, memory, value, time),
+        StepKind::JsonPath | StepKind::JsonError => unreachable!(),
+    }
+}
