@@ -1,0 +1,31 @@
+-- What the cell of an item stands for.
+use Rattle.std.specs.Prelude.{◌≡◌, ℕ, ◌+◌, ◌*◌, ◌≤◌, nat_lt, not, Bool, List, ◌++◌, take}
+use Rattle.std.specs.List.{filter}
+use Rattle.zbx_types.specs.declared.conf.Range.{Range}
+use Rattle.zbx_types.specs.declared.conf.Range.TheVariants.{Count, Period}
+use Rattle.zbx_types.specs.declared.entries.Stored.{Stored}
+use Rattle.value_cache.specs.declared.cell.Keep.{Keep}
+use Rattle.value_cache.specs.Histories.{IsOrdered}
+
+-- a cell as contracts see it: what it is to keep, and the values that it has, the latest first
+pub record CellView : Type 0 where
+  pub keep : Keep
+  pub values : List Stored
+
+-- whether a value is of the period that is kept
+unfoldable pub is_young : Keep → ℕ → Stored → Bool
+is_young keep now s = nat_lt now (s.time + keep.period * 1000000000)
+
+-- what is to be kept at a moment (this project's own): the values of the period, and the latest `count` of the others
+unfoldable pub pruned : Keep → ℕ → List Stored → List Stored
+pruned keep now history = filter (is_young keep now) history ++ take keep.count (filter (λ s. not (is_young keep now s)) history)
+
+-- a cell stands for a history where from the moment `seen` on both have the same of what is to be kept
+pub record StandsFor (cell : CellView) (seen : ℕ) (history : List Stored) : Type 0 where
+  pub ordered : IsOrdered history
+  pub kept : (now : ℕ) → seen ≤ now → pruned cell.keep now cell.values ≡ pruned cell.keep now history
+
+-- a window asks for no more than is kept
+abbrev pub IsWithin : Keep → Range → ℕ → Type 0
+IsWithin keep (Count n) shift = (n ≤ keep.count) × (shift ≤ keep.period)
+IsWithin keep (Period p) shift = shift + p ≤ keep.period

@@ -1,0 +1,20 @@
+-- Windows of a history: the values that a function of an expression looks at.
+use Rattle.std.specs.Prelude.{ℕ, ◌+◌, ◌*◌, ◌&&◌, nat_le, nat_lt, Bool, List, take}
+use Rattle.std.specs.List.{filter}
+use Rattle.zbx_types.specs.declared.conf.Range.{Range}
+use Rattle.zbx_types.specs.declared.conf.Range.TheVariants.{Count, Period}
+use Rattle.zbx_types.specs.declared.entries.Stored.{Stored}
+
+-- whether a value is of so many seconds before now, or of an earlier moment
+unfoldable pub is_by : ℕ → ℕ → Stored → Bool
+is_by now seconds s = nat_le (s.time + seconds * 1000000000) now
+
+-- whether a value is of the period that ends a shift before now: the period's end is in it, its beginning isn't
+unfoldable pub in_period : ℕ → ℕ → ℕ → Stored → Bool
+in_period now shift period s = is_by now shift s && nat_lt now (s.time + (shift + period) * 1000000000)
+
+-- the window of a range, the latest first (the Zabbix 6.0 manual, "Supported functions", the parameters `sec|#num` and
+-- `time shift`; that the moment at which a period begins is outside it is this project's own)
+abbrev pub window_of : Range → ℕ → ℕ → List Stored → List Stored
+window_of (Count n) shift now history = take n (filter (is_by now shift) history)
+window_of (Period p) shift now history = filter (in_period now shift p) history

@@ -1,0 +1,34 @@
+//! The values that an item keeps for the functions of expressions.
+//!
+//! The public contract: [`ItemCell::window`] gives the window of everything that was ever inserted into the cell, whatever
+//! the order in which it came, as long as it asks for no more than the cell's [`Keep`].
+//!
+//! A cell stands for a history, the list of all values that were inserted, the latest first: by time, and of values with one
+//! time by the number of their entry. It has for each later moment what the `Keep` asks for: the values of the last `period`
+//! seconds, and the latest `count` of those before. So a cell may be read at any moment that isn't before that of the last
+//! insert, and a value that comes late takes its place as if it had come in time.
+//!
+//! ```text
+//! #2                  the latest two values
+//! #2 with a shift     the latest two of those at or before now less the shift
+//! 5m                  those after now less five minutes, up to now; the value at that very moment isn't in it
+//! 5m with a shift     the same, a shift earlier
+//! ```
+//!
+//! The ends of a window are found by search, so that its cost is that of the values in it, and not of all that the cell has.
+//!
+//! ```text
+//! let mut cell = ItemCell::new(alloc, Keep { count: 2, period: 300 });
+//! cell.insert(stored, now)?;                                        // refused: the value comes back in the error
+//! let latest = cell.window(alloc, Range::Count(2), 0, now)?;        // the latest first
+//! ```
+#![tactic(auto)]
+
+mod cell;
+mod placing;
+mod windows;
+
+pub use cell::{ItemCell, Keep};
+
+#[cfg(test)]
+mod tests;

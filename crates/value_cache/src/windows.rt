@@ -1,0 +1,66 @@
+//! Windows as parts of a slice that has the latest value at its end.
+
+ghost use Rattle.std.specs.Prelude.{◌≡◌, ◌≤◌, ℕ, not, length, reverse, take, drop, IfOk};
+ghost use Rattle.std.specs.List.{filter};
+ghost use Rattle.value_cache.specs.Histories.{IsOrdered};
+ghost use Rattle.value_cache.specs.Windows.{is_by, window_of};
+
+use std::alloc::Global;
+use zbx_types::{Many, Moment, OutOfMemory, Range, Stored};
+
+/// The nanoseconds since moment 0.
+pub(crate) fn nanoseconds(moment: Moment) -> u64
+    ensures { result ≡ moment }
+{
+    moment.since(Moment::zero())
+}
+
+/// Whether a value is of so many seconds before now, or of an earlier moment.
+#[tactic(auto, unfolding(crate::specs::Windows::is_by))]
+fn is_by(now: Moment, seconds: u64, stored: &Stored) -> bool
+    ensures { result ≡ is_by now seconds stored.now }
+{
+    u128::from(nanoseconds(stored.time)) + u128::from(seconds) * 1_000_000_000
+        <= u128::from(nanoseconds(now))
+}
+
+/// How many values are of so many seconds before now, or of earlier moments.
+fn count_by(values: &[Stored], now: Moment, seconds: u64) -> usize
+    requires { IsOrdered (reverse values.now) }
+    ensures bound { result ≤ length values.now }
+    ensures by { reverse (take result values.now) ≡ filter (is_by now seconds) (reverse values.now) }
+    ensures behind { reverse (drop result values.now) ≡ filter (λ s. not (is_by now seconds s)) (reverse values.now) }
+{
+    values.partition_point(|x| is_by(now, seconds, x))
+}
+
+/// The latest values, so many.
+fn latest(values: &[Stored], count: u32) -> &[Stored]
+    ensures { reverse result.now ≡ take count (reverse values.now) }
+{
+    &values[values.len().saturating_sub(count as usize)..]
+}
+
+/// The values of a window.
+pub(crate) fn window(values: &[Stored], range: Range, shift: u32, now: Moment) -> &[Stored]
+    requires { IsOrdered (reverse values.now) }
+    ensures { reverse result.now ≡ window_of range shift now (reverse values.now) }
+{
+    let shift = u64::from(shift);
+    let behind = &values[..count_by(values, now, shift)];
+    match range {
+        Range::Count(count) => latest(behind, count),
+        Range::Period(period) => &behind[count_by(behind, now, shift + u64::from(period))..],
+    }
+}
+
+/// Copies, the last one first.
+pub(crate) fn copies(alloc: Global, values: &[Stored]) -> Result<Many<Stored>, OutOfMemory>
+    ensures { IfOk result (λ made. made ≡ reverse values.now) }
+{
+    let mut made = Many::new(alloc);
+    for stored in values.iter().rev() {
+        made.push(stored.copy(alloc)?)?;
+    }
+    Ok(made)
+}
