@@ -1,0 +1,6 @@
+pub mod Truths
+pub mod Containing
+pub mod Placed
+pub mod RankLemmas
+pub mod ClockLemmas
+pub mod CallPatterns

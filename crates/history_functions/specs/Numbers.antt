@@ -1,0 +1,47 @@
+-- Functions of the numbers of a window, latest first (the Zabbix 6.0 manual, "Aggregate functions", "History functions").
+use Rattle.std.specs.Prelude.{◌*◌, ℤ, pos, ◌+ℤ◌, int_lt, List, [], ◌∷◌, length, Option, Some, None, option_and_then, if◌then◌else◌}
+use Rattle.zbx_types.specs.Arithmetic.{in_range, quotient_of}
+use Rattle.zbx_types.specs.Ids.{at_id}
+use Rattle.zbx_types.specs.declared.conf.Range.{Range}
+use Rattle.zbx_types.specs.declared.conf.Range.TheVariants.{Count, Period}
+
+-- `last`: the number at this place, which counts from 1, of the latest first; a period names none
+abbrev pub last_of : Range → List ℤ → Option ℤ
+last_of (Count n) zs = at_id zs n
+last_of (Period seconds) zs = None
+
+-- `first`: the oldest
+abbrev pub first_of : List ℤ → Option ℤ
+first_of zs = at_id zs (length zs)
+
+-- the least and the greatest of a number and some more
+abbrev pub least : ℤ → List ℤ → ℤ
+least z [] = z
+least z (x ∷ xs) = least (if int_lt x z then x else z) xs
+
+abbrev pub greatest : ℤ → List ℤ → ℤ
+greatest z [] = z
+greatest z (x ∷ xs) = greatest (if int_lt z x then x else z) xs
+
+-- `min` and `max`: of no number unknown
+abbrev pub min_of : List ℤ → Option ℤ
+min_of [] = None
+min_of (z ∷ zs) = Some (least z zs)
+
+abbrev pub max_of : List ℤ → Option ℤ
+max_of [] = None
+max_of (z ∷ zs) = Some (greatest z zs)
+
+-- all of them together
+abbrev pub total : List ℤ → ℤ
+total [] = pos 0
+total (z ∷ zs) = z +ℤ total zs
+
+-- `sum`: exact, and of no number unknown
+abbrev pub sum_of_numbers : List ℤ → Option ℤ
+sum_of_numbers [] = None
+sum_of_numbers (z ∷ zs) = in_range (total (z ∷ zs))
+
+-- `avg`: the sum divided by how many there are
+abbrev pub avg_of : List ℤ → Option ℤ
+avg_of zs = option_and_then (λ sum. quotient_of sum (pos (length zs * 1000000))) (sum_of_numbers zs)

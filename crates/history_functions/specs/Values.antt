@@ -1,0 +1,29 @@
+-- The values of a window, which stand latest first.
+use Rattle.std.specs.Prelude.{ℕ, ◌*◌, ℤ, pos, Bool, List, [], ◌∷◌, Option, Some, if◌then◌else◌, drop}
+use Rattle.std.specs.List.{zip}
+use Rattle.zbx_types.specs.Arithmetic.{in_range}
+use Rattle.zbx_types.specs.declared.entries.Stored.{Stored}
+use Rattle.zbx_types.specs.declared.entries.Held.{Held}
+use Rattle.zbx_types.specs.declared.entries.Held.TheVariants.{Number, Words}
+
+-- a value before numbers, where it is one
+abbrev pub number_before : Held → List ℤ → List ℤ
+number_before (Number z) zs = z ∷ zs
+number_before (Words text) zs = zs
+
+-- the numbers among the values, in their order
+abbrev pub numbers : List Stored → List ℤ
+numbers [] = []
+numbers (s ∷ ss) = number_before s.value (numbers ss)
+
+-- each value with the one before it in time
+abbrev pub neighbours : {A : Type 0} → List A → List (A × A)
+neighbours xs = zip xs (drop 1 xs)
+
+-- 1 for what holds, and 0 for what doesn't
+abbrev pub truth : Bool → Option ℤ
+truth holds = Some (if holds then pos 1000000 else pos 0)
+
+-- a whole number, where it is in range
+abbrev pub whole : ℕ → Option ℤ
+whole n = in_range (pos (n * 1000000))

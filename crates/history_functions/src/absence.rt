@@ -1,0 +1,47 @@
+//! Values that stay away.
+
+ghost use Rattle.std.specs.Prelude.{◌≡◌};
+ghost use Rattle.history_functions.specs.Absence.{awaited, nodata_of};
+
+use crate::values::truth;
+use zbx_types::{Fix, Moment, Range, Stored};
+
+fn nanoseconds(moment: Moment) -> u64
+    ensures { result ≡ moment }
+{
+    u64::from(moment.sec) * 1_000_000_000 + u64::from(moment.ns)
+}
+
+/// Whether a period is over since the first Tick.
+fn awaited(seconds: u32, now: Moment, first_tick: Option<Moment>) -> Option<Fix>
+    ensures { result ≡ awaited seconds now first_tick }
+{
+    match first_tick {
+        None => None,
+        Some(tick) => {
+            if nanoseconds(tick) + u64::from(seconds) * 1_000_000_000 <= nanoseconds(now) {
+                truth(true)
+            } else {
+                None
+            }
+        }
+    }
+}
+
+/// `nodata`: whether no value came in the period.
+pub(crate) fn nodata(
+    range: Range,
+    window: &[Stored],
+    now: Moment,
+    first_tick: Option<Moment>,
+) -> Option<Fix>
+    ensures { result ≡ nodata_of range window.now now first_tick }
+{
+    match window {
+        [_, ..] => truth(false),
+        [] => match range {
+            Range::Count(_) => None,
+            Range::Period(seconds) => awaited(seconds, now, first_tick),
+        },
+    }
+}

@@ -1,0 +1,153 @@
+//! Functions of neighbouring values.
+
+ghost use Rattle.std.specs.Prelude.{◌≡◌};
+ghost use Rattle.history_functions.specs.Changes.{change_between, change_of, counted_by, number_counts, counts, changes, changecount_of, may_rise, is_strict, all_rise, all_fall, monoinc_of, monodec_of};
+
+use crate::values::{same_text, truth, whole};
+use zbx_types::{Fix, Held, Stored};
+
+/// What `changecount` counts.
+#[derive(Clone, Copy)]
+pub(crate) enum Counted {
+    /// Each value that differs from the one before.
+    Every,
+    /// Each that is greater.
+    Rises,
+    /// Each that is less.
+    Falls,
+}
+
+fn change_between(later: &Held, earlier: &Held) -> Option<Fix>
+    ensures { result ≡ change_between later.now earlier.now }
+{
+    match (later, earlier) {
+        (Held::Number(later), Held::Number(earlier)) => later.sub(*earlier),
+        (Held::Words(later), Held::Words(earlier)) => {
+            truth(!same_text(later.as_bytes(), earlier.as_bytes()))
+        }
+        (Held::Number(_), Held::Words(_)) => None,
+        (Held::Words(_), Held::Number(_)) => None,
+    }
+}
+
+/// `change`: the latest value less the one before.
+pub(crate) fn change(window: &[Stored]) -> Option<Fix>
+    ensures { result ≡ change_of window.now }
+{
+    match window {
+        [] => None,
+        [_] => None,
+        [later, earlier, ..] => change_between(&later.value, &earlier.value),
+    }
+}
+
+fn counted_by(mode: &[u8]) -> Counted
+    ensures { result ≡ counted_by mode.now }
+{
+    if same_text(mode, b"inc") {
+        Counted::Rises
+    } else if same_text(mode, b"dec") {
+        Counted::Falls
+    } else {
+        Counted::Every
+    }
+}
+
+fn number_counts(counted: Counted, later: Fix, earlier: Fix) -> bool
+    ensures { result ≡ number_counts counted later earlier }
+{
+    match counted {
+        Counted::Every => later != earlier,
+        Counted::Rises => earlier < later,
+        Counted::Falls => later < earlier,
+    }
+}
+
+fn counts(counted: Counted, later: &Held, earlier: &Held) -> bool
+    ensures { result ≡ counts counted later.now earlier.now }
+{
+    match (later, earlier) {
+        (Held::Number(later), Held::Number(earlier)) => number_counts(counted, *later, *earlier),
+        (Held::Words(later), Held::Words(earlier)) => {
+            !same_text(later.as_bytes(), earlier.as_bytes())
+        }
+        (Held::Number(_), Held::Words(_)) => true,
+        (Held::Words(_), Held::Number(_)) => true,
+    }
+}
+
+#[tactic(auto, unfolding(crate::specs::Changes::changes))]
+fn count_changes(counted: Counted, window: &[Stored]) -> usize
+    ensures { result ≡ changes counted window.now }
+{
+    window
+        .iter()
+        .zip(window.iter().skip(1))
+        .filter(|pair| counts(counted, &pair.0.value, &pair.1.value))
+        .count()
+}
+
+/// `changecount`: how many values differ from the one before, are greater or are less.
+pub(crate) fn changecount(mode: &[u8], window: &[Stored]) -> Option<Fix>
+    ensures { result ≡ changecount_of mode.now window.now }
+{
+    whole(count_changes(counted_by(mode), window) as u64)
+}
+
+fn may_rise(strict: bool, earlier: Fix, later: Fix) -> bool
+    ensures { result ≡ may_rise strict earlier later }
+{
+    if strict {
+        earlier < later
+    } else {
+        earlier <= later
+    }
+}
+
+fn is_strict(mode: &[u8]) -> bool
+    ensures { result ≡ is_strict mode.now }
+{
+    same_text(mode, b"strict")
+}
+
+#[tactic(auto, unfolding(crate::specs::Changes::all_rise))]
+fn all_rise(strict: bool, numbers: &[Fix]) -> bool
+    ensures { result ≡ all_rise strict numbers.now }
+{
+    numbers
+        .iter()
+        .zip(numbers.iter().skip(1))
+        .all(|(later, earlier)| may_rise(strict, *earlier, *later))
+}
+
+#[tactic(auto, unfolding(crate::specs::Changes::all_fall))]
+fn all_fall(strict: bool, numbers: &[Fix]) -> bool
+    ensures { result ≡ all_fall strict numbers.now }
+{
+    numbers
+        .iter()
+        .zip(numbers.iter().skip(1))
+        .all(|(later, earlier)| may_rise(strict, *later, *earlier))
+}
+
+/// `monoinc`: whether the numbers rise, strictly or not.
+pub(crate) fn monoinc(mode: &[u8], numbers: &[Fix]) -> Option<Fix>
+    ensures { result ≡ monoinc_of mode.now numbers.now }
+{
+    if numbers.is_empty() {
+        None
+    } else {
+        truth(all_rise(is_strict(mode), numbers))
+    }
+}
+
+/// `monodec`: whether the numbers fall, strictly or not.
+pub(crate) fn monodec(mode: &[u8], numbers: &[Fix]) -> Option<Fix>
+    ensures { result ≡ monodec_of mode.now numbers.now }
+{
+    if numbers.is_empty() {
+        None
+    } else {
+        truth(all_fall(is_strict(mode), numbers))
+    }
+}

@@ -1,0 +1,124 @@
+//! The value of a call.
+
+ghost use Rattle.std.specs.Prelude.{◌≡◌, IfOk, IfSome, Contains};
+ghost use Rattle.jiff.specs.Words.{IsWithin};
+ghost use Rattle.history_functions.specs.Values.{numbers};
+ghost use Rattle.history_functions.specs.Functions.{of_numbers, of_clock, value_of, call_pattern};
+
+use crate::absence::nodata;
+use crate::changes::{change, changecount, monodec, monoinc};
+use crate::clock::{date, dayofmonth, dayofweek, now, time};
+use crate::matching::{count, find};
+use crate::numbers::{avg, first, last, max, min, sum};
+use crate::ranks::percentile;
+use crate::values::numbers;
+use pattern_set::Patterns;
+use std::alloc::Global;
+use zbx_types::{Call, Fix, Fun, Moment, OutOfMemory, Stored};
+
+/// The functions of numbers.
+fn of_these(alloc: Global, call: &Call, numbers: &[Fix]) -> Result<Option<Fix>, OutOfMemory>
+    ensures { IfOk result (λ v. v ≡ of_numbers call.now.fun call.now numbers.now) }
+{
+    match call.fun {
+        Fun::Last => Ok(last(call.range, numbers)),
+        Fun::First => Ok(first(numbers)),
+        Fun::Min => Ok(min(numbers)),
+        Fun::Max => Ok(max(numbers)),
+        Fun::Avg => avg(numbers),
+        Fun::Sum => sum(numbers),
+        Fun::Percentile => percentile(alloc, call.op.as_bytes(), numbers),
+        Fun::MonoInc => Ok(monoinc(call.op.as_bytes(), numbers)),
+        Fun::MonoDec => Ok(monodec(call.op.as_bytes(), numbers)),
+        Fun::Change
+        | Fun::Count
+        | Fun::Find
+        | Fun::NoData
+        | Fun::ChangeCount
+        | Fun::Now
+        | Fun::Time
+        | Fun::Date
+        | Fun::DayOfWeek
+        | Fun::DayOfMonth => Ok(None),
+    }
+}
+
+/// The same of the numbers of a window.
+fn of_numbers(alloc: Global, call: &Call, window: &[Stored]) -> Result<Option<Fix>, OutOfMemory>
+    ensures { IfOk result (λ v. v ≡ of_numbers call.now.fun call.now (numbers window.now)) }
+{
+    let numbers = numbers(alloc, window)?;
+    of_these(alloc, call, numbers.as_slice())
+}
+
+/// The functions of the moment.
+fn of_clock(fun: Fun, moment: Moment, offset: i32) -> Option<Fix>
+    requires { IsWithin 50400 offset }
+    ensures { result ≡ of_clock fun moment offset }
+{
+    match fun {
+        Fun::Now => now(moment),
+        Fun::Time => time(moment, offset),
+        Fun::Date => date(moment, offset),
+        Fun::DayOfWeek => dayofweek(moment, offset),
+        Fun::DayOfMonth => dayofmonth(moment, offset),
+        Fun::Last
+        | Fun::First
+        | Fun::Min
+        | Fun::Max
+        | Fun::Avg
+        | Fun::Sum
+        | Fun::Change
+        | Fun::Count
+        | Fun::Find
+        | Fun::NoData
+        | Fun::Percentile
+        | Fun::ChangeCount
+        | Fun::MonoInc
+        | Fun::MonoDec => None,
+    }
+}
+
+/// The value of a call (the Zabbix 6.0 manual, "Supported functions"), or None where it is unknown.
+///
+/// `window` holds the values that the call's range and shift name, latest first; `now` is the moment of the evaluation,
+/// `first_tick` that of the first Tick of the run, and `offset` the local time's offset from UTC in seconds, at most 14
+/// hours. `patterns` holds the pattern of a call of `count` or `find` with the operator `regexp` or `iregexp`, of the latter
+/// its text behind `(?i)`. The rules are those that the crate's comment tells.
+///
+/// [`OutOfMemory`] comes where there is no room for the numbers of the window or for a search, and for sums of more than
+/// 10^8 numbers.
+#[tactic(auto, unfolding(crate::specs::Functions::value_of, crate::specs::Functions::call_pattern))]
+pub fn value(
+    alloc: Global,
+    call: &Call,
+    window: &[Stored],
+    now: Moment,
+    first_tick: Option<Moment>,
+    offset: i32,
+    patterns: &Patterns,
+) -> Result<Option<Fix>, OutOfMemory>
+    requires offset { IsWithin 50400 offset }
+    requires pattern { IfSome (call_pattern call.now) (Contains patterns.now) }
+    ensures { IfOk result (λ v. v ≡ value_of call.now window.now now first_tick offset) }
+{
+    match call.fun {
+        Fun::Change => Ok(change(window)),
+        Fun::ChangeCount => Ok(changecount(call.op.as_bytes(), window)),
+        Fun::Count => count(alloc, &call.op, &call.arg, window, patterns),
+        Fun::Find => find(alloc, &call.op, &call.arg, window, patterns),
+        Fun::NoData => Ok(nodata(call.range, window, now, first_tick)),
+        Fun::Now | Fun::Time | Fun::Date | Fun::DayOfWeek | Fun::DayOfMonth => {
+            Ok(of_clock(call.fun, now, offset))
+        }
+        Fun::Last
+        | Fun::First
+        | Fun::Min
+        | Fun::Max
+        | Fun::Avg
+        | Fun::Sum
+        | Fun::Percentile
+        | Fun::MonoInc
+        | Fun::MonoDec => of_numbers(alloc, call, window),
+    }
+}

@@ -1,0 +1,44 @@
+//! The value of a call of a function in a trigger's expression (the Zabbix 6.0 manual, "Supported functions").
+//!
+//! The public contract: [`value`] gives what the definition of the call's function says of the window of its item, latest
+//! first, at a moment, or None where that is unknown. A definition looks at lists alone; the code costs about as much as the
+//! window is long, and `percentile` sorts it once.
+//!
+//! ```text
+//! last #n, first                   the n-th latest number, the oldest; unknown where there is none
+//! min, max, sum, avg               of no number unknown; avg is the exact sum divided by their count, cut at six decimals
+//! percentile P                     the number of rank max(1, ceil(P * count / 100)) in ascending order
+//! change                           the latest value less the one before; of texts 0 where they are equal, else 1
+//! changecount all, inc, dec        how many neighbours differ, rise, fall; of texts each that differs
+//! monoinc, monodec weak, strict    1 where all neighbours rise, fall; else 0
+//! count, find op, arg              how many values match; 1 where one does, else 0, and unknown of no value
+//! nodata p                         0 where there is a value; else 1 from p seconds behind the first Tick on
+//! now, time, date                  the seconds, and HHMMSS and YYYYMMDD by the local clock
+//! dayofweek, dayofmonth            1 for Monday to 7, 1 to 31, by the local clock
+//! ```
+//!
+//! A number compares with `arg` as a number text with an optional suffix, and matches nothing where that is none; patterns see
+//! it written. A text compares by its bytes, and `like` asks whether it contains `arg`. An operator that doesn't fit the value
+//! matches nothing, as `like` on a number, `gt` on a text, or any other name. Truths are 1 and 0, and a result above 10^24 without its sign is unknown. What the parser refuses has a value too,
+//! by the same definitions. A short use:
+//!
+//! ```text
+//! // avg(/host/key,#2) over 3.25 and 1.5
+//! value(alloc, &call, window, now, first_tick, offset, &patterns)?    // Some(2.375)
+//! ```
+#![tactic(auto)]
+
+mod absence;
+mod changes;
+mod clock;
+mod functions;
+mod matching;
+mod numbers;
+mod operators;
+mod ranks;
+mod values;
+
+pub use functions::value;
+
+#[cfg(test)]
+mod tests;

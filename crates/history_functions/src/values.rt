@@ -1,0 +1,42 @@
+//! The values of a window.
+
+ghost use Rattle.std.specs.Prelude.{◌≡◌, bytes_eq, IfOk};
+ghost use Rattle.history_functions.specs.Values.{numbers, truth, whole};
+
+use std::alloc::Global;
+use zbx_types::{Fix, Held, Many, OutOfMemory, Stored};
+
+/// The numbers among the values, in their order.
+pub(crate) fn numbers(alloc: Global, window: &[Stored]) -> Result<Many<Fix>, OutOfMemory>
+    ensures { IfOk result (λ made. made ≡ numbers window.now) }
+{
+    let mut made = Many::new(alloc);
+    for stored in window {
+        if let Held::Number(number) = &stored.value {
+            made.push(*number)?;
+        }
+    }
+    Ok(made)
+}
+
+/// Whether two texts have the same bytes.
+pub(crate) fn same_text(a: &[u8], b: &[u8]) -> bool
+    ensures { result ≡ bytes_eq a.now b.now }
+{
+    a == b
+}
+
+/// 1 for what holds, and 0 for what doesn't.
+pub(crate) fn truth(holds: bool) -> Option<Fix>
+    ensures { result ≡ truth holds }
+{
+    Fix::of_raw(if holds { 1_000_000 } else { 0 })
+}
+
+/// A whole number.
+#[tactic(auto, unfolding(zbx_types::specs::Arithmetic::in_range))]
+pub(crate) fn whole(number: u64) -> Option<Fix>
+    ensures { result ≡ whole number }
+{
+    Fix::of_raw(i128::from(number) * 1_000_000)
+}
