@@ -1,0 +1,6 @@
+pub mod Within
+pub mod SeriesLemmas
+pub mod DayLemmas
+pub mod WeekLemmas
+pub mod MonthLemmas
+pub mod Anyone

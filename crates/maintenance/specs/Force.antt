@@ -1,0 +1,25 @@
+-- When a maintenance is in force (the Zabbix 6.0 manual, "Maintenance").
+use Rattle.std.specs.Prelude.{ℕ, ◌+◌, ◌/◌, ◌≤◌, ◌<◌, ℤ, Any, IsSomeAnd}
+use Rattle.zbx_types.specs.Ids.{at_id}
+use Rattle.zbx_types.specs.declared.conf.Conf.{Conf}
+use Rattle.zbx_types.specs.declared.conf.Maintenance.{Maintenance}
+use Rattle.zbx_types.specs.declared.conf.Period.{Period}
+use Rattle.maintenance.specs.Starts.{IsStart, length_of}
+
+-- the second is at some start, or less than the length behind it
+abbrev pub IsWithinLength : (ℕ → Type 0) → ℕ → ℕ → Type 0
+IsWithinLength Begins length second =
+    (start : ℕ) × Begins start × (start ≤ second) × (second < start + length)
+
+-- the second is in a period
+abbrev pub IsInPeriod : ℤ → ℕ → ℕ → Period → Type 0
+IsInPeriod offset since second period = IsWithinLength (IsStart offset since period) (length_of period) second
+
+-- the second is from `since` on, before `till` and in some period
+abbrev pub IsActive : ℤ → ℕ → Maintenance → Type 0
+IsActive offset second m =
+    (m.since ≤ second) × (second < m.till) × Any (IsInPeriod offset m.since second) m.periods
+
+-- the maintenance at a place, counted from 1, is in force at a moment
+abbrev pub InForce : Conf → ℕ → ℕ → Type 0
+InForce conf place now = IsSomeAnd (at_id conf.maintenances place) (IsActive conf.utc_offset (now / 1000000000))

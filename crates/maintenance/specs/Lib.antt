@@ -1,0 +1,8 @@
+pub mod Days
+pub mod Dates
+pub mod Starts
+pub mod Series
+pub mod Force
+pub mod Covering
+pub mod Tags
+pub mod Suppression
