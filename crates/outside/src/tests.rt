@@ -131,3 +131,47 @@ fn a_call_takes_only_so_many_bytes(rt: HostRuntime) -> Result<(), Fail> {
     );
     Ok(())
 }
+
+/// What a disk of the bytes `abc` holds after it was read and written, and how often it failed; the call with this number
+/// fails.
+fn written(alloc: Global, failing: u64) -> Result<(Bytes, u64), OutOfMemory> {
+    let mut disk = MemDisk::new(alloc, Bytes::of(alloc, b"abc")?, only(alloc, failing)?);
+    let _ = disk.len();
+    let _ = disk.write_at(1, b"x");
+    let _ = disk.sync();
+    let _ = disk.write_at(5, b"yz");
+    Ok((Bytes::of(alloc, disk.bytes().as_slice())?, disk.faults()))
+}
+
+/// How many bytes a disk of the bytes `abc` says that it has, and what it gives from a place on.
+fn told(alloc: Global, at: u64) -> Result<(u64, usize, [u8; 2]), OutOfMemory> {
+    let mut disk = MemDisk::new(alloc, Bytes::of(alloc, b"abc")?, Many::new(alloc));
+    let mut into = [0; 2];
+    let length = disk.len().unwrap_or(99);
+    let count = disk.read(at, &mut into).unwrap_or(99);
+    Ok((length, count, into))
+}
+
+/// Whether a disk in memory holds these bytes after it was written, and has failed so often.
+fn is_written(alloc: Global, failing: u64, bytes: &[u8], faults: u64) -> Result<bool, OutOfMemory> {
+    let (held, failed) = written(alloc, failing)?;
+    Ok(held.as_slice() == bytes && failed == faults)
+}
+
+#[test]
+fn a_disk_holds_what_is_written_and_fails_where_told(rt: HostRuntime) -> Result<(), Fail> {
+    let alloc = rt.alloc();
+    assert!(rt; is_written(alloc, 100, b"axc\0\0yz", 0)?);
+    assert!(rt; is_written(alloc, 2, b"abc\0\0yz", 1)?);
+    assert!(rt; is_written(alloc, 4, b"axc", 1)?);
+    Ok(())
+}
+
+#[test]
+fn a_disk_gives_its_bytes_up_to_the_end(rt: HostRuntime) -> Result<(), Fail> {
+    let alloc = rt.alloc();
+    assert_eq!(rt; told(alloc, 1)?, (3, 2, *b"bc"));
+    assert_eq!(rt; told(alloc, 2)?, (3, 1, *b"c\0"));
+    assert_eq!(rt; told(alloc, 3)?, (3, 0, *b"\0\0"));
+    Ok(())
+}
