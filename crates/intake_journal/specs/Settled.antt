@@ -1,0 +1,77 @@
+-- What is known of a journal and its disk between two calls.
+use Rattle.std.specs.Prelude.{◌≡◌, ◌≢◌, ◌⊎◌, ℕ, ◌+◌, ◌-◌, ◌*◌, ◌^◌, ◌<◌, ◌≤◌, min, nat_lt, Bool, ◌||◌, ⊤, List, [], ◌∷◌, ◌++◌, length, take, get_or, Option, IfSome}
+use Rattle.std.specs.Option.{option_map}
+use Rattle.outside.specs.Disk.{Only}
+use Rattle.zbx_types.specs.declared.entries.Entry.{Entry}
+use Rattle.intake_journal.specs.Bytes.{entries_bytes}
+use Rattle.intake_journal.specs.Kept.{Kept, magic, longest_journal, with_group, kept_behind, kept_from, kept, groups_of}
+use Rattle.intake_journal.specs.declared.format.Group.{Group}
+use Rattle.intake_journal.specs.declared.state.State.{State}
+use Rattle.intake_journal.specs.declared.state.State.TheVariants.{Reading, Ready, Broken}
+
+-- what contracts see of a journal: its disk, the place of the gate behind what was read or written, how many entries stand before it, its limits and its state
+pub record Journaled (D : Type 0) : Type 0 where
+  pub disk : D
+  pub at : ℕ
+  pub entries : ℕ
+  pub max_entries : ℕ
+  pub max_bytes : ℕ
+  pub state : State
+
+-- groups, in front of what the bytes behind them keep
+abbrev pub onto : List Group → Kept → Kept
+onto [] rest = rest
+onto (g ∷ gs) rest = with_group g (onto gs rest)
+
+-- the magic and these groups, each behind an open gate, whatever stands behind them
+pub record IsFront (groups : List Group) (front : List ℕ) : Type 0 where
+  pub ours : take 8 front ≡ magic
+  pub long : 8 ≤ length front
+  pub keeps : (gate : ℕ) (rest : List ℕ) → kept_from 8 (front ++ gate ∷ rest) ≡ onto groups (kept_behind 0 (length front) (gate ∷ rest))
+
+-- how many entries groups have
+abbrev pub count_entries : List Group → ℕ
+count_entries [] = 0
+count_entries (g ∷ gs) = length g.entries + count_entries gs
+
+-- groups of so many entries stand before a gate at this place, and all of the bytes is durable
+pub record IsDurable (images : List ℕ → Type 0) (at entries : ℕ) (bytes : List ℕ) : Type 0 where
+  pub groups : List Group
+  pub front : IsFront groups (take at bytes)
+  pub count : entries ≡ count_entries groups
+  pub gate : at < length bytes
+  pub durable : Only bytes images
+
+-- what a journal in this state knows of its disk, where the disk tells: the gate of a ready journal isn't open
+abbrev pub IsSettled : State → (List ℕ → Type 0) → ℕ → ℕ → Option (List ℕ) → Type 0
+IsSettled Reading images at entries bytes = IfSome bytes (IsDurable images at entries)
+IsSettled Ready images at entries bytes = IfSome bytes (λ b. IsDurable images at entries b × (get_or b at 1 ≢ 1))
+IsSettled Broken images at entries bytes = ⊤
+
+-- the place, the count and the limit of a journal are small
+abbrev pub IsWithin : ℕ → ℕ → ℕ → Type 0
+IsWithin at entries max_bytes = (at < longest_journal) × (entries ≤ at * 2 ^ 32) × (max_bytes ≤ longest_journal)
+
+-- how many entries a journal would have with a group
+abbrev pub entries_with : {D : Type 0} → Journaled D → List Entry → ℕ
+entries_with journal group = journal.entries + length group
+
+-- how many bytes it would have, up to and with the gate behind the group, or 2^64 - 1 where it is more
+abbrev pub bytes_with : {D : Type 0} → Journaled D → List Entry → ℕ
+bytes_with journal group = min (journal.at + length (entries_bytes group) + 10) (2 ^ 64 - 1)
+
+-- with the group the journal would pass a limit
+abbrev pub passes_limit : {D : Type 0} → Journaled D → List Entry → Bool
+passes_limit journal group = nat_lt journal.max_entries (entries_with journal group) || nat_lt journal.max_bytes (bytes_with journal group)
+
+-- the groups and one more, with its gate at this place
+abbrev pub added : ℕ → List Entry → Option (List Group) → Option (List Group)
+added at entries groups = option_map (λ gs. gs ++ record { at = at; entries = entries } ∷ []) groups
+
+-- the bytes keep these groups, or these and one more
+abbrev pub KeepsBeforeOrAfter : Option (List Group) → ℕ → List Entry → List ℕ → Type 0
+KeepsBeforeOrAfter groups at entries c = (groups_of (kept c) ≡ groups) ⊎ (groups_of (kept c) ≡ added at entries groups)
+
+-- the bytes keep what one of these keeps
+abbrev pub KeepsAsOneOf : (List ℕ → Type 0) → List ℕ → Type 0
+KeepsAsOneOf images c = (d : List ℕ) × images d × (kept c ≡ kept d)

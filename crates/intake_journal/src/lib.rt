@@ -1,0 +1,46 @@
+//! The journal: the entries that were taken, in groups, on a disk that may stop at any moment.
+//!
+//! The one public contract: what [`Journal::recover`] and [`Journal::read_next`] up to its None give is exactly what the
+//! definition `kept` says of the file's bytes, and a crash at any moment of [`Journal::append`] leaves a file that keeps
+//! the groups from before the call, or these with the whole group; once it has answered Ok, each crash leaves the group.
+//!
+//! The file is `ZTSJRN01` and groups, each behind a gate of one byte. Only what stands behind gates equal to 1 counts, up to
+//! the first gate with another byte. All numbers have four bytes, the lowest first:
+//!
+//! ```text
+//! group     gate, size of the entries in bytes, number of entries (at least 1), the entries; then the next gate
+//! Config    1, seconds, nanoseconds, length and text
+//! Value     2, seconds, nanoseconds, item, seconds and nanoseconds of its time, length and value
+//! Tick      3, seconds, nanoseconds
+//! ```
+//!
+//! A journal is Reading until `read_next` has answered None, then Ready, and Broken once its disk has failed. A short use:
+//!
+//! ```text
+//! let mut journal = Journal::recover(disk, 1_000_000, LONGEST_JOURNAL)?;
+//! while let Some(group) = journal.read_next(alloc)? { .. }
+//! journal.append(alloc, entries)?;                       // durable once it has answered Ok
+//! ```
+#![tactic(auto)]
+
+mod decoding;
+mod disk_calls;
+mod encoding;
+mod format;
+mod journal;
+mod opening;
+mod reading;
+mod state;
+mod whole;
+
+pub use decoding::{LONGEST_VALUE, decode};
+pub use encoding::{encode, size};
+pub use format::Group;
+pub use journal::Journal;
+pub use reading::LONGEST_JOURNAL;
+pub use state::{AppendError, JournalError, State};
+
+#[cfg(test)]
+mod journal_tests;
+#[cfg(test)]
+mod tests;

@@ -1,0 +1,197 @@
+//! The groups of a journal, read one after the other.
+
+ghost use Rattle.std.specs.Prelude.{◌≡◌, ◌⊎◌, Ok, Err, None, ◌≤◌, ◌<◌, ◌+◌, ◌-◌, ◌^◌, length, take, drop, IfSome, IfOk, IsErrOf};
+ghost use Rattle.outside.specs.Causes.{Rose};
+ghost use Rattle.outside.specs.Causes.{HasCause};
+ghost use Rattle.outside.specs.declared.event.Trouble.TheVariants as trouble;
+ghost use Rattle.intake_journal.specs.Format.{entries_of};
+ghost use Rattle.intake_journal.specs.Kept.{fits as has_room};
+ghost use Rattle.intake_journal.specs.Found.{IsHead, IsFound, IsSmall};
+ghost use Rattle.intake_journal.specs.declared.reading.Head.TheVariants.{Open};
+ghost use Rattle.intake_journal.specs.Moments.{IsAsBefore};
+ghost use Rattle.intake_journal.specs.Next.{ReadsNext};
+ghost use Rattle.intake_journal.specs.declared.state.State.TheVariants.{Ready, Broken};
+ghost use Rattle.intake_journal.specs.declared.state.JournalError.TheVariants as error;
+
+use crate::decoding::decode;
+use crate::format::Group;
+use crate::journal::Journal;
+use crate::state::{JournalError, State};
+use crate::whole::read_whole;
+use byteorder::{ByteOrder, LittleEndian};
+use outside::{Disk, Failed, Trouble};
+use std::alloc::Global;
+use zbx_types::{Entry, Many, OutOfMemory};
+
+/// The most bytes of a journal.
+pub const LONGEST_JOURNAL: u64 = 1_073_741_824;
+
+/// What the bytes from a gate on are, as far as the first entry.
+#[derive(Clone, Copy)]
+pub(crate) enum Head {
+    /// The gate isn't open, or there is none.
+    Closed,
+    /// It is open, and the file ends before the first entry.
+    Cut,
+    /// It is open, and these stand behind it.
+    Open { size: u32, count: u32 },
+}
+
+/// What stands at a gate.
+#[derive(Drop)]
+pub(crate) enum Found {
+    /// No group: the gate isn't open.
+    End,
+    /// The gate is open, and no group follows it.
+    Damage,
+    /// A group of these entries, which are so many bytes.
+    Next { entries: Many<Entry>, size: u32 },
+}
+
+/// What the first nine bytes from a gate on are, or all where there are fewer.
+fn head_of(bytes: &[u8]) -> Head
+    ensures { IsHead result bytes.now }
+{
+    if bytes.is_empty() || bytes[0] != 1 {
+        return Head::Closed;
+    }
+    if bytes.len() < 9 {
+        return Head::Cut;
+    }
+    Head::Open {
+        size: LittleEndian::read_u32(&bytes[1..]),
+        count: LittleEndian::read_u32(&bytes[5..]),
+    }
+}
+
+/// The gate at a place, and what stands between it and the first entry.
+fn read_head<D: Disk>(disk: &mut D, at: u64) -> Result<Head, Failed>
+    requires { at < 2 ^ 32 }
+    ensures told { IfOk result (λ head. IfSome (D.bytes disk.old) (λ b. IsHead head (take 9 (drop at b)))) }
+    ensures before { IsAsBefore D.bytes D.images D.moment D.images_since disk.old disk.new }
+    ensures cause { HasCause (D.faults disk.old) (D.faults disk.new) result }
+{
+    let mut bytes = [0; 9];
+    let count = read_whole(disk, at, &mut bytes)?;
+    Ok(head_of(&bytes[..count]))
+}
+
+/// So many zero bytes.
+fn zeros(alloc: Global, size: u32) -> Result<Vec<u8>, OutOfMemory>
+    ensures { IfOk result (λ bytes. length bytes.items ≡ size) }
+{
+    Ok(vec![in alloc; 0u8; size as usize]?)
+}
+
+/// The entries from a place on, so many as `count` says in so many bytes as `size` says, or None where these aren't so many.
+fn read_entries<D: Disk>(
+    alloc: Global,
+    disk: &mut D,
+    at: u64,
+    size: u32,
+    count: u32,
+) -> Result<Option<Many<Entry>>, Trouble>
+    requires { at < 2 ^ 32 }
+    ensures told { IfOk result (λ read. IfSome (D.bytes disk.old) (λ b. read ≡ entries_of count (take size (drop at b)))) }
+    ensures few { IfOk result (λ read. IfSome read (λ entries. length entries ≡ count)) }
+    ensures before { IsAsBefore D.bytes D.images D.moment D.images_since disk.old disk.new }
+    ensures later { D.faults disk.old ≤ D.faults disk.new }
+    ensures failed { IsErrOf result trouble.Failed → Rose (D.faults disk.old) (D.faults disk.new) }
+{
+    let mut bytes = zeros(alloc, size)?;
+    let count_read = read_whole(disk, at, &mut bytes)?;
+    let read = decode(alloc, &bytes[..count_read], count)?;
+    Ok(read)
+}
+
+/// Whether a group of this size and count has room behind a gate at this place, with so many bytes behind the count.
+fn fits(at: u64, size: u32, count: u32, left: u64) -> bool
+    requires { at < 2 ^ 32 }
+    ensures { result ≡ has_room at size count left }
+{
+    let size = u64::from(size);
+    size < left && at + size + 10 <= LONGEST_JOURNAL && 0 < count
+}
+
+/// The group of this size and count behind an open gate, where there is one.
+fn group_at<D: Disk>(
+    alloc: Global,
+    disk: &mut D,
+    at: u64,
+    size: u32,
+    count: u32,
+) -> Result<Found, Trouble>
+    requires { at < 2 ^ 31 }
+    ensures told { IfOk result (λ found. IfSome (D.bytes disk.old) (λ b. IsHead (Open size count) (take 9 (drop at b)) → IsFound found at b)) }
+    ensures within { IfOk result (λ found. IsSmall found at) }
+    ensures before { IsAsBefore D.bytes D.images D.moment D.images_since disk.old disk.new }
+    ensures later { D.faults disk.old ≤ D.faults disk.new }
+    ensures failed { IsErrOf result trouble.Failed → Rose (D.faults disk.old) (D.faults disk.new) }
+{
+    let length = disk.len()?;
+    if !fits(at, size, count, length.saturating_sub(at + 9)) {
+        return Ok(Found::Damage);
+    }
+    match read_entries(alloc, disk, at + 9, size, count)? {
+        Some(entries) => Ok(Found::Next { entries, size }),
+        None => Ok(Found::Damage),
+    }
+}
+
+/// What stands at the gate at a place.
+pub(crate) fn look<D: Disk>(alloc: Global, disk: &mut D, at: u64) -> Result<Found, Trouble>
+    requires { at < 2 ^ 31 }
+    ensures told { IfOk result (λ found. IfSome (D.bytes disk.old) (IsFound found at)) }
+    ensures within { IfOk result (λ found. IsSmall found at) }
+    ensures before { IsAsBefore D.bytes D.images D.moment D.images_since disk.old disk.new }
+    ensures later { D.faults disk.old ≤ D.faults disk.new }
+    ensures failed { IsErrOf result trouble.Failed → Rose (D.faults disk.old) (D.faults disk.new) }
+{
+    match read_head(disk, at)? {
+        Head::Closed => Ok(Found::End),
+        Head::Cut => Ok(Found::Damage),
+        Head::Open { size, count } => group_at(alloc, disk, at, size, count),
+    }
+}
+
+impl<D: Disk> Journal<D> {
+    /// The next group, or None where all groups were read; the journal is ready then.
+    ///
+    /// `Damaged` comes where an open gate is followed by no group; it comes again at the next call. `DiskFault` comes where
+    /// the disk failed; the journal is broken then, and answers it at each later call. At [`OutOfMemory`] the journal is as
+    /// before, and the same group is next. It takes memory for the group alone.
+    pub fn read_next(&mut self, alloc: Global) -> Result<Option<Group>, JournalError>
+        ensures next { ReadsNext (D.bytes self.old.disk) self.old self.new result }
+        ensures some { IfOk result (λ read. IfSome read (λ group. 0 < length group.entries)) }
+        ensures before { IsAsBefore D.bytes D.images D.moment D.images_since self.old.disk self.new.disk }
+        ensures ready { self.old.state ≡ Ready → (result ≡ Ok None) × (self.new ≡ self.old) }
+        ensures broken { self.old.state ≡ Broken → (result ≡ Err error.DiskFault) × (self.new ≡ self.old) }
+        ensures later { D.faults self.old.disk ≤ D.faults self.new.disk }
+        ensures fault { result ≡ Err error.DiskFault → (self.old.state ≡ Broken) ⊎ Rose (D.faults self.old.disk) (D.faults self.new.disk) }
+    {
+        if self.state == State::Broken {
+            return Err(JournalError::DiskFault);
+        }
+        if self.state == State::Ready {
+            return Ok(None);
+        }
+        match look(alloc, &mut self.disk, self.at) {
+            Ok(Found::End) => {
+                self.state = State::Ready;
+                Ok(None)
+            }
+            Ok(Found::Damage) => Err(JournalError::Damaged { at: self.at }),
+            Ok(Found::Next { entries, size }) => {
+                let at = self.at;
+                self.at += u64::from(size) + 9;
+                self.entries += entries.as_slice().len() as u64;
+                Ok(Some(Group { at, entries }))
+            }
+            Err(Trouble::Failed) => {
+                self.state = State::Broken;
+                Err(JournalError::DiskFault)
+            }
+            Err(Trouble::OutOfMemory) => Err(JournalError::OutOfMemory),
+        }
+    }
+}
