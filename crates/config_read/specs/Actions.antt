@@ -1,15 +1,15 @@
 -- Actions.
 use Rattle.std.specs.Prelude.{ℕ, Bool, true, ◌||◌, ◌==◌, nat_le, List, [], ◌∷◌, Option, Result, Ok, codes}
-use Rattle.zbx_types.specs.declared.conf.Cause.TheVariants.{BadMember, TooMany}
-use Rattle.zbx_types.specs.declared.conf.Matching.{Matching}
-use Rattle.zbx_types.specs.declared.conf.Matching.TheVariants as matches
-use Rattle.zbx_types.specs.declared.conf.SeverityOp.{SeverityOp}
-use Rattle.zbx_types.specs.declared.conf.SeverityOp.TheVariants as ops
-use Rattle.zbx_types.specs.declared.conf.Action.{Action}
-use Rattle.zbx_types.specs.declared.conf.ActionCond.{ActionCond}
-use Rattle.zbx_types.specs.declared.conf.ActionCond.TheVariants as conds
-use Rattle.zbx_types.specs.declared.conf.Operation.{Operation}
-use Rattle.zbx_types.specs.declared.conf.Sending.{Sending}
+use Rattle.zbx_types.specs.declared.causes.Cause.TheVariants.{BadMember, TooMany}
+use Rattle.zbx_types.specs.declared.tag_tests.Matching.{Matching}
+use Rattle.zbx_types.specs.declared.tag_tests.Matching.TheVariants as matches
+use Rattle.zbx_types.specs.declared.actions.SeverityOp.{SeverityOp}
+use Rattle.zbx_types.specs.declared.actions.SeverityOp.TheVariants as ops
+use Rattle.zbx_types.specs.declared.actions.Action.{Action}
+use Rattle.zbx_types.specs.declared.actions.ActionCond.{ActionCond}
+use Rattle.zbx_types.specs.declared.actions.ActionCond.TheVariants as conds
+use Rattle.zbx_types.specs.declared.actions.Operation.{Operation}
+use Rattle.zbx_types.specs.declared.actions.Sending.{Sending}
 use Rattle.json_form.specs.Faults.{Fault, ◌>>=◌}
 use Rattle.json_form.specs.Places.{Place, Object, ◌▸◌, an_object, text, truth, word, given_or, passing, number_between}
 use Rattle.json_form.specs.Lists.{list_of, named_list, at_most}

@@ -1,9 +1,9 @@
 -- The whole document.
 use Rattle.std.specs.Prelude.{ℕ, ℤ, pos, negsuc, List, [], Result, Ok, codes}
 use Rattle.serde_json.specs.Data.{Data}
-use Rattle.zbx_types.specs.declared.conf.Rule.{Rule}
-use Rattle.zbx_types.specs.declared.conf.Maintenance.{Maintenance}
-use Rattle.zbx_types.specs.declared.conf.Action.{Action}
+use Rattle.zbx_types.specs.declared.rules.Rule.{Rule}
+use Rattle.zbx_types.specs.declared.maintenances.Maintenance.{Maintenance}
+use Rattle.zbx_types.specs.declared.actions.Action.{Action}
 use Rattle.json_form.specs.Faults.{Fault, ◌>>=◌}
 use Rattle.json_form.specs.Places.{Place, Object, ◌▸◌, spot, an_object, given_or, whole_between}
 use Rattle.json_form.specs.Json.{json_within}

@@ -1,9 +1,9 @@
 -- User macros, items, templates and hosts.
 use Rattle.std.specs.Prelude.{ℕ, true, List, [], map, Result, Ok, codes}
-use Rattle.zbx_types.specs.declared.conf.Cause.TheVariants.{TooMany}
-use Rattle.zbx_types.specs.declared.conf.ItemKind.{ItemKind}
-use Rattle.zbx_types.specs.declared.conf.ItemKind.TheVariants as kinds
-use Rattle.zbx_types.specs.declared.conf.ValueType.TheVariants as types
+use Rattle.zbx_types.specs.declared.causes.Cause.TheVariants.{TooMany}
+use Rattle.zbx_types.specs.declared.items.ItemKind.{ItemKind}
+use Rattle.zbx_types.specs.declared.items.ItemKind.TheVariants as kinds
+use Rattle.zbx_types.specs.declared.items.ValueType.TheVariants as types
 use Rattle.json_form.specs.Faults.{Fault, ◌>>=◌}
 use Rattle.json_form.specs.Places.{Place, Object, ◌▸◌, an_object, text, truth, word, given_or, free_text}
 use Rattle.json_form.specs.Lists.{list_of, named_list, at_most}

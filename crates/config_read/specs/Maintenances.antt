@@ -1,14 +1,14 @@
 -- Maintenances.
 use Rattle.std.specs.Prelude.{ℕ, Bool, true, false, nat_lt, List, [], ◌∷◌, Option, Result, Ok, codes}
-use Rattle.zbx_types.specs.declared.conf.Cause.TheVariants.{BadMember, TooMany}
-use Rattle.zbx_types.specs.declared.conf.Matching.{Matching}
-use Rattle.zbx_types.specs.declared.conf.Matching.TheVariants as matches
-use Rattle.zbx_types.specs.declared.conf.TagOp.{TagOp}
-use Rattle.zbx_types.specs.declared.conf.TagOp.TheVariants as ops
-use Rattle.zbx_types.specs.declared.conf.TagTest.{TagTest}
-use Rattle.zbx_types.specs.declared.conf.Maintenance.{Maintenance}
-use Rattle.zbx_types.specs.declared.conf.Period.{Period}
-use Rattle.zbx_types.specs.declared.conf.Period.TheVariants as periods
+use Rattle.zbx_types.specs.declared.causes.Cause.TheVariants.{BadMember, TooMany}
+use Rattle.zbx_types.specs.declared.tag_tests.Matching.{Matching}
+use Rattle.zbx_types.specs.declared.tag_tests.Matching.TheVariants as matches
+use Rattle.zbx_types.specs.declared.tag_tests.TagOp.{TagOp}
+use Rattle.zbx_types.specs.declared.tag_tests.TagOp.TheVariants as ops
+use Rattle.zbx_types.specs.declared.tag_tests.TagTest.{TagTest}
+use Rattle.zbx_types.specs.declared.maintenances.Maintenance.{Maintenance}
+use Rattle.zbx_types.specs.declared.maintenances.Period.{Period}
+use Rattle.zbx_types.specs.declared.maintenances.Period.TheVariants as periods
 use Rattle.json_form.specs.Faults.{Fault, ◌>>=◌}
 use Rattle.json_form.specs.Places.{Place, Object, ◌▸◌, an_object, text, truth, word, given_or, passing, number_between}
 use Rattle.json_form.specs.Lists.{list_of, named_list, at_most}

@@ -1,7 +1,7 @@
 -- Periods of time in the document, and lists of 1 to 16.
 use Rattle.std.specs.Prelude.{ℕ, Bool, ◌||◌, ◌==◌, nat_le, Result}
 use Rattle.zbx_types.specs.Periods.{seconds_up_to}
-use Rattle.zbx_types.specs.declared.conf.Cause.TheVariants.{BadMember}
+use Rattle.zbx_types.specs.declared.causes.Cause.TheVariants.{BadMember}
 use Rattle.json_form.specs.Faults.{Fault, ◌>>=◌}
 use Rattle.json_form.specs.Places.{Place, word, passing}
 use Rattle.json_form.specs.Lists.{at_most, not_empty}

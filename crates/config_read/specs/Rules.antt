@@ -1,12 +1,12 @@
 -- Rules of global correlation.
 use Rattle.std.specs.Prelude.{ℕ, Bool, true, false, List, [], ◌∷◌, Option, Result, Ok, codes}
 use Rattle.std.specs.List.{list_any}
-use Rattle.zbx_types.specs.declared.conf.Cause.TheVariants.{TooMany}
-use Rattle.zbx_types.specs.declared.conf.Matching.TheVariants as matches
-use Rattle.zbx_types.specs.declared.conf.TagTest.{TagTest}
-use Rattle.zbx_types.specs.declared.conf.Rule.{Rule}
-use Rattle.zbx_types.specs.declared.conf.RuleCond.{RuleCond}
-use Rattle.zbx_types.specs.declared.conf.RuleCond.TheVariants as conds
+use Rattle.zbx_types.specs.declared.causes.Cause.TheVariants.{TooMany}
+use Rattle.zbx_types.specs.declared.tag_tests.Matching.TheVariants as matches
+use Rattle.zbx_types.specs.declared.tag_tests.TagTest.{TagTest}
+use Rattle.zbx_types.specs.declared.rules.Rule.{Rule}
+use Rattle.zbx_types.specs.declared.rules.RuleCond.{RuleCond}
+use Rattle.zbx_types.specs.declared.rules.RuleCond.TheVariants as conds
 use Rattle.json_form.specs.Faults.{Fault, ◌>>=◌}
 use Rattle.json_form.specs.Places.{Place, Object, ◌▸◌, an_object, text, word, given_or}
 use Rattle.json_form.specs.Lists.{list_of, named_list, at_most, not_empty}

@@ -1,10 +1,10 @@
 -- Preprocessing steps.
 use Rattle.std.specs.Prelude.{ℕ, Bool, true, false, ◌&&◌, ◌||◌, ◌==◌, List, [], length, Result, Ok, codes, if◌then◌else◌}
-use Rattle.zbx_types.specs.declared.conf.Cause.TheVariants.{BadMember, TooMany}
-use Rattle.zbx_types.specs.declared.conf.StepSpec.{StepSpec}
-use Rattle.zbx_types.specs.declared.conf.StepKind.{StepKind}
-use Rattle.zbx_types.specs.declared.conf.StepKind.TheVariants as steps
-use Rattle.zbx_types.specs.declared.conf.OnFail.TheVariants as fails
+use Rattle.zbx_types.specs.declared.causes.Cause.TheVariants.{BadMember, TooMany}
+use Rattle.zbx_types.specs.declared.steps.StepSpec.{StepSpec}
+use Rattle.zbx_types.specs.declared.steps.StepKind.{StepKind}
+use Rattle.zbx_types.specs.declared.steps.StepKind.TheVariants as steps
+use Rattle.zbx_types.specs.declared.steps.OnFail.TheVariants as fails
 use Rattle.json_form.specs.Faults.{Fault, ◌>>=◌}
 use Rattle.json_form.specs.Places.{Place, ◌▸◌, refuse, an_object, text, word, given_or, passing}
 use Rattle.json_form.specs.Lists.{list_of, at_most, following_list}

@@ -1,8 +1,8 @@
 -- Triggers.
 use Rattle.std.specs.Prelude.{ℕ, Bool, true, false, List, [], Result, Ok, codes}
-use Rattle.zbx_types.specs.declared.conf.Cause.TheVariants.{TooMany}
-use Rattle.zbx_types.specs.declared.conf.RecoveryMode.{RecoveryMode}
-use Rattle.zbx_types.specs.declared.conf.RecoveryMode.TheVariants as modes
+use Rattle.zbx_types.specs.declared.causes.Cause.TheVariants.{TooMany}
+use Rattle.zbx_types.specs.declared.triggers.RecoveryMode.{RecoveryMode}
+use Rattle.zbx_types.specs.declared.triggers.RecoveryMode.TheVariants as modes
 use Rattle.zbx_types.specs.declared.entries.Tag.{Tag}
 use Rattle.json_form.specs.Faults.{Fault, ◌>>=◌}
 use Rattle.json_form.specs.Places.{Place, Object, ◌▸◌, an_object, text, truth, word, given_or, number_between}

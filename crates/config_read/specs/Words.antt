@@ -2,20 +2,20 @@
 use Rattle.std.specs.Prelude.{ℕ, Bool, ◌&&◌, ◌||◌, ◌==◌, ◌-◌, nat_le, List, [], ◌∷◌, length, slice_index, slice_range, Option, Result, codes}
 use Rattle.std.specs.Char.{is_ascii_alphanumeric, is_ascii_uppercase, is_ascii_digit}
 use Rattle.std.specs.List.{list_all}
-use Rattle.zbx_types.specs.declared.conf.ItemKind.{ItemKind}
-use Rattle.zbx_types.specs.declared.conf.ItemKind.TheVariants as kinds
-use Rattle.zbx_types.specs.declared.conf.ValueType.{ValueType}
-use Rattle.zbx_types.specs.declared.conf.ValueType.TheVariants as types
-use Rattle.zbx_types.specs.declared.conf.StepKind.{StepKind}
-use Rattle.zbx_types.specs.declared.conf.StepKind.TheVariants as steps
-use Rattle.zbx_types.specs.declared.conf.OnFail.{OnFail}
-use Rattle.zbx_types.specs.declared.conf.OnFail.TheVariants as fails
-use Rattle.zbx_types.specs.declared.conf.RecoveryMode.{RecoveryMode}
-use Rattle.zbx_types.specs.declared.conf.RecoveryMode.TheVariants as modes
-use Rattle.zbx_types.specs.declared.conf.Matching.{Matching}
-use Rattle.zbx_types.specs.declared.conf.Matching.TheVariants as matches
-use Rattle.zbx_types.specs.declared.conf.TagOp.{TagOp}
-use Rattle.zbx_types.specs.declared.conf.TagOp.TheVariants as ops
+use Rattle.zbx_types.specs.declared.items.ItemKind.{ItemKind}
+use Rattle.zbx_types.specs.declared.items.ItemKind.TheVariants as kinds
+use Rattle.zbx_types.specs.declared.items.ValueType.{ValueType}
+use Rattle.zbx_types.specs.declared.items.ValueType.TheVariants as types
+use Rattle.zbx_types.specs.declared.steps.StepKind.{StepKind}
+use Rattle.zbx_types.specs.declared.steps.StepKind.TheVariants as steps
+use Rattle.zbx_types.specs.declared.steps.OnFail.{OnFail}
+use Rattle.zbx_types.specs.declared.steps.OnFail.TheVariants as fails
+use Rattle.zbx_types.specs.declared.triggers.RecoveryMode.{RecoveryMode}
+use Rattle.zbx_types.specs.declared.triggers.RecoveryMode.TheVariants as modes
+use Rattle.zbx_types.specs.declared.tag_tests.Matching.{Matching}
+use Rattle.zbx_types.specs.declared.tag_tests.Matching.TheVariants as matches
+use Rattle.zbx_types.specs.declared.tag_tests.TagOp.{TagOp}
+use Rattle.zbx_types.specs.declared.tag_tests.TagOp.TheVariants as ops
 use Rattle.json_form.specs.Faults.{Fault, ◌>>=◌}
 use Rattle.json_form.specs.Places.{Place, text_that, free}
 use Rattle.json_form.specs.Wording.{first_of_word}

@@ -4,7 +4,7 @@ use Rattle.std.specs.Prelude.{codes}
 use Rattle.std.specs.Option.{option_or}
 use Rattle.std.proofs.lemmas.Grind.{flat_map-append}
 use Rattle.std.proofs.lemmas.List.{map_more}
-use Rattle.zbx_types.specs.declared.conf.Cause.{Cause}
+use Rattle.zbx_types.specs.declared.causes.Cause.{Cause}
 use Rattle.config_read.specs.declared.raw.RawHost.{RawHost}
 use Rattle.config_read.specs.declared.raw.RawConf.{RawConf}
 use Rattle.config_templates.specs.Places.{Placed, placed, first_fault}

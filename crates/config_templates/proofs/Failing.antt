@@ -1,6 +1,6 @@
 -- What a call fails with.
 use Rattle.std.proofs.Common.{◌≡◌, ℕ, List, ap, ◌∙◌, Result, Err}
-use Rattle.zbx_types.specs.declared.conf.Cause.{Cause}
+use Rattle.zbx_types.specs.declared.causes.Cause.{Cause}
 use Rattle.config_templates.specs.declared.fault.FlatError.{FlatError}
 use Rattle.config_templates.specs.declared.fault.FlatError.TheVariants.{Refused, Unbuilt, OutOfMemory}
 use Rattle.config_templates.specs.Places.{Flaw, refuse}

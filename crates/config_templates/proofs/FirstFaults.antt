@@ -1,7 +1,7 @@
 -- The first fault of a list, part by part.
 use Rattle.std.proofs.Common.{◌≡◌, ℕ, List, [], ◌∷◌, ◌++◌, Option, Some, None, refl, ap, ◌∙◌}
 use Rattle.std.specs.Option.{option_or}
-use Rattle.zbx_types.specs.declared.conf.Cause.{Cause}
+use Rattle.zbx_types.specs.declared.causes.Cause.{Cause}
 use Rattle.json_form.specs.Faults.{Fault}
 use Rattle.config_templates.specs.Places.{Placed, fault_or, first_fault}
 use Rattle.config_templates.specs.Answers.{Tells}

@@ -1,8 +1,8 @@
 -- A trigger whose name is free.
 use Rattle.std.proofs.Common.{◌≡◌, ℕ, Bool, not, true, false, List, length, refl, sym, ◌∙◌, subst, ap}
 use Rattle.std.specs.Prelude.{Result, nat_le}
-use Rattle.zbx_types.specs.declared.conf.Item.{Item}
-use Rattle.zbx_types.specs.declared.conf.Trigger.{Trigger}
+use Rattle.zbx_types.specs.declared.items.Item.{Item}
+use Rattle.zbx_types.specs.declared.triggers.Trigger.{Trigger}
 use Rattle.macro_text.specs.declared.replacing.Macro.{Macro}
 use Rattle.config_read.specs.declared.raw.RawConf.{RawConf}
 use Rattle.config_read.specs.declared.raw.RawTrigger.{RawTrigger}

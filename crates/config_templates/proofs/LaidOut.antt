@@ -5,8 +5,8 @@ use Rattle.std.specs.Option.{option_or}
 use Rattle.json_form.specs.Faults.{Fault}
 use Rattle.config_templates.specs.Items.{items_of}
 use Rattle.config_templates.specs.Triggers.{triggers_of}
-use Rattle.zbx_types.specs.declared.conf.Item.{Item}
-use Rattle.zbx_types.specs.declared.conf.Trigger.{Trigger}
+use Rattle.zbx_types.specs.declared.items.Item.{Item}
+use Rattle.zbx_types.specs.declared.triggers.Trigger.{Trigger}
 use Rattle.zbx_types.specs.declared.conf.Conf.{Conf}
 use Rattle.config_read.specs.declared.raw.RawConf.{RawConf}
 use Rattle.config_templates.specs.declared.fault.FlatError.{FlatError}

@@ -7,7 +7,7 @@ use Rattle.std.proofs.lemmas.List.Quantifiers.{position-Some}
 use Rattle.std.proofs.lemmas.Slice.Eq.{bytes_eq-Decides}
 use Rattle.std.proofs.lemmas.Iterator.Adapters.{position_from-zero}
 use Rattle.config_read.specs.declared.raw.RawHost.{RawHost}
-use Rattle.zbx_types.specs.declared.conf.Item.{Item}
+use Rattle.zbx_types.specs.declared.items.Item.{Item}
 use Rattle.config_templates.specs.Names.{Named, named_item, named_items, is_named, is_keyed}
 use Rattle.config_templates.specs.Places.{Placed}
 

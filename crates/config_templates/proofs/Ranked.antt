@@ -8,7 +8,7 @@ use Rattle.std.proofs.lemmas.Bool.{cases_lt, eqb-true}
 use Rattle.std.proofs.lemmas.List.{take_at, drop_at, get_or_past, get_or-map}
 use Rattle.std.proofs.lemmas.List.Elements.{All-nil, All-append, All-head, All-tail, All-take, All-drop, All-same, All-weaker}
 use Rattle.std.proofs.lemmas.List.Folds.{list_any_none}
-use Rattle.zbx_types.specs.declared.conf.Cause.TheVariants.{Cycle}
+use Rattle.zbx_types.specs.declared.causes.Cause.TheVariants.{Cycle}
 use Rattle.config_read.specs.declared.raw.RawHost.{RawHost}
 use Rattle.config_templates.specs.Places.{Placed, placed_from, placed, fault_or, first_fault}
 use Rattle.config_templates.specs.Walks.{once, linked_by, walk, walked}

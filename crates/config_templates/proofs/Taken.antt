@@ -7,10 +7,10 @@ use Rattle.std.specs.declared.alloc.Global.{Global}
 use Rattle.std.proofs.lemmas.List.{length-map}
 use Rattle.std.specs.Cmp.Lexicographic.{nat_list_eq_equiv}
 use Rattle.std.specs.Cmp.{nat_eq_equiv}
-use Rattle.zbx_types.specs.declared.conf.Item.{Item}
+use Rattle.zbx_types.specs.declared.items.Item.{Item}
 use Rattle.config_templates.specs.Items.{has_item}
 use Rattle.config_templates.specs.Names.{Named, named, is_named, has_named, named_items, named_triggers}
-use Rattle.zbx_types.specs.declared.conf.Trigger.{Trigger}
+use Rattle.zbx_types.specs.declared.triggers.Trigger.{Trigger}
 use Rattle.config_templates.specs.Triggers.{has_trigger}
 
 abbrev Key : Type 0

@@ -3,7 +3,7 @@ use Rattle.std.proofs.Common.{◌≡◌, ℕ, Bool, true, false, List, length, r
 use Rattle.std.specs.Prelude.{Result, Ok, Err, None, IsOk, IsUtf8, nat_le, if◌then◌else◌}
 use Rattle.std.specs.Str.{is_utf8}
 use Rattle.std.proofs.lemmas.Str.{IsUtf8-from_is_utf8}
-use Rattle.zbx_types.specs.declared.conf.Cause.TheVariants.{TooLong}
+use Rattle.zbx_types.specs.declared.causes.Cause.TheVariants.{TooLong}
 use Rattle.json_form.specs.Faults.{Fault, ◌>>=◌}
 use Rattle.json_form.specs.Json.{json_of, or_not_json, json_within}
 use Rattle.json_form.specs.Places.{nowhere, refuse}

@@ -1,10 +1,10 @@
 -- The forms of documents that are built.
 use Rattle.std.specs.Prelude.{ℕ, Bool, true, false, not, ◌&&◌, ◌||◌, ◌==◌, List, [], ◌∷◌}
 use Rattle.std.specs.List.{list_all}
-use Rattle.zbx_types.specs.declared.conf.ItemKind.{ItemKind}
-use Rattle.zbx_types.specs.declared.conf.ItemKind.TheVariants as kinds
-use Rattle.zbx_types.specs.declared.conf.RecoveryMode.{RecoveryMode}
-use Rattle.zbx_types.specs.declared.conf.RecoveryMode.TheVariants as modes
+use Rattle.zbx_types.specs.declared.items.ItemKind.{ItemKind}
+use Rattle.zbx_types.specs.declared.items.ItemKind.TheVariants as kinds
+use Rattle.zbx_types.specs.declared.triggers.RecoveryMode.{RecoveryMode}
+use Rattle.zbx_types.specs.declared.triggers.RecoveryMode.TheVariants as modes
 use Rattle.config_read.specs.declared.raw.RawItem.{RawItem}
 use Rattle.config_read.specs.declared.raw.RawTrigger.{RawTrigger}
 use Rattle.config_read.specs.declared.raw.RawHost.{RawHost}

@@ -1,7 +1,7 @@
 -- Elements of the document as the code goes over them, and refusals of them.
 use Rattle.std.specs.Prelude.{ℕ, List, ◌++◌, Some, codes}
 use Rattle.std.specs.Fmt.{decimal}
-use Rattle.zbx_types.specs.declared.conf.Cause.{Cause}
+use Rattle.zbx_types.specs.declared.causes.Cause.{Cause}
 use Rattle.config_read.specs.declared.raw.RawItem.{RawItem}
 use Rattle.config_read.specs.declared.raw.RawTrigger.{RawTrigger}
 use Rattle.config_read.specs.declared.raw.RawHost.{RawHost}

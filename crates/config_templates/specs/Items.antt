@@ -2,8 +2,8 @@
 use Rattle.std.specs.Prelude.{ℕ, zero, suc, ◌+◌, ◌==◌, nat_le, Bool, not, ◌&&◌, List, [], ◌++◌, length, take, flat_map, if◌then◌else◌, Result, Ok, codes}
 use Rattle.std.specs.List.{list_any}
 use Rattle.std.specs.Str.{bytes_eq}
-use Rattle.zbx_types.specs.declared.conf.Item.{Item}
-use Rattle.zbx_types.specs.declared.conf.Cause.TheVariants.{BadKey, Duplicate, TooMany}
+use Rattle.zbx_types.specs.declared.items.Item.{Item}
+use Rattle.zbx_types.specs.declared.causes.Cause.TheVariants.{BadKey, Duplicate, TooMany}
 use Rattle.item_key.specs.Grammar.{longest_key}
 use Rattle.item_key.specs.Machine.{ends_at, place_of}
 use Rattle.macro_text.specs.Expanded.{expanded}

@@ -1,7 +1,7 @@
 -- The lists of the flat configuration.
 use Rattle.std.specs.Prelude.{List, Result, Ok}
-use Rattle.zbx_types.specs.declared.conf.Item.{Item}
-use Rattle.zbx_types.specs.declared.conf.Trigger.{Trigger}
+use Rattle.zbx_types.specs.declared.items.Item.{Item}
+use Rattle.zbx_types.specs.declared.triggers.Trigger.{Trigger}
 use Rattle.config_read.specs.declared.raw.RawConf.{RawConf}
 use Rattle.config_templates.specs.Places.{Flaw, ◌>>=◌}
 use Rattle.config_templates.specs.Items.{items_of}

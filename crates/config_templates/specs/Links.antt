@@ -3,8 +3,8 @@ use Rattle.std.specs.Prelude.{ℕ, nat_eq, List, [], ◌∷◌, ◌++◌, map, f
 use Rattle.std.specs.Option.{option_to_list}
 use Rattle.std.specs.List.{list_any}
 use Rattle.std.specs.Str.{bytes_eq}
-use Rattle.zbx_types.specs.declared.conf.Cause.{Cause}
-use Rattle.zbx_types.specs.declared.conf.Cause.TheVariants.{UnknownName, Cycle}
+use Rattle.zbx_types.specs.declared.causes.Cause.{Cause}
+use Rattle.zbx_types.specs.declared.causes.Cause.TheVariants.{UnknownName, Cycle}
 use Rattle.json_form.specs.Faults.{Fault}
 use Rattle.config_read.specs.declared.raw.RawHost.{RawHost}
 use Rattle.config_read.specs.declared.raw.RawConf.{RawConf}

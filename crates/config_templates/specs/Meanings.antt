@@ -1,7 +1,7 @@
 -- What expressions mean, as the code holds it.
 use Rattle.std.specs.Prelude.{ℕ, min, List, ◌++◌, codes}
-use Rattle.zbx_types.specs.declared.conf.Cause.{Cause}
-use Rattle.zbx_types.specs.declared.conf.Cause.TheVariants.{BadExpression}
+use Rattle.zbx_types.specs.declared.causes.Cause.{Cause}
+use Rattle.zbx_types.specs.declared.causes.Cause.TheVariants.{BadExpression}
 use Rattle.config_templates.specs.Expressions.{Plain, range_end, longest_expression}
 use Rattle.config_templates.specs.Elements.{element_path}
 use Rattle.config_templates.specs.Triggers.{NamedHost, NamedItem, Meant}

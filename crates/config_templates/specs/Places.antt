@@ -1,7 +1,7 @@
 -- What stands where in the document, and what is wrong with it.
 use Rattle.std.specs.Prelude.{ℕ, ◌+◌, List, [], ◌∷◌, ◌++◌, Option, Some, None, Result, Ok, Err, codes}
 use Rattle.std.specs.Fmt.{decimal}
-use Rattle.zbx_types.specs.declared.conf.Cause.{Cause}
+use Rattle.zbx_types.specs.declared.causes.Cause.{Cause}
 use Rattle.json_form.specs.Faults.{Fault}
 
 -- Why a document has no flat configuration: its first fault, or a form that isn't built.

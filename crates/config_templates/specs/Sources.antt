@@ -1,7 +1,7 @@
 -- The sources of a host as the code holds them.
 use Rattle.std.specs.Prelude.{ℕ, List, ◌++◌, codes}
 use Rattle.std.specs.Fmt.{decimal}
-use Rattle.zbx_types.specs.declared.conf.Cause.{Cause}
+use Rattle.zbx_types.specs.declared.causes.Cause.{Cause}
 use Rattle.json_form.specs.Faults.{Fault}
 use Rattle.config_read.specs.declared.raw.RawHost.{RawHost}
 use Rattle.config_templates.specs.Places.{Placed}

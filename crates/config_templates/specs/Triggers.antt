@@ -4,16 +4,16 @@ use Rattle.std.specs.List.{list_any}
 use Rattle.std.specs.Str.{bytes_eq}
 use Rattle.zbx_types.specs.Tree.{call, constant}
 use Rattle.zbx_types.specs.Numerals.{read_number}
-use Rattle.zbx_types.specs.declared.conf.Item.{Item}
-use Rattle.zbx_types.specs.declared.conf.ValueType.{ValueType}
-use Rattle.zbx_types.specs.declared.conf.ValueType.TheVariants as types
-use Rattle.zbx_types.specs.declared.conf.Call.{Call}
-use Rattle.zbx_types.specs.declared.conf.Fun.TheVariants as functions
-use Rattle.zbx_types.specs.declared.conf.Range.TheVariants as ranges
-use Rattle.zbx_types.specs.declared.conf.Trigger.{Trigger}
+use Rattle.zbx_types.specs.declared.items.Item.{Item}
+use Rattle.zbx_types.specs.declared.items.ValueType.{ValueType}
+use Rattle.zbx_types.specs.declared.items.ValueType.TheVariants as types
+use Rattle.zbx_types.specs.declared.calls.Call.{Call}
+use Rattle.zbx_types.specs.declared.calls.Fun.TheVariants as functions
+use Rattle.zbx_types.specs.declared.calls.Range.TheVariants as ranges
+use Rattle.zbx_types.specs.declared.triggers.Trigger.{Trigger}
 use Rattle.zbx_types.specs.declared.expr.Expr.TheVariants.{Bin}
 use Rattle.zbx_types.specs.declared.expr.Op.TheVariants.{Gt}
-use Rattle.zbx_types.specs.declared.conf.Cause.TheVariants.{Duplicate, TooMany, BadExpression, UnknownName, WrongValueType}
+use Rattle.zbx_types.specs.declared.causes.Cause.TheVariants.{Duplicate, TooMany, BadExpression, UnknownName, WrongValueType}
 use Rattle.macro_text.specs.Expanded.{expanded}
 use Rattle.macro_text.specs.declared.replacing.Macro.{Macro}
 use Rattle.config_read.specs.declared.raw.RawTrigger.{RawTrigger}

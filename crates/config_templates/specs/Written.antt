@@ -1,7 +1,7 @@
 -- Triggers as the code makes them.
 use Rattle.std.specs.Prelude.{List, ◌++◌, Result, Ok, codes}
-use Rattle.zbx_types.specs.declared.conf.Item.{Item}
-use Rattle.zbx_types.specs.declared.conf.Trigger.{Trigger}
+use Rattle.zbx_types.specs.declared.items.Item.{Item}
+use Rattle.zbx_types.specs.declared.triggers.Trigger.{Trigger}
 use Rattle.macro_text.specs.Expanded.{expanded}
 use Rattle.macro_text.specs.declared.replacing.Macro.{Macro}
 use Rattle.config_read.specs.declared.raw.RawConf.{RawConf}

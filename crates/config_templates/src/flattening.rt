@@ -8,7 +8,7 @@ ghost use Rattle.config_templates.specs.Laid.{lists_of};
 ghost use Rattle.config_templates.specs.Linked.{HasLinks};
 ghost use Rattle.config_templates.specs.Places.{refuse};
 ghost use Rattle.config_templates.specs.Places.Flaw.{unbuilt};
-ghost use Rattle.zbx_types.specs.declared.conf.Cause.{Cause};
+ghost use Rattle.zbx_types.specs.declared.causes.Cause.{Cause};
 
 use crate::built::is_built;
 use crate::fault::FlatError;

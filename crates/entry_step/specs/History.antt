@@ -3,9 +3,9 @@ use Rattle.std.specs.Prelude.{ℕ, ◌==◌, nat_le, List, [], ◌∷◌, Option
 use Rattle.zbx_types.specs.Ids.{at_id}
 use Rattle.zbx_types.specs.Numerals.{read_number}
 use Rattle.zbx_types.specs.declared.conf.Conf.{Conf}
-use Rattle.zbx_types.specs.declared.conf.Item.{Item}
-use Rattle.zbx_types.specs.declared.conf.ValueType.{ValueType}
-use Rattle.zbx_types.specs.declared.conf.ValueType.TheVariants as types
+use Rattle.zbx_types.specs.declared.items.Item.{Item}
+use Rattle.zbx_types.specs.declared.items.ValueType.{ValueType}
+use Rattle.zbx_types.specs.declared.items.ValueType.TheVariants as types
 use Rattle.zbx_types.specs.declared.entries.Entry.{Entry}
 use Rattle.zbx_types.specs.declared.entries.Entry.TheVariants.{Config, Value, Tick}
 use Rattle.zbx_types.specs.declared.entries.Numbered.{Numbered}

@@ -4,8 +4,8 @@ use Rattle.std.proofs.lemmas.Bool.Decides.{nat_tests}
 use Rattle.zbx_types.specs.Tree.{Tree, call, negative, negation, binary}
 use Rattle.zbx_types.specs.declared.expr.Op.{Op}
 use Rattle.zbx_types.specs.declared.expr.Op.TheVariants.{Or, And, Eq, Ne, Lt, Le, Gt, Ge, Add, Sub, Mul, Div}
-use Rattle.zbx_types.specs.declared.conf.Call.{Call}
-use Rattle.zbx_types.specs.declared.conf.Fun.{Fun}
+use Rattle.zbx_types.specs.declared.calls.Call.{Call}
+use Rattle.zbx_types.specs.declared.calls.Fun.{Fun}
 use Rattle.expr_parser.specs.declared.figures.Figures.{Figures}
 use Rattle.expr_parser.specs.declared.pending.Half.TheVariants.{Left, Denied, Negated}
 use Rattle.expr_parser.specs.declared.pending.Pending.{Pending}

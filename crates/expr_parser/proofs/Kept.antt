@@ -1,7 +1,7 @@
 -- Each byte keeps what a state says of the text so far; so what the machine takes, the grammar says.
 use Rattle.std.proofs.Common.{◌≡◌, ℕ, ◌+◌, List, [], ◌∷◌, ◌++◌, length, refl, ap, sym, ◌∙◌, Option, Some, None, true, false, arith, nat_le, subst, inl, inr, pos}
 use Rattle.zbx_types.specs.Tree.{Tree, constant}
-use Rattle.zbx_types.specs.declared.conf.Call.{Call}
+use Rattle.zbx_types.specs.declared.calls.Call.{Call}
 use Rattle.expr_parser.specs.declared.figures.Figures.{Figures}
 use Rattle.expr_parser.specs.declared.pending.Pending.{Pending}
 use Rattle.expr_parser.specs.Bytes.{is_blank, AreBlanks, Point, behind as behind_bytes, beginning}

@@ -2,8 +2,8 @@
 use Rattle.std.proofs.Common.{◌≡◌, ℕ, zero, suc, ◌*◌, ◌≤◌, List, [], ◌∷◌, ◌++◌, refl, ap, sym, ◌∙◌, Bool, true, false, ◌==◌, arith, Option, Some, inl, inr, if◌then◌else◌, subst}
 use Rattle.std.proofs.lemmas.Bool.Decides.{nat_tests}
 use Rattle.std.proofs.lemmas.Bool.{cases_lt}
-use Rattle.zbx_types.specs.declared.conf.Range.{Range}
-use Rattle.zbx_types.specs.declared.conf.Range.TheVariants.{Count, Period}
+use Rattle.zbx_types.specs.declared.calls.Range.{Range}
+use Rattle.zbx_types.specs.declared.calls.Range.TheVariants.{Count, Period}
 use Rattle.expr_parser.specs.declared.characters.Within.{Within}
 use Rattle.expr_parser.specs.declared.characters.Within.TheVariants.{Whole, One, Two, Three, HighOfTwo, LowOfTwo, HighOfThree, LowOfThree}
 use Rattle.expr_parser.specs.declared.slots.Words.{Words}

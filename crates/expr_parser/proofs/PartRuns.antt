@@ -2,8 +2,8 @@
 use Rattle.std.proofs.Common.{◌≡◌, ℕ, zero, suc, ◌+◌, ◌-◌, ◌*◌, ◌≤◌, ◌<◌, List, [], ◌∷◌, ◌++◌, refl, ap, sym, ◌∙◌, Bool, true, false, nat_le, ◌==◌, arith, Option, Some, None, inl, inr, if◌then◌else◌, subst, option_map, le-mul_of_pos_right}
 use Rattle.std.proofs.lemmas.Bool.Decides.{nat_tests}
 use Rattle.std.specs.Str.{IsUtf8}
-use Rattle.zbx_types.specs.declared.conf.Range.{Range}
-use Rattle.zbx_types.specs.declared.conf.Range.TheVariants.{Count, Period}
+use Rattle.zbx_types.specs.declared.calls.Range.{Range}
+use Rattle.zbx_types.specs.declared.calls.Range.TheVariants.{Count, Period}
 use Rattle.expr_parser.specs.declared.characters.Within.{Within}
 use Rattle.expr_parser.specs.declared.characters.Within.TheVariants.{Whole, One, Two, Three, HighOfTwo, LowOfTwo, HighOfThree, LowOfThree}
 use Rattle.expr_parser.specs.declared.figures.Figures.{Figures}

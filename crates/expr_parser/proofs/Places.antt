@@ -2,7 +2,7 @@
 use Rattle.std.proofs.Math.Seq.{take-length}
 use Rattle.std.proofs.Common.{zero, suc, ◌+◌, ◌<◌, ◌≤◌, length, take, get_or, arith, add-one, ◌≡◌, ℕ, List, [], ◌∷◌, ◌++◌, refl, ap, sym, ◌∙◌, subst, Option, Some, None, false, length-take, Result, Ok, Err, IfOk, IfErr}
 use Rattle.zbx_types.specs.Tree.{Tree}
-use Rattle.zbx_types.specs.declared.conf.Call.{Call}
+use Rattle.zbx_types.specs.declared.calls.Call.{Call}
 use Rattle.expr_parser.specs.Bytes.{behind, beginning, one_less}
 use Rattle.expr_parser.specs.Grammar.{IsExpr, IsText}
 use Rattle.expr_parser.specs.Fault.{IsViable, IsFault}

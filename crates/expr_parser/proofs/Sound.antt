@@ -3,8 +3,8 @@ use Rattle.std.proofs.Common.{◌≡◌, ℕ, suc, zero, ◌+◌, ◌≤◌, Lis
 use Rattle.zbx_types.specs.Tree.{Tree, constant}
 use Rattle.zbx_types.specs.declared.expr.Op.{Op}
 use Rattle.zbx_types.specs.declared.expr.Op.TheVariants.{Or, And, Eq, Ne, Lt, Le, Gt, Ge, Add, Sub, Mul, Div}
-use Rattle.zbx_types.specs.declared.conf.Call.{Call}
-use Rattle.zbx_types.specs.declared.conf.Fun.{Fun}
+use Rattle.zbx_types.specs.declared.calls.Call.{Call}
+use Rattle.zbx_types.specs.declared.calls.Fun.{Fun}
 use Rattle.expr_parser.specs.declared.figures.Figures.{Figures}
 use Rattle.expr_parser.specs.declared.slots.Slot.{Slot}
 use Rattle.expr_parser.specs.declared.pending.Half.TheVariants.{Denied, Negated}

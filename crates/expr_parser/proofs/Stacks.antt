@@ -3,7 +3,7 @@ use Rattle.std.proofs.Common.{◌≡◌, ℕ, suc, zero, ◌+◌, ◌-◌, ◌�
 use Rattle.zbx_types.specs.Tree.{Tree}
 use Rattle.zbx_types.specs.declared.expr.Op.{Op}
 use Rattle.zbx_types.specs.declared.expr.Op.TheVariants.{Or, And, Eq, Ne, Lt, Le, Gt, Ge, Add, Sub, Mul, Div}
-use Rattle.zbx_types.specs.declared.conf.Call.{Call}
+use Rattle.zbx_types.specs.declared.calls.Call.{Call}
 use Rattle.expr_parser.specs.declared.pending.Half.{Half}
 use Rattle.expr_parser.specs.declared.pending.Half.TheVariants.{Left, Denied, Negated}
 use Rattle.expr_parser.specs.declared.pending.Pending.{Pending}

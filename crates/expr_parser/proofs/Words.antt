@@ -1,7 +1,7 @@
 -- Names of functions.
 use Rattle.std.proofs.Common.{◌≡◌, ℕ, ◌<◌, List, [], ◌∷◌, ◌++◌, refl, sym, Bool, true, false, nat_le, Some, inl, inr, ◌⊎◌, if◌then◌else◌, subst}
-use Rattle.zbx_types.specs.declared.conf.Fun.{Fun}
-use Rattle.zbx_types.specs.declared.conf.Fun.TheVariants.{Last, First, Min, Max, Avg, Sum, Change, Count, Find, NoData, Percentile, ChangeCount, MonoInc, MonoDec, Now, Time, Date, DayOfWeek, DayOfMonth}
+use Rattle.zbx_types.specs.declared.calls.Fun.{Fun}
+use Rattle.zbx_types.specs.declared.calls.Fun.TheVariants.{Last, First, Min, Max, Avg, Sum, Change, Count, Find, NoData, Percentile, ChangeCount, MonoInc, MonoDec, Now, Time, Date, DayOfWeek, DayOfMonth}
 use Rattle.expr_parser.specs.Functions.{name_of}
 use Rattle.expr_parser.specs.Calls.{is_one_of}
 use Rattle.expr_parser.specs.Parts.{is_front, begins_one}

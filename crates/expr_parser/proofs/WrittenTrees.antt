@@ -3,7 +3,7 @@ use Rattle.std.proofs.Common.{◌≡◌, ℕ, zero, suc, ◌+◌, ◌-◌, ◌�
 use Rattle.zbx_types.specs.Tree.{Tree, constant, call, negative, negation, binary}
 use Rattle.zbx_types.specs.declared.expr.Op.{Op}
 use Rattle.zbx_types.specs.declared.expr.Op.TheVariants.{Or, And, Eq, Ne, Lt, Le, Gt, Ge, Add, Sub, Mul, Div}
-use Rattle.zbx_types.specs.declared.conf.Call.{Call}
+use Rattle.zbx_types.specs.declared.calls.Call.{Call}
 use Rattle.expr_parser.specs.Bytes.{is_gap, first_byte, AreBlanks, Point, behind, beginning}
 use Rattle.expr_parser.specs.Calls.{IsCall, greatest_number}
 use Rattle.expr_parser.specs.Grammar.{op_text, op_level, StandsApart, Spells, number, called, paren, minus, denied, tighter, joined, IsExpr}

@@ -1,9 +1,9 @@
 -- Calls of functions, by the cases of their grammar (the Zabbix 6.0 manual, "Trigger expression" and "Supported functions").
 use Rattle.std.specs.Prelude.{◌≡◌, ◌≤◌, ◌<◌, ℕ, List, [], ◌∷◌, ◌++◌, Option, Some, None, Bool, true, false, ◌==◌, if◌then◌else◌, length, take, IsUtf8}
-use Rattle.zbx_types.specs.declared.conf.Call.{Call}
-use Rattle.zbx_types.specs.declared.conf.Fun.{Fun}
-use Rattle.zbx_types.specs.declared.conf.Range.{Range}
-use Rattle.zbx_types.specs.declared.conf.Range.TheVariants.{Count, Period}
+use Rattle.zbx_types.specs.declared.calls.Call.{Call}
+use Rattle.zbx_types.specs.declared.calls.Fun.{Fun}
+use Rattle.zbx_types.specs.declared.calls.Range.{Range}
+use Rattle.zbx_types.specs.declared.calls.Range.TheVariants.{Count, Period}
 use Rattle.item_key.specs.Grammar.{IsKeyText, is_name_byte, longest_key}
 use Rattle.expr_parser.specs.Bytes.{Point, behind, AreBlanks, Digits}
 use Rattle.expr_parser.specs.Numbers.{IsNumber, IsPeriod}

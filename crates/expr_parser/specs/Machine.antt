@@ -4,9 +4,9 @@ use Rattle.std.specs.Str.{is_utf8}
 use Rattle.zbx_types.specs.Tree.{Tree, constant, call, negative, negation, binary}
 use Rattle.zbx_types.specs.declared.expr.Op.{Op}
 use Rattle.zbx_types.specs.declared.expr.Op.TheVariants.{Or, And, Eq, Ne, Lt, Le, Gt, Ge, Add, Sub, Mul, Div}
-use Rattle.zbx_types.specs.declared.conf.Call.{Call}
-use Rattle.zbx_types.specs.declared.conf.Fun.{Fun}
-use Rattle.zbx_types.specs.declared.conf.Fun.TheVariants as fun
+use Rattle.zbx_types.specs.declared.calls.Call.{Call}
+use Rattle.zbx_types.specs.declared.calls.Fun.{Fun}
+use Rattle.zbx_types.specs.declared.calls.Fun.TheVariants as fun
 use Rattle.item_key.specs.declared.places.Place.{Place}
 use Rattle.item_key.specs.declared.places.Place.TheVariants.{Start}
 use Rattle.item_key.specs.Machine as key

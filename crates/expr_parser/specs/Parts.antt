@@ -1,8 +1,8 @@
 -- Arguments byte by byte.
 use Rattle.std.specs.Prelude.{ℕ, zero, suc, ◌+◌, ◌*◌, ◌-◌, List, [], ◌∷◌, ◌++◌, Option, Some, None, Bool, true, false, ◌==◌, nat_le, if◌then◌else◌}
 use Rattle.std.specs.Option.{option_map}
-use Rattle.zbx_types.specs.declared.conf.Range.{Range}
-use Rattle.zbx_types.specs.declared.conf.Range.TheVariants.{Count, Period}
+use Rattle.zbx_types.specs.declared.calls.Range.{Range}
+use Rattle.zbx_types.specs.declared.calls.Range.TheVariants.{Count, Period}
 use Rattle.expr_parser.specs.declared.characters.Within.{Within}
 use Rattle.expr_parser.specs.declared.characters.Within.TheVariants.{Whole}
 use Rattle.expr_parser.specs.declared.figures.Figures.{Figures}

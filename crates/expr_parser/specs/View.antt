@@ -10,7 +10,7 @@ use Rattle.expr_parser.specs.declared.states.Mode.TheVariants.{Begin, Operand, W
 use Rattle.expr_parser.specs.declared.states.State.{State}
 use Rattle.expr_parser.specs.declared.states.Whole.{Whole}
 use Rattle.zbx_types.specs.Tree.{Tree}
-use Rattle.zbx_types.specs.declared.conf.Call.{Call}
+use Rattle.zbx_types.specs.declared.calls.Call.{Call}
 
 -- the slots in order
 abbrev pub slot_list : Slots → List Slot

@@ -4,9 +4,9 @@ use Rattle.std.specs.List.{flat_map}
 use Rattle.std.specs.Fmt.{decimal}
 use Rattle.zbx_types.specs.Tree.{Tree, constant, call, negative, negation, binary}
 use Rattle.zbx_types.specs.Written.{written}
-use Rattle.zbx_types.specs.declared.conf.Call.{Call}
-use Rattle.zbx_types.specs.declared.conf.Range.{Range}
-use Rattle.zbx_types.specs.declared.conf.Range.TheVariants.{Count, Period}
+use Rattle.zbx_types.specs.declared.calls.Call.{Call}
+use Rattle.zbx_types.specs.declared.calls.Range.{Range}
+use Rattle.zbx_types.specs.declared.calls.Range.TheVariants.{Count, Period}
 use Rattle.expr_parser.specs.declared.slots.Slot.{Slot}
 use Rattle.expr_parser.specs.Functions.{name_of, is_dated, slots}
 use Rattle.expr_parser.specs.Grammar.{op_text}

@@ -3,7 +3,7 @@
 ghost use Rattle.std.specs.Prelude.{◌≡◌, [], ◌∷◌, true, if◌then◌else◌};
 ghost use Rattle.expr_parser.specs.Parts as parts;
 ghost use Rattle.expr_parser.specs.Machine as machine;
-ghost use Rattle.zbx_types.specs.declared.conf.Fun.TheVariants as fun;
+ghost use Rattle.zbx_types.specs.declared.calls.Fun.TheVariants as fun;
 
 use crate::slots::{front, same};
 use zbx_types::Fun;

@@ -3,7 +3,7 @@
 ghost use Rattle.std.specs.Prelude.{◌≡◌, ◌≤◌, ℕ, List, [], length, true, false, IfOk, IfErr, Some, None};
 ghost use Rattle.zbx_types.specs.Tree.{Tree};
 ghost use Rattle.zbx_types.specs.Trees.{tree_of};
-ghost use Rattle.zbx_types.specs.declared.conf.Call.{Call};
+ghost use Rattle.zbx_types.specs.declared.calls.Call.{Call};
 ghost use Rattle.expr_parser.specs.Fault.{IsFault};
 ghost use Rattle.expr_parser.specs.Machine as machine;
 ghost use Rattle.expr_parser.specs.View.{state};

@@ -3,7 +3,7 @@
 ghost use Rattle.std.specs.Prelude.{◌≡◌, ◌++◌, ◌≤◌, ℕ, List, [], OnOk, IfOk, codes, if◌then◌else◌};
 ghost use Rattle.zbx_types.specs.Tree.{Tree};
 ghost use Rattle.zbx_types.specs.Trees.{tree_of};
-ghost use Rattle.zbx_types.specs.declared.conf.Call.{Call};
+ghost use Rattle.zbx_types.specs.declared.calls.Call.{Call};
 ghost use Rattle.expr_parser.specs.Grammar.{IsExpr, op_text};
 ghost use Rattle.expr_parser.specs.Written.{is_simple, nesting, written_of};
 

@@ -1,9 +1,9 @@
 -- An argument as a pattern, in both ways, serves each call with that argument.
 use Rattle.std.proofs.Common.{◌≡◌, ℕ, List, [], ◌∷◌, ◌++◌, sym, subst, refl, arith, codes}
 use Rattle.std.specs.Prelude.{IfSome, Contains}
-use Rattle.zbx_types.specs.declared.conf.Call.{Call}
-use Rattle.zbx_types.specs.declared.conf.Fun.{Fun}
-use Rattle.zbx_types.specs.declared.conf.Fun.TheVariants.{Count, Find}
+use Rattle.zbx_types.specs.declared.calls.Call.{Call}
+use Rattle.zbx_types.specs.declared.calls.Fun.{Fun}
+use Rattle.zbx_types.specs.declared.calls.Fun.TheVariants.{Count, Find}
 use Rattle.history_functions.specs.declared.operators.Operator.{Operator}
 use Rattle.history_functions.specs.declared.operators.Operator.TheVariants.{Regexp, Iregexp}
 use Rattle.history_functions.specs.Matching.{operator_of, pattern_of}

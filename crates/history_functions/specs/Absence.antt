@@ -1,7 +1,7 @@
 -- Whether values stay away (the Zabbix 6.0 manual, "History functions", nodata).
 use Rattle.std.specs.Prelude.{ℕ, ◌+◌, ◌*◌, nat_le, ℤ, true, false, List, [], ◌∷◌, Option, Some, None, if◌then◌else◌}
-use Rattle.zbx_types.specs.declared.conf.Range.{Range}
-use Rattle.zbx_types.specs.declared.conf.Range.TheVariants.{Count, Period}
+use Rattle.zbx_types.specs.declared.calls.Range.{Range}
+use Rattle.zbx_types.specs.declared.calls.Range.TheVariants.{Count, Period}
 use Rattle.zbx_types.specs.declared.entries.Stored.{Stored}
 use Rattle.history_functions.specs.Values.{truth}
 

@@ -2,8 +2,8 @@
 use Rattle.std.specs.Prelude.{◌*◌, ℤ, pos, ◌+ℤ◌, int_lt, List, [], ◌∷◌, length, Option, Some, None, option_and_then, if◌then◌else◌}
 use Rattle.zbx_types.specs.Arithmetic.{in_range, quotient_of}
 use Rattle.zbx_types.specs.Ids.{at_id}
-use Rattle.zbx_types.specs.declared.conf.Range.{Range}
-use Rattle.zbx_types.specs.declared.conf.Range.TheVariants.{Count, Period}
+use Rattle.zbx_types.specs.declared.calls.Range.{Range}
+use Rattle.zbx_types.specs.declared.calls.Range.TheVariants.{Count, Period}
 
 -- `last`: the number at this place, which counts from 1, of the latest first; a period names none
 abbrev pub last_of : Range → List ℤ → Option ℤ

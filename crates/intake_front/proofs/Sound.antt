@@ -8,9 +8,9 @@ use Rattle.std.proofs.lemmas.List.Elements.{All-nil, All-cons, All-head, All-tai
 use Rattle.std.proofs.lemmas.List.Concat.{flat_map-cons}
 use Rattle.zbx_types.specs.Ids.{at_id}
 use Rattle.zbx_types.specs.declared.conf.Conf.{Conf}
-use Rattle.zbx_types.specs.declared.conf.Item.{Item}
-use Rattle.zbx_types.specs.declared.conf.ItemKind.{ItemKind}
-use Rattle.zbx_types.specs.declared.conf.ItemKind.TheVariants as kinds
+use Rattle.zbx_types.specs.declared.items.Item.{Item}
+use Rattle.zbx_types.specs.declared.items.ItemKind.{ItemKind}
+use Rattle.zbx_types.specs.declared.items.ItemKind.TheVariants as kinds
 use Rattle.zbx_types.specs.declared.entries.Entry.{Entry}
 use Rattle.zbx_types.specs.declared.entries.Entry.TheVariants.{Tick}
 use Rattle.zbx_types.specs.declared.entries.Numbered.{Numbered}

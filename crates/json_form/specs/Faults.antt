@@ -1,6 +1,6 @@
 -- Faults of a document, and what a call gives that reads one.
 use Rattle.std.specs.Prelude.{◌≡◌, ℕ, List, Result, Ok, Err}
-use Rattle.zbx_types.specs.declared.conf.Cause.{Cause}
+use Rattle.zbx_types.specs.declared.causes.Cause.{Cause}
 use Rattle.json_form.specs.declared.fault.ReadError.{ReadError}
 use Rattle.json_form.specs.declared.fault.ReadError.TheVariants.{Refused, OutOfMemory}
 

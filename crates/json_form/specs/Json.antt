@@ -3,7 +3,7 @@ use Rattle.std.specs.Prelude.{ℕ, List, length, nat_le, Option, Some, None, Res
 use Rattle.std.specs.Str.{is_utf8}
 use Rattle.serde_json.specs.Data.{Data}
 use Rattle.serde_json.specs.Read.{read as read_json}
-use Rattle.zbx_types.specs.declared.conf.Cause.TheVariants.{TooLong, NotJson}
+use Rattle.zbx_types.specs.declared.causes.Cause.TheVariants.{TooLong, NotJson}
 use Rattle.json_form.specs.Faults.{Fault}
 use Rattle.json_form.specs.Places.{nowhere, refuse}
 

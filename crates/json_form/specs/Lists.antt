@@ -5,8 +5,8 @@ use Rattle.serde_json.specs.Data.{Data, Items, no_items, item}
 use Rattle.serde_json.specs.Find.{as_array}
 use Rattle.serde_json.specs.declared.value.Value.{Value}
 use Rattle.serde_json.specs.View.{items_view}
-use Rattle.zbx_types.specs.declared.conf.Cause.{Cause}
-use Rattle.zbx_types.specs.declared.conf.Cause.TheVariants.{BadMember}
+use Rattle.zbx_types.specs.declared.causes.Cause.{Cause}
+use Rattle.zbx_types.specs.declared.causes.Cause.TheVariants.{BadMember}
 use Rattle.json_form.specs.Faults.{Fault, ◌>>=◌}
 use Rattle.json_form.specs.Places.{Place, spot, refuse, or_bad, given_or}
 

@@ -6,8 +6,8 @@ use Rattle.std.specs.Str.{bytes_eq, chars}
 use Rattle.serde_json.specs.Data.{Data, null, boolean, number, string, array, object}
 use Rattle.serde_json.specs.Find.{get, as_str, as_bool, as_number, as_i64, as_u64}
 use Rattle.serde_json.specs.View.{view}
-use Rattle.zbx_types.specs.declared.conf.Cause.{Cause}
-use Rattle.zbx_types.specs.declared.conf.Cause.TheVariants.{BadMember, Duplicate}
+use Rattle.zbx_types.specs.declared.causes.Cause.{Cause}
+use Rattle.zbx_types.specs.declared.causes.Cause.TheVariants.{BadMember, Duplicate}
 use Rattle.json_form.specs.declared.fault.ReadError.{ReadError}
 use Rattle.json_form.specs.declared.fault.ReadError.TheVariants.{Refused, OutOfMemory}
 use Rattle.json_form.specs.declared.places.At.{At}

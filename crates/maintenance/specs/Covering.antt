@@ -3,7 +3,7 @@ use Rattle.std.specs.Prelude.{ℕ, ◌⊎◌, Contains, Any, IsSomeAnd}
 use Rattle.zbx_types.specs.Ids.{at_id}
 use Rattle.zbx_types.specs.declared.conf.Conf.{Conf}
 use Rattle.zbx_types.specs.declared.conf.Host.{Host}
-use Rattle.zbx_types.specs.declared.conf.Maintenance.{Maintenance}
+use Rattle.zbx_types.specs.declared.maintenances.Maintenance.{Maintenance}
 
 -- it names the host, or one of the groups that the host is in
 abbrev pub IsOf : Maintenance → Host → Type 0

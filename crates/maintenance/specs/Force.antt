@@ -2,8 +2,8 @@
 use Rattle.std.specs.Prelude.{ℕ, ◌+◌, ◌/◌, ◌≤◌, ◌<◌, ℤ, Any, IsSomeAnd}
 use Rattle.zbx_types.specs.Ids.{at_id}
 use Rattle.zbx_types.specs.declared.conf.Conf.{Conf}
-use Rattle.zbx_types.specs.declared.conf.Maintenance.{Maintenance}
-use Rattle.zbx_types.specs.declared.conf.Period.{Period}
+use Rattle.zbx_types.specs.declared.maintenances.Maintenance.{Maintenance}
+use Rattle.zbx_types.specs.declared.maintenances.Period.{Period}
 use Rattle.maintenance.specs.Starts.{IsStart, length_of}
 
 -- the second is at some start, or less than the length behind it

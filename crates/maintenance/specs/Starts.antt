@@ -3,8 +3,8 @@ use Rattle.std.specs.Prelude.{◌≡◌, ℕ, ◌+◌, ◌*◌, ◌≤◌, Any, 
 use Rattle.jiff_core.specs.Calendar.{weekday_number}
 use Rattle.jiff_core.specs.Date.{epoch_day}
 use Rattle.jiff_core.specs.declared.civil.date.Date.{Date}
-use Rattle.zbx_types.specs.declared.conf.Period.{Period}
-use Rattle.zbx_types.specs.declared.conf.Period.TheVariants.{Once, Daily, Weekly, Monthly}
+use Rattle.zbx_types.specs.declared.maintenances.Period.{Period}
+use Rattle.zbx_types.specs.declared.maintenances.Period.TheVariants.{Once, Daily, Weekly, Monthly}
 use Rattle.maintenance.specs.Days.{local_day, monday_of, IsStepFrom, IsOnDay}
 
 -- the day of `since`, and every few days after it

@@ -2,8 +2,8 @@
 use Rattle.std.specs.Prelude.{◌≡◌, ℕ, ◌/◌, List, Any, IsSomeAnd, false}
 use Rattle.zbx_types.specs.Ids.{at_id}
 use Rattle.zbx_types.specs.declared.conf.Conf.{Conf}
-use Rattle.zbx_types.specs.declared.conf.Maintenance.{Maintenance}
-use Rattle.zbx_types.specs.declared.conf.Trigger.{Trigger}
+use Rattle.zbx_types.specs.declared.maintenances.Maintenance.{Maintenance}
+use Rattle.zbx_types.specs.declared.triggers.Trigger.{Trigger}
 use Rattle.zbx_types.specs.declared.entries.Tag.{Tag}
 use Rattle.maintenance.specs.Force.{IsActive}
 use Rattle.maintenance.specs.Covering.{IsOfHost, IsOfItem}

@@ -1,12 +1,12 @@
 -- Tests of tags (the Zabbix 6.0 manual, "Maintenance", tags).
 use Rattle.std.specs.Prelude.{◌≡◌, ◌⊎◌, ℕ, List, [], All, Any}
 use Rattle.std.specs.Str.Iter.{HasSubslice}
-use Rattle.zbx_types.specs.declared.conf.Maintenance.{Maintenance}
-use Rattle.zbx_types.specs.declared.conf.Matching.{Matching}
-use Rattle.zbx_types.specs.declared.conf.Matching.TheVariants.{And, Or}
-use Rattle.zbx_types.specs.declared.conf.TagOp.{TagOp}
-use Rattle.zbx_types.specs.declared.conf.TagOp.TheVariants.{Equals, Contains, NotEquals, NotContains}
-use Rattle.zbx_types.specs.declared.conf.TagTest.{TagTest}
+use Rattle.zbx_types.specs.declared.maintenances.Maintenance.{Maintenance}
+use Rattle.zbx_types.specs.declared.tag_tests.Matching.{Matching}
+use Rattle.zbx_types.specs.declared.tag_tests.Matching.TheVariants.{And, Or}
+use Rattle.zbx_types.specs.declared.tag_tests.TagOp.{TagOp}
+use Rattle.zbx_types.specs.declared.tag_tests.TagOp.TheVariants.{Equals, Contains, NotEquals, NotContains}
+use Rattle.zbx_types.specs.declared.tag_tests.TagTest.{TagTest}
 use Rattle.zbx_types.specs.declared.entries.Tag.{Tag}
 
 -- some tag of this name has the text as its value

@@ -2,7 +2,7 @@
 use Rattle.std.proofs.Common.{◌≡◌, ℕ, ◌<◌, false, List, [], length, sym, ap, ◌∙◌, arith, inl, inr, refl}
 use Rattle.std.specs.Prelude.{nat_le, Option, Some, None, IfSome, Result, Ok, Err}
 use Rattle.std.proofs.lemmas.Bool.Decides.{nat_tests}
-use Rattle.zbx_types.specs.declared.conf.Cause.TheVariants.{TooLong}
+use Rattle.zbx_types.specs.declared.causes.Cause.TheVariants.{TooLong}
 use Rattle.zbx_types.specs.declared.conf.Conf.{Conf}
 use Rattle.json_form.specs.Json.{json_within}
 use Rattle.config_read.specs.declared.raw.RawConf.{RawConf}

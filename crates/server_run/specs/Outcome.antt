@@ -1,7 +1,7 @@
 -- What a run that has begun answers for.
 use Rattle.std.specs.Prelude.{◌≡◌, ◌⊎◌, ◌≤◌, ℕ, ◌+◌, List, ◌++◌, length, Option, Some, None, Ok, Err, IfSome, IsSome, ⊤}
 use Rattle.std.specs.Io.KnownBytes.{Appends}
-use Rattle.zbx_types.specs.declared.conf.Cause.{Cause}
+use Rattle.zbx_types.specs.declared.causes.Cause.{Cause}
 use Rattle.zbx_types.specs.declared.conf.Conf.{Conf}
 use Rattle.zbx_types.specs.declared.entries.Numbered.{Numbered}
 use Rattle.outside.specs.declared.event.WireEvent.{WireEvent}

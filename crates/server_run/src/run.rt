@@ -11,7 +11,7 @@ ghost use Rattle.server_words.specs.Words.{plan_of};
 ghost use Rattle.config_templates.specs.Flat.{flat_of};
 ghost use Rattle.config_templates.specs.Places.{refuse};
 ghost use Rattle.config_templates.specs.Places.Flaw.{unbuilt};
-ghost use Rattle.zbx_types.specs.declared.conf.Cause.{Cause};
+ghost use Rattle.zbx_types.specs.declared.causes.Cause.{Cause};
 ghost use Rattle.zbx_types.specs.declared.conf.Conf.{Conf};
 ghost use Rattle.server_run.specs.Replayed.{run_lines};
 ghost use Rattle.server_run.specs.Tally.{run_counts};

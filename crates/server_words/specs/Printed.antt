@@ -1,8 +1,8 @@
 -- The line that a run prints, and the number with which the program exits.
 use Rattle.std.specs.Prelude.{ℕ, List, [], ◌++◌, codes}
 use Rattle.std.specs.Fmt.{decimal}
-use Rattle.zbx_types.specs.declared.conf.Cause.{Cause}
-use Rattle.zbx_types.specs.declared.conf.Cause.TheVariants as cause
+use Rattle.zbx_types.specs.declared.causes.Cause.{Cause}
+use Rattle.zbx_types.specs.declared.causes.Cause.TheVariants as cause
 use Rattle.server_words.specs.declared.status.Counts.{Counts}
 use Rattle.server_words.specs.declared.status.Status.{Status}
 use Rattle.server_words.specs.declared.status.Status.TheVariants as status

@@ -2,8 +2,8 @@
 use Rattle.std.proofs.Common.{◌≡◌, ℕ, ◌+◌, ◌*◌, ◌<◌, ◌≤◌, ◌&&◌, nat_lt, not, Bool, true, false, cond, List, [], ◌∷◌, ◌++◌, take, filter, refl, sym, ◌∙◌, ap, ap₂, arith, le_trans, le-leb, lt-ltb, le-ltb, ltb-true, ltb-false, append-nil}
 use Rattle.std.proofs.lemmas.List.Elements.{filter-append}
 use Rattle.std.specs.List.{AllByRecursion}
-use Rattle.zbx_types.specs.declared.conf.Range.{Range}
-use Rattle.zbx_types.specs.declared.conf.Range.TheVariants.{Count, Period}
+use Rattle.zbx_types.specs.declared.calls.Range.{Range}
+use Rattle.zbx_types.specs.declared.calls.Range.TheVariants.{Count, Period}
 use Rattle.zbx_types.specs.declared.entries.Stored.{Stored}
 use Rattle.value_cache.specs.declared.cell.Keep.{Keep}
 use Rattle.value_cache.specs.Histories.{is_later, placed, IsOrdered}

@@ -1,8 +1,8 @@
 -- What the cell of an item stands for.
 use Rattle.std.specs.Prelude.{◌≡◌, ℕ, ◌+◌, ◌*◌, ◌≤◌, nat_lt, not, Bool, List, ◌++◌, take}
 use Rattle.std.specs.List.{filter}
-use Rattle.zbx_types.specs.declared.conf.Range.{Range}
-use Rattle.zbx_types.specs.declared.conf.Range.TheVariants.{Count, Period}
+use Rattle.zbx_types.specs.declared.calls.Range.{Range}
+use Rattle.zbx_types.specs.declared.calls.Range.TheVariants.{Count, Period}
 use Rattle.zbx_types.specs.declared.entries.Stored.{Stored}
 use Rattle.value_cache.specs.declared.cell.Keep.{Keep}
 use Rattle.value_cache.specs.Histories.{IsOrdered}

@@ -27,8 +27,11 @@
 //! ```
 #![tactic(auto)]
 
+mod actions;
 mod blanks;
 mod bytes;
+mod calls;
+mod causes;
 mod conf;
 mod digits;
 mod entries;
@@ -36,34 +39,45 @@ mod expr;
 mod fix;
 mod frames;
 mod ids;
+mod items;
+mod maintenances;
 mod many;
 mod memory;
 mod moment;
 mod numerals;
 mod periods;
 mod pieces;
+mod rules;
+mod steps;
 mod suffixes;
+mod tag_tests;
 mod text;
+mod triggers;
 mod writing;
 
+pub use actions::{Action, ActionCond, Operation, Sending, SeverityOp};
 pub use blanks::unpadded;
 pub use bytes::Bytes;
-pub use conf::{
-    Action, ActionCond, Call, Cause, Conf, Fun, Host, Item, ItemKind, Maintenance, Matching,
-    OnFail, Operation, Period, Range, RecoveryMode, Rule, RuleCond, Sending, SeverityOp, StepKind,
-    StepSpec, TagOp, TagTest, Trigger, ValueType,
-};
+pub use calls::{Call, Fun, Range};
+pub use causes::Cause;
+pub use conf::{Conf, Host};
 pub use digits::{all_digits, digit_at, last_six_digits, number_within};
 pub use entries::{Cause2, Entry, EventId, Held, Numbered, Rec, Stored, Tag};
 pub use expr::{Expr, Op, Operand};
 pub use fix::Fix;
 pub use frames::{LONGEST_DATA, frame_header};
 pub use ids::by_id;
+pub use items::{Item, ItemKind, ValueType};
+pub use maintenances::{Maintenance, Period};
 pub use many::{Many, copy_texts};
 pub use memory::OutOfMemory;
 pub use moment::Moment;
 pub use periods::seconds_up_to;
+pub use rules::{Rule, RuleCond};
+pub use steps::{OnFail, StepKind, StepSpec};
+pub use tag_tests::{Matching, TagOp, TagTest};
 pub use text::Text;
+pub use triggers::{RecoveryMode, Trigger};
 
 #[cfg(test)]
 mod tests;

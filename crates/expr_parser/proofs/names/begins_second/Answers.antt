@@ -1,7 +1,7 @@
 use Rattle.std.proofs.Common.{◌∷◌, [], ◌∙◌, sym}
 use Rattle.expr_parser.proofs.SlotViews.{begins_append}
 use Rattle.expr_parser.specs.Machine.{names}
-use Rattle.zbx_types.specs.declared.conf.Fun.TheVariants as fun
+use Rattle.zbx_types.specs.declared.calls.Fun.TheVariants as fun
 use Rattle.expr_parser.proofs.names.begins_second.Goals as goal
 
 pub returns : goal.returns

@@ -1,6 +1,6 @@
 use Rattle.std.proofs.Common.{rules, tests}
 use Rattle.std.proofs.lemmas.Iterator.{cases_from_any, YieldsList-from_slice}
-use Rattle.zbx_types.specs.declared.conf.Period.{Period}
+use Rattle.zbx_types.specs.declared.maintenances.Period.{Period}
 use Rattle.maintenance.specs.Force.{IsInPeriod}
 use Rattle.maintenance.proofs.Anyone.{found_decides}
 use Rattle.maintenance.proofs.force.in_some_period.Goals as goal

@@ -1,6 +1,6 @@
 use Rattle.std.proofs.Common.{rules, tests}
 use Rattle.std.proofs.lemmas.Iterator.{cases_from_any, YieldsList-from_slice}
-use Rattle.zbx_types.specs.declared.conf.Maintenance.{Maintenance}
+use Rattle.zbx_types.specs.declared.maintenances.Maintenance.{Maintenance}
 use Rattle.maintenance.specs.Suppression.{Suppresses}
 use Rattle.maintenance.proofs.Anyone.{found_decides}
 use Rattle.maintenance.proofs.suppression.some_suppresses.Goals as goal

@@ -1,0 +1,42 @@
+//! Items of the configuration.
+
+use crate::many::Many;
+use crate::steps::StepSpec;
+use crate::text::Text;
+
+/// An item: something of a host of which values come (the Zabbix 6.0 manual, "Items").
+#[derive(Drop)]
+pub struct Item {
+    /// Its host's id.
+    pub host: u32,
+    /// Its key, with its parameters. No other item of the host has it.
+    pub key: Text,
+    /// Where its values come from.
+    pub kind: ItemKind,
+    /// The id of its master item, or 0 where it has none.
+    pub master: u32,
+    /// What its values are.
+    pub value_type: ValueType,
+    /// Whether it takes values.
+    pub enabled: bool,
+    /// Its preprocessing steps, in their order.
+    pub steps: Many<StepSpec>,
+}
+
+/// Where an item's values come from (the Zabbix 6.0 manual, "Item types").
+#[derive(Clone, Copy, Debug, PartialEq, Eq)]
+pub enum ItemKind {
+    /// Senders send them ("Trapper items").
+    Trapper,
+    /// They are made of those of its master item ("Dependent items").
+    Dependent,
+}
+
+/// What the values of an item are (the Zabbix 6.0 manual, "Creating an item", type of information).
+#[derive(Clone, Copy, Debug, PartialEq, Eq)]
+pub enum ValueType {
+    /// Numbers with six decimals.
+    Number,
+    /// Texts.
+    Words,
+}
