@@ -1,6 +1,7 @@
 //! Lists of bytes.
 
-ghost use Rattle.std.specs.Prelude.{◌≡◌, ◌++◌, [], length, take, OnOk, OnErr, IfOk};
+ghost use Rattle.std.specs.Prelude.{◌≡◌, ◌++◌, ◌<◌, [], length, take, slice_set, OnOk, OnErr, IfOk};
+ghost use Rattle.std.specs.Fmt.{decimal};
 
 use crate::memory::OutOfMemory;
 use std::alloc::Global;
@@ -72,6 +73,23 @@ impl Bytes {
         self.bytes.extend_from_slice(first)?;
         self.bytes.extend_from_slice(second)?;
         Ok(())
+    }
+
+    /// Puts a byte in the place of another. Takes no memory.
+    pub fn set(&mut self, at: usize, byte: u8)
+        requires { at < length self.old }
+        ensures { self.new ≡ slice_set self.old at byte }
+    {
+        self.bytes[at] = byte;
+    }
+
+    /// Adds a number in decimal digits at the end. At [`OutOfMemory`] the list is as before.
+    pub fn push_decimal(&mut self, number: u64) -> Result<(), OutOfMemory>
+        ensures ok { OnOk result (self.new ≡ self.old ++ decimal number) }
+        ensures err { OnErr result (self.new ≡ self.old) }
+    {
+        let digits = number.to_string(*self.bytes.allocator())?;
+        self.extend(digits.as_bytes())
     }
 
     /// Keeps the first bytes, as many as `length`, or all where there are fewer. Takes no memory.

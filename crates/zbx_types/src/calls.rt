@@ -1,6 +1,12 @@
 //! Calls of functions in expressions.
 
+ghost use Rattle.std.specs.Prelude.{◌≡◌, IfOk};
+ghost use Rattle.zbx_types.specs.Operators.{is_dated, call_pattern};
+
+use crate::memory::OutOfMemory;
+use crate::operators::{operator_of, pattern_of};
 use crate::text::Text;
+use std::alloc::Global;
 
 /// The values that a function looks at (the Zabbix 6.0 manual, "Trigger expression", function parameters).
 #[derive(Clone, Copy, Debug, PartialEq, Eq)]
@@ -71,4 +77,61 @@ pub enum Fun {
     DayOfWeek,
     /// The local day of the month, 1 to 31.
     DayOfMonth,
+}
+
+impl Fun {
+    /// Whether it is a function of date or time, which looks at no item.
+    pub fn is_dated(self) -> bool
+        ensures { result ≡ is_dated self }
+    {
+        match self {
+            Fun::Now | Fun::Time | Fun::Date | Fun::DayOfWeek | Fun::DayOfMonth => true,
+            Fun::Last
+            | Fun::First
+            | Fun::Min
+            | Fun::Max
+            | Fun::Avg
+            | Fun::Sum
+            | Fun::Change
+            | Fun::Count
+            | Fun::Find
+            | Fun::NoData
+            | Fun::Percentile
+            | Fun::ChangeCount
+            | Fun::MonoInc
+            | Fun::MonoDec => false,
+        }
+    }
+}
+
+impl Call {
+    /// The pattern that it searches for: that of `count` and `find` whose operator is `regexp` or `iregexp`.
+    /// [`OutOfMemory`] where there is no room for its copy.
+    #[tactic(auto, unfolding(crate::specs::Operators::call_pattern))]
+    pub fn pattern(&self, alloc: Global) -> Result<Option<Text>, OutOfMemory>
+        ensures { IfOk result (λ pattern. pattern ≡ call_pattern self.now) }
+    {
+        match self.fun {
+            Fun::Count | Fun::Find => {
+                let operator = operator_of(self.op.as_bytes(), self.arg.as_bytes());
+                pattern_of(alloc, operator, &self.arg)
+            }
+            _ => Ok(None),
+        }
+    }
+
+    /// A copy. [`OutOfMemory`] where there is no room for it.
+    pub fn copy(&self, alloc: Global) -> Result<Call, OutOfMemory>
+        ensures { IfOk result (λ made. made ≡ self.now) }
+    {
+        Ok(Call {
+            fun: self.fun,
+            host: self.host.copy(alloc)?,
+            key: self.key.copy(alloc)?,
+            range: self.range,
+            shift: self.shift,
+            op: self.op.copy(alloc)?,
+            arg: self.arg.copy(alloc)?,
+        })
+    }
 }

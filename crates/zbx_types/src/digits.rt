@@ -1,8 +1,8 @@
 //! Decimal digits.
 
-ghost use Rattle.std.specs.Prelude.{◌≡◌, ◌≤◌, ◌<◌, SomeIff};
+ghost use Rattle.std.specs.Prelude.{◌≡◌, ◌≤◌, ◌<◌, SomeIff, IfSome, nat_le, if◌then◌else◌, Some, None};
 ghost use Rattle.zbx_types.specs.Digits.{digit_at, last_six_digits};
-ghost use Rattle.zbx_types.specs.Numerals.{all_digits, digits_after};
+ghost use Rattle.zbx_types.specs.Numerals.{all_digits, digits_after, number_up_to};
 
 /// The digit of a number at a power of ten, as its ASCII byte: 1 for the last digit, 10 for the one before it.
 pub fn digit_at(n: u64, power: u64) -> u8
@@ -46,4 +46,32 @@ pub fn number_within(most: u32, digits: &[u8]) -> Option<u32>
         }
     }
     Some(number as u32)
+}
+
+/// What the digits write, up to the greatest. A byte below `0` counts as `0`.
+fn bounded(most: u64, digits: &[u8]) -> Option<u64>
+    ensures { result ≡ (if nat_le (digits_after 0 digits.now) most then Some (digits_after 0 digits.now) else None) }
+{
+    let mut number = 0u128;
+    for c in digits {
+        number = number * 10 + u128::from(c.saturating_sub(b'0'));
+        if number > u128::from(most) {
+            return None;
+        }
+    }
+    Some(number as u64)
+}
+
+/// The number that a text of digits writes, at least one of them, or None where it is no such text or the number is above
+/// the greatest. Zeros may stand in front.
+#[tactic(auto, unfolding(crate::specs::Numerals::number_up_to))]
+pub fn number_up_to(most: u64, text: &[u8]) -> Option<u64>
+    ensures value { result ≡ number_up_to most text.now }
+    ensures within { IfSome result (λ n. n ≤ most) }
+{
+    if !text.is_empty() && all_digits(text) {
+        bounded(most, text)
+    } else {
+        None
+    }
 }

@@ -190,3 +190,152 @@ impl Stored {
         })
     }
 }
+
+impl Tag {
+    /// A copy. [`OutOfMemory`] where there is no room for it.
+    pub fn copy(&self, alloc: Global) -> Result<Tag, OutOfMemory>
+        ensures { IfOk result (λ made. made ≡ self.now) }
+    {
+        Ok(Tag {
+            tag: self.tag.copy(alloc)?,
+            value: self.value.copy(alloc)?,
+        })
+    }
+}
+
+/// A copy of a list of tags. [`OutOfMemory`] where there is no room for all of them.
+pub fn copy_tags(alloc: Global, tags: &Many<Tag>) -> Result<Many<Tag>, OutOfMemory>
+    ensures { IfOk result (λ made. made ≡ tags.now) }
+{
+    let mut made = Many::new(alloc);
+    for tag in tags.as_slice() {
+        made.push(tag.copy(alloc)?)?;
+    }
+    Ok(made)
+}
+
+impl Entry {
+    /// A copy. [`OutOfMemory`] where there is no room for it.
+    pub fn copy(&self, alloc: Global) -> Result<Entry, OutOfMemory>
+        ensures { IfOk result (λ made. made ≡ self.now) }
+    {
+        match self {
+            Entry::Config { now, text } => Ok(Entry::Config {
+                now: *now,
+                text: text.copy(alloc)?,
+            }),
+            Entry::Value {
+                now,
+                item,
+                time,
+                value,
+            } => Ok(Entry::Value {
+                now: *now,
+                item: *item,
+                time: *time,
+                value: value.copy(alloc)?,
+            }),
+            Entry::Tick { now } => Ok(Entry::Tick { now: *now }),
+        }
+    }
+}
+
+impl Numbered {
+    /// A copy. [`OutOfMemory`] where there is no room for it.
+    pub fn copy(&self, alloc: Global) -> Result<Numbered, OutOfMemory>
+        ensures { IfOk result (λ made. made ≡ self.now) }
+    {
+        Ok(Numbered {
+            number: self.number,
+            entry: self.entry.copy(alloc)?,
+        })
+    }
+}
+
+impl Rec {
+    /// A copy. [`OutOfMemory`] where there is no room for it.
+    pub fn copy(&self, alloc: Global) -> Result<Rec, OutOfMemory>
+        ensures { IfOk result (λ made. made ≡ self.now) }
+    {
+        match self {
+            Rec::Failure {
+                number,
+                host,
+                key,
+                why,
+            } => Ok(Rec::Failure {
+                number: *number,
+                host: host.copy(alloc)?,
+                key: key.copy(alloc)?,
+                why: why.copy(alloc)?,
+            }),
+            Rec::Problem {
+                event,
+                now,
+                severity,
+                suppressed,
+                host,
+                trigger,
+                name,
+                tags,
+            } => Ok(Rec::Problem {
+                event: *event,
+                now: *now,
+                severity: *severity,
+                suppressed: *suppressed,
+                host: host.copy(alloc)?,
+                trigger: trigger.copy(alloc)?,
+                name: name.copy(alloc)?,
+                tags: copy_tags(alloc, tags)?,
+            }),
+            Rec::Recovery {
+                event,
+                by,
+                now,
+                cause,
+            } => Ok(Rec::Recovery {
+                event: *event,
+                by: *by,
+                now: *now,
+                cause: *cause,
+            }),
+            Rec::Step {
+                event,
+                action,
+                step,
+                now,
+            } => Ok(Rec::Step {
+                event: *event,
+                action: action.copy(alloc)?,
+                step: *step,
+                now: *now,
+            }),
+            Rec::Message {
+                event,
+                action,
+                step,
+                recipient,
+                subject,
+                body,
+            } => Ok(Rec::Message {
+                event: *event,
+                action: action.copy(alloc)?,
+                step: *step,
+                recipient: recipient.copy(alloc)?,
+                subject: subject.copy(alloc)?,
+                body: body.copy(alloc)?,
+            }),
+        }
+    }
+}
+
+/// A copy of a list of records. [`OutOfMemory`] where there is no room for all of them.
+pub fn copy_records(alloc: Global, records: &[Rec]) -> Result<Many<Rec>, OutOfMemory>
+    ensures { IfOk result (λ made. made ≡ records.now) }
+{
+    let mut made = Many::new(alloc);
+    for rec in records {
+        made.push(rec.copy(alloc)?)?;
+    }
+    Ok(made)
+}

@@ -1,5 +1,8 @@
 //! Items of the configuration.
 
+ghost use Rattle.std.specs.Prelude.{◌≡◌};
+ghost use Rattle.zbx_types.specs.Items.{is_trapper_kind, takes_values};
+
 use crate::many::Many;
 use crate::steps::StepSpec;
 use crate::text::Text;
@@ -39,4 +42,25 @@ pub enum ValueType {
     Number,
     /// Texts.
     Words,
+}
+
+impl ItemKind {
+    /// Whether its values come from senders.
+    pub fn is_trapper(self) -> bool
+        ensures { result ≡ is_trapper_kind self }
+    {
+        match self {
+            ItemKind::Trapper => true,
+            ItemKind::Dependent => false,
+        }
+    }
+}
+
+impl Item {
+    /// Whether it takes values from senders: it is a trapper item and enabled.
+    pub fn takes_values(&self) -> bool
+        ensures { result ≡ takes_values self.now }
+    {
+        self.kind.is_trapper() && self.enabled
+    }
 }

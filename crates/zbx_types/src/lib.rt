@@ -40,13 +40,18 @@ mod fix;
 mod frames;
 mod ids;
 mod items;
+mod limits;
 mod maintenances;
 mod many;
 mod memory;
 mod moment;
+mod name_bytes;
+mod numbers;
 mod numerals;
+mod operators;
 mod periods;
 mod pieces;
+mod reserved;
 mod rules;
 mod steps;
 mod suffixes;
@@ -61,21 +66,31 @@ pub use bytes::Bytes;
 pub use calls::{Call, Fun, Range};
 pub use causes::Cause;
 pub use conf::{Conf, Host};
-pub use digits::{all_digits, digit_at, last_six_digits, number_within};
-pub use entries::{Cause2, Entry, EventId, Held, Numbered, Rec, Stored, Tag};
+pub use digits::{all_digits, digit_at, last_six_digits, number_up_to, number_within};
+pub use entries::{
+    Cause2, Entry, EventId, Held, Numbered, Rec, Stored, Tag, copy_records, copy_tags,
+};
 pub use expr::{Expr, Op, Operand};
 pub use fix::Fix;
 pub use frames::{LONGEST_DATA, frame_header};
-pub use ids::by_id;
+pub use ids::{by_id, id_of};
 pub use items::{Item, ItemKind, ValueType};
+pub use limits::{
+    LONGEST_EXPRESSION, LONGEST_KEY, LONGEST_NAME, LONGEST_RANGE, LONGEST_TEXT, LONGEST_VALUE,
+    MOST_CONNECTIONS,
+};
 pub use maintenances::{Maintenance, Period};
 pub use many::{Many, copy_texts};
 pub use memory::OutOfMemory;
 pub use moment::Moment;
+pub use name_bytes::{is_host_name_byte, is_macro_name_byte};
+pub use numbers::{greatest, least, total};
+pub use operators::{Operator, operator_of, pattern_of};
 pub use periods::seconds_up_to;
+pub use reserved::Reserved;
 pub use rules::{Rule, RuleCond};
 pub use steps::{OnFail, StepKind, StepSpec};
-pub use tag_tests::{Matching, TagOp, TagTest};
+pub use tag_tests::{Matching, TagOp, TagTest, tests_pass};
 pub use text::Text;
 pub use triggers::{RecoveryMode, Trigger};
 

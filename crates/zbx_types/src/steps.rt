@@ -1,5 +1,8 @@
 //! Preprocessing steps of items.
 
+ghost use Rattle.std.specs.Prelude.{◌≡◌};
+ghost use Rattle.zbx_types.specs.Steps.{has_pattern};
+
 use crate::many::Many;
 use crate::text::Text;
 
@@ -71,4 +74,18 @@ pub enum StepKind {
     Throttle,
     /// Discard unchanged with heartbeat: such a value is dropped within a period. Parameter: the period.
     ThrottleHeartbeat,
+}
+
+impl StepKind {
+    /// Whether its first parameter is a pattern.
+    pub fn has_pattern(self) -> bool
+        ensures { result ≡ has_pattern self }
+    {
+        match self {
+            StepKind::Regex | StepKind::Matches | StepKind::NotMatches | StepKind::RegexError => {
+                true
+            }
+            _ => false,
+        }
+    }
 }

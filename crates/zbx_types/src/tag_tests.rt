@@ -1,5 +1,10 @@
 //! Tests of tags, and how several are joined.
 
+ghost use Rattle.std.specs.Prelude.{◌≡◌, bytes_eq};
+ghost use Rattle.zbx_types.specs.Texts.{contains};
+ghost use Rattle.zbx_types.specs.Tags.{has_value, passes, joined};
+
+use crate::entries::Tag;
 use crate::text::Text;
 
 /// How conditions are joined (the Zabbix 6.0 manual, "Conditions", type of calculation).
@@ -33,4 +38,76 @@ pub struct TagTest {
     pub op: TagOp,
     /// The text that they are compared with.
     pub value: Text,
+}
+
+/// Whether two texts are the same.
+fn is_same(one: &Text, other: &Text) -> bool
+    ensures { result ≡ bytes_eq one.now other.now }
+{
+    one.as_bytes() == other.as_bytes()
+}
+
+/// Whether some tag of a name has the value.
+fn has_equal(tags: &[Tag], name: &Text, value: &Text) -> bool
+    ensures { result ≡ has_value (λ v. bytes_eq v value.now) name.now tags.now }
+{
+    for tag in tags {
+        if is_same(&tag.tag, name) && is_same(&tag.value, value) {
+            return true;
+        }
+    }
+    false
+}
+
+/// Whether some tag of a name has a value in which a text stands.
+fn has_containing(tags: &[Tag], name: &Text, part: &Text) -> bool
+    ensures { result ≡ has_value (λ v. contains v part.now) name.now tags.now }
+{
+    for tag in tags {
+        if is_same(&tag.tag, name) && tag.value.contains(part) {
+            return true;
+        }
+    }
+    false
+}
+
+impl TagTest {
+    /// Whether it holds of tags: `Equals` and `Contains` of some value of the tag, the other two are their negations.
+    pub fn passes(&self, tags: &[Tag]) -> bool
+        ensures { result ≡ passes tags.now self.now }
+    {
+        match self.op {
+            TagOp::Equals => has_equal(tags, &self.tag, &self.value),
+            TagOp::Contains => has_containing(tags, &self.tag, &self.value),
+            TagOp::NotEquals => !has_equal(tags, &self.tag, &self.value),
+            TagOp::NotContains => !has_containing(tags, &self.tag, &self.value),
+        }
+    }
+}
+
+fn all_pass(tests: &[TagTest], tags: &[Tag]) -> bool
+    ensures { result ≡ joined Matching.And (passes tags.now) tests.now }
+{
+    tests.iter().all(|test| test.passes(tags))
+}
+
+fn some_passes(tests: &[TagTest], tags: &[Tag]) -> bool
+    ensures { result ≡ joined Matching.Or (passes tags.now) tests.now }
+{
+    for test in tests {
+        if test.passes(tags) {
+            return true;
+        }
+    }
+    false
+}
+
+/// Whether tests hold of tags, as they are joined: of no test `And` holds and `Or` doesn't.
+pub fn tests_pass(matching: Matching, tests: &[TagTest], tags: &[Tag]) -> bool
+    ensures { result ≡ joined matching (passes tags.now) tests.now }
+{
+    match matching {
+        Matching::And => all_pass(tests, tags),
+        Matching::Or => some_passes(tests, tags),
+    }
 }

@@ -1,6 +1,8 @@
 //! Texts in UTF-8.
 
 ghost use Rattle.std.specs.Prelude.{◌≡◌, ◌++◌, [], length, string_bytes, OnOk, OnErr, IfOk, IfSome, MatchOption, IsUtf8};
+ghost use Rattle.std.specs.Fmt.{decimal};
+ghost use Rattle.zbx_types.specs.Texts.{contains};
 
 use crate::memory::OutOfMemory;
 use std::alloc::Global;
@@ -87,6 +89,22 @@ impl Text {
         Ok(())
     }
 
+    /// Adds a number in decimal digits at the end. At [`OutOfMemory`] the text is as before.
+    pub fn push_decimal(&mut self, number: u64) -> Result<(), OutOfMemory>
+        ensures ok { OnOk result (self.new ≡ self.old ++ decimal number) }
+        ensures err { OnErr result (self.new ≡ self.old) }
+    {
+        let digits = number.to_string(self.allocator())?;
+        self.push_str(digits.as_str())
+    }
+
+    /// Whether another text stands in it. The empty one stands in each.
+    pub fn contains(&self, part: &Text) -> bool
+        ensures { result ≡ contains self.now part.now }
+    {
+        stands_in(self.text.as_str(), part.text.as_str())
+    }
+
     /// A copy. [`OutOfMemory`] where there is no room for it.
     pub fn copy(&self, alloc: Global) -> Result<Text, OutOfMemory>
         ensures { IfOk result (λ made. made ≡ self.now) }
@@ -100,6 +118,13 @@ impl Text {
     {
         self.text
     }
+}
+
+/// Whether another text stands in a text.
+fn stands_in(text: &str, part: &str) -> bool
+    ensures { result ≡ contains text.now part.now }
+{
+    text.contains(part)
 }
 
 impl From<String> for Text {
