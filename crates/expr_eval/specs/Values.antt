@@ -4,14 +4,6 @@ use Rattle.std.specs.Option.{option_map}
 use Rattle.zbx_types.specs.Tree.{Tree, constant, call, negative, negation, binary}
 use Rattle.expr_eval.specs.Operations.{negation_of, operation}
 
--- each call names one of the first n results
-abbrev pub CallsBelow : ℕ → Tree → Type 0
-CallsBelow n (constant z) = Unit {0}
-CallsBelow n (call place) = place < n
-CallsBelow n (negative a) = CallsBelow n a
-CallsBelow n (negation a) = CallsBelow n a
-CallsBelow n (binary op a b) = CallsBelow n a × CallsBelow n b
-
 -- the millionths of an expression's value, or None where it is unknown, by cases on its tree
 abbrev pub value_of : Tree → List (Option ℤ) → Option ℤ
 value_of (constant z) results = Some z

@@ -1,5 +1,5 @@
 ghost use Rattle.std.specs.Prelude.{IfOk};
-ghost use Rattle.expr_eval.specs.Values.{CallsBelow};
+ghost use Rattle.zbx_types.specs.Trees.{CallsBelow};
 ghost use Rattle.zbx_types.specs.Trees.{tree_of};
 
 use super::*;

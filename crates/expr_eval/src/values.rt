@@ -2,7 +2,7 @@
 
 ghost use Rattle.std.specs.Prelude.{◌≡◌, length};
 ghost use Rattle.zbx_types.specs.Trees.{tree_of};
-ghost use Rattle.expr_eval.specs.Values.{CallsBelow, value_of};
+ghost use Rattle.expr_eval.specs.Values.{value_of};
 
 use crate::operations::{negation, operation};
 use zbx_types::{Expr, Fix};

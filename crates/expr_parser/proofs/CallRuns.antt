@@ -22,7 +22,8 @@ use Rattle.expr_parser.specs.declared.parts.Part.{Part}
 use Rattle.expr_parser.specs.declared.parts.Part.TheVariants.{Before}
 use Rattle.expr_parser.specs.declared.pending.Pending.{Pending}
 use Rattle.expr_parser.specs.Bytes.{is_blank, is_digit, AreBlanks, Point, one_less, behind}
-use Rattle.expr_parser.specs.Functions.{name_of, is_dated, slots}
+use Rattle.expr_parser.specs.Functions.{name_of, slots}
+use Rattle.zbx_types.specs.Operators.{is_dated}
 use Rattle.expr_parser.specs.Calls.{is_host_byte, AreHostBytes, IsHost, IsPart, put, Arguments, no_more, another, plain_call, IsCall, dated, of_item}
 use Rattle.expr_parser.specs.Characters.{character, characters}
 use Rattle.expr_parser.specs.Parts.{part, part_value}

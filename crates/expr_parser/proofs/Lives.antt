@@ -21,7 +21,8 @@ use Rattle.expr_parser.specs.declared.pending.Pending.{Pending}
 use Rattle.expr_parser.specs.declared.pending.Pending.TheVariants.{Open, Waits}
 use Rattle.expr_parser.specs.declared.pending.Rest.{Rest}
 use Rattle.expr_parser.specs.Bytes.{is_gap, AreBlanks, Point, behind as behind_bytes, beginning}
-use Rattle.expr_parser.specs.Functions.{name_of, is_dated, slots}
+use Rattle.expr_parser.specs.Functions.{name_of, slots}
+use Rattle.zbx_types.specs.Operators.{is_dated}
 use Rattle.expr_parser.specs.Calls.{AreHostBytes, IsHost, put, Arguments, no_more, another, plain_call, IsCall, dated, of_item, greatest_number}
 use Rattle.expr_parser.specs.Characters.{characters}
 use Rattle.expr_parser.specs.Figures.{figures_text}

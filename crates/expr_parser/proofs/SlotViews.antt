@@ -4,7 +4,7 @@ use Rattle.std.specs.Cmp.Lexicographic.{pointwise}
 use Rattle.std.specs.Str.{is_utf8}
 use Rattle.std.proofs.lemmas.Str.{IsUtf8-from_is_utf8, is_utf8-from_IsUtf8}
 use Rattle.zbx_types.specs.declared.calls.Call.{Call}
-use Rattle.expr_parser.specs.Functions.{is_dated}
+use Rattle.zbx_types.specs.Operators.{is_dated}
 use Rattle.expr_parser.specs.Calls.{is_same}
 use Rattle.expr_parser.specs.Parts.{is_front, begins_one}
 use Rattle.expr_parser.specs.Grammar.{looks_at_item}

@@ -13,7 +13,8 @@ use Rattle.expr_parser.specs.declared.pending.Pending.TheVariants.{Open, Waits}
 use Rattle.expr_parser.specs.declared.pending.Rest.{Rest}
 use Rattle.expr_parser.specs.declared.pending.Rest.TheVariants.{Nd, D, R, Nothing}
 use Rattle.expr_parser.specs.Bytes.{is_blank, is_gap, AreBlanks, beginning}
-use Rattle.expr_parser.specs.Functions.{name_of, is_dated}
+use Rattle.expr_parser.specs.Functions.{name_of}
+use Rattle.zbx_types.specs.Operators.{is_dated}
 use Rattle.expr_parser.specs.Calls.{Arguments, no_more, another, plain_call, IsCall, dated, greatest_number, is_same}
 use Rattle.expr_parser.specs.Figures.{figure, first_figure, figures_text, figures_value, is_figure}
 use Rattle.expr_parser.specs.Grammar.{op_text, op_level, is_word, number}

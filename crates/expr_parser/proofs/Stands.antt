@@ -16,7 +16,8 @@ use Rattle.expr_parser.specs.declared.pending.Pending.TheVariants.{Open}
 use Rattle.expr_parser.specs.declared.pending.Rest.{Rest}
 use Rattle.expr_parser.specs.declared.pending.Rest.TheVariants.{Nd, D, R, Nothing}
 use Rattle.expr_parser.specs.Bytes.{is_gap, AreBlanks, beginning}
-use Rattle.expr_parser.specs.Functions.{name_of, is_dated}
+use Rattle.expr_parser.specs.Functions.{name_of}
+use Rattle.zbx_types.specs.Operators.{is_dated}
 use Rattle.expr_parser.specs.Calls.{AreHostBytes, IsHost, Arguments, IsCall, greatest_number}
 use Rattle.expr_parser.specs.Characters.{characters}
 use Rattle.expr_parser.specs.Figures.{figures_text}

@@ -16,7 +16,8 @@ use Rattle.expr_parser.specs.declared.parts.Value.{Value}
 use Rattle.expr_parser.specs.declared.parts.Value.TheVariants.{Ranged, Said}
 use Rattle.expr_parser.specs.Bytes.{Point, behind}
 use Rattle.expr_parser.specs.Numbers.{IsNumber, IsPeriod, seconds, suffixed_period}
-use Rattle.expr_parser.specs.Functions.{name_of, is_dated, slots, default_range, takes_count, least_period, word_list}
+use Rattle.expr_parser.specs.Functions.{name_of, slots, default_range, takes_count, least_period, word_list}
+use Rattle.zbx_types.specs.Operators.{is_dated}
 use Rattle.expr_parser.specs.Calls.{absent_value, number_limit, is_one_of, is_same, longest_period, greatest_percent, IsRange, latest, span, IsQuoted, nothing, quote, backslash, plain, IsPart, absent, ranged, shifted, word, number, quoted_number, quoted, put, all_absent, may_be_absent, Arguments, no_more, another, plain_call, IsCall, dated, of_item}
 use Rattle.expr_parser.specs.Written.{escaped, quoted_text, written_range, written_shift, range_argument, last_arguments, written_call}
 use Rattle.expr_parser.proofs.Lists.{assoc, nothing_behind, no_blanks, way, either_way, eq_true, held_behind, some_is, none_some}

@@ -12,7 +12,8 @@ use Rattle.expr_parser.specs.declared.slots.Slot.{Slot}
 use Rattle.expr_parser.specs.declared.slots.Slot.TheVariants.{Newest, Span, MaybeSpan, Silence, Word, Percent, Free}
 use Rattle.expr_parser.specs.declared.parts.Value.{Value}
 use Rattle.expr_parser.specs.declared.parts.Value.TheVariants.{Ranged, Said}
-use Rattle.expr_parser.specs.Functions.{name_of, is_dated, slots, default_range, takes_count, least_period, word_list}
+use Rattle.expr_parser.specs.Functions.{name_of, slots, default_range, takes_count, least_period, word_list}
+use Rattle.zbx_types.specs.Operators.{is_dated}
 
 -- a byte of a host's name: a letter, a digit, space, `_`, `-` or `.`
 abbrev pub is_host_byte : ℕ → Bool

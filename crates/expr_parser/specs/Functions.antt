@@ -30,28 +30,6 @@ name_of Date = codes "date"
 name_of DayOfWeek = codes "dayofweek"
 name_of DayOfMonth = codes "dayofmonth"
 
--- a function of date or time, which looks at no item
-abbrev pub is_dated : Fun → Bool
-is_dated Now = true
-is_dated Time = true
-is_dated Date = true
-is_dated DayOfWeek = true
-is_dated DayOfMonth = true
-is_dated Last = false
-is_dated First = false
-is_dated Min = false
-is_dated Max = false
-is_dated Avg = false
-is_dated Sum = false
-is_dated Change = false
-is_dated Count = false
-is_dated Find = false
-is_dated NoData = false
-is_dated Percentile = false
-is_dated ChangeCount = false
-is_dated MonoInc = false
-is_dated MonoDec = false
-
 -- `#n` may stand there
 abbrev pub takes_count : Slot → Bool
 takes_count Newest = true

@@ -6,7 +6,7 @@ use Rattle.zbx_types.specs.declared.expr.Op.TheVariants.{Or, And, Eq, Ne, Lt, Le
 use Rattle.zbx_types.specs.declared.calls.Call.{Call}
 use Rattle.expr_parser.specs.Bytes.{is_gap, ends_word, first_byte, AreBlanks, Point, behind, beginning}
 use Rattle.expr_parser.specs.Numbers.{IsNumber}
-use Rattle.expr_parser.specs.Functions.{is_dated}
+use Rattle.zbx_types.specs.Operators.{is_dated}
 use Rattle.expr_parser.specs.Calls.{IsCall, greatest_number}
 
 abbrev pub op_text : Op → List ℕ

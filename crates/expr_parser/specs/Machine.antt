@@ -25,7 +25,8 @@ use Rattle.expr_parser.specs.declared.pending.Pending.{Pending}
 use Rattle.expr_parser.specs.declared.pending.Pending.TheVariants.{Open, Waits}
 use Rattle.expr_parser.specs.declared.pending.Rest.{Rest}
 use Rattle.expr_parser.specs.declared.pending.Rest.TheVariants.{Nd, D, R, Nothing}
-use Rattle.expr_parser.specs.Functions.{name_of, is_dated, slots}
+use Rattle.expr_parser.specs.Functions.{name_of, slots}
+use Rattle.zbx_types.specs.Operators.{is_dated}
 use Rattle.expr_parser.specs.Calls.{is_host_byte, put, put_range, all_absent, plain_call, is_same, greatest_number}
 use Rattle.expr_parser.specs.Grammar.{op_level}
 use Rattle.expr_parser.specs.Characters.{character}

@@ -8,7 +8,8 @@ use Rattle.zbx_types.specs.declared.calls.Call.{Call}
 use Rattle.zbx_types.specs.declared.calls.Range.{Range}
 use Rattle.zbx_types.specs.declared.calls.Range.TheVariants.{Count, Period}
 use Rattle.expr_parser.specs.declared.slots.Slot.{Slot}
-use Rattle.expr_parser.specs.Functions.{name_of, is_dated, slots}
+use Rattle.expr_parser.specs.Functions.{name_of, slots}
+use Rattle.zbx_types.specs.Operators.{is_dated}
 use Rattle.expr_parser.specs.Grammar.{op_text}
 
 -- a byte between quotes: a quote is written as `\"`

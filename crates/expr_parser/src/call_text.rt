@@ -1,12 +1,10 @@
 //! Writing of calls.
 
 ghost use Rattle.std.specs.Prelude.{◌≡◌, ◌++◌, ◌<◌, length, OnOk, MatchOption, IfSome, codes, slice_get};
-ghost use Rattle.std.specs.Fmt.{decimal};
 ghost use Rattle.expr_parser.specs.Functions as functions;
 ghost use Rattle.expr_parser.specs.Written as written;
 
-use crate::slots::{Slots, dated, slots_of};
-use std::alloc::Global;
+use crate::slots::{Slots, slots_of};
 use std::convert::AsStr;
 use zbx_types::{Call, Fun, OutOfMemory, Range, Text};
 
@@ -35,12 +33,6 @@ fn name(fun: Fun) -> &'static str
         Fun::DayOfWeek => "dayofweek",
         Fun::DayOfMonth => "dayofmonth",
     }
-}
-
-fn put_decimal(alloc: Global, n: u32, out: &mut Text) -> Result<(), OutOfMemory>
-    ensures { OnOk result (out.new ≡ out.old ++ decimal n) }
-{
-    out.push_str(n.to_string(alloc)?.as_str())
 }
 
 /// What stands before and behind the first quote.
@@ -76,26 +68,26 @@ fn put_quoted(text: &Text, out: &mut Text) -> Result<(), OutOfMemory>
     out.push_str("\"")
 }
 
-fn put_range(alloc: Global, range: Range, out: &mut Text) -> Result<(), OutOfMemory>
+fn put_range(range: Range, out: &mut Text) -> Result<(), OutOfMemory>
     ensures { OnOk result (out.new ≡ out.old ++ written.written_range range) }
 {
     match range {
         Range::Count(n) => {
             out.push_str("#")?;
-            put_decimal(alloc, n, out)
+            out.push_decimal(u64::from(n))
         }
-        Range::Period(n) => put_decimal(alloc, n, out),
+        Range::Period(n) => out.push_decimal(u64::from(n)),
     }
 }
 
-fn put_shift(alloc: Global, shift: u32, out: &mut Text) -> Result<(), OutOfMemory>
+fn put_shift(shift: u32, out: &mut Text) -> Result<(), OutOfMemory>
     ensures { OnOk result (out.new ≡ out.old ++ written.written_shift shift) }
 {
     if shift == 0 {
         return Ok(());
     }
     out.push_str(":now-")?;
-    put_decimal(alloc, shift, out)
+    out.push_decimal(u64::from(shift))
 }
 
 /// A function takes a range.
@@ -109,15 +101,15 @@ fn ranged(fun: Fun) -> bool
 }
 
 /// Adds the range of a call with its shift, where its function takes one.
-fn put_range_argument(alloc: Global, call: &Call, out: &mut Text) -> Result<(), OutOfMemory>
+fn put_range_argument(call: &Call, out: &mut Text) -> Result<(), OutOfMemory>
     ensures { OnOk result (out.new ≡ out.old ++ written.range_argument call.now) }
 {
     if !ranged(call.fun) {
         return Ok(());
     }
     out.push_str(",")?;
-    put_range(alloc, call.range, out)?;
-    put_shift(alloc, call.shift, out)
+    put_range(call.range, out)?;
+    put_shift(call.shift, out)
 }
 
 /// Adds the arguments behind the range up to the last one that isn't empty.
@@ -147,30 +139,25 @@ fn put_item(call: &Call, out: &mut Text) -> Result<(), OutOfMemory>
 }
 
 /// Adds a call.
-fn put_call(alloc: Global, call: &Call, out: &mut Text) -> Result<(), OutOfMemory>
+fn put_call(call: &Call, out: &mut Text) -> Result<(), OutOfMemory>
     ensures { OnOk result (out.new ≡ out.old ++ written.written_call call.now) }
 {
     out.push_str(name(call.fun))?;
-    if dated(call.fun) {
+    if call.fun.is_dated() {
         return out.push_str("()");
     }
     put_item(call, out)?;
-    put_range_argument(alloc, call, out)?;
+    put_range_argument(call, out)?;
     put_last_arguments(&call.op, &call.arg, out)?;
     out.push_str(")")
 }
 
 /// Adds the call at a place.
-pub(crate) fn put_place(
-    alloc: Global,
-    calls: &[Call],
-    place: u32,
-    out: &mut Text,
-) -> Result<(), OutOfMemory>
+pub(crate) fn put_place(calls: &[Call], place: u32, out: &mut Text) -> Result<(), OutOfMemory>
     ensures { OnOk result (out.new ≡ out.old ++ written.written_place (slice_get calls.now place)) }
 {
     match calls.get(place as usize) {
-        Some(call) => put_call(alloc, call, out),
+        Some(call) => put_call(call, out),
         None => Ok(()),
     }
 }

@@ -18,7 +18,6 @@ use crate::figures::{Figures, figure, first_figure, is_figure, longer, value};
 use crate::names::{begun, is_not, named};
 use crate::operator_bytes::behind;
 use crate::pending::{Half, floor};
-use crate::slots::dated;
 use crate::states::{Base, Mode, State, blank, gap, opened, waiting};
 use std::alloc::Global;
 use zbx_types::{Bytes, Expr, Fix, Fun, OutOfMemory, Text};
@@ -146,7 +145,7 @@ pub(crate) fn denied(text: &[u8], nots: bool, base: Base) -> Result<Option<State
 pub(crate) fn calling(alloc: Global, fun: Fun, base: Base) -> State
     ensures { state result ≡ machine.calling fun base.open_ones (reverse base.stack.items) base.calls }
 {
-    if dated(fun) {
+    if fun.is_dated() {
         let call = plain_call(alloc, fun, Text::new(alloc), Text::new(alloc));
         State {
             mode: Mode::Close(call),

@@ -11,7 +11,6 @@ ghost use Rattle.expr_parser.specs.Grammar.{IsExpr, IsText, looks_at_item};
 ghost use Rattle.expr_parser.specs.declared.reading.ParseError.TheVariants.{At};
 
 use crate::moves::{finished, move_on};
-use crate::slots::dated;
 use crate::states::{Base, Mode, State};
 use std::alloc::Global;
 use thiserror::Error;
@@ -46,7 +45,7 @@ fn looks(calls: &[Call]) -> bool
     ensures { result ≡ looks_at_item calls.now }
 {
     for call in calls {
-        if !dated(call.fun) {
+        if !call.fun.is_dated() {
             return true;
         }
     }

@@ -49,16 +49,6 @@ pub(crate) enum Slots {
     ThreeSlots(Slot, Slot, Slot),
 }
 
-/// A function of date or time.
-pub(crate) fn dated(fun: Fun) -> bool
-    ensures { result ≡ functions.is_dated fun }
-{
-    match fun {
-        Fun::Now | Fun::Time | Fun::Date | Fun::DayOfWeek | Fun::DayOfMonth => true,
-        _ => false,
-    }
-}
-
 /// The arguments of a function.
 pub(crate) fn slots_of(fun: Fun) -> Slots
     ensures { slot_list result ≡ functions.slots fun }

@@ -1,9 +1,10 @@
 -- What a path gives: the text of what it selects, or of what its function makes of that.
-use Rattle.std.specs.Prelude.{◌≡◌, ℕ, ℤ, pos, ◌+ℤ◌, int_lt, int_div, Bool, true, false, ◌&&◌, List, [], ◌∷◌, length, Option, Some, None, Result, Ok, Err, if◌then◌else◌, option_and_then, option_map}
+use Rattle.std.specs.Prelude.{◌≡◌, ℕ, ℤ, pos, int_div, Bool, true, false, ◌&&◌, List, [], ◌∷◌, length, Option, Some, None, Result, Ok, Err, if◌then◌else◌, option_and_then, option_map}
 use Rattle.std.specs.List.{list_all}
 use Rattle.std.specs.Fmt.{decimal}
 use Rattle.zbx_types.specs.Numerals.{read_number}
 use Rattle.zbx_types.specs.Arithmetic.{in_range}
+use Rattle.zbx_types.specs.Numbers.{total, least, greatest}
 use Rattle.zbx_types.specs.Written.{written}
 use Rattle.json_text.specs.Json.{Json, null, boolean, number, words, list, object, Items, no_items, item, item_list}
 use Rattle.json_text.specs.Written.{json_written}
@@ -70,19 +71,6 @@ number_of (object ms) = None
 abbrev pub numbers_of : List Json → Option (List ℤ)
 numbers_of [] = Some []
 numbers_of (j ∷ js) = option_and_then (λ z. option_map (λ zs. z ∷ zs) (numbers_of js)) (number_of j)
-
-abbrev pub total : List ℤ → ℤ
-total [] = pos 0
-total (z ∷ zs) = z +ℤ total zs
-
--- the least and the greatest of a number and some more
-abbrev pub least : ℤ → List ℤ → ℤ
-least z [] = z
-least z (x ∷ xs) = least (if int_lt x z then x else z) xs
-
-abbrev pub greatest : ℤ → List ℤ → ℤ
-greatest z [] = z
-greatest z (x ∷ xs) = greatest (if int_lt z x then x else z) xs
 
 -- a number, where it is one in range
 abbrev pub number_result : Option ℤ → Result (List ℕ) SelectError

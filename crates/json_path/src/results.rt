@@ -2,24 +2,25 @@
 
 ghost use Rattle.std.specs.Prelude.{◌≡◌, ◌++◌, ◌<◌, OnOk, IfOk, Ok, Err, pos, int_div, option_and_then};
 ghost use Rattle.zbx_types.specs.Arithmetic.{in_range};
+ghost use Rattle.zbx_types.specs.Numbers.{least, greatest};
 ghost use Rattle.zbx_types.specs.Written.{written};
 ghost use Rattle.json_path.specs.declared.results.SelectError.TheVariants.{OutOfMemory};
 ghost use Rattle.std.specs.Fmt.{decimal};
 ghost use Rattle.json_text.specs.Json.{list};
 ghost use Rattle.json_text.specs.Trees.{json_of};
 ghost use Rattle.json_text.specs.Written.{json_written, comma_before};
-ghost use Rattle.json_path.specs.Results.{Gives, takes_one, is_definite_segment, is_definite, bare_text, items_from, plain_result, least, greatest, number_result, first_of_numbers, mean, of_numbers, numbers_of, sum_result, first_result, function_result, array_items, function_of_array, called_result, result_of, select_of};
+ghost use Rattle.json_path.specs.Results.{Gives, takes_one, is_definite_segment, is_definite, bare_text, items_from, plain_result, number_result, first_of_numbers, mean, of_numbers, numbers_of, sum_result, first_result, function_result, array_items, function_of_array, called_result, result_of, select_of};
 ghost use Rattle.json_path.specs.Seen.{seen};
 
 use crate::contents::add_items;
 use crate::path::{Function, Path, Segment, Selector};
 use crate::selecting::selected;
-use crate::sums::{greatest, least, numbers_of, total};
+use crate::sums::numbers_of;
 use json_text::{Tree, write};
 use std::alloc::Global;
 use std::convert::AsStr;
 use thiserror::Error;
-use zbx_types::{Bytes, Fix, OutOfMemory, Text};
+use zbx_types::{Bytes, Fix, OutOfMemory, Text, greatest, least, total};
 
 /// Why a path gave nothing of a value.
 #[derive(Clone, Copy, Debug, PartialEq, Eq, Error)]

@@ -2,7 +2,7 @@
 
 ghost use Rattle.std.specs.Prelude.{◌≡◌, IfOk};
 ghost use Rattle.json_text.specs.Trees.{json_of};
-ghost use Rattle.json_path.specs.Results.{number_of, numbers_of, total, least, greatest};
+ghost use Rattle.json_path.specs.Results.{number_of, numbers_of};
 ghost use Rattle.json_path.specs.Seen.{seen};
 
 use json_text::Tree;
@@ -32,45 +32,4 @@ pub(crate) fn numbers_of(alloc: Global, values: &[&Tree]) -> Result<Option<Many<
         }
     }
     Ok(Some(made))
-}
-
-/// The sum, exact. Where a sum on the way doesn't fit 128 bits, which takes more than 10^8 numbers, it counts as want of
-/// memory.
-pub(crate) fn total(numbers: &[Fix]) -> Result<i128, OutOfMemory>
-    ensures { IfOk result (λ sum. sum ≡ total numbers.now) }
-{
-    let mut sum: i128 = 0;
-    for number in numbers {
-        match sum.checked_add(number.raw()) {
-            Some(more) => sum = more,
-            None => return Err(OutOfMemory),
-        }
-    }
-    Ok(sum)
-}
-
-/// The least of a number and some more.
-pub(crate) fn least(first: Fix, more: &[Fix]) -> Fix
-    ensures { result ≡ least first more.now }
-{
-    let mut least = first;
-    for number in more {
-        if number.raw() < least.raw() {
-            least = *number;
-        }
-    }
-    least
-}
-
-/// The greatest of a number and some more.
-pub(crate) fn greatest(first: Fix, more: &[Fix]) -> Fix
-    ensures { result ≡ greatest first more.now }
-{
-    let mut greatest = first;
-    for number in more {
-        if greatest.raw() < number.raw() {
-            greatest = *number;
-        }
-    }
-    greatest
 }

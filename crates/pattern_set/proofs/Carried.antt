@@ -12,6 +12,10 @@ use Rattle.regex.specs.Writes.{group_of, both}
 use Rattle.regex.proofs.ForCallers.{alike_as_written, found_alike, is_match_alike, span_alike}
 use Rattle.regex.proofs.OnLiterals.{same_refl}
 use Rattle.regex_syntax.specs.Grammar.{read, Names}
+use Rattle.std.specs.Prelude.{Result, Ok, Err, IfOk, is_ok, map, string_bytes}
+use Rattle.regex_hir.specs.declared.Hir.{Hir}
+use Rattle.regex_syntax.specs.declared.Config.{Config}
+use Rattle.regex_syntax.specs.declared.Parsed.{Parsed}
 use Rattle.regex_syntax.specs.Same.{SameTree}
 use Rattle.regex_syntax.specs.Brackets.{Nested}
 use Rattle.regex_syntax.specs.declared.error.ErrorKind.TheVariants.{OutOfMemory}
@@ -31,6 +35,16 @@ pub is_pattern : (r : Regex) (text : List ℕ) → regex_source r ≡ text → r
 unfolding Reads
 is_pattern r text source config reads =
     weaker (read default_config (chars text)) _ _ (λ x h. h.0) (rw (source, config) at reads)
+
+pub reads_pattern : (text : List ℕ) (hir : Hir) (names : Names) → Reads default_config text hir names → IsPattern text
+unfolding Reads
+reads_pattern text hir names reads = weaker (read default_config (chars text)) _ _ (λ x h. h.0) reads
+
+pub ok_reads : (text : List ℕ) (config : Config) (r : Result Parsed parser.Error) → config ≡ default_config
+    → IfOk r (λ p. Reads config text p.hir (map (option_map string_bytes) p.names.items)) → is_ok r ≡ true → IsPattern text
+ok_reads text config (Ok p) same reads ok =
+    reads_pattern text p.hir (map (option_map string_bytes) p.names.items) (subst (λ (c : Config). Reads c text p.hir (map (option_map string_bytes) p.names.items)) same reads)
+ok_reads text config (Err e) same reads ok = cc
 
 pub is_refused : (text : List ℕ) (error : Error) (e : parser.Error) → error ≡ Syntax e → IsRightKind default_config text error
     → IsRefusal default_config text error → IsNoPattern text

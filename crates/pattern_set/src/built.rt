@@ -1,6 +1,6 @@
 //! One pattern.
 
-ghost use Rattle.std.specs.Prelude.{◌≡◌, ◌∷◌, ℕ, List, Contains, Err, IfOk, is_some};
+ghost use Rattle.std.specs.Prelude.{◌≡◌, ◌≢◌, ℕ, Contains, Err, IfOk, is_some, true};
 ghost use Rattle.pattern_set.specs.Filling.{filled_of};
 ghost use Rattle.pattern_set.specs.Patterns.{IsPattern, IsNoPattern, leftmost};
 ghost use Rattle.pattern_set.specs.Spans.{spans_of};
@@ -9,6 +9,7 @@ use crate::fault::BuildError;
 use crate::filling::filled;
 use crate::spans::{Span, spans_of};
 use regex::{Error, Regex};
+use regex_syntax::{Config, parse};
 use std::alloc::Global;
 use std::marker::Model;
 use zbx_types::{Many, OutOfMemory, Text};
@@ -31,6 +32,26 @@ impl Model for Built {
     ghost invariant = { λ b. IsReadFromSource b.regex × (regex_config b.regex ≡ default_config) };
 }
 
+/// Whether the grammar reads a text and it nests no deeper than is allowed. False too where memory is refused.
+fn is_read(alloc: Global, text: &str) -> bool
+    ensures { result ≡ true → IsPattern text.now }
+{
+    parse(alloc, text, &Config::default()).is_ok()
+}
+
+/// Why a text is refused that has no fault of syntax: it is too large where it is a pattern that counts repetitions in
+/// braces, and else it counts as want of memory.
+fn too_large(alloc: Global, text: &str, place: u32) -> BuildError
+    ensures refused { (at : ℕ) → result ≢ BuildError.Refused at }
+    ensures large { (at : ℕ) → result ≡ BuildError.TooLarge at → (at ≡ place) × IsPattern text.now × Contains text.now 123 }
+{
+    if text.as_bytes().contains(&b'{') && is_read(alloc, text) {
+        BuildError::TooLarge { place }
+    } else {
+        BuildError::OutOfMemory
+    }
+}
+
 impl Built {
     /// Builds the text that stands at a place of the configuration. The errors are those of [`BuildError`], each with this
     /// place.
@@ -38,17 +59,13 @@ impl Built {
         ensures ok { IfOk result (λ built. built ≡ text.now) }
         ensures pattern { IfOk result (λ _. IsPattern text.now) }
         ensures refused { (at : ℕ) → result ≡ Err (BuildError.Refused at) → (at ≡ place) × IsNoPattern text.now }
-        ensures large { (at : ℕ) → result ≡ Err (BuildError.TooLarge at) → (at ≡ place) × Contains text.now 123 }
+        ensures large { (at : ℕ) → result ≡ Err (BuildError.TooLarge at) → (at ≡ place) × IsPattern text.now × Contains text.now 123 }
     {
         match Regex::new(alloc, text) {
             Ok(regex) => Ok(Built { regex }),
             Err(Error::Syntax(_)) => Err(BuildError::Refused { place }),
             Err(Error::OutOfMemory) => Err(BuildError::OutOfMemory),
-            Err(_) => if text.as_bytes().contains(&b'{') {
-                Err(BuildError::TooLarge { place })
-            } else {
-                Err(BuildError::OutOfMemory)
-            },
+            Err(_) => Err(too_large(alloc, text, place)),
         }
     }
 

@@ -9,13 +9,13 @@ use thiserror::Error;
 /// Why patterns were not built. This project's own.
 #[derive(Debug, Drop, Error)]
 pub enum BuildError {
-    /// A text is no pattern of the `regex` crate's grammar, or it nests more than 250 deep.
+    /// A text is no pattern of the `regex` crate's grammar, or it nests more than 250 deep. Those before it are patterns.
     #[error("text {place} is no pattern")]
     Refused {
         /// The place of the first such text, counted from 1.
         place: u32,
     },
-    /// A pattern that counts repetitions in braces is too large when it is built.
+    /// A pattern that counts repetitions in braces is too large when it is built. Those before it are patterns.
     #[error("pattern {place} is too large")]
     TooLarge {
         /// Its place, counted from 1.

@@ -49,7 +49,8 @@ impl Patterns {
         ensures patterns { IfOk result (λ _. All IsPattern texts.now) }
         ensures refused { (place : ℕ) → result ≡ Err (BuildError.Refused place) → (text : List ℕ) × (at_id texts.now place ≡ Some text) × IsNoPattern text }
         ensures first { (place : ℕ) → result ≡ Err (BuildError.Refused place) → All IsPattern (take (place - 1) texts.now) }
-        ensures large { (place : ℕ) → result ≡ Err (BuildError.TooLarge place) → (text : List ℕ) × (at_id texts.now place ≡ Some text) × Contains text 123 }
+        ensures large { (place : ℕ) → result ≡ Err (BuildError.TooLarge place) → (text : List ℕ) × (at_id texts.now place ≡ Some text) × IsPattern text × Contains text 123 }
+        ensures first_large { (place : ℕ) → result ≡ Err (BuildError.TooLarge place) → All IsPattern (take (place - 1) texts.now) }
     {
         let mut built = Vec::new(alloc);
         for (index, text) in texts.as_slice().iter().enumerate() {
@@ -62,6 +63,7 @@ impl Patterns {
     pub fn find(&self, text: &Text) -> u32
         ensures place { result ≡ place_of text.now self.now }
         ensures there { 1 ≤ result → at_id self.now result ≡ Some text.now }
+        ensures among { Contains self.now text.now → at_id self.now result ≡ Some text.now }
     {
         match index_of(self.built.as_slice(), text.as_str()) {
             Some(index) => index as u32 + 1,

@@ -1,4 +1,3 @@
-mod Placed
 mod RadixLemmas
 mod RateLemmas
 mod Replacing

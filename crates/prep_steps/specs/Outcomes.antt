@@ -1,5 +1,6 @@
 -- What comes of a step.
-use Rattle.std.specs.Prelude.{ℕ, nat_le, List, [], length, if◌then◌else◌, codes, slice_index_or, Bool, true}
+use Rattle.std.specs.Prelude.{ℕ, nat_le, List, [], length, if◌then◌else◌, codes, slice_index_or, Bool, true, false}
+use Rattle.zbx_types.specs.Limits.{longest_value}
 use Rattle.prep_steps.specs.declared.memory.StepMemory.{StepMemory}
 use Rattle.prep_steps.specs.declared.outcome.Outcome.{Outcome}
 use Rattle.prep_steps.specs.declared.outcome.Outcome.TheVariants.{Value, Fail}
@@ -13,13 +14,17 @@ parameter params place = slice_index_or params place []
 abbrev pub kept : StepMemory → Outcome → StepDone
 kept memory outcome = record { outcome = outcome; memory = memory }
 
+-- the memory of a step that no value has marked
+abbrev pub unmarked : StepMemory
+unmarked = record { there = false; time = 0; value = [] }
+
 -- the memory of a value that marked the step
 abbrev pub marked : ℕ → List ℕ → StepMemory
 marked time value = record { there = true; time = time; value = value }
 
 -- a value has at most 65,535 bytes
 abbrev pub is_short : List ℕ → Bool
-is_short value = nat_le (length value) 65535
+is_short value = nat_le (length value) longest_value
 
 -- a result goes on, and a longer one fails
 abbrev pub passed : List ℕ → Outcome

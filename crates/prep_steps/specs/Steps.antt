@@ -20,14 +20,6 @@ looks_into_json JsonPath = true
 looks_into_json JsonError = true
 looks_into_json _ = false
 
--- the step's first parameter is a pattern
-abbrev pub has_pattern : StepKind → Bool
-has_pattern Regex = true
-has_pattern Matches = true
-has_pattern NotMatches = true
-has_pattern RegexError = true
-has_pattern _ = false
-
 -- what a step of a kind makes of a value with two parameters; of a JSON step nothing is said here
 abbrev pub made_by : StepKind → List ℕ → List ℕ → StepMemory → List ℕ → ℕ → StepDone
 made_by Regex first second memory value time = kept memory (extracted first second value)

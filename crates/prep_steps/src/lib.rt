@@ -41,8 +41,9 @@ mod steps;
 mod throttling;
 mod words;
 
+pub use matching::unless;
 pub use memory::StepMemory;
-pub use outcome::{Outcome, StepDone};
+pub use outcome::{Outcome, StepDone, fail, is_short, parameter, pass};
 pub use steps::apply;
 
 #[cfg(test)]

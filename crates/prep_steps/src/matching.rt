@@ -12,7 +12,6 @@ use std::convert::AsStr;
 use zbx_types::{Many, OutOfMemory, Text};
 
 /// The place of the pattern that is the first parameter.
-#[tactic(auto, using(crate::proofs::Placed::placed))]
 fn place_of(alloc: Global, patterns: &Patterns, params: &Many<Text>) -> u32
     requires { Contains patterns.now (parameter params.now 0) }
     ensures { at_id patterns.now result ≡ Some (parameter params.now 0) }
@@ -78,8 +77,8 @@ pub(crate) fn match_none(
     pass(alloc, Text::of(alloc, value)?)
 }
 
-/// A value, or a failure with an error text that isn't empty.
-fn unless(alloc: Global, error: Option<Text>, value: &str) -> Result<Outcome, OutOfMemory>
+/// A value that goes on, or a failure with an error text where there is one that isn't empty.
+pub fn unless(alloc: Global, error: Option<Text>, value: &str) -> Result<Outcome, OutOfMemory>
     ensures { IfOk result (λ outcome. outcome ≡ unless error value.now) }
 {
     if let Some(error) = error {

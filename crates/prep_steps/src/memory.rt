@@ -1,7 +1,7 @@
 //! What a step remembers.
 
-ghost use Rattle.std.specs.Prelude.{◌≡◌, IfOk, false};
-ghost use Rattle.prep_steps.specs.Outcomes.{marked};
+ghost use Rattle.std.specs.Prelude.{◌≡◌, IfOk};
+ghost use Rattle.prep_steps.specs.Outcomes.{unmarked, marked};
 
 use std::alloc::Global;
 use zbx_types::{Moment, OutOfMemory, Text};
@@ -22,9 +22,9 @@ pub struct StepMemory {
 }
 
 impl StepMemory {
-    /// The memory of a step that no value has marked. Takes no memory.
+    /// The memory of a step that no value has marked: no value, moment 0 and the empty text. Takes no memory.
     pub fn new(alloc: Global) -> StepMemory
-        ensures { result.there ≡ false }
+        ensures { result ≡ unmarked }
     {
         StepMemory {
             there: false,

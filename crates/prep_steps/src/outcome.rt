@@ -7,7 +7,7 @@ ghost use Rattle.prep_steps.specs.declared.outcome.Outcome.TheVariants.{Fail};
 use crate::memory::StepMemory;
 use std::alloc::Global;
 use std::convert::AsStr;
-use zbx_types::{Many, OutOfMemory, Text};
+use zbx_types::{LONGEST_VALUE, Many, OutOfMemory, Text};
 
 /// What comes of a value at a step.
 #[derive(Debug, Drop)]
@@ -29,22 +29,22 @@ pub struct StepDone {
     pub memory: StepMemory,
 }
 
-/// A failure with its text.
-pub(crate) fn fail(alloc: Global, why: &str) -> Result<Outcome, OutOfMemory>
+/// A failure with its text. [`OutOfMemory`] where there is no room for it.
+pub fn fail(alloc: Global, why: &str) -> Result<Outcome, OutOfMemory>
     ensures { IfOk result (λ outcome. outcome ≡ Fail why.now) }
 {
     Ok(Outcome::Fail(Text::of(alloc, why)?))
 }
 
 /// Whether a value has at most 65,535 bytes.
-pub(crate) fn is_short(value: &Text) -> bool
+pub fn is_short(value: &Text) -> bool
     ensures { result ≡ is_short value.now }
 {
-    value.len() <= 65_535
+    value.len() <= LONGEST_VALUE
 }
 
-/// The outcome of a result, which fails where it is too long.
-pub(crate) fn pass(alloc: Global, value: Text) -> Result<Outcome, OutOfMemory>
+/// The outcome of a result: the value goes on, and one above 65,535 bytes fails with `too long`.
+pub fn pass(alloc: Global, value: Text) -> Result<Outcome, OutOfMemory>
     ensures { IfOk result (λ outcome. outcome ≡ passed value) }
 {
     if !is_short(&value) {
@@ -68,7 +68,7 @@ pub(crate) fn keep(
 }
 
 /// A parameter by its place, the empty text where it is missing.
-pub(crate) fn parameter(params: &Many<Text>, place: usize) -> &str
+pub fn parameter(params: &Many<Text>, place: usize) -> &str
     ensures { result.now ≡ parameter params.now place }
 {
     match params.as_slice().get(place) {

@@ -2,7 +2,8 @@
 
 ghost use Rattle.std.specs.Prelude.{◌≡◌, IfOk, Contains, true, false};
 ghost use Rattle.prep_steps.specs.Outcomes.{parameter};
-ghost use Rattle.prep_steps.specs.Steps.{looks_into_json, has_pattern, done_of};
+ghost use Rattle.prep_steps.specs.Steps.{looks_into_json, done_of};
+ghost use Rattle.zbx_types.specs.Steps.{has_pattern};
 
 use crate::changes::{change, rate};
 use crate::digits::{bool_to_decimal, hex_to_decimal, octal_to_decimal};

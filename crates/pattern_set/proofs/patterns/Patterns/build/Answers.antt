@@ -18,7 +18,7 @@ returns-in_err-build-clause-large c place same =
     let within : c.loop-index.index < length c.args.texts.now = subst (λ ts. c.loop-index.index < length ts) texts c.loop-index-test.true in
     let text = c.as_str.ensures ∙ c.text-item.is ∙ ap (λ ts. get_or ts c.loop-index.index c.text-item.result) texts in
     let why = c.in_err-build.ensures.large place (search rules) in
-    (c.as_str.result.now, ap (at_id c.args.texts.now) why.0 ∙ at_next c.args.texts.now c.loop-index.index c.text-item.result within ∙ ap Some (sym text), why.1)
+    (c.as_str.result.now, ap (at_id c.args.texts.now) why.0 ∙ at_next c.args.texts.now c.loop-index.index c.text-item.result within ∙ ap Some (sym text), why.1, why.2)
 
 pub loop-index-preserved : goal.loop-index-preserved
 loop-index-preserved c =
