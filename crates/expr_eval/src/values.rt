@@ -1,7 +1,7 @@
 //! Values of expressions.
 
 ghost use Rattle.std.specs.Prelude.{◌≡◌, length};
-ghost use Rattle.zbx_types.specs.Trees.{tree_of};
+ghost use Rattle.zbx_types.specs.Trees.{CallsBelow, tree_of};
 ghost use Rattle.expr_eval.specs.Values.{value_of};
 
 use crate::operations::{negation, operation};

@@ -70,31 +70,31 @@ fn put_op(op: Op, out: &mut Text) -> Result<(), OutOfMemory>
 }
 
 /// Adds an expression; the depth of the recursion is that of the expression.
-fn put_expr(alloc: Global, expr: &Expr, calls: &[Call], out: &mut Text) -> Result<(), OutOfMemory>
+fn put_expr(expr: &Expr, calls: &[Call], out: &mut Text) -> Result<(), OutOfMemory>
     ensures { OnOk result (out.new ≡ out.old ++ written_of (tree_of expr.now) calls.now) }
 {
     match expr {
         Expr::Const(number) => number.write(out),
-        Expr::Call(place) => put_place(alloc, calls, *place, out),
+        Expr::Call(place) => put_place(calls, *place, out),
         Expr::Neg(operand) => {
             out.push_str("-")?;
             open(operand.expr(), out)?;
-            put_expr(alloc, operand.expr(), calls, out)?;
+            put_expr(operand.expr(), calls, out)?;
             close(operand.expr(), out)
         }
         Expr::Not(operand) => {
             out.push_str("not ")?;
             open(operand.expr(), out)?;
-            put_expr(alloc, operand.expr(), calls, out)?;
+            put_expr(operand.expr(), calls, out)?;
             close(operand.expr(), out)
         }
         Expr::Bin(op, left, right) => {
             open(left.expr(), out)?;
-            put_expr(alloc, left.expr(), calls, out)?;
+            put_expr(left.expr(), calls, out)?;
             close(left.expr(), out)?;
             put_op(*op, out)?;
             open(right.expr(), out)?;
-            put_expr(alloc, right.expr(), calls, out)?;
+            put_expr(right.expr(), calls, out)?;
             close(right.expr(), out)
         }
     }
@@ -118,6 +118,6 @@ pub fn write(alloc: Global, parsed: &Parsed) -> Result<Text, OutOfMemory>
     ensures no_other { IfOk result (λ t. (from : List ℕ) → IsExpr from (tree_of parsed.now.expr) parsed.now.calls → nesting (tree_of parsed.now.expr) ≤ 32 → (e : Tree) (ks : List Call) → IsExpr t e ks → (e ≡ tree_of parsed.now.expr) × (ks ≡ parsed.now.calls)) }
 {
     let mut out = Text::new(alloc);
-    put_expr(alloc, &parsed.expr, parsed.calls.as_slice(), &mut out)?;
+    put_expr(&parsed.expr, parsed.calls.as_slice(), &mut out)?;
     Ok(out)
 }

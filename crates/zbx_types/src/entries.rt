@@ -1,6 +1,7 @@
 //! Journal entries, the records that they make, and the values that items keep.
 
 ghost use Rattle.std.specs.Prelude.{◌≡◌, IfOk};
+ghost use Rattle.zbx_types.specs.Records.{event_of, tags_of};
 
 use crate::fix::Fix;
 use crate::many::Many;
@@ -253,6 +254,33 @@ impl Numbered {
 }
 
 impl Rec {
+    /// The event that it is about; of a failure its entry's number and trigger 0.
+    pub fn event(&self) -> EventId
+        ensures { result ≡ event_of self.now }
+    {
+        match self {
+            Rec::Failure { number, .. } => EventId {
+                number: *number,
+                trigger: 0,
+            },
+            Rec::Problem { event, .. }
+            | Rec::Recovery { event, .. }
+            | Rec::Step { event, .. }
+            | Rec::Message { event, .. } => *event,
+        }
+    }
+
+    /// The tags of a problem; none of any other record.
+    pub fn tags(&self) -> &[Tag]
+        ensures { result.now ≡ tags_of self.now }
+    {
+        match self {
+            Rec::Problem { tags, .. } => tags.as_slice(),
+            Rec::Failure { .. } | Rec::Recovery { .. } | Rec::Step { .. } | Rec::Message { .. } =>
+                &[],
+        }
+    }
+
     /// A copy. [`OutOfMemory`] where there is no room for it.
     pub fn copy(&self, alloc: Global) -> Result<Rec, OutOfMemory>
         ensures { IfOk result (λ made. made ≡ self.now) }
