@@ -1,5 +1,5 @@
 -- What records are about.
-use Rattle.std.specs.Prelude.{ℕ, ◌==◌, Bool, true, false, ◌&&◌, List, []}
+use Rattle.std.specs.Prelude.{ℕ, ◌==◌, Bool, ◌&&◌, List, []}
 use Rattle.zbx_types.specs.declared.entries.EventId.{EventId}
 use Rattle.zbx_types.specs.declared.entries.Rec.{Rec}
 use Rattle.zbx_types.specs.declared.entries.Rec.TheVariants.{Failure, Problem, Recovery, Step, Message}
