@@ -1,0 +1,3 @@
+pub mod Days
+pub mod Dates
+pub mod Clock
