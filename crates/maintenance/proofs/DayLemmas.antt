@@ -2,7 +2,8 @@
 use Rattle.std.proofs.Common.{◌≡◌, ◌↔◌, ℕ, ◌*◌, ◌≤◌, ◌∙◌, ℤ, pos, ◌+ℤ◌, arith}
 use Rattle.std.proofs.Math.Nat.{mul_left_comm}
 use Rattle.jiff_core.proofs.SignedLemmas.{signed_arith}
-use Rattle.maintenance.specs.Days.{local_day, second_of, IsStepFrom, IsOnDay}
+use Rattle.local_time.specs.Days.{local_day, second_of}
+use Rattle.maintenance.specs.Days.{IsStepFrom, IsOnDay}
 use Rattle.maintenance.specs.Starts.{IsDailyDay}
 use Rattle.maintenance.specs.Force.{IsWithinLength}
 use Rattle.maintenance.specs.Series.{IsInSeries}

@@ -5,8 +5,9 @@ use Rattle.jiff_core.specs.Date.{epoch_day}
 use Rattle.jiff_core.specs.declared.civil.date.Date.{Date}
 use Rattle.jiff_core.proofs.SignedLemmas.{signed_arith}
 use Rattle.jiff_core.proofs.DateLemmas.{epoch_day_same, epoch_day-lt}
-use Rattle.maintenance.specs.Days.{local_day, second_of, IsStepFrom, IsOnDay}
-use Rattle.maintenance.specs.Dates.{IsDateIn, IsDayIn}
+use Rattle.local_time.specs.Days.{local_day, second_of}
+use Rattle.maintenance.specs.Days.{IsStepFrom, IsOnDay}
+use Rattle.local_time.specs.Dates.{IsDateIn, IsDayIn}
 use Rattle.maintenance.specs.Starts.{IsMonthlyDay}
 use Rattle.maintenance.specs.Force.{IsWithinLength}
 use Rattle.maintenance.proofs.Within.{tests_as, days_as, within_as}

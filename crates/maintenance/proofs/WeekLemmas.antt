@@ -4,7 +4,8 @@ use Rattle.std.proofs.Math.Nat.{mul_left_comm}
 use Rattle.jiff_core.specs.Calendar.{weekday_number}
 use Rattle.jiff_core.proofs.SignedLemmas.{signed_arith}
 use Rattle.jiff_core.proofs.CalendarLemmas.{weekday_number-add, weekday_number_bound}
-use Rattle.maintenance.specs.Days.{local_day, monday_of, IsStepFrom, IsOnDay}
+use Rattle.local_time.specs.Days.{local_day, monday_of}
+use Rattle.maintenance.specs.Days.{IsStepFrom, IsOnDay}
 use Rattle.maintenance.specs.Starts.{IsWeeklyDay}
 use Rattle.maintenance.specs.Force.{IsWithinLength}
 use Rattle.maintenance.proofs.Within.{tests_as, days_as}
@@ -15,7 +16,7 @@ weekday_number-monday day =
     let e = weekday_number-add (monday_of day) day (weekday_number day) (omega (arith, signed_arith)) in
     omega (arith, weekday_number_bound day, weekday_number_bound (monday_of day))
 
--- the day some days behind the Monday of a week a few weeks later
+-- the day some days after the Monday of a week a few weeks later
 pub weekday_step : (monday day : ℤ) (k times every : ℕ) → weekday_number monday ≡ 0 → k < 7 → day ≡ monday +ℤ pos k +ℤ pos (times * (7 * every)) → (weekday_number day ≡ k) × (monday_of day ≡ monday +ℤ pos (times * (7 * every)))
 weekday_step monday day k times every zero_day small e =
     let weeks : times * (7 * every) ≡ 7 * (times * every) = mul_left_comm times 7 every in

@@ -1,4 +1,4 @@
--- Seconds within the length behind a start, for one sort of starts and another.
+-- Seconds within the length after a start, for one sort of starts and another.
 use Rattle.std.proofs.Common.{◌↔◌, ℕ, ◌≤◌, ℤ, List}
 use Rattle.std.specs.Prelude.{Any}
 use Rattle.maintenance.specs.Days.{IsOnDay}

@@ -6,7 +6,7 @@ use Rattle.zbx_types.specs.declared.maintenances.Maintenance.{Maintenance}
 use Rattle.zbx_types.specs.declared.maintenances.Period.{Period}
 use Rattle.maintenance.specs.Starts.{IsStart, length_of}
 
--- the second is at some start, or less than the length behind it
+-- the second is at some start, or less than the length after it
 abbrev pub IsWithinLength : (ℕ → Type 0) → ℕ → ℕ → Type 0
 IsWithinLength Begins length second =
     (start : ℕ) × Begins start × (start ≤ second) × (second < start + length)

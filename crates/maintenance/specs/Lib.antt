@@ -1,5 +1,4 @@
 pub mod Days
-pub mod Dates
 pub mod Starts
 pub mod Series
 pub mod Force

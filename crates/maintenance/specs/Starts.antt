@@ -5,7 +5,8 @@ use Rattle.jiff_core.specs.Date.{epoch_day}
 use Rattle.jiff_core.specs.declared.civil.date.Date.{Date}
 use Rattle.zbx_types.specs.declared.maintenances.Period.{Period}
 use Rattle.zbx_types.specs.declared.maintenances.Period.TheVariants.{Once, Daily, Weekly, Monthly}
-use Rattle.maintenance.specs.Days.{local_day, monday_of, IsStepFrom, IsOnDay}
+use Rattle.local_time.specs.Days.{local_day, monday_of}
+use Rattle.maintenance.specs.Days.{IsStepFrom, IsOnDay}
 
 -- the day of `since`, and every few days after it
 abbrev pub IsDailyDay : ℤ → ℕ → ℕ → ℤ → Type 0

@@ -27,7 +27,6 @@
 #![tactic(auto)]
 
 mod covering;
-mod days;
 mod force;
 mod periods;
 mod series;

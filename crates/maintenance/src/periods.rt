@@ -2,12 +2,12 @@
 
 ghost use Rattle.std.specs.Prelude.{◌≡◌, ◌↔◌, ℕ, ◌+◌, ◌≤◌, ◌<◌, ℤ, ◌≤ℤ◌, ◌<ℤ◌, IsTrue, Any};
 ghost use Rattle.maintenance.specs.Days.{IsOnDay};
-ghost use Rattle.maintenance.specs.Dates.{IsDayIn};
+ghost use Rattle.local_time.specs.Dates.{IsDayIn};
 ghost use Rattle.maintenance.specs.Starts.{IsDailyDay, IsWeeklyDay, IsMonthlyDay, length_of};
 ghost use Rattle.maintenance.specs.Force.{IsWithinLength, IsInPeriod};
 
-use crate::days::{date_in, date_of, local_day, monday_of};
 use crate::series::{Span, on_days};
+use local_time::{date_in, date_of, local_day, monday_of};
 use zbx_types::{Conf, Period};
 
 /// Whether the second is in a period of every few days.

@@ -6,7 +6,7 @@ ghost use Rattle.maintenance.specs.Days.{IsStepFrom, IsOnDay};
 ghost use Rattle.maintenance.specs.Series.{IsInSeries};
 ghost use Rattle.maintenance.specs.Force.{IsWithinLength};
 
-use crate::days::second_of;
+use local_time::second_of;
 
 /// What all kinds of periods have in common: local time less UTC, since when the maintenance is active, the second that is
 /// tested, and how long a period lasts, all in seconds.
@@ -26,7 +26,7 @@ fn rest(number: u64, step: u64) -> u64
     if step == 0 { number } else { number % step }
 }
 
-/// Whether the second is within the length behind a second of a series: the latest one that isn't after it decides.
+/// Whether the second is within the length after a second of a series: the latest one that isn't after it decides.
 fn in_series(first: i64, step: u64, span: Span) -> bool
     requires { IsWithin 1000000000000 first }
     ensures { IsTrue result ↔ IsWithinLength (IsInSeries first step span.since) span.length span.now }
@@ -39,7 +39,7 @@ fn in_series(first: i64, step: u64, span: Span) -> bool
     late < u64::from(span.length) && u64::from(span.since) + late <= u64::from(span.now)
 }
 
-/// Whether the second is within the length behind a time of day of a day of a series. Days are numbers of local days.
+/// Whether the second is within the length after a time of day of a day of a series. Days are numbers of local days.
 pub(crate) fn on_days(first: i64, step: u64, at: u32, span: Span) -> bool
     requires first { IsWithin 10000000 first }
     requires step { step < 1000000000000 }

@@ -60,7 +60,7 @@ module _ {X : Type 0} where
       go true = sym (reverse-cons x (filter q xs))
       go false = append-nil (reverse (filter q xs))
 
-  -- the first n see no more than the first c of what stands behind
+  -- the first n see no more than the first c of what follows
   pub take_append : (n c : ℕ) → n ≤ c → (xs ys : List X) → take n (xs ++ take c ys) ≡ take n (xs ++ ys)
   take_append n c l [] ys = take-take n c ys l
   take_append zero c l (x ∷ xs) ys = refl

@@ -135,7 +135,7 @@ take_placed (suc n) s (x ∷ xs) = go (is_later x s) (take_placed n s xs)
     go true ih = ap (λ ys. x ∷ ys) ih
     go false ih = ap (λ ys. s ∷ ys) (once n x xs)
 
--- The place of one more value in a list that has the latest at its end
+-- The place of one more value in a list that has the oldest first
 placed_at : (s : Stored) (xs : List Stored) (k : ℕ) → prefix_len (λ x. is_later x s) xs ≡ k → placed s xs ≡ take k xs ++ s ∷ drop k xs
 placed_at s [] zero e = refl
 placed_at s [] (suc k) e = absurd (omega arith)

@@ -1,4 +1,4 @@
--- Windows as parts of a list that has the latest value at its end.
+-- What ranges see, as parts of a list that has the oldest value first.
 use Rattle.std.proofs.Common.{◌≡◌, ℕ, zero, suc, ◌+◌, ◌-◌, ◌*◌, ◌<◌, ◌≤◌, ◌&&◌, nat_le, nat_lt, not, Bool, true, false, cond, List, [], ◌∷◌, ◌++◌, length, reverse, take, drop, filter, refl, sym, ◌∙◌, ap, subst, arith, ap₂, append-nil, take-append-drop, le-leb, ltb-true, ltb-false, leb-true, leb-false, take_all, get_or}
 use Rattle.std.proofs.lemmas.List.{length_push, length-reverse, reverse-reverse, get_or_at}
 use Rattle.std.proofs.lemmas.List.Elements.{filter-append, filter_agree}
@@ -30,17 +30,17 @@ module _ {X : Type 0} (p : X → Bool) where
   each_passes [] (suc i) h = tt
   each_passes (x ∷ xs) (suc i) h = (h 0 x (omega arith) (omega arith), each_passes xs i (λ k d a b. h (suc k) d (omega arith) (omega arith)))
 
-  each_behind : (xs : List X) (i : ℕ) → AllWithin (λ x. p x ≡ false) xs i (length xs) → AllByRecursion (λ x. p x ≡ false) (drop i xs)
-  each_behind xs zero h = each_fails xs h
-  each_behind [] (suc i) h = tt
-  each_behind (x ∷ xs) (suc i) h = each_behind xs i (λ k d a b. h (suc k) d (omega arith) (omega arith))
+  each_after : (xs : List X) (i : ℕ) → AllWithin (λ x. p x ≡ false) xs i (length xs) → AllByRecursion (λ x. p x ≡ false) (drop i xs)
+  each_after xs zero h = each_fails xs h
+  each_after [] (suc i) h = tt
+  each_after (x ∷ xs) (suc i) h = each_after xs i (λ k d a b. h (suc k) d (omega arith) (omega arith))
 
   pub passed : (xs : List X) (i : ℕ) → IsPartitionPoint (λ x. p x ≡ true) (λ x. p x ≡ false) xs i → reverse (take i xs) ≡ filter p (reverse xs)
   passed xs i h = sym (filter_reverse p xs ∙ ap reverse whole)
     where
       whole : filter p xs ≡ take i xs
       whole = ap (filter p) (sym (take-append-drop i xs)) ∙ filter-append p (take i xs) (drop i xs)
-          ∙ ap₂ (λ ys zs. ys ++ zs) (filter_all p (take i xs) (each_passes xs i h.0)) (filter_no p (drop i xs) (each_behind xs i h.1)) ∙ append-nil (take i xs)
+          ∙ ap₂ (λ ys zs. ys ++ zs) (filter_all p (take i xs) (each_passes xs i h.0)) (filter_no p (drop i xs) (each_after xs i h.1)) ∙ append-nil (take i xs)
 
   pub left : (xs : List X) (i : ℕ) → IsPartitionPoint (λ x. p x ≡ true) (λ x. p x ≡ false) xs i → reverse (drop i xs) ≡ filter (λ x. not (p x)) (reverse xs)
   left xs i h = sym (filter_reverse q xs ∙ ap reverse whole)
@@ -52,9 +52,9 @@ module _ {X : Type 0} (p : X → Bool) where
       whole = ap (filter q) (sym (take-append-drop i xs)) ∙ filter-append q (take i xs) (drop i xs)
           ∙ ap₂ (λ ys zs. ys ++ zs)
           (filter_no q (take i xs) (all_more (λ x. p x ≡ true) (λ x. q x ≡ false) (λ x e. ap not e) (take i xs) (each_passes xs i h.0)))
-          (filter_all q (drop i xs) (all_more (λ x. p x ≡ false) (λ x. q x ≡ true) (λ x e. ap not e) (drop i xs) (each_behind xs i h.1)))
+          (filter_all q (drop i xs) (all_more (λ x. p x ≡ false) (λ x. q x ≡ true) (λ x e. ap not e) (drop i xs) (each_after xs i h.1)))
 
--- times rise in a list that has the latest value at its end
+-- times rise in a list that has the oldest value first
 rising : (c : ℕ) (xs : List Stored) → IsOrdered xs → IsNonDecreasingBy (λ s. s.time + c) (reverse xs)
 rising c [] o = IsNonDecreasingBy-short (λ (s : Stored). s.time + c) [] (omega arith)
 rising c (x ∷ xs) o = subst (IsNonDecreasingBy (λ (s : Stored). s.time + c)) (sym (reverse-cons x xs)) (IsNonDecreasingBy-push (λ (s : Stored). s.time + c) (reverse xs) x (rising c xs o.1) (λ d l. last xs o.0 d l))

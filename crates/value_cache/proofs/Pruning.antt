@@ -7,7 +7,7 @@ use Rattle.zbx_types.specs.declared.calls.Range.TheVariants.{Count, Period}
 use Rattle.zbx_types.specs.declared.entries.Stored.{Stored}
 use Rattle.value_cache.specs.declared.cell.Keep.{Keep}
 use Rattle.value_cache.specs.Histories.{is_later, placed, IsOrdered}
-use Rattle.value_cache.specs.Windows.{is_by, in_period, window_of}
+use Rattle.value_cache.specs.Windows.{is_by, in_period, seen_of}
 use Rattle.value_cache.specs.Cells.{is_young, pruned, StandsFor, IsWithin}
 use Rattle.value_cache.proofs.Lists.{all_more, all_taken, passes, filter_all, filter_no, filter_within, take_append}
 use Rattle.value_cache.proofs.Orders.{time_up_to, ordered_placed, filter_placed, take_placed}
@@ -67,9 +67,9 @@ module _ (keep : Keep) (now : ℕ) where
         old : take keep.count (filter (old_of keep now) (placed s v)) ≡ take keep.count (filter (old_of keep now) (placed s h))
         old = ap (take keep.count) (filter_placed (old_of keep now) s v ov) ∙ go (old_of keep now s) ∙ sym (ap (take keep.count) (filter_placed (old_of keep now) s h oh))
 
-  behind : (x : Stored) → is_young keep now x ≡ false → (y : Stored) → is_later y x ≡ false → is_young keep now y ≡ false
+  earlier : (x : Stored) → is_young keep now x ≡ false → (y : Stored) → is_later y x ≡ false → is_young keep now y ≡ false
   unfolding is_young
-  behind x e y l = let a = time_up_to y x l in let b = ltb-false now (x.time + keep.period * 1000000000) e in le-ltb now (y.time + keep.period * 1000000000) (omega arith)
+  earlier x e y l = let a = time_up_to y x l in let b = ltb-false now (x.time + keep.period * 1000000000) e in le-ltb now (y.time + keep.period * 1000000000) (omega arith)
 
   -- the young ones stand first
   split : (h : List Stored) → IsOrdered h → h ≡ filter (is_young keep now) h ++ filter (old_of keep now) h
@@ -81,7 +81,7 @@ module _ (keep : Keep) (now : ℕ) where
           → x ∷ xs ≡ cond b (x ∷ filter (is_young keep now) xs) (filter (is_young keep now) xs) ++ cond (not b) (x ∷ filter (old_of keep now) xs) (filter (old_of keep now) xs)
       go true e ih = ap (λ ys. x ∷ ys) ih
       go false e ih =
-          let none : AllByRecursion (λ y. is_young keep now y ≡ false) xs = all_more (λ y. is_later y x ≡ false) (λ y. is_young keep now y ≡ false) (behind x e) xs o.0 in
+          let none : AllByRecursion (λ y. is_young keep now y ≡ false) xs = all_more (λ y. is_later y x ≡ false) (λ y. is_young keep now y ≡ false) (earlier x e) xs o.0 in
           sym (ap₂ (λ ys zs. ys ++ x ∷ zs) (filter_no (is_young keep now) xs none) (filter_all (old_of keep now) xs (all_more (λ y. is_young keep now y ≡ false) (λ y. old_of keep now y ≡ true) (λ y n. ap not n) xs none)))
 
   -- `#n`
@@ -110,11 +110,11 @@ module _ (keep : Keep) (now : ℕ) where
       go true false e h = cc
       go false b e h = cc
 
-  -- each window within sees no more than is kept
-  pub same_window : (range : Range) (shift : ℕ) (v h : List Stored) → IsOrdered v → IsOrdered h → IsWithin keep range shift → pruned keep now v ≡ pruned keep now h → window_of range shift now v ≡ window_of range shift now h
-  same_window (Count n) shift v h ov oh within same =
+  -- each range within sees no more than is kept
+  pub same_seen : (range : Range) (shift : ℕ) (v h : List Stored) → IsOrdered v → IsOrdered h → IsWithin keep range shift → pruned keep now v ≡ pruned keep now h → seen_of range shift now v ≡ seen_of range shift now h
+  same_seen (Count n) shift v h ov oh within same =
       count_parts n shift within.0 within.1 v ov ∙ ap₂ (λ xs ys. take n (filter (is_by now shift) xs ++ ys)) (same_young v h same) (same_old v h same) ∙ sym (count_parts n shift within.0 within.1 h oh)
-  same_window (Period p) shift v h ov oh within same =
+  same_seen (Period p) shift v h ov oh within same =
       sym (filter_within (in_period now shift p) (is_young keep now) (period_young shift p within) v)
       ∙ ap (filter (in_period now shift p)) (same_young v h same)
       ∙ filter_within (in_period now shift p) (is_young keep now) (period_young shift p within) h

@@ -7,7 +7,7 @@ use Rattle.zbx_types.specs.declared.entries.Stored.{Stored}
 use Rattle.value_cache.specs.declared.cell.Keep.{Keep}
 use Rattle.value_cache.specs.Histories.{IsOrdered}
 
--- a cell as contracts see it: what it is to keep, and the values that it has, the latest first
+-- a cell as contracts see it: what it is to keep, and the values that it has, as a history: the latest first
 pub record CellView : Type 0 where
   pub keep : Keep
   pub values : List Stored

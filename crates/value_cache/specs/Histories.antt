@@ -1,5 +1,5 @@
--- Histories of items: values, the latest first.
-use Rattle.std.specs.Prelude.{◌≡◌, ◌==◌, ◌&&◌, ◌||◌, nat_lt, Bool, false, List, [], ◌∷◌, if◌then◌else◌, ⊤}
+-- Histories of items: values, in definitions the latest first.
+use Rattle.std.specs.Prelude.{◌≡◌, ◌==◌, ◌&&◌, ◌||◌, nat_lt, Bool, false, List, [], ◌∷◌, if◌then◌else◌, reverse, ⊤}
 use Rattle.std.specs.List.{AllByRecursion}
 use Rattle.zbx_types.specs.declared.entries.Stored.{Stored}
 
@@ -16,3 +16,7 @@ placed s (x ∷ xs) = if is_later x s then x ∷ placed s xs else s ∷ x ∷ xs
 abbrev pub IsOrdered : List Stored → Type 0
 IsOrdered [] = ⊤
 IsOrdered (x ∷ xs) = AllByRecursion (λ y. is_later y x ≡ false) xs × IsOrdered xs
+
+-- such values turned, into the order in which they are handed out
+abbrev pub oldest_first : List Stored → List Stored
+oldest_first values = reverse values

@@ -25,7 +25,7 @@ pub struct Keep {
 #[derive(Drop)]
 pub struct ItemCell {
     keep: Keep,
-    // all that were inserted; the latest at the end, since the next value mostly is the latest
+    // all that were inserted, the oldest first: so the next value, which mostly is the latest, is put at the end
     values: Vec<Stored>,
 }
 
@@ -64,7 +64,7 @@ impl ItemCell {
         place(&mut self.values, stored)
     }
 
-    /// The values that a range with a time shift looks at, the latest first, at a moment that isn't before that of the last
+    /// The values that a range with a time shift looks at, the oldest first, at a moment that isn't before that of the last
     /// insert. `shift` is in seconds; range and shift are within the cell's [`Keep`]. [`OutOfMemory`] where there is no room
     /// for the copies.
     pub fn window(

@@ -3,8 +3,8 @@
 //! The public contract: [`ItemCell::window`] gives the window of everything that was ever inserted into the cell, whatever
 //! the order in which it came, as long as it asks for no more than the cell's [`Keep`].
 //!
-//! A cell stands for a history, the list of all values that were inserted, the latest first: by time, and of values with one
-//! time by the number of their entry. It has for each later moment what the `Keep` asks for: the values of the last `period`
+//! A cell stands for a history, the list of all values that were inserted, by time, and of values with one time by the number
+//! of their entry. What it hands out has the oldest first; definitions of histories have the latest first. It has for each later moment what the `Keep` asks for: the values of the last `period`
 //! seconds, and the latest `count` of those before. So a cell may be read at any moment that isn't before that of the last
 //! insert, and a value that comes late takes its place as if it had come in time.
 //!
@@ -20,7 +20,7 @@
 //! ```text
 //! let mut cell = ItemCell::new(alloc, Keep { count: 2, period: 300 });
 //! cell.insert(stored, now)?;                                        // refused: the value comes back in the error
-//! let latest = cell.window(alloc, Range::Count(2), 0, now)?;        // the latest first
+//! let latest = cell.window(alloc, Range::Count(2), 0, now)?;        // the older one first
 //! ```
 #![tactic(auto)]
 

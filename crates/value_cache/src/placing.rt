@@ -27,7 +27,7 @@ fn count_later(values: &[Stored], stored: &Stored) -> usize
         .count()
 }
 
-/// Puts one more value in its place among values that have the latest at the end.
+/// Puts one more value in its place among values that have the oldest first.
 pub(crate) fn place(values: &mut Vec<Stored>, stored: Stored) -> Result<(), (Stored, OutOfMemory)>
     ensures values { reverse values.new.items ≡ (if is_ok result then placed stored (reverse values.old.items) else reverse values.old.items) }
     ensures err { IfErr result (λ e. e.0 ≡ stored) }

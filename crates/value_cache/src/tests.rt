@@ -76,12 +76,12 @@ fn late(alloc: Global) -> Result<ItemCell, OutOfMemory> {
 }
 
 #[test]
-fn the_latest_come_first_by_time_and_then_by_number(rt: HostRuntime) -> Result<(), Fail> {
+fn the_oldest_come_first_by_time_and_then_by_number(rt: HostRuntime) -> Result<(), Fail> {
     let alloc = rt.alloc();
     let cell = late(alloc)?;
     for (count, shift, want) in [
-        (10, 0, [3, 5, 4, 2].as_slice()),
-        (2, 0, [3, 5].as_slice()),
+        (10, 0, [2, 4, 5, 3].as_slice()),
+        (2, 0, [5, 3].as_slice()),
         (1, 30, [5].as_slice()),
         (2, 60, [2].as_slice()),
         (2, 61, [].as_slice()),
@@ -110,11 +110,11 @@ fn a_period_holds_its_end_and_not_its_beginning(rt: HostRuntime) -> Result<(), F
     let now = Moment { sec: 400, ns: 5 };
     let cell = edges(alloc, now)?;
     for (period, shift, want) in [
-        (300, 0, [6, 5, 4, 3].as_slice()),
-        (200, 100, [4, 3].as_slice()),
-        (100, 0, [6, 5].as_slice()),
+        (300, 0, [3, 4, 5, 6].as_slice()),
+        (200, 100, [3, 4].as_slice()),
+        (100, 0, [5, 6].as_slice()),
         (0, 0, [].as_slice()),
-        (500, 0, [6, 5, 4, 3, 2].as_slice()),
+        (500, 0, [2, 3, 4, 5, 6].as_slice()),
         (500, 301, [].as_slice()),
         (500, 500, [].as_slice()),
     ] {
@@ -145,9 +145,9 @@ fn latest_two(alloc: Global, count: u64) -> Result<Many<u64>, OutOfMemory> {
 #[test]
 fn windows_of_functions(rt: HostRuntime) -> Result<(), Fail> {
     let alloc = rt.alloc();
-    assert_eq!(rt; counted(alloc)?.as_slice(), [4, 2].as_slice());
+    assert_eq!(rt; counted(alloc)?.as_slice(), [2, 4].as_slice());
     assert_eq!(rt; latest_two(alloc, 1)?.as_slice(), [0].as_slice());
-    assert_eq!(rt; latest_two(alloc, 2)?.as_slice(), [1, 0].as_slice());
+    assert_eq!(rt; latest_two(alloc, 2)?.as_slice(), [0, 1].as_slice());
     Ok(())
 }
 
@@ -172,17 +172,17 @@ fn a_narrow_cell_gives_each_window_within(rt: HostRuntime) -> Result<(), Fail> {
     let mut cell = narrow(alloc)?;
     assert_eq!(rt;
         numbers(alloc, &cell, Range::Count(2), 60, second(100))?.as_slice(),
-        [30, 20].as_slice()
+        [20, 30].as_slice()
     );
     put(alloc, &mut cell, 25, second(25), second(100))?;
     assert_eq!(rt;
         numbers(alloc, &cell, Range::Count(2), 60, second(100))?.as_slice(),
-        [30, 25].as_slice()
+        [25, 30].as_slice()
     );
     put(alloc, &mut cell, 160, second(160), second(200))?;
     for (range, shift, want) in [
-        (Range::Count(2), 0, [160, 100].as_slice()),
-        (Range::Count(2), 60, [100, 30].as_slice()),
+        (Range::Count(2), 0, [100, 160].as_slice()),
+        (Range::Count(2), 60, [30, 100].as_slice()),
         (Range::Period(60), 0, [160].as_slice()),
         (Range::Period(19), 41, [].as_slice()),
         (Range::Period(20), 40, [160].as_slice()),
@@ -190,5 +190,36 @@ fn a_narrow_cell_gives_each_window_within(rt: HostRuntime) -> Result<(), Fail> {
         let found = numbers(alloc, &cell, range, shift, second(200))?;
         assert_eq!(rt; found.as_slice(), want);
     }
+    Ok(())
+}
+
+/// A full window over 1,000 values: the n-th that comes has number n, and the time 7n of a thousand.
+fn a_thousand(alloc: Global) -> Result<Many<u64>, OutOfMemory> {
+    let now = second(2_000);
+    let keep = Keep {
+        count: 1_000,
+        period: 0,
+    };
+    let mut cell = ItemCell::new(alloc, keep);
+    for number in 0..1_000 {
+        let time = second(number * 7 % 1_000);
+        put(alloc, &mut cell, u64::from(number), time, now)?;
+    }
+    numbers(alloc, &cell, Range::Count(1_000), 0, now)
+}
+
+/// Their numbers by time: 7 times 143 is 1,001, so time t has the number 143t of a thousand.
+fn by_time(alloc: Global) -> Result<Many<u64>, OutOfMemory> {
+    let mut numbers = Many::new(alloc);
+    for time in 0..1_000u64 {
+        numbers.push(time * 143 % 1_000)?;
+    }
+    Ok(numbers)
+}
+
+#[test]
+fn a_full_window_of_a_thousand_values_is_by_time(rt: HostRuntime) -> Result<(), Fail> {
+    let alloc = rt.alloc();
+    assert_eq!(rt; a_thousand(alloc)?.as_slice(), by_time(alloc)?.as_slice());
     Ok(())
 }

@@ -1,9 +1,9 @@
-//! Windows as parts of a slice that has the latest value at its end.
+//! Windows as parts of a slice that has the oldest value first.
 
 ghost use Rattle.std.specs.Prelude.{◌≡◌, ◌≤◌, ℕ, not, length, reverse, take, drop, IfOk};
 ghost use Rattle.std.specs.List.{filter};
 ghost use Rattle.value_cache.specs.Histories.{IsOrdered};
-ghost use Rattle.value_cache.specs.Windows.{is_by, window_of};
+ghost use Rattle.value_cache.specs.Windows.{is_by, seen_of};
 
 use std::alloc::Global;
 use zbx_types::{Many, Moment, OutOfMemory, Range, Stored};
@@ -29,7 +29,7 @@ fn count_by(values: &[Stored], now: Moment, seconds: u64) -> usize
     requires { IsOrdered (reverse values.now) }
     ensures bound { result ≤ length values.now }
     ensures by { reverse (take result values.now) ≡ filter (is_by now seconds) (reverse values.now) }
-    ensures behind { reverse (drop result values.now) ≡ filter (λ s. not (is_by now seconds s)) (reverse values.now) }
+    ensures after { reverse (drop result values.now) ≡ filter (λ s. not (is_by now seconds s)) (reverse values.now) }
 {
     values.partition_point(|x| is_by(now, seconds, x))
 }
@@ -44,22 +44,22 @@ fn latest(values: &[Stored], count: u32) -> &[Stored]
 /// The values of a window.
 pub(crate) fn window(values: &[Stored], range: Range, shift: u32, now: Moment) -> &[Stored]
     requires { IsOrdered (reverse values.now) }
-    ensures { reverse result.now ≡ window_of range shift now (reverse values.now) }
+    ensures { reverse result.now ≡ seen_of range shift now (reverse values.now) }
 {
     let shift = u64::from(shift);
-    let behind = &values[..count_by(values, now, shift)];
+    let past = &values[..count_by(values, now, shift)];
     match range {
-        Range::Count(count) => latest(behind, count),
-        Range::Period(period) => &behind[count_by(behind, now, shift + u64::from(period))..],
+        Range::Count(count) => latest(past, count),
+        Range::Period(period) => &past[count_by(past, now, shift + u64::from(period))..],
     }
 }
 
-/// Copies, the last one first.
+/// Copies, in their order.
 pub(crate) fn copies(alloc: Global, values: &[Stored]) -> Result<Many<Stored>, OutOfMemory>
-    ensures { IfOk result (λ made. made ≡ reverse values.now) }
+    ensures { IfOk result (λ made. made ≡ values.now) }
 {
     let mut made = Many::new(alloc);
-    for stored in values.iter().rev() {
+    for stored in values {
         made.push(stored.copy(alloc)?)?;
     }
     Ok(made)

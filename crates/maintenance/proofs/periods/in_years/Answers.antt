@@ -2,7 +2,7 @@ use Rattle.std.proofs.Common.{◌≡◌, ◌≤◌, pos, ◌+ℤ◌, ◌≤ℤ�
 use Rattle.std.proofs.lemmas.Int.{ints}
 use Rattle.std.proofs.lemmas.Bool.{false≢true}
 use Rattle.maintenance.specs.Days.{IsOnDay}
-use Rattle.maintenance.specs.Dates.{IsDayIn}
+use Rattle.local_time.specs.Dates.{IsDayIn}
 use Rattle.maintenance.specs.Force.{IsWithinLength}
 use Rattle.maintenance.proofs.MonthLemmas.{none_before_next}
 use Rattle.maintenance.proofs.periods.in_years.Goals as goal
@@ -10,7 +10,7 @@ use Rattle.maintenance.proofs.periods.in_years.Goals as goal
 pub returns-then-in_year : goal.returns-then-in_year
 returns-then-in_year c =
     let a = c.args in
-    let behind = c.loop-year.invariant.behind in
+    let begun = c.loop-year.invariant.begun in
     let low : a.first ≤ℤ to_z w16 c.loop-year.year-bits = omega (arith, ints) in
     let test = c.loop-year-test.true in
     let high : to_z w16 c.loop-year.year-bits <ℤ a.end = grind (arith, ints) in
@@ -23,9 +23,9 @@ loop-year-preserved c =
     let test = c.loop-year-test.true in
     let high : to_z w16 c.loop-year.year-bits <ℤ a.end = grind (arith, ints) in
     let next : to_z w16 (of_z w16 (to_z w16 c.loop-year.year-bits +ℤ pos 1)) ≡ to_z w16 c.loop-year.year-bits +ℤ pos 1 = omega (arith, ints) in
-    let behind = c.loop-year.invariant.behind in
+    let begun = c.loop-year.invariant.begun in
     record {
-      behind = omega (arith, ints);
+      begun = omega (arith, ints);
       none = none_before_next (λ y. IsWithinLength (λ s. (a.span.since ≤ s) × IsOnDay a.span.offset (IsDayIn y a.month a.number) a.at s) a.span.length a.span.now)
           _ (to_z w16 c.loop-year.year-bits) _ c.loop-year.invariant.none
           (λ p. false≢true (sym c.if-in_year.false ∙ c.in_year.ensures.1 p)) next;

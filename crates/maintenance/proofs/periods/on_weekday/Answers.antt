@@ -1,7 +1,7 @@
 use Rattle.std.proofs.Common.{rules, SFits, ◌≡◌, ◌∙◌, ◌*◌, ap, pos, to_z, of_z, w32, w64, arith, refl}
 use Rattle.std.proofs.lemmas.Bool.{false≢true}
 use Rattle.std.proofs.lemmas.Int.{ints}
-use Rattle.maintenance.specs.Days.{monday_of}
+use Rattle.local_time.specs.Days.{monday_of}
 use Rattle.maintenance.proofs.DayLemmas.{local_day_is}
 use Rattle.maintenance.proofs.WeekLemmas.{weekly_test, no_weekday}
 use Rattle.maintenance.proofs.periods.on_weekday.Goals as goal

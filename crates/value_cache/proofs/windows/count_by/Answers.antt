@@ -9,7 +9,7 @@ returns-clause-by c =
     let point = IsPartitionPoint-from_clause (is_by c.args.now c.args.seconds) _ _ c.partition_point.ensures.partitioned (partitioned c.args.now c.args.seconds c.args.values.now c.requires) (λ a r q k. search rules) in
     passed (is_by c.args.now c.args.seconds) c.args.values.now c.partition_point.result point
 
-pub returns-clause-behind : goal.returns-clause-behind
-returns-clause-behind c =
+pub returns-clause-after : goal.returns-clause-after
+returns-clause-after c =
     let point = IsPartitionPoint-from_clause (is_by c.args.now c.args.seconds) _ _ c.partition_point.ensures.partitioned (partitioned c.args.now c.args.seconds c.args.values.now c.requires) (λ a r q k. search rules) in
     left (is_by c.args.now c.args.seconds) c.args.values.now c.partition_point.result point

@@ -13,7 +13,7 @@ count_by-requires-in-Period c = subst IsOrdered (sym c.count_by.ensures.by) (ord
 pub returns-in-Period : goal.returns-in-Period
 returns-in-Period c =
     rw c.in-Period.is (ap reverse (take_rest (take c.count_by.result c.args.values.now) c.count_by-in-Period.result)
-    ∙ c.count_by-in-Period.ensures.behind
+    ∙ c.count_by-in-Period.ensures.after
     ∙ ap (filter (λ s. not (is_by c.args.now (c.from-shift.result + c.from.result) s))) c.count_by.ensures.by
     ∙ period_is c.args.now c.from-shift.result c.from.result (reverse c.args.values.now)
     ∙ ap₂ (λ i j. filter (in_period c.args.now i j) (reverse c.args.values.now)) c.from-shift.ensures c.from.ensures)
