@@ -2,5 +2,4 @@ pub mod Truths
 pub mod Containing
 pub mod Placed
 pub mod RankLemmas
-pub mod ClockLemmas
 pub mod CallPatterns

@@ -34,7 +34,7 @@ of_clock DayOfWeek now offset = dayofweek_of now offset
 of_clock DayOfMonth now offset = dayofmonth_of now offset
 of_clock fun now offset = None
 
--- a function over the window of its item, latest first; None is unknown
+-- a function over the window of its item, oldest first; None is unknown
 abbrev pub function_value : Fun → Call → List Stored → ℕ → Option ℕ → ℤ → Option ℤ
 function_value Change call window now first_tick offset = change_of window
 function_value ChangeCount call window now first_tick offset = changecount_of call.op window

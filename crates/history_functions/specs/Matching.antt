@@ -25,7 +25,7 @@ abbrev pub operator_of : List ℕ → List ℕ → Operator
 operator_of op arg =
     if length op == 0 then (if length arg == 0 then Any else Unwritten) else named op
 
--- the pattern that an operator searches for: of `iregexp` the argument behind `(?i)`
+-- the pattern that an operator searches for: of `iregexp` the argument after `(?i)`
 abbrev pub pattern_of : Operator → List ℕ → Option (List ℕ)
 pattern_of Any arg = None
 pattern_of Unwritten arg = None

@@ -1,18 +1,19 @@
--- Functions of the numbers of a window, latest first (the Zabbix 6.0 manual, "Aggregate functions", "History functions").
+-- Functions of the numbers of a window, oldest first (the Zabbix 6.0 manual, "Aggregate functions", "History functions").
 use Rattle.std.specs.Prelude.{◌*◌, ℤ, pos, ◌+ℤ◌, int_lt, List, [], ◌∷◌, length, Option, Some, None, option_and_then, if◌then◌else◌}
 use Rattle.zbx_types.specs.Arithmetic.{in_range, quotient_of}
 use Rattle.zbx_types.specs.Ids.{at_id}
 use Rattle.zbx_types.specs.declared.calls.Range.{Range}
 use Rattle.zbx_types.specs.declared.calls.Range.TheVariants.{Count, Period}
+use Rattle.history_functions.specs.Values.{nth_last}
 
--- `last`: the number at this place, which counts from 1, of the latest first; a period names none
+-- `last`: the n-th latest number; a period names none
 abbrev pub last_of : Range → List ℤ → Option ℤ
-last_of (Count n) zs = at_id zs n
+last_of (Count n) zs = nth_last n zs
 last_of (Period seconds) zs = None
 
 -- `first`: the oldest
 abbrev pub first_of : List ℤ → Option ℤ
-first_of zs = at_id zs (length zs)
+first_of zs = at_id zs 1
 
 -- the least and the greatest of a number and some more
 abbrev pub least : ℤ → List ℤ → ℤ

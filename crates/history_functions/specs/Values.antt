@@ -1,7 +1,8 @@
--- The values of a window, which stand latest first.
-use Rattle.std.specs.Prelude.{ℕ, ◌*◌, ℤ, pos, Bool, List, [], ◌∷◌, Option, Some, if◌then◌else◌, drop}
+-- The values of a window, which stand oldest first.
+use Rattle.std.specs.Prelude.{ℕ, ◌+◌, ◌-◌, ◌*◌, ℤ, pos, Bool, List, [], ◌∷◌, Option, Some, if◌then◌else◌, drop, length}
 use Rattle.std.specs.List.{zip}
 use Rattle.zbx_types.specs.Arithmetic.{in_range}
+use Rattle.zbx_types.specs.Ids.{at_id}
 use Rattle.zbx_types.specs.declared.entries.Stored.{Stored}
 use Rattle.zbx_types.specs.declared.entries.Held.{Held}
 use Rattle.zbx_types.specs.declared.entries.Held.TheVariants.{Number, Words}
@@ -16,9 +17,13 @@ abbrev pub numbers : List Stored → List ℤ
 numbers [] = []
 numbers (s ∷ ss) = number_before s.value (numbers ss)
 
--- each value with the one before it in time
+-- each value with the next one in time
 abbrev pub neighbours : {A : Type 0} → List A → List (A × A)
 neighbours xs = zip xs (drop 1 xs)
+
+-- the n-th from the end, where 1 is the last
+abbrev pub nth_last : {A : Type 0} → ℕ → List A → Option A
+nth_last n xs = at_id xs (length xs + 1 - n)
 
 -- 1 for what holds, and 0 for what doesn't
 abbrev pub truth : Bool → Option ℤ

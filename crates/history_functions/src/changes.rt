@@ -3,7 +3,7 @@
 ghost use Rattle.std.specs.Prelude.{◌≡◌};
 ghost use Rattle.history_functions.specs.Changes.{change_between, change_of, counted_by, number_counts, counts, changes, changecount_of, may_rise, is_strict, all_rise, all_fall, monoinc_of, monodec_of};
 
-use crate::values::{same_text, truth, whole};
+use crate::values::{nth_last, same_text, truth, whole};
 use zbx_types::{Fix, Held, Stored};
 
 /// What `changecount` counts.
@@ -17,6 +17,7 @@ pub(crate) enum Counted {
     Falls,
 }
 
+/// A later value less an earlier one; of texts whether they differ.
 fn change_between(later: &Held, earlier: &Held) -> Option<Fix>
     ensures { result ≡ change_between later.now earlier.now }
 {
@@ -34,13 +35,12 @@ fn change_between(later: &Held, earlier: &Held) -> Option<Fix>
 pub(crate) fn change(window: &[Stored]) -> Option<Fix>
     ensures { result ≡ change_of window.now }
 {
-    match window {
-        [] => None,
-        [_] => None,
-        [later, earlier, ..] => change_between(&later.value, &earlier.value),
-    }
+    let earlier = nth_last(window, 2)?;
+    let later = nth_last(window, 1)?;
+    change_between(&later.value, &earlier.value)
 }
 
+/// What `changecount` counts, by its mode.
 fn counted_by(mode: &[u8]) -> Counted
     ensures { result ≡ counted_by mode.now }
 {
@@ -53,6 +53,7 @@ fn counted_by(mode: &[u8]) -> Counted
     }
 }
 
+/// Whether a number after an earlier one counts.
 fn number_counts(counted: Counted, later: Fix, earlier: Fix) -> bool
     ensures { result ≡ number_counts counted later earlier }
 {
@@ -63,6 +64,7 @@ fn number_counts(counted: Counted, later: Fix, earlier: Fix) -> bool
     }
 }
 
+/// Whether a value after an earlier one counts.
 fn counts(counted: Counted, later: &Held, earlier: &Held) -> bool
     ensures { result ≡ counts counted later.now earlier.now }
 {
@@ -76,6 +78,7 @@ fn counts(counted: Counted, later: &Held, earlier: &Held) -> bool
     }
 }
 
+/// How many values count after the one before.
 #[tactic(auto, unfolding(crate::specs::Changes::changes))]
 fn count_changes(counted: Counted, window: &[Stored]) -> usize
     ensures { result ≡ changes counted window.now }
@@ -83,7 +86,7 @@ fn count_changes(counted: Counted, window: &[Stored]) -> usize
     window
         .iter()
         .zip(window.iter().skip(1))
-        .filter(|pair| counts(counted, &pair.0.value, &pair.1.value))
+        .filter(|pair| counts(counted, &pair.1.value, &pair.0.value))
         .count()
 }
 
@@ -94,6 +97,7 @@ pub(crate) fn changecount(mode: &[u8], window: &[Stored]) -> Option<Fix>
     whole(count_changes(counted_by(mode), window) as u64)
 }
 
+/// Whether a number may follow an earlier one where the numbers rise.
 fn may_rise(strict: bool, earlier: Fix, later: Fix) -> bool
     ensures { result ≡ may_rise strict earlier later }
 {
@@ -104,12 +108,14 @@ fn may_rise(strict: bool, earlier: Fix, later: Fix) -> bool
     }
 }
 
+/// Whether the mode is `strict`.
 fn is_strict(mode: &[u8]) -> bool
     ensures { result ≡ is_strict mode.now }
 {
     same_text(mode, b"strict")
 }
 
+/// Whether all neighbours rise.
 #[tactic(auto, unfolding(crate::specs::Changes::all_rise))]
 fn all_rise(strict: bool, numbers: &[Fix]) -> bool
     ensures { result ≡ all_rise strict numbers.now }
@@ -117,9 +123,10 @@ fn all_rise(strict: bool, numbers: &[Fix]) -> bool
     numbers
         .iter()
         .zip(numbers.iter().skip(1))
-        .all(|(later, earlier)| may_rise(strict, *earlier, *later))
+        .all(|(earlier, later)| may_rise(strict, *earlier, *later))
 }
 
+/// Whether all neighbours fall.
 #[tactic(auto, unfolding(crate::specs::Changes::all_fall))]
 fn all_fall(strict: bool, numbers: &[Fix]) -> bool
     ensures { result ≡ all_fall strict numbers.now }
@@ -127,7 +134,7 @@ fn all_fall(strict: bool, numbers: &[Fix]) -> bool
     numbers
         .iter()
         .zip(numbers.iter().skip(1))
-        .all(|(later, earlier)| may_rise(strict, *later, *earlier))
+        .all(|(earlier, later)| may_rise(strict, *later, *earlier))
 }
 
 /// `monoinc`: whether the numbers rise, strictly or not.

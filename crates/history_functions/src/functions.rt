@@ -1,7 +1,7 @@
 //! The value of a call.
 
 ghost use Rattle.std.specs.Prelude.{◌≡◌, IfOk, IfSome, Contains};
-ghost use Rattle.jiff.specs.Words.{IsWithin};
+ghost use Rattle.jiff_core.specs.Calendar.{IsWithin};
 ghost use Rattle.history_functions.specs.Values.{numbers};
 ghost use Rattle.history_functions.specs.Functions.{of_numbers, of_clock, value_of, call_pattern};
 
@@ -81,10 +81,10 @@ fn of_clock(fun: Fun, moment: Moment, offset: i32) -> Option<Fix>
 
 /// The value of a call (the Zabbix 6.0 manual, "Supported functions"), or None where it is unknown.
 ///
-/// `window` holds the values that the call's range and shift name, latest first; `now` is the moment of the evaluation,
+/// `window` holds the values that the call's range and shift name, oldest first; `now` is the moment of the evaluation,
 /// `first_tick` that of the first Tick of the run, and `offset` the local time's offset from UTC in seconds, at most 14
 /// hours. `patterns` holds the pattern of a call of `count` or `find` with the operator `regexp` or `iregexp`, of the latter
-/// its text behind `(?i)`. The rules are those that the crate's comment tells.
+/// its text after `(?i)`. The rules are those that the crate's comment tells.
 ///
 /// [`OutOfMemory`] comes where there is no room for the numbers of the window or for a search, and for sums of more than
 /// 10^8 numbers.

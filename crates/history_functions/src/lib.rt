@@ -1,6 +1,6 @@
 //! The value of a call of a function in a trigger's expression (the Zabbix 6.0 manual, "Supported functions").
 //!
-//! The public contract: [`value`] gives what the definition of the call's function says of the window of its item, latest
+//! The public contract: [`value`] gives what the definition of the call's function says of the window of its item, oldest
 //! first, at a moment, or None where that is unknown. A definition looks at lists alone; the code costs about as much as the
 //! window is long, and `percentile` sorts it once.
 //!
@@ -12,15 +12,15 @@
 //! changecount all, inc, dec        how many neighbours differ, rise, fall; of texts each that differs
 //! monoinc, monodec weak, strict    1 where all neighbours rise, fall; else 0
 //! count, find op, arg              how many values match; 1 where one does, else 0, and unknown of no value
-//! nodata p                         0 where there is a value; else 1 from p seconds behind the first Tick on
+//! nodata p                         0 where there is a value; else 1 from p seconds after the first Tick on
 //! now, time, date                  the seconds, and HHMMSS and YYYYMMDD by the local clock
 //! dayofweek, dayofmonth            1 for Monday to 7, 1 to 31, by the local clock
 //! ```
 //!
 //! A number compares with `arg` as a number text with an optional suffix, and matches nothing where that is none; patterns see
 //! it written. A text compares by its bytes, and `like` asks whether it contains `arg`. An operator that doesn't fit the value
-//! matches nothing, as `like` on a number, `gt` on a text, or any other name. Truths are 1 and 0, and a result above 10^24 without its sign is unknown. What the parser refuses has a value too,
-//! by the same definitions. A short use:
+//! matches nothing, as `like` on a number, `gt` on a text, or any other name. Truths are 1 and 0, and a result above 10^24
+//! without its sign is unknown. What the parser refuses has a value too, by the same definitions. A short use:
 //!
 //! ```text
 //! // avg(/host/key,#2) over 3.25 and 1.5

@@ -4,21 +4,15 @@ ghost use Rattle.std.specs.Prelude.{◌≡◌, ◌<◌, ◌^◌, ◌*◌, pos, l
 ghost use Rattle.zbx_types.specs.Arithmetic.{in_range, quotient_of};
 ghost use Rattle.history_functions.specs.Numbers.{last_of, first_of, least, greatest, min_of, max_of, total, sum_of_numbers, avg_of};
 
-use zbx_types::{Fix, OutOfMemory, Range, by_id};
-
-/// The number at a place, which counts from 1.
-fn at(numbers: &[Fix], place: u32) -> Option<Fix>
-    ensures { result ≡ last_of (Range.Count place) numbers.now }
-{
-    by_id(numbers, place).copied()
-}
+use crate::values::nth_last;
+use zbx_types::{Fix, OutOfMemory, Range};
 
 /// `last`: the n-th latest number.
 pub(crate) fn last(range: Range, numbers: &[Fix]) -> Option<Fix>
     ensures { result ≡ last_of range numbers.now }
 {
     match range {
-        Range::Count(place) => at(numbers, place),
+        Range::Count(n) => nth_last(numbers, n).copied(),
         Range::Period(_) => None,
     }
 }
@@ -28,7 +22,7 @@ pub(crate) fn last(range: Range, numbers: &[Fix]) -> Option<Fix>
 pub(crate) fn first(numbers: &[Fix]) -> Option<Fix>
     ensures { result ≡ first_of numbers.now }
 {
-    numbers.last().copied()
+    numbers.first().copied()
 }
 
 fn least(first: Fix, more: &[Fix]) -> Fix

@@ -1,7 +1,7 @@
 //! The functions over small windows, and the local clock.
 
 ghost use Rattle.std.specs.Prelude.{◌≡◌, ◌++◌, ◌∷◌, [], IfOk, codes};
-ghost use Rattle.jiff.specs.Words.{IsWithin};
+ghost use Rattle.jiff_core.specs.Calendar.{IsWithin};
 
 use super::*;
 use pattern_set::{BuildError, Patterns};
@@ -21,7 +21,7 @@ fn held(alloc: Global, value: &str) -> Result<Held, OutOfMemory> {
     }
 }
 
-/// The values between bars, latest first; none where the text is empty.
+/// The values between bars, oldest first; none where the text is empty.
 fn window(alloc: Global, values: &str) -> Result<Many<Stored>, OutOfMemory> {
     let mut made = Many::new(alloc);
     if values.is_empty() {
@@ -114,30 +114,30 @@ fn number(text: &str) -> Option<Fix> {
 /// Functions of numbers: function, operator, values and result.
 fn statistics() -> [(Fun, &'static str, &'static str, &'static str); 26] {
     [
-        (Fun::Last, "", "7|8", "7"),
+        (Fun::Last, "", "8|7", "7"),
         (Fun::Last, "", "", "?"),
-        (Fun::First, "", "7|8", "8"),
+        (Fun::First, "", "8|7", "8"),
         (Fun::First, "", "", "?"),
-        (Fun::Min, "", "3|-2|5", "-2"),
-        (Fun::Max, "", "3|-2|5", "5"),
+        (Fun::Min, "", "5|-2|3", "-2"),
+        (Fun::Max, "", "5|-2|3", "5"),
         (Fun::Min, "", "", "?"),
         (Fun::Max, "", "", "?"),
-        (Fun::Avg, "", "3.25|1.5", "2.375"),
-        (Fun::Avg, "", "1|0|0", "0.333333"),
+        (Fun::Avg, "", "1.5|3.25", "2.375"),
+        (Fun::Avg, "", "0|0|1", "0.333333"),
         (Fun::Avg, "", "-1|0|-1", "-0.666666"),
         (Fun::Avg, "", "", "?"),
-        (Fun::Sum, "", "1|2|3.5", "6.5"),
-        (Fun::Sum, "", "1e24|1e24|-1e24", "1e24"),
-        (Fun::Sum, "", "1e24|1", "?"),
-        (Fun::Avg, "", "1e24|1", "?"),
-        (Fun::Percentile, "50", "3|1|2", "2"),
-        (Fun::Percentile, "50", "4|1|3|2", "2"),
-        (Fun::Percentile, "50.000001", "4|1|3|2", "3"),
-        (Fun::Percentile, "0", "4|1|3|2", "1"),
-        (Fun::Percentile, "100", "4|1|3|2", "4"),
-        (Fun::Percentile, "1m", "5|4|3|2|1", "3"),
-        (Fun::Percentile, "75", "2|2|1|2", "2"),
-        (Fun::Percentile, "101", "4|1", "?"),
+        (Fun::Sum, "", "3.5|2|1", "6.5"),
+        (Fun::Sum, "", "-1e24|1e24|1e24", "1e24"),
+        (Fun::Sum, "", "1|1e24", "?"),
+        (Fun::Avg, "", "1|1e24", "?"),
+        (Fun::Percentile, "50", "2|1|3", "2"),
+        (Fun::Percentile, "50", "2|3|1|4", "2"),
+        (Fun::Percentile, "50.000001", "2|3|1|4", "3"),
+        (Fun::Percentile, "0", "2|3|1|4", "1"),
+        (Fun::Percentile, "100", "2|3|1|4", "4"),
+        (Fun::Percentile, "1m", "1|2|3|4|5", "3"),
+        (Fun::Percentile, "75", "2|1|2|2", "2"),
+        (Fun::Percentile, "101", "1|4", "?"),
         (Fun::Percentile, "50", "", "?"),
         (Fun::MonoInc, "", "", "?"),
     ]
@@ -146,30 +146,30 @@ fn statistics() -> [(Fun, &'static str, &'static str, &'static str); 26] {
 /// Functions of neighbours: function, mode, values and result.
 fn neighbours() -> [(Fun, &'static str, &'static str, &'static str); 24] {
     [
-        (Fun::Change, "", "5|7.5", "-2.5"),
-        (Fun::Change, "", "5|7.5|1", "-2.5"),
+        (Fun::Change, "", "7.5|5", "-2.5"),
+        (Fun::Change, "", "1|7.5|5", "-2.5"),
         (Fun::Change, "", "5", "?"),
         (Fun::Change, "", "", "?"),
-        (Fun::Change, "", "1e24|-1e24", "?"),
-        (Fun::Change, "", "'b|'a", "1"),
+        (Fun::Change, "", "-1e24|1e24", "?"),
+        (Fun::Change, "", "'a|'b", "1"),
         (Fun::Change, "", "'a|'a", "0"),
-        (Fun::ChangeCount, "", "1|1|2|1|0", "3"),
-        (Fun::ChangeCount, "all", "1|1|2|1|0", "3"),
-        (Fun::ChangeCount, "inc", "1|1|2|1|0", "2"),
-        (Fun::ChangeCount, "dec", "1|1|2|1|0", "1"),
-        (Fun::ChangeCount, "dec", "'b|'b|'a", "1"),
+        (Fun::ChangeCount, "", "0|1|2|1|1", "3"),
+        (Fun::ChangeCount, "all", "0|1|2|1|1", "3"),
+        (Fun::ChangeCount, "inc", "0|1|2|1|1", "2"),
+        (Fun::ChangeCount, "dec", "0|1|2|1|1", "1"),
+        (Fun::ChangeCount, "dec", "'a|'b|'b", "1"),
         (Fun::ChangeCount, "inc", "'a|'b|'a", "2"),
         (Fun::ChangeCount, "", "5", "0"),
         (Fun::ChangeCount, "", "", "0"),
-        (Fun::MonoInc, "", "3|2|2|1", "1"),
-        (Fun::MonoInc, "weak", "3|2|2|1", "1"),
-        (Fun::MonoInc, "strict", "3|2|2|1", "0"),
-        (Fun::MonoInc, "strict", "3|2|1", "1"),
-        (Fun::MonoInc, "", "1|2", "0"),
+        (Fun::MonoInc, "", "1|2|2|3", "1"),
+        (Fun::MonoInc, "weak", "1|2|2|3", "1"),
+        (Fun::MonoInc, "strict", "1|2|2|3", "0"),
+        (Fun::MonoInc, "strict", "1|2|3", "1"),
+        (Fun::MonoInc, "", "2|1", "0"),
         (Fun::MonoInc, "strict", "5", "1"),
-        (Fun::MonoDec, "", "1|2|2", "1"),
-        (Fun::MonoDec, "strict", "1|2|2", "0"),
-        (Fun::MonoDec, "", "2|1", "0"),
+        (Fun::MonoDec, "", "2|2|1", "1"),
+        (Fun::MonoDec, "strict", "2|2|1", "0"),
+        (Fun::MonoDec, "", "1|2", "0"),
     ]
 }
 
@@ -237,17 +237,83 @@ fn functions_of_neighbours_look_at_them_in_time(rt: HostRuntime) -> Result<(), F
 #[test]
 fn last_takes_the_value_at_its_place(rt: HostRuntime) -> Result<(), Fail> {
     assert_eq!(rt;
-        over(rt.alloc(), Fun::Last, Range::Count(2), "", "", "7|8")?,
+        over(rt.alloc(), Fun::Last, Range::Count(2), "", "", "8|7")?,
         number("8")
     );
     assert_eq!(rt;
-        over(rt.alloc(), Fun::Last, Range::Count(3), "", "", "7|8")?,
+        over(rt.alloc(), Fun::Last, Range::Count(3), "", "", "8|7")?,
         None
     );
     assert_eq!(rt;
-        over(rt.alloc(), Fun::Last, Range::Period(60), "", "", "7|8")?,
+        over(rt.alloc(), Fun::Last, Range::Period(60), "", "", "8|7")?,
         None
     );
+    Ok(())
+}
+
+/// The numbers from 1 to 1,000, a second each.
+fn a_thousand(alloc: Global) -> Result<Many<Stored>, OutOfMemory> {
+    let mut made = Many::new(alloc);
+    for sec in 1..1_001u32 {
+        let Some(number) = Fix::of_raw(i128::from(sec) * 1_000_000) else {
+            return Err(OutOfMemory);
+        };
+        made.push(Stored {
+            time: Moment { sec, ns: 0 },
+            number: u64::from(sec),
+            value: Held::Number(number),
+        })?;
+    }
+    Ok(made)
+}
+
+/// The value of a function over them.
+fn over_a_thousand(
+    alloc: Global,
+    fun: Fun,
+    count: u32,
+    op: &str,
+    arg: &str,
+) -> Result<Option<Fix>, Fail> {
+    let call = call(alloc, fun, Range::Count(count), op, arg)?;
+    let window = a_thousand(alloc)?;
+    let now = Moment { sec: 2_000, ns: 0 };
+    Ok(valued(alloc, &call, window.as_slice(), now, None, 0)?)
+}
+
+/// Function, count of its range, operator, argument and result over the numbers from 1 to 1,000.
+fn of_a_thousand() -> [(Fun, u32, &'static str, &'static str, &'static str); 18] {
+    [
+        (Fun::Last, 1, "", "", "1000"),
+        (Fun::Last, 1000, "", "", "1"),
+        (Fun::Last, 1001, "", "", "?"),
+        (Fun::First, 1000, "", "", "1"),
+        (Fun::Min, 1000, "", "", "1"),
+        (Fun::Max, 1000, "", "", "1000"),
+        (Fun::Sum, 1000, "", "", "500500"),
+        (Fun::Avg, 1000, "", "", "500.5"),
+        (Fun::Percentile, 1000, "95", "", "950"),
+        (Fun::Change, 1000, "", "", "1"),
+        (Fun::ChangeCount, 1000, "inc", "", "999"),
+        (Fun::ChangeCount, 1000, "dec", "", "0"),
+        (Fun::MonoInc, 1000, "strict", "", "1"),
+        (Fun::MonoDec, 1000, "", "", "0"),
+        (Fun::Count, 1000, "gt", "500", "500"),
+        (Fun::Count, 1000, "regexp", "^1", "112"),
+        (Fun::Find, 1000, "iregexp", "^1000$", "1"),
+        (Fun::NoData, 1000, "", "", "0"),
+    ]
+}
+
+#[test]
+fn functions_look_at_a_thousand_values(rt: HostRuntime) -> Result<(), Fail> {
+    for (fun, count, op, arg, want) in of_a_thousand() {
+        assert_eq!(rt;
+            over_a_thousand(rt.alloc(), fun, count, op, arg)?,
+            number(want),
+            "{fun:?} {count} {op} {arg}"
+        );
+    }
     Ok(())
 }
 

@@ -1,7 +1,8 @@
 //! The values of a window.
 
 ghost use Rattle.std.specs.Prelude.{◌≡◌, bytes_eq, IfOk};
-ghost use Rattle.history_functions.specs.Values.{numbers, truth, whole};
+ghost use Rattle.std.specs.Option.{option_copied};
+ghost use Rattle.history_functions.specs.Values.{numbers, nth_last, truth, whole};
 
 use std::alloc::Global;
 use zbx_types::{Fix, Held, Many, OutOfMemory, Stored};
@@ -17,6 +18,18 @@ pub(crate) fn numbers(alloc: Global, window: &[Stored]) -> Result<Many<Fix>, Out
         }
     }
     Ok(made)
+}
+
+/// The n-th from the end, where 1 is the last.
+#[tactic(auto, unfolding(zbx_types::specs::Ids::at_id))]
+pub(crate) fn nth_last<T>(items: &[T], n: u32) -> Option<&T>
+    ensures { option_copied result ≡ nth_last n items.now }
+{
+    if n == 0 {
+        return None;
+    }
+    let place = items.len().checked_sub(n as usize)?;
+    items.get(place)
 }
 
 /// Whether two texts have the same bytes.

@@ -1,6 +1,6 @@
 //! Whether a second is in a period of a maintenance.
 
-ghost use Rattle.std.specs.Prelude.{◌≡◌, ◌↔◌, ℕ, ◌+◌, ◌≤◌, ◌<◌, ℤ, ◌≤ℤ◌, ◌<ℤ◌, IsTrue, Any};
+ghost use Rattle.std.specs.Prelude.{◌≡◌, ◌↔◌, ◌≤◌, ◌<◌, ℤ, ◌≤ℤ◌, ◌<ℤ◌, IsTrue, Any};
 ghost use Rattle.maintenance.specs.Days.{IsOnDay};
 ghost use Rattle.local_time.specs.Dates.{IsDayIn};
 ghost use Rattle.maintenance.specs.Starts.{IsDailyDay, IsWeeklyDay, IsMonthlyDay, length_of};

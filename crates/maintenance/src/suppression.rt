@@ -1,6 +1,6 @@
 //! What maintenances do to problems and to values.
 
-ghost use Rattle.std.specs.Prelude.{◌↔◌, ◌/◌, IsTrue, Any};
+ghost use Rattle.std.specs.Prelude.{◌↔◌, IsTrue, Any};
 ghost use Rattle.maintenance.specs.Suppression.{Suppresses, IsSuppressed, KeepsOut, Collects};
 
 use crate::covering::{is_of_host, is_of_some_item};

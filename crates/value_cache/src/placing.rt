@@ -1,6 +1,6 @@
 //! The place of one more value.
 
-ghost use Rattle.std.specs.Prelude.{◌≡◌, ℕ, reverse, is_ok, if◌then◌else◌, IfErr};
+ghost use Rattle.std.specs.Prelude.{◌≡◌, reverse, is_ok, if◌then◌else◌, IfErr};
 ghost use Rattle.std.specs.List.{prefix_len};
 ghost use Rattle.value_cache.specs.Histories.{is_later, placed};
 

@@ -1,6 +1,6 @@
 //! Windows as parts of a slice that has the oldest value first.
 
-ghost use Rattle.std.specs.Prelude.{◌≡◌, ◌≤◌, ℕ, not, length, reverse, take, drop, IfOk};
+ghost use Rattle.std.specs.Prelude.{◌≡◌, ◌≤◌, not, length, reverse, take, drop, IfOk};
 ghost use Rattle.std.specs.List.{filter};
 ghost use Rattle.value_cache.specs.Histories.{IsOrdered};
 ghost use Rattle.value_cache.specs.Windows.{is_by, seen_of};
