@@ -4,10 +4,9 @@ use Rattle.std.specs.Prelude.{IfSome, Contains}
 use Rattle.zbx_types.specs.declared.calls.Call.{Call}
 use Rattle.zbx_types.specs.declared.calls.Fun.{Fun}
 use Rattle.zbx_types.specs.declared.calls.Fun.TheVariants.{Count, Find}
-use Rattle.history_functions.specs.declared.operators.Operator.{Operator}
-use Rattle.history_functions.specs.declared.operators.Operator.TheVariants.{Regexp, Iregexp}
-use Rattle.history_functions.specs.Matching.{operator_of, pattern_of}
-use Rattle.history_functions.specs.Functions.{function_pattern, call_pattern}
+use Rattle.zbx_types.specs.declared.operators.Operator.{Operator}
+use Rattle.zbx_types.specs.declared.operators.Operator.TheVariants.{Regexp, Iregexp}
+use Rattle.zbx_types.specs.Operators.{operator_of, pattern_of, function_pattern, call_pattern}
 
 abbrev both_ways : List ℕ → List (List ℕ)
 both_ways arg = arg ∷ (codes "(?i)" ++ arg) ∷ []

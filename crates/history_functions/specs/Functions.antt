@@ -8,7 +8,7 @@ use Rattle.history_functions.specs.Values.{numbers}
 use Rattle.history_functions.specs.Numbers.{last_of, first_of, min_of, max_of, avg_of, sum_of_numbers}
 use Rattle.history_functions.specs.Ranks.{percentile_of}
 use Rattle.history_functions.specs.Changes.{change_of, changecount_of, monoinc_of, monodec_of}
-use Rattle.history_functions.specs.Matching.{operator_of, pattern_of, count_of, find_of}
+use Rattle.history_functions.specs.Matching.{count_of, find_of}
 use Rattle.history_functions.specs.Absence.{nodata_of}
 use Rattle.history_functions.specs.Clock.{now_of, time_of, date_of, dayofweek_of, dayofmonth_of}
 
@@ -51,13 +51,3 @@ function_value fun call window now first_tick offset = of_numbers fun call (numb
 -- the value of a call
 unfoldable pub value_of : Call → List Stored → ℕ → Option ℕ → ℤ → Option ℤ
 value_of call window now first_tick offset = function_value call.fun call window now first_tick offset
-
--- the pattern that a function searches for
-abbrev pub function_pattern : Fun → Call → Option (List ℕ)
-function_pattern Count call = pattern_of (operator_of call.op call.arg) call.arg
-function_pattern Find call = pattern_of (operator_of call.op call.arg) call.arg
-function_pattern fun call = None
-
--- the pattern of a call
-unfoldable pub call_pattern : Call → Option (List ℕ)
-call_pattern call = function_pattern call.fun call

@@ -1,7 +1,8 @@
 -- Functions of the numbers of a window, oldest first (the Zabbix 6.0 manual, "Aggregate functions", "History functions").
-use Rattle.std.specs.Prelude.{◌*◌, ℤ, pos, ◌+ℤ◌, int_lt, List, [], ◌∷◌, length, Option, Some, None, option_and_then, if◌then◌else◌}
+use Rattle.std.specs.Prelude.{◌*◌, ℤ, pos, List, [], ◌∷◌, length, Option, Some, None, option_and_then}
 use Rattle.zbx_types.specs.Arithmetic.{in_range, quotient_of}
 use Rattle.zbx_types.specs.Ids.{at_id}
+use Rattle.zbx_types.specs.Numbers.{least, greatest, total}
 use Rattle.zbx_types.specs.declared.calls.Range.{Range}
 use Rattle.zbx_types.specs.declared.calls.Range.TheVariants.{Count, Period}
 use Rattle.history_functions.specs.Values.{nth_last}
@@ -15,28 +16,15 @@ last_of (Period seconds) zs = None
 abbrev pub first_of : List ℤ → Option ℤ
 first_of zs = at_id zs 1
 
--- the least and the greatest of a number and some more
-abbrev pub least : ℤ → List ℤ → ℤ
-least z [] = z
-least z (x ∷ xs) = least (if int_lt x z then x else z) xs
-
-abbrev pub greatest : ℤ → List ℤ → ℤ
-greatest z [] = z
-greatest z (x ∷ xs) = greatest (if int_lt z x then x else z) xs
-
--- `min` and `max`: of no number unknown
+-- `min`: of no number unknown
 abbrev pub min_of : List ℤ → Option ℤ
 min_of [] = None
 min_of (z ∷ zs) = Some (least z zs)
 
+-- `max`: of no number unknown
 abbrev pub max_of : List ℤ → Option ℤ
 max_of [] = None
 max_of (z ∷ zs) = Some (greatest z zs)
-
--- all of them together
-abbrev pub total : List ℤ → ℤ
-total [] = pos 0
-total (z ∷ zs) = z +ℤ total zs
 
 -- `sum`: exact, and of no number unknown
 abbrev pub sum_of_numbers : List ℤ → Option ℤ

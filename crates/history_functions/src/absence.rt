@@ -6,12 +6,6 @@ ghost use Rattle.history_functions.specs.Absence.{awaited, nodata_of};
 use crate::values::truth;
 use zbx_types::{Fix, Moment, Range, Stored};
 
-fn nanoseconds(moment: Moment) -> u64
-    ensures { result ≡ moment }
-{
-    u64::from(moment.sec) * 1_000_000_000 + u64::from(moment.ns)
-}
-
 /// Whether a period is over since the first Tick.
 fn awaited(seconds: u32, now: Moment, first_tick: Option<Moment>) -> Option<Fix>
     ensures { result ≡ awaited seconds now first_tick }
@@ -19,7 +13,7 @@ fn awaited(seconds: u32, now: Moment, first_tick: Option<Moment>) -> Option<Fix>
     match first_tick {
         None => None,
         Some(tick) => {
-            if nanoseconds(tick) + u64::from(seconds) * 1_000_000_000 <= nanoseconds(now) {
+            if now.is_past(tick, seconds) {
                 truth(true)
             } else {
                 None

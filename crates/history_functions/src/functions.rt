@@ -2,8 +2,9 @@
 
 ghost use Rattle.std.specs.Prelude.{◌≡◌, IfOk, IfSome, Contains};
 ghost use Rattle.jiff_core.specs.Calendar.{IsWithin};
+ghost use Rattle.zbx_types.specs.Operators.{call_pattern};
 ghost use Rattle.history_functions.specs.Values.{numbers};
-ghost use Rattle.history_functions.specs.Functions.{of_numbers, of_clock, value_of, call_pattern};
+ghost use Rattle.history_functions.specs.Functions.{of_numbers, of_clock, value_of};
 
 use crate::absence::nodata;
 use crate::changes::{change, changecount, monodec, monoinc};
@@ -88,7 +89,7 @@ fn of_clock(fun: Fun, moment: Moment, offset: i32) -> Option<Fix>
 ///
 /// [`OutOfMemory`] comes where there is no room for the numbers of the window or for a search, and for sums of more than
 /// 10^8 numbers.
-#[tactic(auto, unfolding(crate::specs::Functions::value_of, crate::specs::Functions::call_pattern))]
+#[tactic(auto, unfolding(crate::specs::Functions::value_of, zbx_types::specs::Operators::call_pattern))]
 pub fn value(
     alloc: Global,
     call: &Call,

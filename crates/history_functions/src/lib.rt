@@ -34,7 +34,6 @@ mod clock;
 mod functions;
 mod matching;
 mod numbers;
-mod operators;
 mod ranks;
 mod values;
 

@@ -1,17 +1,17 @@
 //! Which values match an operator with its argument.
 
-ghost use Rattle.std.specs.Prelude.{◌≡◌, IfOk, IfSome, Contains, Some, codes, ◌++◌};
+ghost use Rattle.std.specs.Prelude.{◌≡◌, IfOk, IfSome, Contains, Some};
 ghost use Rattle.zbx_types.specs.Ids.{at_id};
+ghost use Rattle.zbx_types.specs.Operators.{operator_of, pattern_of};
 ghost use Rattle.zbx_types.specs.Suffixes.{read_suffixed};
 ghost use Rattle.zbx_types.specs.Written.{written};
-ghost use Rattle.history_functions.specs.Matching.{operator_of, pattern_of, is_found, comparison, compares, number_matches, contains, text_matches, matches, count_matching, any_matches, count_of, find_of};
+ghost use Rattle.history_functions.specs.Matching.{is_found, comparison, compares, number_matches, text_matches, matches, count_matching, any_matches, count_of, find_of};
 
-use crate::operators::{Operator, operator_of};
 use crate::values::{same_text, truth, whole};
 use pattern_set::Patterns;
 use std::alloc::Global;
 use std::convert::AsStr;
-use zbx_types::{Fix, Held, OutOfMemory, Stored, Text};
+use zbx_types::{Fix, Held, Operator, OutOfMemory, Stored, Text, operator_of, pattern_of};
 
 /// What values are tested for.
 #[derive(Clone, Copy)]
@@ -36,15 +36,6 @@ fn place_of(patterns: &Patterns, text: &Text) -> u32
     patterns.find(text)
 }
 
-/// A pattern in any case of its letters.
-fn any_case(alloc: Global, arg: &Text) -> Result<Text, OutOfMemory>
-    ensures { IfOk result (λ made. made ≡ codes "(?i)" ++ arg.now) }
-{
-    let mut made = Text::of(alloc, "(?i)")?;
-    made.push_str(arg.as_str())?;
-    Ok(made)
-}
-
 /// The place of the pattern that an operator searches for, or 0.
 #[tactic(auto, unfolding(zbx_types::specs::Ids::at_id))]
 fn place_for(
@@ -56,22 +47,9 @@ fn place_for(
     requires { IfSome (pattern_of operator arg.now) (Contains patterns.now) }
     ensures { IfOk result (λ place. at_id patterns.now place ≡ pattern_of operator arg.now) }
 {
-    match operator {
-        Operator::Regexp => Ok(place_of(patterns, arg)),
-        Operator::Iregexp => {
-            let pattern = any_case(alloc, arg)?;
-            Ok(place_of(patterns, &pattern))
-        }
-        Operator::Any
-        | Operator::Unwritten
-        | Operator::Eq
-        | Operator::Ne
-        | Operator::Gt
-        | Operator::Ge
-        | Operator::Lt
-        | Operator::Le
-        | Operator::Like
-        | Operator::Other => Ok(0),
+    match pattern_of(alloc, operator, arg)? {
+        Some(pattern) => Ok(place_of(patterns, &pattern)),
+        None => Ok(0),
     }
 }
 
@@ -161,13 +139,6 @@ fn number_matches(alloc: Global, test: &Test, number: Fix) -> Result<bool, OutOf
     }
 }
 
-/// Whether a text contains another one.
-fn contains(text: &str, part: &str) -> bool
-    ensures { result ≡ contains text.now part.now }
-{
-    text.contains(part)
-}
-
 /// Whether a text matches.
 fn text_matches(alloc: Global, test: &Test, text: &Text) -> Result<bool, OutOfMemory>
     ensures { IfOk result (λ matching. matching ≡ text_matches test.now.operator test.now.arg.now text.now) }
@@ -176,7 +147,7 @@ fn text_matches(alloc: Global, test: &Test, text: &Text) -> Result<bool, OutOfMe
         Operator::Any => Ok(true),
         Operator::Eq => Ok(same_text(text.as_bytes(), test.arg.as_bytes())),
         Operator::Ne => Ok(!same_text(text.as_bytes(), test.arg.as_bytes())),
-        Operator::Unwritten | Operator::Like => Ok(contains(text.as_str(), test.arg.as_str())),
+        Operator::Unwritten | Operator::Like => Ok(text.contains(test.arg)),
         Operator::Regexp | Operator::Iregexp => found(alloc, test.patterns, test.place, text),
         Operator::Gt | Operator::Ge | Operator::Lt | Operator::Le | Operator::Other => Ok(false),
     }

@@ -1,11 +1,11 @@
 //! Functions of the numbers of a window.
 
-ghost use Rattle.std.specs.Prelude.{◌≡◌, ◌<◌, ◌^◌, ◌*◌, pos, length, IfOk, option_and_then};
+ghost use Rattle.std.specs.Prelude.{◌≡◌, ◌*◌, pos, IfOk};
 ghost use Rattle.zbx_types.specs.Arithmetic.{in_range, quotient_of};
-ghost use Rattle.history_functions.specs.Numbers.{last_of, first_of, least, greatest, min_of, max_of, total, sum_of_numbers, avg_of};
+ghost use Rattle.history_functions.specs.Numbers.{last_of, first_of, min_of, max_of, sum_of_numbers, avg_of};
 
 use crate::values::nth_last;
-use zbx_types::{Fix, OutOfMemory, Range};
+use zbx_types::{Fix, OutOfMemory, Range, greatest, least, total};
 
 /// `last`: the n-th latest number.
 pub(crate) fn last(range: Range, numbers: &[Fix]) -> Option<Fix>
@@ -25,30 +25,6 @@ pub(crate) fn first(numbers: &[Fix]) -> Option<Fix>
     numbers.first().copied()
 }
 
-fn least(first: Fix, more: &[Fix]) -> Fix
-    ensures { result ≡ least first more.now }
-{
-    let mut least = first;
-    for number in more {
-        if number.raw() < least.raw() {
-            least = *number;
-        }
-    }
-    least
-}
-
-fn greatest(first: Fix, more: &[Fix]) -> Fix
-    ensures { result ≡ greatest first more.now }
-{
-    let mut greatest = first;
-    for number in more {
-        if greatest.raw() < number.raw() {
-            greatest = *number;
-        }
-    }
-    greatest
-}
-
 /// `min`: the least number.
 pub(crate) fn min(numbers: &[Fix]) -> Option<Fix>
     ensures { result ≡ min_of numbers.now }
@@ -65,21 +41,7 @@ pub(crate) fn max(numbers: &[Fix]) -> Option<Fix>
     Some(greatest(*first, more))
 }
 
-/// All of them together, exact. Where a sum on the way doesn't fit 128 bits, which takes more than 10^8 numbers, it counts
-/// as want of memory.
-fn total(numbers: &[Fix]) -> Result<i128, OutOfMemory>
-    ensures { IfOk result (λ sum. sum ≡ total numbers.now) }
-{
-    let mut sum: i128 = 0;
-    for number in numbers {
-        match sum.checked_add(number.raw()) {
-            Some(more) => sum = more,
-            None => return Err(OutOfMemory),
-        }
-    }
-    Ok(sum)
-}
-
+/// A number of so many millionths, where it is in range.
 #[tactic(auto, unfolding(zbx_types::specs::Arithmetic::in_range))]
 fn in_range(raw: i128) -> Option<Fix>
     ensures { result ≡ in_range raw }

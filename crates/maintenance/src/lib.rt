@@ -31,7 +31,6 @@ mod force;
 mod periods;
 mod series;
 mod suppression;
-mod tag_tests;
 
 pub use force::in_force;
 pub use suppression::{collects, suppressed};

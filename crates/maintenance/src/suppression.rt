@@ -1,12 +1,20 @@
 //! What maintenances do to problems and to values.
 
 ghost use Rattle.std.specs.Prelude.{◌↔◌, IsTrue, Any};
+ghost use Rattle.maintenance.specs.Tags.{IsForTags};
 ghost use Rattle.maintenance.specs.Suppression.{Suppresses, IsSuppressed, KeepsOut, Collects};
 
 use crate::covering::{is_of_host, is_of_some_item};
 use crate::force::is_active;
-use crate::tag_tests::is_for_tags;
-use zbx_types::{Conf, Maintenance, Moment, Tag, Trigger, by_id};
+use zbx_types::{Conf, Maintenance, Moment, Tag, Trigger, by_id, tests_pass};
+
+/// Whether a maintenance is for problems with these tags.
+fn is_for_tags(maintenance: &Maintenance, tags: &[Tag]) -> bool
+    ensures { IsTrue result ↔ IsForTags maintenance.now tags.now }
+{
+    let tests = maintenance.tags.as_slice();
+    tests.len() == 0 || tests_pass(maintenance.matching, tests, tags)
+}
 
 /// Whether a maintenance suppresses a problem of a trigger with some tags, at a second.
 fn suppresses(

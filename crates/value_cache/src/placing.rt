@@ -4,7 +4,6 @@ ghost use Rattle.std.specs.Prelude.{◌≡◌, reverse, is_ok, if◌then◌else�
 ghost use Rattle.std.specs.List.{prefix_len};
 ghost use Rattle.value_cache.specs.Histories.{is_later, placed};
 
-use crate::windows::nanoseconds;
 use zbx_types::{OutOfMemory, Stored};
 
 /// Whether one value is later than another: by time, and of values with one time by number.
@@ -12,8 +11,7 @@ use zbx_types::{OutOfMemory, Stored};
 fn is_later(a: &Stored, b: &Stored) -> bool
     ensures { result ≡ is_later a.now b.now }
 {
-    nanoseconds(b.time) < nanoseconds(a.time)
-        || (nanoseconds(a.time) == nanoseconds(b.time) && b.number < a.number)
+    b.time < a.time || (a.time == b.time && b.number < a.number)
 }
 
 /// How many of the latest values are later than one more. It looks at no others, so it is short where little comes late.

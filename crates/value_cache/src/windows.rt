@@ -8,20 +8,13 @@ ghost use Rattle.value_cache.specs.Windows.{is_by, seen_of};
 use std::alloc::Global;
 use zbx_types::{Many, Moment, OutOfMemory, Range, Stored};
 
-/// The nanoseconds since moment 0.
-pub(crate) fn nanoseconds(moment: Moment) -> u64
-    ensures { result ≡ moment }
-{
-    moment.since(Moment::zero())
-}
-
 /// Whether a value is of so many seconds before now, or of an earlier moment.
 #[tactic(auto, unfolding(crate::specs::Windows::is_by))]
 fn is_by(now: Moment, seconds: u64, stored: &Stored) -> bool
     ensures { result ≡ is_by now seconds stored.now }
 {
-    u128::from(nanoseconds(stored.time)) + u128::from(seconds) * 1_000_000_000
-        <= u128::from(nanoseconds(now))
+    u128::from(stored.time.nanoseconds()) + u128::from(seconds) * 1_000_000_000
+        <= u128::from(now.nanoseconds())
 }
 
 /// How many values are of so many seconds before now, or of earlier moments.
