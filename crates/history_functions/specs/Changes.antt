@@ -20,7 +20,8 @@ change_between (Words later) (Number earlier) = None
 -- `change`: the latest value less the one before it
 abbrev pub change_of : List Stored → Option ℤ
 change_of window =
-    option_and_then (λ earlier. option_and_then (λ later. change_between later.value earlier.value) (nth_last 1 window)) (nth_last 2 window)
+    option_and_then (λ earlier. option_and_then (λ later. change_between later.value earlier.value) (nth_last 1 window))
+    (nth_last 2 window)
 
 -- what `changecount` counts, by its mode
 abbrev pub counted_by : List ℕ → Counted

@@ -1,4 +1,5 @@
--- Functions of the numbers of a window, oldest first (the Zabbix 6.0 manual, "Aggregate functions", "History functions").
+-- Functions of the numbers of a window, oldest first (the Zabbix 6.0 manual, "Aggregate functions", "History
+-- functions").
 use Rattle.std.specs.Prelude.{◌*◌, ℤ, pos, List, [], ◌∷◌, length, Option, Some, None, option_and_then}
 use Rattle.zbx_types.specs.Arithmetic.{in_range, quotient_of}
 use Rattle.zbx_types.specs.Ids.{at_id}

@@ -84,11 +84,11 @@ fn of_clock(fun: Fun, moment: Moment, offset: i32) -> Option<Fix>
 ///
 /// `window` holds the values that the call's range and shift name, oldest first; `now` is the moment of the evaluation,
 /// `first_tick` that of the first Tick of the run, and `offset` the local time's offset from UTC in seconds, at most 14
-/// hours. `patterns` holds the pattern of a call of `count` or `find` with the operator `regexp` or `iregexp`, of the latter
-/// its text after `(?i)`. The rules are those that the crate's comment tells.
+/// hours. `patterns` holds the pattern of a call of `count` or `find` with the operator `regexp` or `iregexp`, of the
+/// latter its text after `(?i)`. The rules are those that the crate's comment tells.
 ///
-/// [`OutOfMemory`] comes where there is no room for the numbers of the window or for a search, and for sums of more than
-/// 10^8 numbers.
+/// [`OutOfMemory`] comes where there is no room for the numbers of the window or for a search, and for sums of more
+/// than 10^8 numbers.
 #[tactic(auto, unfolding(crate::specs::Functions::value_of, zbx_types::specs::Operators::call_pattern))]
 pub fn value(
     alloc: Global,

@@ -1,8 +1,8 @@
 //! The value of a call of a function in a trigger's expression (the Zabbix 6.0 manual, "Supported functions").
 //!
-//! The public contract: [`value`] gives what the definition of the call's function says of the window of its item, oldest
-//! first, at a moment, or None where that is unknown. A definition looks at lists alone; the code costs about as much as the
-//! window is long, and `percentile` sorts it once.
+//! The public contract: [`value`] gives what the definition of the call's function says of the window of its item,
+//! oldest first, at a moment, or None where that is unknown. A definition looks at lists alone; the code costs about as
+//! much as the window is long, and `percentile` sorts it once.
 //!
 //! ```text
 //! last #n, first                   the n-th latest number, the oldest; unknown where there is none
@@ -17,10 +17,11 @@
 //! dayofweek, dayofmonth            1 for Monday to 7, 1 to 31, by the local clock
 //! ```
 //!
-//! A number compares with `arg` as a number text with an optional suffix, and matches nothing where that is none; patterns see
-//! it written. A text compares by its bytes, and `like` asks whether it contains `arg`. An operator that doesn't fit the value
-//! matches nothing, as `like` on a number, `gt` on a text, or any other name. Truths are 1 and 0, and a result above 10^24
-//! without its sign is unknown. What the parser refuses has a value too, by the same definitions. A short use:
+//! A number compares with `arg` as a number text with an optional suffix, and matches nothing where that is none;
+//! patterns see it written. A text compares by its bytes, and `like` asks whether it contains `arg`. An operator that
+//! doesn't fit the value matches nothing, as `like` on a number, `gt` on a text, or any other name. Truths are 1 and 0,
+//! and a result above 10^24 without its sign is unknown. What the parser refuses has a value too, by the same
+//! definitions. A short use:
 //!
 //! ```text
 //! // avg(/host/key,#2) over 3.25 and 1.5

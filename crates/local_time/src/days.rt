@@ -11,8 +11,8 @@ use jiff_core::civil::Date;
 
 const DAY: i64 = 86400;
 
-/// The number of the local day that a second is in: 0 for 1 January 1970. The offset is local time less UTC, in seconds; the
-/// second counts from 1970-01-01 00:00:00 UTC and may lie before it.
+/// The number of the local day that a second is in: 0 for 1 January 1970. The offset is local time less UTC, in
+/// seconds; the second counts from 1970-01-01 00:00:00 UTC and may lie before it.
 pub fn local_day(offset: i32, second: i64) -> i64
     requires { IsWithin 4294967296 second }
     ensures value { result ≡ local_day offset second }
@@ -50,7 +50,8 @@ pub fn monday_of(day: i64) -> i64
     day - i64::from(date_of(day).weekday().to_monday_zero_offset())
 }
 
-/// The date with a year, a month (1 for January to 12) and a number in the month, or None where that month doesn't have it.
+/// The date with a year, a month (1 for January to 12) and a number in the month, or None where that month doesn't have
+/// it.
 pub fn date_in(year: i16, month: u32, number: u32) -> Option<Date>
     ensures { MatchOption result ((date : CoreDate) → IsDateIn year month number date → ⊥) (IsDateIn year month number) }
 {

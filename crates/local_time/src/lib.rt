@@ -1,11 +1,12 @@
 //! The local clock at a fixed offset from UTC: which day it is, and what a clock shows.
 //!
 //! Local time is UTC plus an offset in seconds; there are no time zones and no daylight saving. Days are counted by the
-//! number of the local day, 0 for 1 January 1970 and negative before it, in the proleptic Gregorian calendar of `jiff_core`.
+//! number of the local day, 0 for 1 January 1970 and negative before it, in the proleptic Gregorian calendar of
+//! `jiff_core`.
 //!
 //! The one contract: [`local`] gives exactly the date and time of day that the definitions find for a moment
-//! (`specs/Clock.antt`), and that date and time lead back to the local day and the second of the day. No call takes memory,
-//! and none fails.
+//! (`specs/Clock.antt`), and that date and time lead back to the local day and the second of the day. No call takes
+//! memory, and none fails.
 //!
 //! ```text
 //! local(moment, offset)       year, month, day, weekday, hour, minute and second

@@ -4,12 +4,19 @@ use Rattle.zbx_types.specs.Ids.{at_id}
 use Rattle.zbx_types.specs.declared.conf.Conf.{Conf}
 use Rattle.zbx_types.specs.declared.maintenances.Maintenance.{Maintenance}
 use Rattle.zbx_types.specs.declared.maintenances.Period.{Period}
+use Rattle.maintenance.specs.declared.series.Span.{Span}
+use Rattle.maintenance.specs.Days.{IsOnDay}
 use Rattle.maintenance.specs.Starts.{IsStart, length_of}
 
 -- the second is at some start, or less than the length after it
 abbrev pub IsWithinLength : (ℕ → Type 0) → ℕ → ℕ → Type 0
 IsWithinLength Begins length second =
     (start : ℕ) × Begins start × (start ≤ second) × (second < start + length)
+
+-- the same of starts `at` seconds after the midnight of days of a sort, from `since` on
+abbrev pub IsInDays : Span → (ℤ → Type 0) → ℕ → Type 0
+IsInDays span Chosen at =
+    IsWithinLength (λ second. (span.since ≤ second) × IsOnDay span.offset Chosen at second) span.length span.now
 
 -- the second is in a period
 abbrev pub IsInPeriod : ℤ → ℕ → ℕ → Period → Type 0

@@ -12,7 +12,8 @@ use Rattle.maintenance.specs.Days.{IsStepFrom, IsOnDay}
 abbrev pub IsDailyDay : ℤ → ℕ → ℕ → ℤ → Type 0
 IsDailyDay offset since every = IsStepFrom (local_day offset (pos since)) every
 
--- a weekday (1 for Monday to 7 for Sunday) of the week of `since`, which begins on its Monday, and of every few weeks after it
+-- a weekday (1 for Monday to 7 for Sunday) of the week of `since`, which begins on its Monday, and of every few weeks
+-- after it
 abbrev pub IsWeeklyDay : ℤ → ℕ → ℕ → ℕ → ℤ → Type 0
 IsWeeklyDay offset since every weekday day =
     (weekday_number day + 1 ≡ weekday)

@@ -28,10 +28,10 @@ fn in_some_period(conf: &Conf, second: u32, maintenance: &Maintenance) -> bool
         .any(|period| in_period(conf, since, second, period))
 }
 
-/// Whether the maintenance at a place is in force: the moment's second is from its `since` on, before its `till` and in one
-/// of its periods (the Zabbix 6.0 manual, "Maintenance"). Places count from 1 in the configuration's order; false at a
-/// place that has none. That starts of daily, weekly and monthly periods before `since` count for nothing, and one that is
-/// given as a moment counts, is this project's own rule.
+/// Whether the maintenance at a place is in force: the moment's second is from its `since` on, before its `till` and in
+/// one of its periods (the Zabbix 6.0 manual, "Maintenance"). Places count from 1 in the configuration's order; false
+/// at a place that has none. That starts of daily, weekly and monthly periods before `since` count for nothing, and one
+/// that is given as a moment counts, is this project's own rule.
 pub fn in_force(conf: &Conf, place: u32, now: Moment) -> bool
     ensures { IsTrue result ↔ InForce conf.now place now }
 {

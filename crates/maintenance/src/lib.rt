@@ -12,9 +12,9 @@
 //! ```
 //!
 //! The one contract: each call answers exactly what the definitions find by searching all starts of all periods, for
-//! any configuration and moment. The code looks at few of them: in a series of starts that lie a step apart the latest one
-//! decides, which a division gives; a weekday of every n weeks is such a series, and so is each date of a month, of which
-//! only those of the years are tried that the length reaches back to. No call takes memory.
+//! any configuration and moment. The code looks at few of them: in a series of starts that lie a step apart the latest
+//! one decides, which a division gives; a weekday of every n weeks is such a series, and so is each date of a month, of
+//! which only those of the years are tried that the length reaches back to. No call takes memory.
 //!
 //! A maintenance is of the hosts that it names and of the hosts in its groups (`specs/Covering.antt`). It suppresses a
 //! trigger's problem where it is of the host of some item that the trigger's calls look at, and for the problem's tags

@@ -1,10 +1,9 @@
 //! Whether a second is in a period of a maintenance.
 
-ghost use Rattle.std.specs.Prelude.{◌≡◌, ◌↔◌, ◌≤◌, ◌<◌, ℤ, ◌≤ℤ◌, ◌<ℤ◌, IsTrue, Any};
-ghost use Rattle.maintenance.specs.Days.{IsOnDay};
+ghost use Rattle.std.specs.Prelude.{◌≡◌, ◌↔◌, ℤ, ◌≤ℤ◌, ◌<ℤ◌, IsTrue, Any};
 ghost use Rattle.local_time.specs.Dates.{IsDayIn};
 ghost use Rattle.maintenance.specs.Starts.{IsDailyDay, IsWeeklyDay, IsMonthlyDay, length_of};
-ghost use Rattle.maintenance.specs.Force.{IsWithinLength, IsInPeriod};
+ghost use Rattle.maintenance.specs.Force.{IsInDays, IsInPeriod};
 
 use crate::series::{Span, on_days};
 use local_time::{date_in, date_of, local_day, monday_of};
@@ -12,7 +11,7 @@ use zbx_types::{Conf, Period};
 
 /// Whether the second is in a period of every few days.
 fn in_daily(every: u32, at: u32, span: Span) -> bool
-    ensures { IsTrue result ↔ IsWithinLength (λ second. (span.since ≤ second) × IsOnDay span.offset (IsDailyDay span.offset span.since every) at second) span.length span.now }
+    ensures { IsTrue result ↔ IsInDays span (IsDailyDay span.offset span.since every) at }
 {
     on_days(
         local_day(span.offset, i64::from(span.since)),
@@ -24,7 +23,7 @@ fn in_daily(every: u32, at: u32, span: Span) -> bool
 
 /// Whether the second is in a period on a weekday of every few weeks: a weekday comes back every seven days.
 fn on_weekday(every: u32, weekday: u32, at: u32, span: Span) -> bool
-    ensures { IsTrue result ↔ IsWithinLength (λ second. (span.since ≤ second) × IsOnDay span.offset (IsWeeklyDay span.offset span.since every weekday) at second) span.length span.now }
+    ensures { IsTrue result ↔ IsInDays span (IsWeeklyDay span.offset span.since every weekday) at }
 {
     if weekday == 0 || weekday > 7 {
         return false;
@@ -40,7 +39,7 @@ fn on_weekday(every: u32, weekday: u32, at: u32, span: Span) -> bool
 
 /// Whether the second is in a period on a day of a month, begun in one year.
 fn in_year(year: i16, month: u32, number: u32, at: u32, span: Span) -> bool
-    ensures { IsTrue result ↔ IsWithinLength (λ second. (span.since ≤ second) × IsOnDay span.offset (IsDayIn year month number) at second) span.length span.now }
+    ensures { IsTrue result ↔ IsInDays span (IsDayIn year month number) at }
 {
     match date_in(year, month, number) {
         Some(date) => on_days(i64::from(date.to_unix_epoch_day()), 0, at, span),
@@ -50,7 +49,7 @@ fn in_year(year: i16, month: u32, number: u32, at: u32, span: Span) -> bool
 
 /// Whether the second is in a period on a day of a month, begun in a year from one on and before another.
 fn in_years(first: i16, end: i16, month: u32, number: u32, at: u32, span: Span) -> bool
-    ensures { IsTrue result ↔ ((year : ℤ) × (first ≤ℤ year) × (year <ℤ end) × IsWithinLength (λ second. (span.since ≤ second) × IsOnDay span.offset (IsDayIn year month number) at second) span.length span.now) }
+    ensures { IsTrue result ↔ ((year : ℤ) × (first ≤ℤ year) × (year <ℤ end) × IsInDays span (IsDayIn year month number) at) }
 {
     for year in first..end {
         if in_year(year, month, number, at, span) {
@@ -60,10 +59,10 @@ fn in_years(first: i16, end: i16, month: u32, number: u32, at: u32, span: Span) 
     false
 }
 
-/// Whether the second is in a period on a day of a month: one that holds the second began in the year of the second, or in
-/// one to which its length reaches back.
+/// Whether the second is in a period on a day of a month: one that holds the second began in the year of the second, or
+/// in one to which its length reaches back.
 fn in_month(month: u32, number: u32, at: u32, span: Span) -> bool
-    ensures { IsTrue result ↔ IsWithinLength (λ second. (span.since ≤ second) × IsOnDay span.offset (IsMonthlyDay number month) at second) span.length span.now }
+    ensures { IsTrue result ↔ IsInDays span (IsMonthlyDay number month) at }
 {
     let last = local_day(span.offset, i64::from(span.now) - i64::from(at));
     let first = last - i64::from(span.length / 86400);
@@ -73,7 +72,7 @@ fn in_month(month: u32, number: u32, at: u32, span: Span) -> bool
 
 /// Whether the second is in a period on weekdays of every few weeks.
 fn in_weekly(every: u32, days: &[u32], at: u32, span: Span) -> bool
-    ensures { IsTrue result ↔ Any (λ weekday. IsWithinLength (λ second. (span.since ≤ second) × IsOnDay span.offset (IsWeeklyDay span.offset span.since every weekday) at second) span.length span.now) days.now }
+    ensures { IsTrue result ↔ Any (λ weekday. IsInDays span (IsWeeklyDay span.offset span.since every weekday) at) days.now }
 {
     days.iter()
         .any(|weekday| on_weekday(every, *weekday, at, span))
@@ -81,7 +80,7 @@ fn in_weekly(every: u32, days: &[u32], at: u32, span: Span) -> bool
 
 /// Whether the second is in a period on a day of months.
 fn in_monthly(months: &[u32], number: u32, at: u32, span: Span) -> bool
-    ensures { IsTrue result ↔ Any (λ month. IsWithinLength (λ second. (span.since ≤ second) × IsOnDay span.offset (IsMonthlyDay number month) at second) span.length span.now) months.now }
+    ensures { IsTrue result ↔ Any (λ month. IsInDays span (IsMonthlyDay number month) at) months.now }
 {
     months
         .iter()

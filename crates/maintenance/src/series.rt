@@ -2,14 +2,14 @@
 
 ghost use Rattle.std.specs.Prelude.{◌≡◌, ◌↔◌, ℕ, ◌+◌, ◌*◌, ◌≤◌, ◌<◌, IsTrue};
 ghost use Rattle.jiff_core.specs.Calendar.{IsWithin};
-ghost use Rattle.maintenance.specs.Days.{IsStepFrom, IsOnDay};
+ghost use Rattle.maintenance.specs.Days.{IsStepFrom};
 ghost use Rattle.maintenance.specs.Series.{IsInSeries};
-ghost use Rattle.maintenance.specs.Force.{IsWithinLength};
+ghost use Rattle.maintenance.specs.Force.{IsWithinLength, IsInDays};
 
 use local_time::second_of;
 
-/// What all kinds of periods have in common: local time less UTC, since when the maintenance is active, the second that is
-/// tested, and how long a period lasts, all in seconds.
+/// What all kinds of periods have in common: local time less UTC, since when the maintenance is active, the second that
+/// is tested, and how long a period lasts, all in seconds.
 #[derive(Clone, Copy)]
 pub(crate) struct Span {
     pub(crate) offset: i32,
@@ -43,7 +43,7 @@ fn in_series(first: i64, step: u64, span: Span) -> bool
 pub(crate) fn on_days(first: i64, step: u64, at: u32, span: Span) -> bool
     requires first { IsWithin 10000000 first }
     requires step { step < 1000000000000 }
-    ensures { IsTrue result ↔ IsWithinLength (λ second. (span.since ≤ second) × IsOnDay span.offset (IsStepFrom first step) at second) span.length span.now }
+    ensures { IsTrue result ↔ IsInDays span (IsStepFrom first step) at }
 {
     in_series(second_of(span.offset, first, at), 86400 * step, span)
 }

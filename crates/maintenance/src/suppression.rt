@@ -44,9 +44,10 @@ fn some_suppresses(conf: &Conf, trigger: &Trigger, tags: &[Tag], second: u32) ->
     ))
 }
 
-/// Whether some maintenance suppresses a problem of a trigger with these tags (the Zabbix 6.0 manual, "Maintenance"): one
-/// that is in force, is of the host of some item of the trigger's calls, and is for the tags. The trigger's own host counts
-/// for nothing, and maintenances with and without data collection suppress alike. False for a trigger id that has none.
+/// Whether some maintenance suppresses a problem of a trigger with these tags (the Zabbix 6.0 manual, "Maintenance"):
+/// one that is in force, is of the host of some item of the trigger's calls, and is for the tags. The trigger's own
+/// host counts for nothing, and maintenances with and without data collection suppress alike. False for a trigger id
+/// that has none.
 pub fn suppressed(conf: &Conf, trigger: u32, tags: &[Tag], now: Moment) -> bool
     ensures { IsTrue result ↔ IsSuppressed conf.now trigger tags.now now }
 {
@@ -75,8 +76,8 @@ fn some_keeps_out(conf: &Conf, host: u32, second: u32) -> bool
         .any(|maintenance| keeps_out(conf, host, second, maintenance))
 }
 
-/// Whether the values of a host are taken: no maintenance without data collection that is in force is of it (the Zabbix 6.0
-/// manual, "Maintenance", maintenance type). True for a host id that has none.
+/// Whether the values of a host are taken: no maintenance without data collection that is in force is of it (the Zabbix
+/// 6.0 manual, "Maintenance", maintenance type). True for a host id that has none.
 pub fn collects(conf: &Conf, host: u32, now: Moment) -> bool
     ensures { IsTrue result ↔ Collects conf.now host now }
 {

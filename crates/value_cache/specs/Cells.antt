@@ -5,7 +5,8 @@ use Rattle.zbx_types.specs.declared.calls.Range.{Range}
 use Rattle.zbx_types.specs.declared.calls.Range.TheVariants.{Count, Period}
 use Rattle.zbx_types.specs.declared.entries.Stored.{Stored}
 use Rattle.value_cache.specs.declared.cell.Keep.{Keep}
-use Rattle.value_cache.specs.Histories.{IsOrdered}
+use Rattle.value_cache.specs.Histories.{placed, IsOrdered}
+use Rattle.value_cache.specs.Windows.{window_of}
 
 -- a cell as contracts see it: what it is to keep, and the values that it has, as a history: the latest first
 pub record CellView : Type 0 where
@@ -18,7 +19,8 @@ is_young keep now s = nat_lt now (s.time + keep.period * 1000000000)
 
 -- what is to be kept at a moment (this project's own): the values of the period, and the latest `count` of the others
 unfoldable pub pruned : Keep → ℕ → List Stored → List Stored
-pruned keep now history = filter (is_young keep now) history ++ take keep.count (filter (λ s. not (is_young keep now s)) history)
+pruned keep now history =
+    filter (is_young keep now) history ++ take keep.count (filter (λ s. not (is_young keep now s)) history)
 
 -- a cell stands for a history where from the moment `seen` on both have the same of what is to be kept
 pub record StandsFor (cell : CellView) (seen : ℕ) (history : List Stored) : Type 0 where
@@ -29,3 +31,15 @@ pub record StandsFor (cell : CellView) (seen : ℕ) (history : List Stored) : Ty
 abbrev pub IsWithin : Keep → Range → ℕ → Type 0
 IsWithin keep (Count n) shift = (n ≤ keep.count) × (shift ≤ keep.period)
 IsWithin keep (Period p) shift = shift + p ≤ keep.period
+
+-- one cell stands for what the other one did with one more value, from a moment on that isn't earlier
+abbrev pub Gains : CellView → CellView → Stored → ℕ → Type 0
+Gains before after stored now =
+    (seen : ℕ) (history : List Stored) → seen ≤ now → StandsFor before seen history
+    → StandsFor after now (placed stored history)
+
+-- the values are the window of each history that the cell stands for, where that asks for no more than is kept
+abbrev pub Shows : CellView → Range → ℕ → ℕ → List Stored → Type 0
+Shows cell range shift now values =
+    (seen : ℕ) (history : List Stored) → seen ≤ now → StandsFor cell seen history → IsWithin cell.keep range shift
+    → values ≡ window_of range shift now history

@@ -14,8 +14,8 @@ is_by now seconds s = nat_le (s.time + seconds * 1000000000) now
 unfoldable pub in_period : ℕ → ℕ → ℕ → Stored → Bool
 in_period now shift period s = is_by now shift s && nat_lt now (s.time + (shift + period) * 1000000000)
 
--- what a range sees of a history, the latest first (the Zabbix 6.0 manual, "Supported functions", the parameters `sec|#num` and
--- `time shift`; that the moment at which a period begins is outside it is this project's own)
+-- what a range sees of a history, the latest first (the Zabbix 6.0 manual, "Supported functions", the parameters
+-- `sec|#num` and `time shift`; that the moment at which a period begins is outside it is this project's own)
 abbrev pub seen_of : Range → ℕ → ℕ → List Stored → List Stored
 seen_of (Count n) shift now history = take n (filter (is_by now shift) history)
 seen_of (Period p) shift now history = filter (in_period now shift p) history

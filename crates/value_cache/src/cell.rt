@@ -1,10 +1,7 @@
 //! The cell of an item.
 
-ghost use Rattle.std.specs.Prelude.{◌≡◌, ◌≤◌, ℕ, List, [], OnOk, IfOk, IfErr};
-ghost use Rattle.zbx_types.specs.declared.entries.Stored.{Stored};
-ghost use Rattle.value_cache.specs.Histories.{placed};
-ghost use Rattle.value_cache.specs.Windows.{window_of};
-ghost use Rattle.value_cache.specs.Cells.{StandsFor, IsWithin};
+ghost use Rattle.std.specs.Prelude.{◌≡◌, [], OnOk, IfOk, IfErr};
+ghost use Rattle.value_cache.specs.Cells.{StandsFor, Gains, Shows};
 
 use crate::placing::place;
 use crate::windows::{copies, window};
@@ -21,7 +18,8 @@ pub struct Keep {
     pub period: u32,
 }
 
-/// The values of an item: at least those that a window within its [`Keep`] can see from the moment of the last insert on.
+/// The values of an item: at least those that a window within its [`Keep`] can see from the moment of the last insert
+/// on.
 #[derive(Drop)]
 pub struct ItemCell {
     keep: Keep,
@@ -53,20 +51,20 @@ impl ItemCell {
         }
     }
 
-    /// Takes a value in at a moment, which isn't before that of an earlier insert. The value may be of any moment; of two
-    /// values with one time that with the greater number is the later one. Where no memory is to be had the value comes back
-    /// in the error, and the cell is as before.
+    /// Takes a value in at a moment, which isn't before that of an earlier insert. The value may be of any moment; of
+    /// two values with one time that with the greater number is the later one. Where no memory is to be had the value
+    /// comes back in the error, and the cell is as before.
     pub fn insert(&mut self, stored: Stored, now: Moment) -> Result<(), (Stored, OutOfMemory)>
-        ensures ok { OnOk result ((seen : ℕ) (history : List Stored) → seen ≤ now → StandsFor self.old seen history → StandsFor self.new now (placed stored history)) }
+        ensures ok { OnOk result (Gains self.old self.new stored now) }
         ensures keep { self.new.keep ≡ self.old.keep }
         ensures err { IfErr result (λ e. (e.0 ≡ stored) × (self.new ≡ self.old)) }
     {
         place(&mut self.values, stored)
     }
 
-    /// The values that a range with a time shift looks at, the oldest first, at a moment that isn't before that of the last
-    /// insert. `shift` is in seconds; range and shift are within the cell's [`Keep`]. [`OutOfMemory`] where there is no room
-    /// for the copies.
+    /// The values that a range with a time shift looks at, the oldest first, at a moment that isn't before that of the
+    /// last insert. `shift` is in seconds; range and shift are within the cell's [`Keep`]. [`OutOfMemory`] where there
+    /// is no room for the copies.
     pub fn window(
         &self,
         alloc: Global,
@@ -74,7 +72,7 @@ impl ItemCell {
         shift: u32,
         now: Moment,
     ) -> Result<Many<Stored>, OutOfMemory>
-        ensures { IfOk result (λ values. (seen : ℕ) (history : List Stored) → seen ≤ now → StandsFor self.now seen history → IsWithin self.now.keep range shift → values ≡ window_of range shift now history) }
+        ensures { IfOk result (Shows self.now range shift now) }
     {
         copies(alloc, window(self.values.as_slice(), range, shift, now))
     }

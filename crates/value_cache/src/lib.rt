@@ -1,12 +1,13 @@
 //! The values that an item keeps for the functions of expressions.
 //!
-//! The public contract: [`ItemCell::window`] gives the window of everything that was ever inserted into the cell, whatever
-//! the order in which it came, as long as it asks for no more than the cell's [`Keep`].
+//! The public contract: [`ItemCell::window`] gives the window of everything that was ever inserted into the cell,
+//! whatever the order in which it came, as long as it asks for no more than the cell's [`Keep`].
 //!
-//! A cell stands for a history, the list of all values that were inserted, by time, and of values with one time by the number
-//! of their entry. What it hands out has the oldest first; definitions of histories have the latest first. It has for each later moment what the `Keep` asks for: the values of the last `period`
-//! seconds, and the latest `count` of those before. So a cell may be read at any moment that isn't before that of the last
-//! insert, and a value that comes late takes its place as if it had come in time.
+//! A cell stands for a history, the list of all values that were inserted, by time, and of values with one time by the
+//! number of their entry. What it hands out has the oldest first; definitions of histories have the latest first. The
+//! cell has for each later moment what the `Keep` asks for: the values of the last `period` seconds, and the latest
+//! `count` of those before. So it may be read at any moment that isn't before that of the last insert, and a value that
+//! comes late takes its place as if it had come in time.
 //!
 //! ```text
 //! #2                  the latest two values
@@ -15,7 +16,8 @@
 //! 5m with a shift     the same, a shift earlier
 //! ```
 //!
-//! The ends of a window are found by search, so that its cost is that of the values in it, and not of all that the cell has.
+//! The ends of a window are found by search, so that its cost is that of the values in it, and not of all that the cell
+//! has.
 //!
 //! ```text
 //! let mut cell = ItemCell::new(alloc, Keep { count: 2, period: 300 });

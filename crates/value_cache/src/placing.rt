@@ -14,7 +14,8 @@ fn is_later(a: &Stored, b: &Stored) -> bool
     b.time < a.time || (a.time == b.time && b.number < a.number)
 }
 
-/// How many of the latest values are later than one more. It looks at no others, so it is short where little comes late.
+/// How many of the latest values are later than one more. It looks at no others, so it is short where little comes
+/// late.
 fn count_later(values: &[Stored], stored: &Stored) -> usize
     ensures { result ≡ prefix_len (λ x. is_later x stored.now) (reverse values.now) }
 {
