@@ -1,6 +1,6 @@
 //! Which values match an operator with its argument.
 
-ghost use Rattle.std.specs.Prelude.{◌≡◌, IfOk, IfSome, Contains, Some};
+ghost use Rattle.std.specs.Prelude.{◌≡◌, IfOk, IfSome, Contains};
 ghost use Rattle.zbx_types.specs.Ids.{at_id};
 ghost use Rattle.zbx_types.specs.Operators.{operator_of, pattern_of};
 ghost use Rattle.zbx_types.specs.Suffixes.{read_suffixed};
@@ -27,15 +27,6 @@ struct Test<'a, 'p> {
     ghost pattern_placed: { at_id patterns.now place ≡ pattern_of operator arg.now },
 }
 
-/// The place of a pattern that is among the patterns.
-#[tactic(auto, using(crate::proofs::Placed::placed))]
-fn place_of(patterns: &Patterns, text: &Text) -> u32
-    requires { Contains patterns.now text.now }
-    ensures { at_id patterns.now result ≡ Some text.now }
-{
-    patterns.find(text)
-}
-
 /// The place of the pattern that an operator searches for, or 0.
 #[tactic(auto, unfolding(zbx_types::specs::Ids::at_id))]
 fn place_for(
@@ -48,7 +39,7 @@ fn place_for(
     ensures { IfOk result (λ place. at_id patterns.now place ≡ pattern_of operator arg.now) }
 {
     match pattern_of(alloc, operator, arg)? {
-        Some(pattern) => Ok(place_of(patterns, &pattern)),
+        Some(pattern) => Ok(patterns.find(&pattern)),
         None => Ok(0),
     }
 }
