@@ -113,7 +113,10 @@ fn a_wire_keeps_what_is_sent_and_closed(rt: HostRuntime) -> Result<(), Fail> {
         assert_eq!(rt; *conn, 3);
         assert_eq!(rt; bytes.as_slice(), b"xy".as_slice());
     }
-    assert_eq!(rt; wire.closed().map(|c| c.as_slice()), Some([3].as_slice()));
+    assert_eq!(rt;
+        wire.closed().map(|c| c.as_slice()),
+        Some([(3, 2)].as_slice())
+    );
     Ok(())
 }
 
