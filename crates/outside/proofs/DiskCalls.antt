@@ -1,5 +1,6 @@
 -- What a disk in memory may leave after one call more.
 use Rattle.std.proofs.Common.{◌≡◌, ◌⊎◌, inl, inr, ℕ, suc, ◌-◌, ◌≤◌, List, ◌∷◌, length, drop, refl, sym, ◌∙◌, ap, subst, arith}
+use Rattle.std.specs.Prelude.{Result, Ok, Err, OnOk, OnErr}
 use Rattle.std.proofs.lemmas.Bool.{cases_lt}
 use Rattle.outside.specs.Disk.{Torn, Elapses}
 use Rattle.outside.specs.MemDisk.{Recorded, seen, IsImage, IsImageSince}
@@ -40,21 +41,25 @@ goes_on first past call = record {
           inr (subst (λ (n : ℕ). IsImage first (drop n (call ∷ past)) c) none since.3)
     ]
 
--- the disk with one call more
-abbrev pub with_call : Recorded → Call → Recorded
-with_call disk call = record { first = disk.first; past = call ∷ disk.past; faults = disk.faults }
+-- a disk whose calls grew by one, or stayed
+pub elapsed : (old new : Recorded) (call : Call) → new.first ≡ old.first → (new.past ≡ call ∷ old.past) ⊎ (new.past ≡ old.past)
+    → Elapses (length old.past) (length new.past) (IsImageSince old.first old.past) (IsImageSince new.first new.past) (IsImage new.first new.past)
+elapsed old new call first past = elim past [
+  | inl more ↦ rw (first, more) (goes_on old.first old.past call)
+  | inr same ↦ stays old new first same
+]
 
-module _ (old mid new : Recorded) (call : Call) (same : mid ≡ old) (is : new ≡ with_call mid call) where
-  told : new ≡ with_call old call
-  told = is ∙ ap (λ (d : Recorded). with_call d call) same
+-- of the images before a sync only what a read gives is left
+pub synced : (old new : Recorded) → new.first ≡ old.first → (new.past ≡ Synced ∷ old.past) ⊎ (new.past ≡ old.past)
+    → (c : List ℕ) → IsImage new.first new.past c → IsImage old.first old.past c
+synced old new first past c image = elim past [
+  | inl more ↦
+      let only : c ≡ seen old.first old.past = rw (first, more) at image in
+      rw only (seen_image old.first old.past)
+  | inr same ↦ rw (first, same) at image
+]
 
-  -- the same, where the new disk is told by an equation
-  pub goes_on_to : Elapses (length old.past) (length new.past) (IsImageSince old.first old.past) (IsImageSince new.first new.past) (IsImage new.first new.past)
-  goes_on_to = subst (λ (d : Recorded). Elapses (length old.past) (length d.past) (IsImageSince old.first old.past) (IsImageSince d.first d.past) (IsImage d.first d.past)) (sym told) (goes_on old.first old.past call)
-
-  -- of the images before a sync only what a read gives is left
-  pub synced : call ≡ Synced → (c : List ℕ) → IsImage new.first new.past c → IsImage old.first old.past c
-  synced sync c image =
-      let kept : IsImage old.first (call ∷ old.past) c = subst (λ (d : Recorded). IsImage d.first d.past c) told image in
-      let only : c ≡ seen old.first old.past = subst (λ (k : Call). IsImage old.first (k ∷ old.past) c) sync kept in
-      subst (λ (l : List ℕ). IsImage old.first old.past l) (sym only) (seen_image old.first old.past)
+-- what an Ok gives, or what an error gives
+pub either : {T E A B : Type 0} (r : Result T E) → OnOk r A → OnErr r B → A ⊎ B
+either (Ok x) a b = inl a
+either (Err e) a b = inr b

@@ -1,14 +1,30 @@
--- What contracts see of a disk in memory: what it held at first, and its calls.
+-- What contracts see of the disks in memory.
 use Rattle.std.specs.Prelude.{◌≡◌, ℕ, ◌-◌, ◌≤◌, List, [], ◌∷◌, length, drop}
+use Rattle.outside.specs.Calls.{Calls}
 use Rattle.outside.specs.Disk.{overwritten, Torn}
 use Rattle.outside.specs.declared.mem_disk.Call.{Call}
 use Rattle.outside.specs.declared.mem_disk.Call.TheVariants.{Wrote, Synced}
 
--- a disk in memory: its first bytes, its calls that wrote or synced, the newest first, and how often it has failed
+-- a disk that keeps its calls: what it held at first, its writes and syncs, the newest first, how often it has failed,
+-- all its calls, and how many memory refused
 pub record Recorded : Type 0 where
   pub first : List ℕ
   pub past : List Call
   pub faults : ℕ
+  pub calls : Calls
+  pub refused : ℕ
+
+-- a disk that keeps its bytes alone: these, how often it has failed, and how many calls memory refused
+pub record Bare : Type 0 where
+  pub bytes : List ℕ
+  pub faults : ℕ
+  pub refused : ℕ
+
+-- what it held and its writes and syncs are as before
+pub record KeepsPast (old new : Recorded) : Type 0 where
+  pub first : new.first ≡ old.first
+  pub past : new.past ≡ old.past
+  pub refused : new.refused ≡ old.refused
 
 -- the bytes that a read gives after these calls
 abbrev pub seen : List ℕ → List Call → List ℕ

@@ -1,15 +1,19 @@
 //! A disk in memory, whose images are told for every moment.
 
-ghost use Rattle.std.specs.Prelude.{◌≡◌, ◌≤◌, ◌++◌, ◌∷◌, [], ℕ, List, Some, length, IfOk, OnOk, OnErr};
-ghost use Rattle.outside.specs.Causes.{Rose};
+ghost use Rattle.std.specs.Prelude.{◌≡◌, ◌≤◌, ◌-◌, ◌++◌, ◌∷◌, [], ℕ, List, Some, length, take, drop, min, is_err, IfOk, OnOk, OnErr};
+ghost use Rattle.outside.specs.Calls.{no_calls, one_more, is_listed, FailsWhereListed};
+ghost use Rattle.outside.specs.Causes.{HasCause};
 ghost use Rattle.outside.specs.Disk.{overwritten};
-ghost use Rattle.outside.specs.MemDisk.{seen, IsImage, IsImageSince};
+ghost use Rattle.outside.specs.MemDisk.{seen, IsImage, IsImageSince, KeepsPast};
 ghost use Rattle.outside.specs.MemDiskLaws.{seen_image, image_now, image_only};
 ghost use Rattle.outside.specs.declared.mem_disk.Call.TheVariants.{Wrote, Synced};
 
+use crate::calls::CallCount;
 use crate::disk::Disk;
 use crate::event::Failed;
 use crate::memory::copy_front;
+use crate::overwriting::{lay, stretch};
+use crate::tally::Tally;
 use std::alloc::Global;
 use std::marker::Model;
 use zbx_types::{Bytes, Many, OutOfMemory};
@@ -34,9 +38,9 @@ pub struct MemDisk {
     first: Bytes,
     written: Option<Bytes>,
     kept: Many<Call>,
-    calls: u64,
     faults: u64,
-    fails: Many<u64>,
+    calls: CallCount,
+    refused: Tally,
 }
 
 impl Model for MemDisk {
@@ -45,7 +49,7 @@ impl Model for MemDisk {
 
     ghost Value = { Recorded };
 
-    ghost view = { λ m. record { first = m.first; past = reverse m.kept; faults = m.faults } };
+    ghost view = { λ m. record { first = m.first; past = reverse m.kept; faults = m.faults; calls = m.calls; refused = m.refused } };
 
     ghost invariant = { λ m. unwrap_or m.written m.first ≡ seen m.first (reverse m.kept) };
 }
@@ -53,16 +57,16 @@ impl Model for MemDisk {
 impl MemDisk {
     /// A disk that holds these bytes, all of them durable. Takes no memory.
     pub fn new(alloc: Global, bytes: Bytes, fails: Many<u64>) -> MemDisk
-        ensures { result ≡ record { first = bytes; past = []; faults = 0 } }
+        ensures { result ≡ record { first = bytes; past = []; faults = 0; calls = no_calls fails; refused = 0 } }
     {
         MemDisk {
             alloc,
             first: bytes,
             written: None,
             kept: Many::new(alloc),
-            calls: 0,
             faults: 0,
-            fails,
+            calls: CallCount::new(fails),
+            refused: Tally::zero(),
         }
     }
 
@@ -76,60 +80,47 @@ impl MemDisk {
         }
     }
 
-    /// Counts a call, and says whether it is one of those that fail.
-    fn is_failing(&mut self) -> bool
-        ensures { self.new ≡ self.old }
-    {
-        self.calls = self.calls.saturating_add(1);
-        self.fails.as_slice().contains(&self.calls)
-    }
-
-    /// Counts a call that failed.
-    fn fault(&mut self) -> Failed
-        ensures first { self.new.first ≡ self.old.first }
-        ensures past { self.new.past ≡ self.old.past }
-        ensures later { self.old.faults ≤ self.new.faults }
-        ensures rose { Rose self.old.faults self.new.faults }
-    {
-        self.faults = self.faults.saturating_add(1);
-        Failed
-    }
-
-    /// Puts a piece at a place, and keeps the call.
+    /// Puts a piece at a place, and keeps the call. All memory is taken first; then the bytes are overwritten where they
+    /// lie.
     fn put(&mut self, at: u64, piece: &[u8]) -> Result<(), OutOfMemory>
-        ensures ok { OnOk result (self.new ≡ record { first = self.old.first; past = Wrote at piece.now ∷ self.old.past; faults = self.old.faults }) }
+        ensures ok { OnOk result (self.new ≡ record self.old { past = Wrote at piece.now ∷ self.old.past }) }
         ensures err { OnErr result (self.new ≡ self.old) }
     {
-        let next = overwritten(self.alloc, self.bytes().as_slice(), at, piece)?;
-        let bytes = Bytes::of(self.alloc, piece)?;
-        self.kept.push(Call::Wrote { at, bytes })?;
-        self.written = Some(next);
-        Ok(())
-    }
-
-    /// Keeps a sync as a call.
-    fn keep_sync(&mut self) -> Result<(), OutOfMemory>
-        ensures ok { OnOk result (self.new ≡ record { first = self.old.first; past = Synced ∷ self.old.past; faults = self.old.faults }) }
-        ensures err { OnErr result (self.new ≡ self.old) }
-    {
-        self.kept.push(Call::Synced)?;
-        Ok(())
+        if self.written.is_none() {
+            self.written = Some(Bytes::of(self.alloc, self.first.as_slice())?);
+        }
+        match &mut self.written {
+            Some(bytes) => put_and_keep(self.alloc, bytes, &mut self.kept, at, piece),
+            None => Err(OutOfMemory),
+        }
     }
 }
 
-/// Bytes with a piece at a place, over what is there and past the end; a gap is filled with zeros.
-#[tactic(auto, unfolding(crate::specs::Disk::overwritten))]
-fn overwritten(alloc: Global, old: &[u8], at: u64, piece: &[u8]) -> Result<Bytes, OutOfMemory>
-    ensures { IfOk result (λ made. made ≡ overwritten old.now at piece.now) }
+/// Puts a piece at a place of these bytes, and keeps the call.
+#[tactic(auto, using(crate::proofs::Laid::laid))]
+fn put_and_keep(
+    alloc: Global,
+    bytes: &mut Bytes,
+    kept: &mut Many<Call>,
+    at: u64,
+    piece: &[u8],
+) -> Result<(), OutOfMemory>
+    ensures bytes { OnOk result (bytes.new ≡ overwritten bytes.old at piece.now) }
+    ensures kept { OnOk result (kept.new ≡ kept.old ++ Wrote at piece.now ∷ []) }
+    ensures same_bytes { OnErr result (bytes.new ≡ bytes.old) }
+    ensures same_kept { OnErr result (kept.new ≡ kept.old) }
 {
-    let mut made = Vec::from_slice(alloc, old)?;
-    made.resize(at as usize, 0)?;
-    made.extend_from_slice(piece)?;
-    let end = made.len();
-    if end < old.len() {
-        made.extend_from_slice(&old[end..])?;
+    let at_place = at as usize;
+    let end = at_place.checked_add(piece.len()).ok_or(OutOfMemory)?;
+    let copy = Bytes::of(alloc, piece)?;
+    let length = bytes.len();
+    stretch(alloc, bytes, end)?;
+    if kept.push(Call::Wrote { at, bytes: copy }).is_err() {
+        bytes.truncate(length);
+        return Err(OutOfMemory);
     }
-    Ok(Bytes::from(made))
+    lay(alloc, bytes, at_place, piece);
+    Ok(())
 }
 
 impl Disk for MemDisk {
@@ -153,39 +144,78 @@ impl Disk for MemDisk {
         self.faults
     }
 
-    fn len(&mut self) -> Result<u64, Failed> {
-        if self.is_failing() {
-            return Err(self.fault());
+    /// It fails exactly where its number is among those that are to fail, and so does `read`.
+    fn len(&mut self) -> Result<u64, Failed>
+        ensures calls { self.new.calls ≡ one_more self.old.calls }
+        ensures fails { is_err result ≡ is_listed self.new.calls }
+        ensures length { IfOk result (λ n. n ≡ length (seen self.old.first self.old.past)) }
+        ensures kept { KeepsPast self.old self.new }
+        ensures cause { HasCause self.old.faults self.new.faults result }
+    {
+        if self.calls.is_failing() {
+            self.faults = self.faults.saturating_add(1);
+            return Err(Failed);
         }
         Ok(self.bytes().len() as u64)
     }
 
-    fn read(&mut self, at: u64, into: &mut [u8]) -> Result<usize, Failed> {
-        if self.is_failing() {
-            return Err(self.fault());
+    /// As many bytes as fit, or all that are left from the place on.
+    fn read(&mut self, at: u64, into: &mut [u8]) -> Result<usize, Failed>
+        ensures calls { self.new.calls ≡ one_more self.old.calls }
+        ensures fails { is_err result ≡ is_listed self.new.calls }
+        ensures amount { IfOk result (λ count. count ≡ min (length into.new) (length (seen self.old.first self.old.past) - at)) }
+        ensures content { IfOk result (λ count. take count into.new ≡ take count (drop at (seen self.old.first self.old.past))) }
+        ensures kept { KeepsPast self.old self.new }
+        ensures cause { HasCause self.old.faults self.new.faults result }
+    {
+        if self.calls.is_failing() {
+            self.faults = self.faults.saturating_add(1);
+            return Err(Failed);
         }
         let bytes = self.bytes().as_slice();
         let start = bytes.len().min(at as usize);
         Ok(copy_front(&bytes[start..], into))
     }
 
-    fn write_at(&mut self, at: u64, piece: &[u8]) -> Result<(), Failed> {
-        if self.is_failing() {
-            return Err(self.fault());
+    /// It fails exactly where its number is among those that are to fail, or memory is refused it, and so does `sync`. A
+    /// call that fails writes nothing.
+    fn write_at(&mut self, at: u64, piece: &[u8]) -> Result<(), Failed>
+        ensures calls { self.new.calls ≡ one_more self.old.calls }
+        ensures fails { FailsWhereListed self.new.calls self.old.refused self.new.refused result }
+        ensures first { self.new.first ≡ self.old.first }
+        ensures kept { OnOk result (self.new.past ≡ Wrote at piece.now ∷ self.old.past) }
+        ensures unchanged { OnErr result (self.new.past ≡ self.old.past) }
+        ensures cause { HasCause self.old.faults self.new.faults result }
+    {
+        if self.calls.is_failing() {
+            self.faults = self.faults.saturating_add(1);
+            return Err(Failed);
         }
-        match self.put(at, piece) {
-            Ok(()) => Ok(()),
-            Err(OutOfMemory) => Err(self.fault()),
+        if self.put(at, piece).is_err() {
+            self.refused.rise();
+            self.faults = self.faults.saturating_add(1);
+            return Err(Failed);
         }
+        Ok(())
     }
 
-    fn sync(&mut self) -> Result<(), Failed> {
-        if self.is_failing() {
-            return Err(self.fault());
+    fn sync(&mut self) -> Result<(), Failed>
+        ensures calls { self.new.calls ≡ one_more self.old.calls }
+        ensures fails { FailsWhereListed self.new.calls self.old.refused self.new.refused result }
+        ensures first { self.new.first ≡ self.old.first }
+        ensures kept { OnOk result (self.new.past ≡ Synced ∷ self.old.past) }
+        ensures unchanged { OnErr result (self.new.past ≡ self.old.past) }
+        ensures cause { HasCause self.old.faults self.new.faults result }
+    {
+        if self.calls.is_failing() {
+            self.faults = self.faults.saturating_add(1);
+            return Err(Failed);
         }
-        match self.keep_sync() {
-            Ok(()) => Ok(()),
-            Err(OutOfMemory) => Err(self.fault()),
+        if self.kept.push(Call::Synced).is_err() {
+            self.refused.rise();
+            self.faults = self.faults.saturating_add(1);
+            return Err(Failed);
         }
+        Ok(())
     }
 }
