@@ -35,9 +35,10 @@ fn a_sink_holds_what_is_written(rt: HostRuntime) -> Result<(), Fail> {
     let mut sink = MemSink::new(Bytes::of(alloc, b"a")?, only(alloc, 2)?);
     assert_eq!(rt; sink.write(b"bc"), Ok(2));
     assert_eq!(rt; sink.write(b"d"), Err(Failed));
+    assert_eq!(rt; sink.write(b"e"), Ok(1));
     assert_eq!(rt; sink.faults(), 1);
-    assert_eq!(rt; sink.held(), 3);
-    assert_eq!(rt; sink.bytes().as_slice(), b"abc".as_slice());
+    assert_eq!(rt; sink.held(), 4);
+    assert_eq!(rt; sink.bytes().as_slice(), b"abce".as_slice());
     Ok(())
 }
 
@@ -146,6 +147,31 @@ fn written(alloc: Global, failing: u64) -> Result<(Bytes, u64), OutOfMemory> {
     Ok((Bytes::of(alloc, disk.bytes().as_slice())?, disk.faults()))
 }
 
+/// What a disk that keeps its bytes alone holds after it was written, and what its calls answered.
+fn bare(alloc: Global) -> Result<(Bytes, [bool; 4]), OutOfMemory> {
+    let mut disk = RamDisk::new(alloc);
+    let mut into = [0; 4];
+    let answers = [
+        disk.write_at(2, b"yz") == Ok(()),
+        disk.write_at(0, b"ab") == Ok(()) && disk.sync() == Ok(()),
+        disk.len() == Ok(4),
+        disk.read(3, &mut into) == Ok(1) && into[0] == b'z',
+    ];
+    Ok((Bytes::of(alloc, disk.bytes().as_slice())?, answers))
+}
+
+/// How many bytes each disk holds after pieces of 65,536 bytes were written behind one another, so many of them.
+fn grown(alloc: Global, pieces: u64) -> Result<(usize, usize), OutOfMemory> {
+    let piece = [b'a'; 65_536];
+    let mut disk = MemDisk::new(alloc, Bytes::new(alloc), Many::new(alloc));
+    let mut ram = RamDisk::new(alloc);
+    for number in 0..pieces.min(1_000) {
+        let _ = disk.write_at(number * 65_536, &piece);
+        let _ = ram.write_at(number * 65_536, &piece);
+    }
+    Ok((disk.bytes().len(), ram.bytes().len()))
+}
+
 /// How many bytes a disk of the bytes `abc` says that it has, and what it gives from a place on.
 fn told(alloc: Global, at: u64) -> Result<(u64, usize, [u8; 2]), OutOfMemory> {
     let mut disk = MemDisk::new(alloc, Bytes::of(alloc, b"abc")?, Many::new(alloc));
@@ -176,5 +202,19 @@ fn a_disk_gives_its_bytes_up_to_the_end(rt: HostRuntime) -> Result<(), Fail> {
     assert_eq!(rt; told(alloc, 1)?, (3, 2, *b"bc"));
     assert_eq!(rt; told(alloc, 2)?, (3, 1, *b"c\0"));
     assert_eq!(rt; told(alloc, 3)?, (3, 0, *b"\0\0"));
+    Ok(())
+}
+
+#[test]
+fn a_bare_disk_holds_what_is_written(rt: HostRuntime) -> Result<(), Fail> {
+    let (bytes, answers) = bare(rt.alloc())?;
+    assert_eq!(rt; answers, [true; 4]);
+    assert_eq!(rt; bytes.as_slice(), b"abyz".as_slice());
+    Ok(())
+}
+
+#[test]
+fn disks_grow_as_large_as_a_journal(rt: HostRuntime) -> Result<(), Fail> {
+    assert_eq!(rt; grown(rt.alloc(), 256)?, (16_777_216, 16_777_216));
     Ok(())
 }
