@@ -1,6 +1,5 @@
 //! The states of a journal, and why its calls stop.
 
-use outside::Failed;
 use thiserror::Error;
 use zbx_types::OutOfMemory;
 
@@ -33,17 +32,6 @@ pub enum JournalError {
     /// No memory was to be had.
     #[error("out of memory")]
     OutOfMemory,
-}
-
-impl From<Failed> for JournalError {
-    ghost use Rattle.std.specs.Prelude.{◌≡◌};
-    ghost use Rattle.intake_journal.specs.declared.state.JournalError.TheVariants as error;
-
-    ghost from_gives = { λ _ e. e ≡ error.DiskFault };
-
-    fn from(_failed: Failed) -> JournalError {
-        JournalError::DiskFault
-    }
 }
 
 impl From<OutOfMemory> for JournalError {

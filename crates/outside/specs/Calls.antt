@@ -19,7 +19,7 @@ one_more calls = record { fails = calls.fails; made = min (calls.made + 1) (2 ^ 
 abbrev pub is_listed : Calls → Bool
 is_listed calls = list_any (λ number. number == calls.made) calls.fails
 
--- the latest call failed where it is listed, or where memory was refused it, of which there is a count, and nowhere else
+-- the latest call failed where it is listed, or where memory was refused it, which is counted, and nowhere else
 pub record FailsWhereListed {T E : Type 0} (calls : Calls) (before now : ℕ) (result : Result T E) : Type 0 where
   pub listed : is_listed calls ≡ true → IsErr result × (now ≡ before)
   pub failed : OnErr result ((is_listed calls ≡ true) ⊎ (now ≡ before + 1))

@@ -1,6 +1,6 @@
 //! A disk in memory, whose images are told for every moment.
 
-ghost use Rattle.std.specs.Prelude.{◌≡◌, ◌≤◌, ◌-◌, ◌++◌, ◌∷◌, [], ℕ, List, Some, length, take, drop, min, is_err, IfOk, OnOk, OnErr};
+ghost use Rattle.std.specs.Prelude.{◌≡◌, ◌-◌, ◌++◌, ◌∷◌, [], Some, length, take, drop, min, is_err, IfOk, OnOk, OnErr};
 ghost use Rattle.outside.specs.Calls.{no_calls, one_more, is_listed, FailsWhereListed};
 ghost use Rattle.outside.specs.Causes.{HasCause};
 ghost use Rattle.outside.specs.Disk.{overwritten};
@@ -80,8 +80,8 @@ impl MemDisk {
         }
     }
 
-    /// Puts a piece at a place, and keeps the call. All memory is taken first; then the bytes are overwritten where they
-    /// lie.
+    /// Puts a piece at a place, and keeps the call. All memory is taken first; then the bytes are overwritten where
+    /// they lie.
     fn put(&mut self, at: u64, piece: &[u8]) -> Result<(), OutOfMemory>
         ensures ok { OnOk result (self.new ≡ record self.old { past = Wrote at piece.now ∷ self.old.past }) }
         ensures err { OnErr result (self.new ≡ self.old) }
@@ -177,8 +177,8 @@ impl Disk for MemDisk {
         Ok(copy_front(&bytes[start..], into))
     }
 
-    /// It fails exactly where its number is among those that are to fail, or memory is refused it, and so does `sync`. A
-    /// call that fails writes nothing.
+    /// It fails exactly where its number is among those that are to fail, or memory is refused it, and so does `sync`.
+    /// A call that fails writes nothing.
     fn write_at(&mut self, at: u64, piece: &[u8]) -> Result<(), Failed>
         ensures calls { self.new.calls ≡ one_more self.old.calls }
         ensures fails { FailsWhereListed self.new.calls self.old.refused self.new.refused result }

@@ -1,6 +1,6 @@
 //! A disk in memory that keeps its bytes alone.
 
-ghost use Rattle.std.specs.Prelude.{◌≡◌, ◌≤◌, ◌+◌, ◌-◌, [], ℕ, None, length, take, drop, min, IsOk, IfOk, OnOk, OnErr, IsErr};
+ghost use Rattle.std.specs.Prelude.{◌≡◌, ◌+◌, ◌-◌, [], None, length, take, drop, min, IsOk, IfOk, OnOk, OnErr};
 ghost use Rattle.outside.specs.Causes.{HasCause};
 ghost use Rattle.outside.specs.Disk.{overwritten};
 
@@ -13,8 +13,8 @@ use std::alloc::Global;
 use std::marker::Model;
 use zbx_types::{Bytes, OutOfMemory};
 
-/// A disk in memory that keeps its bytes and no calls, for a run whose journal needn't stay. It tells neither its bytes
-/// nor what a crash leaves, which is nothing.
+/// A disk in memory that keeps its bytes and no calls, for a run whose journal needn't stay. It tells neither its
+/// bytes nor what a crash leaves, which is nothing.
 ///
 /// A write fails where it finds no memory, and changes nothing then; the count of its faults rises. No other call fails.
 #[derive(Drop)]

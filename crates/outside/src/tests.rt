@@ -42,33 +42,56 @@ fn a_sink_holds_what_is_written(rt: HostRuntime) -> Result<(), Fail> {
     Ok(())
 }
 
+/// What nine calls of a wire's `next` answer, a line each.
+fn answers_of(alloc: Global, wire: &mut ScriptWire<MemSource>) -> Result<String, Fail> {
+    let mut answers = String::new(alloc);
+    for _ in 0..9 {
+        match wire.next(alloc) {
+            Ok(event) => answers.push_str(format!(in alloc; "{event:?}\n")?.as_str())?,
+            Err(trouble) => answers.push_str(format!(in alloc; "{trouble:?}\n")?.as_str())?,
+        }
+    }
+    Ok(answers)
+}
+
+/// The same for the wire of a script.
+fn answers_to(alloc: Global, script: &str) -> Result<String, Fail> {
+    let mut wire = ScriptWire::new(alloc, source(alloc, script.as_bytes())?, Many::new(alloc));
+    answers_of(alloc, &mut wire)
+}
+
+const SCRIPT: &str =
+    "100.000000000 open 7\n\n100.000000001 piece 7 00ff\n0100.000000002 frame 07 a b\n\
+    101.000000000 end 7\n102.000000000 broke 8\n103.000000000 quiet\n104.000000000 closed";
+
+const EVENTS: &str = "Opened { conn: 7, at: Moment { sec: 100, ns: 0 } }\n\
+    Piece { conn: 7, bytes: Bytes { bytes: [0, 255] }, at: Moment { sec: 100, ns: 1 } }\n\
+    Piece { conn: 7, bytes: Bytes { bytes: [90, 66, 88, 68, 1, 3, 0, 0, 0, 0, 0, 0, 0, 97, 32, 98] }, \
+    at: Moment { sec: 100, ns: 2 } }\n\
+    Ended { conn: 7, at: Moment { sec: 101, ns: 0 } }\n\
+    Broke { conn: 8, at: Moment { sec: 102, ns: 0 } }\n\
+    Quiet { at: Moment { sec: 103, ns: 0 } }\n\
+    Closed { at: Moment { sec: 104, ns: 0 } }\n\
+    Closed { at: Moment { sec: 104, ns: 0 } }\n\
+    Failed\n";
+
 #[test]
 fn a_script_gives_its_events(rt: HostRuntime) -> Result<(), Fail> {
-    let alloc = rt.alloc();
-    let script = "100.000000000 open 7\n\n100.000000001 piece 7 00ff\n0100.000000002 frame 07 a b\n\
-        101.000000000 end 7\n102.000000000 broke 8\n103.000000000 quiet\n104.000000000 closed";
-    let mut wire = ScriptWire::new(alloc, source(alloc, script.as_bytes())?, Many::new(alloc));
-    for want in [
-        "Opened { conn: 7, at: Moment { sec: 100, ns: 0 } }",
-        "Piece { conn: 7, bytes: Bytes { bytes: [0, 255] }, at: Moment { sec: 100, ns: 1 } }",
-        "Piece { conn: 7, bytes: Bytes { bytes: [90, 66, 88, 68, 1, 3, 0, 0, 0, 0, 0, 0, 0, 97, 32, 98] }, at: Moment { sec: 100, ns: 2 } }",
-        "Ended { conn: 7, at: Moment { sec: 101, ns: 0 } }",
-        "Broke { conn: 8, at: Moment { sec: 102, ns: 0 } }",
-        "Quiet { at: Moment { sec: 103, ns: 0 } }",
-        "Closed { at: Moment { sec: 104, ns: 0 } }",
-        "Closed { at: Moment { sec: 104, ns: 0 } }",
-    ] {
-        let event = wire.next(alloc)?;
-        assert_eq!(rt; format!(in alloc; "{event:?}")?.as_str(), want);
-    }
-    assert!(rt; matches!(wire.next(alloc), Err(Trouble::Failed)));
-    assert_eq!(rt; wire.faults(), 1);
+    assert_eq!(rt; answers_to(rt.alloc(), SCRIPT)?.as_str(), EVENTS);
     Ok(())
+}
+
+/// Whether a script of this line and one behind it fails once, and then gives the event behind it.
+fn is_passed(alloc: Global, bad: &str) -> Result<bool, Fail> {
+    let script = format!(in alloc; "{bad}\n2.000000000 quiet")?;
+    let mut wire = ScriptWire::new(alloc, source(alloc, script.as_bytes())?, Many::new(alloc));
+    let failed = matches!(wire.next(alloc), Err(Trouble::Failed));
+    let quiet = matches!(wire.next(alloc), Ok(WireEvent::Quiet { at }) if at.sec == 2);
+    Ok(failed && quiet && wire.faults() == 1)
 }
 
 #[test]
 fn a_bad_line_fails_and_is_passed(rt: HostRuntime) -> Result<(), Fail> {
-    let alloc = rt.alloc();
     for bad in [
         "quiet",
         "1.00000000 quiet",
@@ -84,40 +107,60 @@ fn a_bad_line_fails_and_is_passed(rt: HostRuntime) -> Result<(), Fail> {
         "1.000000000 frame 1",
         "1.000000000 shut 1",
     ] {
-        let script = format!(in alloc; "{bad}\n2.000000000 quiet")?;
-        let mut wire = ScriptWire::new(alloc, source(alloc, script.as_bytes())?, Many::new(alloc));
-        assert!(rt; matches!(wire.next(alloc), Err(Trouble::Failed)), "{bad}");
-        assert_eq!(rt; wire.faults(), 1);
-        assert_eq!(rt; wire.next(alloc)?.at(), Moment { sec: 2, ns: 0 }, "{bad}");
+        assert!(rt; is_passed(rt.alloc(), bad)?, "{bad}");
     }
     Ok(())
 }
 
+/// Whether a wire whose second call fails answers so, and keeps what was sent before it and what was closed.
+fn is_kept(alloc: Global, wire: &mut ScriptWire<MemSource>) -> [bool; 6] {
+    let sent = wire.send(3, b"xy") == Ok(());
+    let failed = wire.send(3, b"z") == Err(Failed) && wire.unsent() == 1;
+    wire.close(3);
+    [
+        sent,
+        failed,
+        matches!(wire.next(alloc), Ok(WireEvent::Closed { at }) if at == Moment::zero()),
+        wire.sent().len() == 1,
+        wire.sent().as_slice().iter().all(|(conn, bytes)| *conn == 3
+            && bytes.as_slice() == b"xy".as_slice()),
+        wire.closed().map(|c| c.as_slice()) == Some([(3, 2)].as_slice()),
+    ]
+}
+
+/// The same for a wire of no script.
+fn kept(alloc: Global) -> Result<[bool; 6], OutOfMemory> {
+    let mut wire = ScriptWire::new(alloc, source(alloc, b"")?, only(alloc, 2)?);
+    Ok(is_kept(alloc, &mut wire))
+}
+
 #[test]
 fn a_wire_keeps_what_is_sent_and_closed(rt: HostRuntime) -> Result<(), Fail> {
-    let alloc = rt.alloc();
-    let mut wire = ScriptWire::new(alloc, source(alloc, b"")?, only(alloc, 2)?);
-    assert_eq!(rt; wire.send(3, b"xy"), Ok(()));
-    assert_eq!(rt; wire.send(3, b"z"), Err(Failed));
-    assert_eq!(rt; wire.unsent(), 1);
-    wire.close(3);
-    assert!(rt;
-        matches!(
-            wire.next(alloc)?,
-            WireEvent::Closed {
-                at: Moment { sec: 0, ns: 0 }
-            }
-        )
-    );
-    assert_eq!(rt; wire.sent().len(), 1);
-    for (conn, bytes) in wire.sent().as_slice() {
-        assert_eq!(rt; *conn, 3);
-        assert_eq!(rt; bytes.as_slice(), b"xy".as_slice());
-    }
-    assert_eq!(rt;
-        wire.closed().map(|c| c.as_slice()),
-        Some([(3, 2)].as_slice())
-    );
+    assert_eq!(rt; kept(rt.alloc())?, [true; 6]);
+    Ok(())
+}
+
+/// Whether a sink, a source and a wire take and give 65,536 bytes at once.
+fn takes_large_pieces(alloc: Global) -> Result<[bool; 4], OutOfMemory> {
+    let piece = [b'a'; 65_536];
+    let mut into = [0; 65_536];
+    let mut line = Bytes::of(alloc, b"1.000000000 frame 1 ")?;
+    line.extend(&piece)?;
+    let mut sink = MemSink::new(Bytes::new(alloc), Many::new(alloc));
+    let mut source = MemSource::new(Bytes::of(alloc, &piece)?, Many::new(alloc));
+    let script = MemSource::new(line, Many::new(alloc));
+    let mut wire = ScriptWire::new(alloc, script, Many::new(alloc));
+    Ok([
+        sink.write(&piece) == Ok(65_536),
+        source.read(&mut into) == Ok(65_536),
+        wire.send(1, &piece) == Ok(()),
+        matches!(wire.next(alloc), Ok(WireEvent::Piece { bytes, .. }) if bytes.len() == 65_549),
+    ])
+}
+
+#[test]
+fn large_pieces_are_taken(rt: HostRuntime) -> Result<(), Fail> {
+    assert_eq!(rt; takes_large_pieces(rt.alloc())?, [true; 4]);
     Ok(())
 }
 
