@@ -1,5 +1,5 @@
 -- What a list of events makes, one after another up to the first that stops.
-use Rattle.std.specs.Prelude.{ℕ, List, [], ◌∷◌, ◌++◌, Option, Some, None}
+use Rattle.std.specs.Prelude.{ℕ, List, [], ◌∷◌, ◌++◌, length, Option, Some, None}
 use Rattle.std.specs.Option.{option_to_list}
 use Rattle.zbx_types.specs.declared.conf.Conf.{Conf}
 use Rattle.outside.specs.declared.event.WireEvent.{WireEvent}
@@ -7,21 +7,24 @@ use Rattle.intake_front.specs.Intake.{Intake, Handled, handled}
 use Rattle.intake_front.specs.declared.answer.Reply.{Reply}
 use Rattle.intake_front.specs.declared.answer.Stop.{Stop}
 
--- the intake behind the events, the replies and the connections that were closed, each in order, and what stopped
+-- the intake after the events, the replies in order, the connections that were closed in order, each with how many of
+-- these replies stood before its closing, and what stopped
 pub record Served : Type 0 where
   pub intake : Intake
   pub replies : List Reply
-  pub shut : List ℕ
+  pub shut : List (ℕ × ℕ)
   pub stop : Option Stop
 
--- with what one more event does
+-- the closing of a connection, if any, with how many replies stood before it
+abbrev pub closing : ℕ → Option ℕ → List (ℕ × ℕ)
+closing before None = []
+closing before (Some conn) = (conn, before) ∷ []
+
+-- with what one more event does: its reply stands before the closing of its connection
 abbrev pub grown : Served → Handled → Served
-grown s h = record {
-  intake = h.intake;
-  replies = s.replies ++ option_to_list h.answer.reply;
-  shut = s.shut ++ option_to_list h.answer.shut;
-  stop = h.answer.stop;
-}
+grown s h =
+    let replies = s.replies ++ option_to_list h.answer.reply in
+    record { intake = h.intake; replies = replies; shut = s.shut ++ closing (length replies) h.answer.shut; stop = h.answer.stop }
 
 -- one event more, unless one has stopped
 abbrev pub served_on : Option Stop → Conf → Served → WireEvent → Served
