@@ -1,7 +1,8 @@
 pub mod Sending
-pub mod Course
 pub mod Logs
 pub mod Counting
 pub mod Standing
+pub mod Outbox
+pub mod Events
 pub mod Texts
-pub mod Outcome
+pub mod Runs

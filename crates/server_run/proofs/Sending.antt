@@ -1,54 +1,96 @@
--- Laws of replies that go out.
-use Rattle.std.proofs.Common.{◌≡◌, ℕ, ◌+◌, ◌≤◌, List, [], ◌∷◌, ◌++◌, take, refl, sym, ap, ◌∙◌, subst, append_assoc, append-nil, arith, inl, inr}
+-- Laws of replies that go out, and of closings.
+use Rattle.std.proofs.Common.{◌≡◌, ℕ, ◌+◌, ◌≤◌, List, [], ◌∷◌, ◌++◌, length, map, take, refl, sym, ap, ◌∙◌, subst, append_assoc, append-nil, length-append, arith, inl, inr}
 use Rattle.std.specs.Prelude.{Option, Some, None, IfSome}
 use Rattle.std.specs.Option.{option_to_list}
+use Rattle.std.proofs.lemmas.List.{map-append}
 use Rattle.outside.specs.Causes.{Rose}
+use Rattle.outside.specs.Tells.{WireTells}
+use Rattle.intake_front.specs.Served.{closing}
+use Rattle.intake_front.specs.declared.answer.Answer.{Answer}
 use Rattle.intake_front.specs.declared.answer.Reply.{Reply}
-use Rattle.server_run.specs.Sending.{SendsReply, Closed, Delivered, RoseBy, none, whole, cut, dropped}
-use Rattle.server_run.specs.Course.{Sent}
+use Rattle.server_run.specs.Sending.{SendsReply, Shuts, Delivers, Delivered, RoseBy, none, whole, cut, dropped, Sent, counted_from, Shows}
 
 -- a count that rose once more
-pub rose_more : (a b c lost : ℕ) → RoseBy a lost b → Rose b c → RoseBy a (lost + 1) c
+rose_more : (a b c lost : ℕ) → RoseBy a lost b → Rose b c → RoseBy a (lost + 1) c
 rose_more a b c lost p q = omega (arith, p, q)
 
 -- a count that didn't fall
-pub rose_later : (a b c lost : ℕ) → RoseBy a lost b → b ≤ c → RoseBy a lost c
+rose_later : (a b c lost : ℕ) → RoseBy a lost b → b ≤ c → RoseBy a lost c
 rose_later a b c lost p q = omega (arith, p, q)
 
-pub rose_none : (a b : ℕ) → a ≤ b → RoseBy a 0 b
+rose_none : (a b : ℕ) → a ≤ b → RoseBy a 0 b
 rose_none a b p = omega (arith, p)
 
--- what was sent, and one answer's reply behind it
-one_reply : (before parts : List (ℕ × List ℕ)) (after : Option (List (ℕ × List ℕ))) (u0 u1 u2 lost : ℕ) (replies : List Reply) (reply : Option Reply)
-    → Delivered replies parts lost → RoseBy u0 lost u1 → u1 ≤ u2 → SendsReply (before ++ parts) after u1 u2 reply
-    → (parts' : List (ℕ × List ℕ)) × (lost' : ℕ) × (after ≡ Some (before ++ parts')) × Delivered (replies ++ option_to_list reply) parts' lost' × RoseBy u0 lost' u2
-one_reply before parts after u0 u1 u2 lost replies None d rose later sends =
-    (parts, lost, sends, subst (λ rs. Delivered rs parts lost) (sym (append-nil replies)) d, rose_later u0 u1 u2 lost rose later)
-one_reply before parts after u0 u1 u2 lost replies (Some r) d rose later (inl all) =
-    (parts ++ (r.conn, r.bytes) ∷ [], lost, all ∙ ap Some (append_assoc before parts ((r.conn, r.bytes) ∷ [])), whole r d, rose_later u0 u1 u2 lost rose later)
-one_reply before parts after u0 u1 u2 lost replies (Some r) d rose later (inr (risen, inl nothing)) =
-    (parts, lost + 1, nothing, dropped r d, rose_more u0 u1 u2 lost rose risen)
-one_reply before parts after u0 u1 u2 lost replies (Some r) d rose later (inr (risen, inr (n, within, some))) =
-    (parts ++ (r.conn, take n r.bytes) ∷ [], lost + 1, some ∙ ap Some (append_assoc before parts ((r.conn, take n r.bytes) ∷ [])), cut r n within d, rose_more u0 u1 u2 lost rose risen)
+-- what was sent, and one answer's reply after it
+one_reply : (w0 w1 w2 : WireTells) (before parts : List (ℕ × List ℕ)) (lost : ℕ) (replies : List Reply) (reply : Option Reply)
+    → Delivered replies parts lost → RoseBy w0.unsent lost w1.unsent → w1.unsent ≤ w2.unsent → SendsReply w1 w2 reply (before ++ parts)
+    → (parts' : List (ℕ × List ℕ)) × (lost' : ℕ) × (w2.sent ≡ Some (before ++ parts')) × Delivered (replies ++ option_to_list reply) parts' lost' × RoseBy w0.unsent lost' w2.unsent
+one_reply w0 w1 w2 before parts lost replies None d rose later sends =
+    (parts, lost, sends, subst (λ rs. Delivered rs parts lost) (sym (append-nil replies)) d, rose_later w0.unsent w1.unsent w2.unsent lost rose later)
+one_reply w0 w1 w2 before parts lost replies (Some r) d rose later (inl all) =
+    (parts ++ (r.conn, r.bytes) ∷ [], lost, all ∙ ap Some (append_assoc before parts ((r.conn, r.bytes) ∷ [])), whole r d, rose_later w0.unsent w1.unsent w2.unsent lost rose later)
+one_reply w0 w1 w2 before parts lost replies (Some r) d rose later (inr (risen, inl nothing)) =
+    (parts, lost + 1, nothing, dropped r d, rose_more w0.unsent w1.unsent w2.unsent lost rose risen)
+one_reply w0 w1 w2 before parts lost replies (Some r) d rose later (inr (risen, inr (n, within, some))) =
+    (parts ++ (r.conn, take n r.bytes) ∷ [], lost + 1, some ∙ ap Some (append_assoc before parts ((r.conn, take n r.bytes) ∷ [])), cut r n within d, rose_more w0.unsent w1.unsent w2.unsent lost rose risen)
 
-pub sent_none : (sent : Option (List (ℕ × List ℕ))) (unsent : ℕ) → Sent sent sent unsent unsent []
-sent_none None unsent = tt
-sent_none (Some before) unsent = ([], 0, ap Some (sym (append-nil before)), none, rose_none unsent unsent (omega arith))
+sent_none : (w : WireTells) → Sent w w []
+sent_none w = nothing w.sent
+  where
+    nothing : (sent : Option (List (ℕ × List ℕ))) → IfSome sent (λ before. (parts : List (ℕ × List ℕ)) × (lost : ℕ) × (sent ≡ Some (before ++ parts)) × Delivered [] parts lost × RoseBy w.unsent lost w.unsent)
+    nothing None = tt
+    nothing (Some before) = ([], 0, ap Some (sym (append-nil before)), none, rose_none w.unsent w.unsent (omega arith))
 
-pub sent_more : (s0 s1 s2 : Option (List (ℕ × List ℕ))) (u0 u1 u2 : ℕ) (replies : List Reply) (reply : Option Reply)
-    → Sent s0 s1 u0 u1 replies → u1 ≤ u2 → IfSome s1 (λ before. SendsReply before s2 u1 u2 reply) → Sent s0 s2 u0 u2 (replies ++ option_to_list reply)
-sent_more None s1 s2 u0 u1 u2 replies reply sent later sends = tt
-sent_more (Some before) s1 s2 u0 u1 u2 replies reply sent later sends =
-    let there : SendsReply (before ++ sent.0) s2 u1 u2 reply = subst (λ s. IfSome s (λ b. SendsReply b s2 u1 u2 reply)) sent.2 sends in
-    one_reply before sent.0 s2 u0 u1 u2 sent.1 replies reply sent.3 sent.4 later there
+sent_more : (w0 w1 w2 : WireTells) (replies : List Reply) (reply : Option Reply)
+    → Sent w0 w1 replies → w1.unsent ≤ w2.unsent → IfSome w1.sent (SendsReply w1 w2 reply) → Sent w0 w2 (replies ++ option_to_list reply)
+sent_more w0 w1 w2 replies reply sent later sends = more w0.sent sent
+  where
+    more : (before : Option (List (ℕ × List ℕ)))
+        → IfSome before (λ b. (parts : List (ℕ × List ℕ)) × (lost : ℕ) × (w1.sent ≡ Some (b ++ parts)) × Delivered replies parts lost × RoseBy w0.unsent lost w1.unsent)
+        → IfSome before (λ b. (parts : List (ℕ × List ℕ)) × (lost : ℕ) × (w2.sent ≡ Some (b ++ parts)) × Delivered (replies ++ option_to_list reply) parts lost × RoseBy w0.unsent lost w2.unsent)
+    more None so_far = tt
+    more (Some b) so_far =
+        let there : SendsReply w1 w2 reply (b ++ so_far.0) = subst (λ s. IfSome s (SendsReply w1 w2 reply)) so_far.2 sends in
+        one_reply w0 w1 w2 b so_far.0 so_far.1 replies reply so_far.3 so_far.4 later there
 
-pub closed_none : (closed : Option (List ℕ)) → Closed closed closed []
-closed_none None = refl
-closed_none (Some before) = sym (append-nil before)
+shuts_none : (closed : Option (List (ℕ × ℕ))) → Shuts closed closed []
+shuts_none None = refl
+shuts_none (Some before) = sym (append-nil before)
 
 -- connections that were closed one after another
-pub closed_more : (c0 c1 c2 : Option (List ℕ)) (shut more : List ℕ) → Closed c0 c1 shut → Closed c1 c2 more → Closed c0 c2 (shut ++ more)
-closed_more None c1 c2 shut more p q = let ceased : Closed None c2 more = subst (λ c. Closed c c2 more) p q in ceased
-closed_more (Some before) None c2 shut more p q = subst (λ c. IfSome c (λ now. now ≡ before ++ (shut ++ more))) (sym q) tt
-closed_more (Some before) (Some mid) None shut more p q = tt
-closed_more (Some before) (Some mid) (Some now) shut more p q = q ∙ ap (λ l. l ++ more) p ∙ append_assoc before shut more
+shuts_more : (c0 c1 c2 : Option (List (ℕ × ℕ))) (shut more : List (ℕ × ℕ)) → Shuts c0 c1 shut → Shuts c1 c2 more → Shuts c0 c2 (shut ++ more)
+shuts_more None c1 c2 shut more p q = let ceased : Shuts None c2 more = subst (λ c. Shuts c c2 more) p q in ceased
+shuts_more (Some before) None c2 shut more p q = subst (λ c. IfSome c (λ now. now ≡ before ++ (shut ++ more))) (sym q) tt
+shuts_more (Some before) (Some mid) None shut more p q = tt
+shuts_more (Some before) (Some mid) (Some now) shut more p q = q ∙ ap (λ l. l ++ more) p ∙ append_assoc before shut more
+
+-- a closing's count, from the number of sends before the run on
+counted_closing : (sends count : ℕ) (conn : Option ℕ) → counted_from sends (closing count conn) ≡ closing (sends + count) conn
+counted_closing sends count None = refl
+counted_closing sends count (Some conn) = refl
+
+-- at the start nothing was sent or closed
+pub shows_none : (w : WireTells) → Shows w w [] []
+shows_none w = record { sent = sent_none w; sends = omega arith; closed = shuts_none w.closed }
+
+-- one answer more
+pub shows_more : (w0 w1 w2 : WireTells) (replies : List Reply) (shut : List (ℕ × ℕ)) (answer : Answer) → Shows w0 w1 replies shut → Delivers w1 w2 answer
+    → Shows w0 w2 (replies ++ option_to_list answer.reply) (shut ++ closing (length (replies ++ option_to_list answer.reply)) answer.shut)
+shows_more w0 w1 w2 replies shut answer s d =
+    let one = option_to_list answer.reply in
+    let count = length (replies ++ one) in
+    let sends : w2.sends ≡ w0.sends + count = omega (arith, d.sends, s.sends, length-append replies one) in
+    let last : closing w2.sends answer.shut ≡ counted_from w0.sends (closing count answer.shut) = ap (λ n. closing n answer.shut) sends ∙ sym (counted_closing w0.sends count answer.shut) in
+    let all : counted_from w0.sends shut ++ closing w2.sends answer.shut ≡ counted_from w0.sends (shut ++ closing count answer.shut) =
+    ap (λ l. counted_from w0.sends shut ++ l) last ∙ sym (map-append (λ (c : ℕ × ℕ). (c.0, w0.sends + c.1)) shut (closing count answer.shut)) in
+    record {
+      sent = sent_more w0 w1 w2 replies answer.reply s.sent d.later d.reply;
+      sends = sends;
+      closed = subst (Shuts w0.closed w2.closed) all (shuts_more w0.closed w1.closed w2.closed (counted_from w0.sends shut) (closing w2.sends answer.shut) s.closed d.shut);
+    }
+
+-- a wire that shows the same
+pub shows_same : (w0 w1 w2 : WireTells) (replies : List Reply) (shut : List (ℕ × ℕ)) → Shows w0 w1 replies shut
+    → w2.sent ≡ w1.sent → w2.sends ≡ w1.sends → w2.closed ≡ w1.closed → w2.unsent ≡ w1.unsent → Shows w0 w2 replies shut
+shows_same w0 w1 w2 replies shut s sent sends closed unsent =
+    record { sent = rw (sent, unsent) s.sent; sends = sends ∙ s.sends; closed = subst (λ c. Shuts w0.closed c (counted_from w0.sends shut)) (sym closed) s.closed }

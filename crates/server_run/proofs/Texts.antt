@@ -1,6 +1,9 @@
 -- Texts of configurations that were read in part.
-use Rattle.std.proofs.Common.{◌≡◌, ℕ, ◌<◌, false, List, [], length, sym, ap, ◌∙◌, arith, inl, inr, refl}
+use Rattle.std.proofs.Common.{◌≡◌, ℕ, ◌<◌, ◌≤◌, ◌⊎◌, false, List, [], ◌++◌, ◌+◌, length, length-append, sym, ap, ◌∙◌, arith, inl, inr, refl}
+use Rattle.std.specs.Io.KnownBytes.{Consumes}
+use Rattle.std.proofs.KnownBytes.{Consumes-trans}
 use Rattle.std.specs.Prelude.{nat_le, Option, Some, None, IfSome, Result, Ok, Err}
+use Rattle.std.proofs.lemmas.Bool.{cases_lt}
 use Rattle.std.proofs.lemmas.Bool.Decides.{nat_tests}
 use Rattle.zbx_types.specs.declared.causes.Cause.TheVariants.{TooLong}
 use Rattle.zbx_types.specs.declared.conf.Conf.{Conf}
@@ -12,7 +15,11 @@ use Rattle.config_templates.specs.Items.{items_of}
 use Rattle.config_templates.specs.Links.{unknown_links, cycles}
 use Rattle.config_templates.specs.Places.{Flaw, refuse, unless, ◌>>=◌}
 use Rattle.config_templates.specs.Triggers.{triggers_of}
-use Rattle.server_run.specs.Ports.{IsTextUpTo}
+use Rattle.server_run.specs.Ports.{IsTextUpTo, ReadsUpTo}
+
+-- a piece more was taken from a source
+pub reads_piece : (most : ℕ) (a b c : Option (List ℕ)) (text piece : List ℕ) → Consumes a b text → Consumes b c piece → length text + length piece ≤ most + 1 → ReadsUpTo most a c
+reads_piece most a b c text piece p q few = (text ++ piece, omega (arith, few, length-append text piece), Consumes-trans a b c text piece p q)
 
 -- a text that is too long is refused
 flat_of-long : (text : List ℕ) → 16777216 < length text → flat_of text ≡ refuse [] TooLong
@@ -33,6 +40,14 @@ text_whole all text conf (inr long) found = let refused = flat_of-long text long
 pub text_told : (source : Option (List ℕ)) (text : List ℕ) (conf : Conf) → IfSome source (λ all. IsTextUpTo 16777216 all text) → flat_of text ≡ Ok conf → IfSome source (λ all. text ≡ all)
 text_told None text conf is found = tt
 text_told (Some all) text conf is found = text_whole all text conf is found
+
+-- a text that has a configuration isn't too long
+pub at_end_of : (text : List ℕ) (conf : Conf) → flat_of text ≡ Ok conf → length text ≤ 16777216
+at_end_of text conf found = within (cases_lt 16777216 (length text))
+  where
+    within : (16777216 < length text) ⊎ (length text ≤ 16777216) → length text ≤ 16777216
+    within (inl long) = let refused = flat_of-long text long in absurd (cc)
+    within (inr few) = few
 
 -- why what was read has no configuration is why the whole has none
 pub flaw_told : (source : Option (List ℕ)) (text : List ℕ) (flaw : Flaw) → IfSome source (λ all. IsTextUpTo 16777216 all text) → flat_of text ≡ Err flaw → IfSome source (λ all. flat_of all ≡ Err flaw)

@@ -3,6 +3,7 @@ pub mod Replayed
 pub mod Tally
 pub mod Standing
 pub mod Sending
-pub mod Course
-pub mod Stepped
-pub mod Outcome
+pub mod Statuses
+pub mod Events
+pub mod Outbox
+pub mod Runs

@@ -1,7 +1,8 @@
 -- What whole reads and writes do.
-use Rattle.std.specs.Prelude.{◌≡◌, ◌⊎◌, ◌≤◌, ◌<◌, ℕ, List, length, take, Option, IsErrOf, Result, MatchResult}
-use Rattle.std.specs.Io.KnownBytes.{Appends}
+use Rattle.std.specs.Prelude.{◌≡◌, ◌⊎◌, ◌≤◌, ◌<◌, ◌+◌, ℕ, List, length, take, Option, IsErrOf, IfOk, Result, MatchResult}
+use Rattle.std.specs.Io.KnownBytes.{Appends, Consumes, IsAtEnd}
 use Rattle.outside.specs.Causes.{Rose}
+use Rattle.outside.specs.Tells.{SinkTells}
 use Rattle.outside.specs.declared.event.Failed.{Failed}
 use Rattle.server_run.specs.declared.reading.ReadError.{ReadError}
 use Rattle.server_run.specs.declared.reading.ReadError.TheVariants as errors
@@ -10,11 +11,28 @@ use Rattle.server_run.specs.declared.reading.ReadError.TheVariants as errors
 abbrev pub IsTextUpTo : ℕ → List ℕ → List ℕ → Type 0
 IsTextUpTo most all text = (text ≡ all) ⊎ ((most < length text) × (most < length all))
 
+-- a text was taken from the front of what a source has left, at most one byte more than `most`
+abbrev pub ReadsText : ℕ → Option (List ℕ) → Option (List ℕ) → List ℕ → Type 0
+ReadsText most left left' text = (length text ≤ most + 1) × Consumes left left' text
+
+-- some text was
+abbrev pub ReadsUpTo : ℕ → Option (List ℕ) → Option (List ℕ) → Type 0
+ReadsUpTo most left left' = (text : List ℕ) × ReadsText most left left' text
+
 -- the count of a source has not fallen, and where the read failed it rose
 pub record HasReadCause {T : Type 0} (before now : ℕ) (result : Result T ReadError) : Type 0 where
   pub later : before ≤ now
   pub failed : IsErrOf result errors.Failed → Rose before now
 
--- known bytes grew by these, or at an error by some from the front
-abbrev pub Writes : Option (List ℕ) → Option (List ℕ) → List ℕ → Result (Unit {0}) Failed → Type 0
-Writes old new bytes result = MatchResult result (λ _. Appends old new bytes) (λ _. (n : ℕ) × (n ≤ length bytes) × Appends old new (take n bytes))
+-- a sink has these bytes more: in what it tells of them, and in their number
+pub record Grew (sink sink' : SinkTells) (more : List ℕ) : Type 0 where
+  pub bytes : Appends sink.bytes sink'.bytes more
+  pub size : sink'.held ≡ sink.held + length more
+
+-- a sink has some of these bytes more, from the front
+abbrev pub GrewByFront : SinkTells → SinkTells → List ℕ → Type 0
+GrewByFront sink sink' more = (n : ℕ) × Grew sink sink' (take n more)
+
+-- a sink grew by these bytes, or at an error by some from the front
+abbrev pub Writes : SinkTells → SinkTells → List ℕ → Result (Unit {0}) Failed → Type 0
+Writes sink sink' more result = MatchResult result (λ _. Grew sink sink' more) (λ _. GrewByFront sink sink' more)

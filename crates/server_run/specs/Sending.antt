@@ -1,36 +1,61 @@
--- How replies go out.
-use Rattle.std.specs.Prelude.{◌≡◌, ◌⊎◌, ◌≤◌, ◌+◌, ◌-◌, ◌^◌, min, ℕ, List, [], ◌∷◌, ◌++◌, length, take, Option, Some, None, IfSome}
+-- How replies go out, and connections are closed.
+use Rattle.std.specs.Prelude.{◌≡◌, ◌⊎◌, ◌≤◌, ◌+◌, ◌-◌, ◌^◌, min, ℕ, List, [], ◌∷◌, ◌++◌, length, map, take, Option, Some, None, IfSome}
 use Rattle.std.specs.Option.{option_to_list}
 use Rattle.outside.specs.Causes.{Rose}
+use Rattle.outside.specs.Tells.{WireTells}
+use Rattle.intake_front.specs.Served.{closing}
 use Rattle.intake_front.specs.declared.answer.Answer.{Answer}
 use Rattle.intake_front.specs.declared.answer.Reply.{Reply}
 
+-- some of a reply from the front was sent, or nothing
+abbrev pub SendsPart : List (ℕ × List ℕ) → Option (List (ℕ × List ℕ)) → Reply → Type 0
+SendsPart before after r = (after ≡ Some before) ⊎ ((n : ℕ) × (n ≤ length r.bytes) × (after ≡ Some (before ++ (r.conn, take n r.bytes) ∷ [])))
+
 -- a reply was sent whole; or the count of failed sends rose, and some of it from the front was sent, or nothing
-abbrev pub SendsReply : List (ℕ × List ℕ) → Option (List (ℕ × List ℕ)) → ℕ → ℕ → Option Reply → Type 0
-SendsReply before after unsent unsent' None = after ≡ Some before
-SendsReply before after unsent unsent' (Some r) =
-    (after ≡ Some (before ++ (r.conn, r.bytes) ∷ []))
-    ⊎ (Rose unsent unsent' × ((after ≡ Some before) ⊎ ((n : ℕ) × (n ≤ length r.bytes) × (after ≡ Some (before ++ (r.conn, take n r.bytes) ∷ [])))))
+abbrev pub SendsReply : WireTells → WireTells → Option Reply → List (ℕ × List ℕ) → Type 0
+SendsReply wire wire' None before = wire'.sent ≡ Some before
+SendsReply wire wire' (Some r) before =
+    (wire'.sent ≡ Some (before ++ (r.conn, r.bytes) ∷ [])) ⊎ (Rose wire.unsent wire'.unsent × SendsPart before wire'.sent r)
 
 -- these were closed, where the wire tells the closed connections and still does; it doesn't begin to tell
-abbrev pub Closed : Option (List ℕ) → Option (List ℕ) → List ℕ → Type 0
-Closed None after shut = after ≡ None
-Closed (Some before) after shut = IfSome after (λ now. now ≡ before ++ shut)
+abbrev pub Shuts : Option (List (ℕ × ℕ)) → Option (List (ℕ × ℕ)) → List (ℕ × ℕ) → Type 0
+Shuts None after shut = after ≡ None
+Shuts (Some before) after shut = IfSome after (λ now. now ≡ before ++ shut)
 
--- what a wire shows of an answer: its reply was sent, and its connection closed
-pub record Delivers (sent sent' : Option (List (ℕ × List ℕ))) (closed closed' : Option (List ℕ)) (unsent unsent' : ℕ) (answer : Answer) : Type 0 where
-  pub reply : IfSome sent (λ before. SendsReply before sent' unsent unsent' answer.reply)
-  pub shut : Closed closed closed' (option_to_list answer.shut)
-  pub later : unsent ≤ unsent'
+-- what a wire shows of an answer: its reply was sent, and then its connection closed
+pub record Delivers (wire wire' : WireTells) (answer : Answer) : Type 0 where
+  pub reply : IfSome wire.sent (SendsReply wire wire' answer.reply)
+  pub sends : wire'.sends ≡ wire.sends + length (option_to_list answer.reply)
+  pub shut : Shuts wire.closed wire'.closed (closing wire'.sends answer.shut)
+  pub later : wire.unsent ≤ wire'.unsent
 
 -- Replies and what was sent of them, in order: each whole, except for so many of which some from the front was sent, or
 -- nothing.
 pub data Delivered : List Reply → List (ℕ × List ℕ) → ℕ → Type 0 where
   none : Delivered [] [] 0
-  whole : {rs : List Reply} {parts : List (ℕ × List ℕ)} {lost : ℕ} (r : Reply) → Delivered rs parts lost → Delivered (rs ++ r ∷ []) (parts ++ (r.conn, r.bytes) ∷ []) lost
-  cut : {rs : List Reply} {parts : List (ℕ × List ℕ)} {lost : ℕ} (r : Reply) (n : ℕ) → n ≤ length r.bytes → Delivered rs parts lost → Delivered (rs ++ r ∷ []) (parts ++ (r.conn, take n r.bytes) ∷ []) (lost + 1)
-  dropped : {rs : List Reply} {parts : List (ℕ × List ℕ)} {lost : ℕ} (r : Reply) → Delivered rs parts lost → Delivered (rs ++ r ∷ []) parts (lost + 1)
+  whole : {rs : List Reply} {parts : List (ℕ × List ℕ)} {lost : ℕ} (r : Reply) → Delivered rs parts lost
+      → Delivered (rs ++ r ∷ []) (parts ++ (r.conn, r.bytes) ∷ []) lost
+  cut : {rs : List Reply} {parts : List (ℕ × List ℕ)} {lost : ℕ} (r : Reply) (n : ℕ) → n ≤ length r.bytes → Delivered rs parts lost
+      → Delivered (rs ++ r ∷ []) (parts ++ (r.conn, take n r.bytes) ∷ []) (lost + 1)
+  dropped : {rs : List Reply} {parts : List (ℕ × List ℕ)} {lost : ℕ} (r : Reply) → Delivered rs parts lost
+      → Delivered (rs ++ r ∷ []) parts (lost + 1)
 
 -- a count rose by so many, or stands at its last value
 abbrev pub RoseBy : ℕ → ℕ → ℕ → Type 0
 RoseBy before by now = min (before + by) (2 ^ 64 - 1) ≤ now
+
+-- where a wire tells what is sent, the replies were sent, but for as many as the count of failed sends rose by
+abbrev pub Sent : WireTells → WireTells → List Reply → Type 0
+Sent wire wire' replies =
+    IfSome wire.sent (λ before. (parts : List (ℕ × List ℕ)) × (lost : ℕ) × (wire'.sent ≡ Some (before ++ parts)) × Delivered replies parts lost × RoseBy wire.unsent lost wire'.unsent)
+
+-- closings, each with how many calls of send stood before it, where so many stood before them all
+abbrev pub counted_from : ℕ → List (ℕ × ℕ) → List (ℕ × ℕ)
+counted_from sends shut = map (λ c. (c.0, sends + c.1)) shut
+
+-- What a wire shows of replies and closings: each reply was one call of send, and each closing stands after as many of
+-- them as it says.
+pub record Shows (wire wire' : WireTells) (replies : List Reply) (shut : List (ℕ × ℕ)) : Type 0 where
+  pub sent : Sent wire wire' replies
+  pub sends : wire'.sends ≡ wire.sends + length replies
+  pub closed : Shuts wire.closed wire'.closed (counted_from wire.sends shut)

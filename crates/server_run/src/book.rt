@@ -1,17 +1,18 @@
 //! Entries are applied, and their lines go out.
 
-ghost use Rattle.std.specs.Prelude.{◌≡◌, ◌≤◌, ◌++◌, ◌∷◌, ℕ, List, length, OnOk, IfOk};
+ghost use Rattle.std.specs.Prelude.{◌≡◌, ◌++◌, ◌∷◌, ℕ, List, OnOk, IfOk};
 ghost use Rattle.zbx_types.specs.declared.entries.Numbered.{Numbered};
-ghost use Rattle.outside.specs.Causes.{Rose};
+ghost use Rattle.outside.specs.Events.{HasNextCause};
 ghost use Rattle.entry_step.specs.Log.{Fits};
 ghost use Rattle.event_text.specs.Lines.{lines_of};
 ghost use Rattle.server_run.specs.Tally.{tally_with};
-ghost use Rattle.server_run.specs.Standing.{onto, Applied, log_lines, Settles};
+ghost use Rattle.server_run.specs.Standing.{onto, Applied, log_lines};
+ghost use Rattle.server_run.specs.Outbox.{Settles};
 
 use crate::tally::Tally;
 use crate::writing::write_all;
 use entry_step::{Cells, Ready, step};
-use outside::{Failed, Sink};
+use outside::{Sink, Trouble};
 use std::alloc::Global;
 use zbx_types::{Bytes, Numbered, OutOfMemory, Rec};
 
@@ -20,17 +21,6 @@ use zbx_types::{Bytes, Numbered, OutOfMemory, Rec};
 pub(crate) struct Ledger {
     pub cells: Cells,
     pub tally: Tally,
-}
-
-/// What became of entries.
-#[derive(Clone, Copy, Debug, PartialEq, Eq)]
-pub(crate) enum Settled {
-    /// They are applied, and all their lines are out.
-    Done,
-    /// The outbox failed. Some of their lines from the front are out.
-    OutboxFault,
-    /// Memory was refused. None of their lines is out.
-    OutOfMemory,
 }
 
 /// Applies an entry, and adds its lines.
@@ -84,22 +74,22 @@ fn apply_all(
 }
 
 /// Applies entries in their order, and writes their lines to the outbox.
+///
+/// # Errors
+///
+/// `Failed` where the outbox failed: some of their lines from the front are out. `OutOfMemory` where memory was refused:
+/// none of their lines is out.
 pub(crate) fn settle<O: Sink>(
     alloc: Global,
     ready: &Ready,
     ledger: &mut Ledger,
     outbox: &mut O,
     entries: &[Numbered],
-) -> Settled
-    ensures later { O.faults outbox.old ≤ O.faults outbox.new }
-    ensures failed { result ≡ Settled.OutboxFault → Rose (O.faults outbox.old) (O.faults outbox.new) }
-    ensures settled { Settles ready.now ledger.old ledger.new entries.now (O.bytes outbox.old) (O.bytes outbox.new) (O.held outbox.old) (O.held outbox.new) result }
+) -> Result<(), Trouble>
+    ensures cause { HasNextCause (O.tells outbox.old).faults (O.tells outbox.new).faults result }
+    ensures settled { Settles ready.now ledger.old ledger.new entries.now (O.tells outbox.old) (O.tells outbox.new) result }
 {
-    match apply_all(alloc, ready, ledger, entries) {
-        Err(OutOfMemory) => Settled::OutOfMemory,
-        Ok(lines) => match write_all(outbox, lines.as_slice()) {
-            Ok(()) => Settled::Done,
-            Err(Failed) => Settled::OutboxFault,
-        },
-    }
+    let lines = apply_all(alloc, ready, ledger, entries)?;
+    write_all(outbox, lines.as_slice())?;
+    Ok(())
 }

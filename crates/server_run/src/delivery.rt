@@ -1,43 +1,49 @@
 //! Replies go out, and connections are closed.
 
-ghost use Rattle.std.specs.Prelude.{◌≡◌, ◌≤◌, ◌++◌, IfSome, Some, None};
+ghost use Rattle.std.specs.Prelude.{◌≡◌, ◌≤◌, ◌+◌, length, IfSome};
 ghost use Rattle.std.specs.Option.{option_to_list};
-ghost use Rattle.server_run.specs.Sending.{SendsReply, Delivers};
+ghost use Rattle.intake_front.specs.Served.{closing};
+ghost use Rattle.server_run.specs.Sending.{SendsReply, Shuts, Delivers};
 
 use intake_front::{Answer, Reply};
 use outside::Wire;
 
 /// Sends a reply. Where the send fails, the count of the wire rises and the run goes on.
 fn send<W: Wire>(wire: &mut W, reply: &Option<Reply>)
-    ensures sent { IfSome (W.sent wire.old) (λ before. SendsReply before (W.sent wire.new) (W.unsent wire.old) (W.unsent wire.new) reply.now) }
-    ensures later { W.unsent wire.old ≤ W.unsent wire.new }
-    ensures left { W.left wire.new ≡ W.left wire.old }
-    ensures closed { W.closed wire.new ≡ W.closed wire.old }
-    ensures faults { W.faults wire.new ≡ W.faults wire.old }
+    ensures sent { IfSome (W.tells wire.old).sent (SendsReply (W.tells wire.old) (W.tells wire.new) reply.now) }
+    ensures sends { (W.tells wire.new).sends ≡ (W.tells wire.old).sends + length (option_to_list reply.now) }
+    ensures later { (W.tells wire.old).unsent ≤ (W.tells wire.new).unsent }
+    ensures left { (W.tells wire.new).left ≡ (W.tells wire.old).left }
+    ensures given { (W.tells wire.new).given ≡ (W.tells wire.old).given }
+    ensures closed { (W.tells wire.new).closed ≡ (W.tells wire.old).closed }
+    ensures faults { (W.tells wire.new).faults ≡ (W.tells wire.old).faults }
 {
     if let Some(reply) = reply {
         let _ = wire.send(reply.conn, reply.bytes.as_slice());
     }
 }
 
+/// Closes a connection, where there is one to be closed.
 fn shut<W: Wire>(wire: &mut W, conn: Option<u64>)
-    ensures shut { IfSome (W.closed wire.old) (λ before. IfSome (W.closed wire.new) (λ after. after ≡ before ++ option_to_list conn)) }
-    ensures stays { W.closed wire.old ≡ None → W.closed wire.new ≡ None }
-    ensures sent { W.sent wire.new ≡ W.sent wire.old }
-    ensures left { W.left wire.new ≡ W.left wire.old }
-    ensures faults { W.faults wire.new ≡ W.faults wire.old }
-    ensures unsent { W.unsent wire.new ≡ W.unsent wire.old }
+    ensures shut { Shuts (W.tells wire.old).closed (W.tells wire.new).closed (closing (W.tells wire.old).sends conn) }
+    ensures sent { (W.tells wire.new).sent ≡ (W.tells wire.old).sent }
+    ensures sends { (W.tells wire.new).sends ≡ (W.tells wire.old).sends }
+    ensures left { (W.tells wire.new).left ≡ (W.tells wire.old).left }
+    ensures given { (W.tells wire.new).given ≡ (W.tells wire.old).given }
+    ensures faults { (W.tells wire.new).faults ≡ (W.tells wire.old).faults }
+    ensures unsent { (W.tells wire.new).unsent ≡ (W.tells wire.old).unsent }
 {
     if let Some(conn) = conn {
         wire.close(conn);
     }
 }
 
-/// Sends the reply of an answer, and closes the connection that it closes.
+/// Sends the reply of an answer, and then closes the connection that it closes.
 pub(crate) fn deliver<W: Wire>(wire: &mut W, answer: &Answer)
-    ensures delivers { Delivers (W.sent wire.old) (W.sent wire.new) (W.closed wire.old) (W.closed wire.new) (W.unsent wire.old) (W.unsent wire.new) answer.now }
-    ensures left { W.left wire.new ≡ W.left wire.old }
-    ensures faults { W.faults wire.new ≡ W.faults wire.old }
+    ensures delivers { Delivers (W.tells wire.old) (W.tells wire.new) answer.now }
+    ensures left { (W.tells wire.new).left ≡ (W.tells wire.old).left }
+    ensures given { (W.tells wire.new).given ≡ (W.tells wire.old).given }
+    ensures faults { (W.tells wire.new).faults ≡ (W.tells wire.old).faults }
 {
     send(wire, &answer.reply);
     shut(wire, answer.shut);

@@ -1,7 +1,8 @@
 //! Reading a source to its end.
 
-ghost use Rattle.std.specs.Prelude.{◌≡◌, ◌<◌, ◌^◌, IfSome, IfOk};
-ghost use Rattle.server_run.specs.Ports.{HasReadCause, IsTextUpTo};
+ghost use Rattle.std.specs.Prelude.{◌<◌, ◌≤◌, ◌^◌, length, IfSome, IfOk};
+ghost use Rattle.std.specs.Io.KnownBytes.{IsAtEnd};
+ghost use Rattle.server_run.specs.Ports.{HasReadCause, IsTextUpTo, ReadsText, ReadsUpTo};
 
 use outside::{Failed, Source};
 use std::alloc::Global;
@@ -15,6 +16,7 @@ pub(crate) enum ReadError {
 }
 
 /// Reads a source to its end, or until it has given more than this many bytes.
+#[tactic(auto, using(crate::proofs::Texts::reads_piece))]
 pub(crate) fn read_all<S: Source>(
     alloc: Global,
     most: u32,
@@ -22,6 +24,9 @@ pub(crate) fn read_all<S: Source>(
 ) -> Result<Bytes, ReadError>
     requires { most < 2 ^ 31 }
     ensures cause { HasReadCause (S.faults source.old) (S.faults source.new) result }
+    ensures taken { ReadsUpTo most (S.left source.old) (S.left source.new) }
+    ensures read { IfOk result (λ text. ReadsText most (S.left source.old) (S.left source.new) text) }
+    ensures end { IfOk result (λ text. length text ≤ most → IsAtEnd (S.left source.new)) }
     ensures text { IfSome (S.left source.old) (λ all. IfOk result (IsTextUpTo most all)) }
 {
     let mut text = Bytes::new(alloc);

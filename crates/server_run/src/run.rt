@@ -1,6 +1,7 @@
 //! The top call.
 
-ghost use Rattle.std.specs.Prelude.{◌≡◌, ◌⊎◌, ◌≤◌, ◌+◌, ℕ, List, [], length, take, true, false, IfSome, IfOk, IfErr, Some, None, Ok, Err};
+ghost use Rattle.std.specs.Prelude.{◌≡◌, ◌⊎◌, ◌≤◌, ℕ, List, [], take, true, false, IfSome, IfOk, IfErr, Some, None, Ok, Err};
+ghost use Rattle.std.specs.Io.KnownBytes.{IsAtEnd};
 ghost use Rattle.outside.specs.Causes.{Rose};
 ghost use Rattle.outside.specs.declared.event.WireEvent.{WireEvent};
 ghost use Rattle.intake_front.specs.Intake.{start};
@@ -13,11 +14,14 @@ ghost use Rattle.config_templates.specs.Places.{refuse};
 ghost use Rattle.config_templates.specs.Places.Flaw.{unbuilt};
 ghost use Rattle.zbx_types.specs.declared.causes.Cause.{Cause};
 ghost use Rattle.zbx_types.specs.declared.conf.Conf.{Conf};
-ghost use Rattle.server_run.specs.Replayed.{run_lines};
-ghost use Rattle.server_run.specs.Tally.{run_counts};
-ghost use Rattle.server_run.specs.Standing.{Applied};
 ghost use Rattle.entry_step.specs.Log.{log_of};
-ghost use Rattle.server_run.specs.Outcome.{Opened, Fails, Refuses, Followed, LinesAre, SizeIs, Prints, EndsPrinted, cut_short, IsRefusal, IsCourse};
+ghost use Rattle.server_run.specs.Ports.{ReadsUpTo};
+ghost use Rattle.server_run.specs.Replayed.{run_lines};
+ghost use Rattle.server_run.specs.Standing.{Applied};
+ghost use Rattle.server_run.specs.Tally.{run_counts};
+ghost use Rattle.server_run.specs.Outbox.{LinesAre, SizeIs};
+ghost use Rattle.server_run.specs.Runs.{IsUntaken, Opened, Refuses, Followed, Prints};
+ghost use Rattle.server_run.specs.Statuses.{course_of, cut_short, IsRefusal, IsCourse, IsUnprinted, EndsPrinted};
 
 use crate::book::Ledger;
 use crate::reading::{ReadError, read_all};
@@ -61,7 +65,7 @@ struct Begun {
 /// The flat configuration of these bytes.
 fn configure(alloc: Global, bytes: &[u8]) -> Result<Conf, Status>
     ensures ok { IfOk result (λ conf. flat_of bytes.now ≡ Ok conf) }
-    ensures err { IfErr result (Fails bytes.now) }
+    ensures err { IfErr result (IsUntaken bytes.now) }
 {
     match flat(alloc, bytes) {
         Ok(conf) => Ok(conf),
@@ -83,7 +87,7 @@ fn made_ready(alloc: Global, conf: Conf) -> Result<(Ready, Text), OutOfMemory>
 /// Makes the configuration of these bytes ready, with its text.
 fn prepare(alloc: Global, bytes: &[u8]) -> Result<(Ready, Text), Status>
     ensures ok { IfOk result (λ made. (flat_of bytes.now ≡ Ok made.0) × (made.1 ≡ bytes.now)) }
-    ensures err { IfErr result (Fails bytes.now) }
+    ensures err { IfErr result (IsUntaken bytes.now) }
 {
     let conf = match configure(alloc, bytes) {
         Ok(conf) => conf,
@@ -96,9 +100,12 @@ fn prepare(alloc: Global, bytes: &[u8]) -> Result<(Ready, Text), Status>
 }
 
 /// Opens a run: the words, the configuration, entry 1. Takes no event.
+#[tactic(auto, using(crate::proofs::Runs::reads_none))]
 fn open<S: Source>(alloc: Global, words: &[Text], config: &mut S) -> Result<Begun, Status>
     ensures later { S.faults config.old ≤ S.faults config.new }
-    ensures ok { IfOk result (λ b. Opened words.now (S.left config.old) b.turns b.ready b.front b.ledger) }
+    ensures unread { plan_of words.now ≡ None → config.new ≡ config.old }
+    ensures taken { ReadsUpTo 16777216 (S.left config.old) (S.left config.new) }
+    ensures ok { IfOk result (λ b. Opened words.now (S.left config.old) (S.left config.new) b.turns b.ready b.front b.ledger) }
     ensures err { IfErr result (Refuses words.now (S.left config.old) (S.faults config.old) (S.faults config.new)) }
 {
     let plan = match plan(alloc, words) {
@@ -161,6 +168,7 @@ const NOTHING: Counts = Counts {
 };
 
 /// Runs up to the printed line.
+#[tactic(auto, using(crate::proofs::Runs::reads_none))]
 fn go<S: Source, W: Wire, O: Sink>(
     alloc: Global,
     words: &[Text],
@@ -168,13 +176,19 @@ fn go<S: Source, W: Wire, O: Sink>(
     wire: &mut W,
     outbox: &mut O,
 ) -> Course
-    ensures wire { result.status ≡ Status.WireFault → Rose (W.faults wire.old) (W.faults wire.new) }
-    ensures outbox { result.status ≡ Status.OutboxFault → Rose (O.faults outbox.old) (O.faults outbox.new) }
-    ensures no_print { result.status ≡ Status.PrintFault → ⊥ }
-    ensures not_begun { result.began ≡ false → Refuses words.now (S.left config.old) (S.faults config.old) (S.faults config.new) result.status × (wire.new ≡ wire.old) × (outbox.new ≡ outbox.old) × (result.entries ≡ []) }
-    ensures followed { result.began ≡ true → Followed words.now (S.left config.old) (W.left wire.old) (W.sent wire.old) (W.sent wire.new) (W.closed wire.old) (W.closed wire.new) (W.unsent wire.old) (W.unsent wire.new) result.status result.entries }
-    ensures lines { result.began ≡ true → LinesAre result.status (O.bytes outbox.old) (O.bytes outbox.new) (run_lines result.entries) }
-    ensures size { result.began ≡ true → SizeIs result.status (O.held outbox.old) (O.held outbox.new) (length (run_lines result.entries)) }
+    ensures source_later { S.faults config.old ≤ S.faults config.new }
+    ensures unread { plan_of words.now ≡ None → config.new ≡ config.old }
+    ensures taken { ReadsUpTo 16777216 (S.left config.old) (S.left config.new) }
+    ensures to_the_end { result.began ≡ true → IsAtEnd (S.left config.new) }
+    ensures wire { result.status ≡ Status.WireFault → Rose (W.tells wire.old).faults (W.tells wire.new).faults }
+    ensures outbox { result.status ≡ Status.OutboxFault → Rose (O.tells outbox.old).faults (O.tells outbox.new).faults }
+    ensures unprinted { IsUnprinted result.status }
+    ensures not_begun { result.began ≡ false → Refuses words.now (S.left config.old) (S.faults config.old) (S.faults config.new) result.status
+        × (wire.new ≡ wire.old) × (outbox.new ≡ outbox.old) × (result.entries ≡ []) }
+    ensures followed { result.began ≡ true
+        → Followed words.now (S.left config.old) (W.tells wire.old) (W.tells wire.new) result.status result.entries }
+    ensures lines { result.began ≡ true
+        → LinesAre (course_of result.status).out (O.tells outbox.old) (O.tells outbox.new) (run_lines result.entries) }
     ensures counts { result.status ≡ Status.Ok → result.counts ≡ run_counts result.entries }
 {
     let Begun {
@@ -205,11 +219,12 @@ fn go<S: Source, W: Wire, O: Sink>(
 }
 
 /// Prints the line of a status, and answers how the run ended.
+#[tactic(auto, using(crate::proofs::Runs::printed_all, crate::proofs::Runs::printed_cut, crate::proofs::Runs::printed_none))]
 fn report<P: Sink>(alloc: Global, status: Status, counts: &Counts, print: &mut P) -> Status
-    ensures later { P.faults print.old ≤ P.faults print.new }
+    requires { IsUnprinted status }
     ensures ends { EndsPrinted status result }
-    ensures print { result ≡ Status.PrintFault → (status ≡ Status.PrintFault) ⊎ Rose (P.faults print.old) (P.faults print.new) }
-    ensures prints { (status ≡ Status.PrintFault → ⊥) → Prints result counts.now (P.bytes print.old) (P.bytes print.new) (P.faults print.old) (P.faults print.new) }
+    ensures print { result ≡ Status.PrintFault → Rose (P.tells print.old).faults (P.tells print.new).faults }
+    ensures prints { Prints result counts.now (P.tells print.old) (P.tells print.new) }
 {
     let Ok(line) = printed(alloc, &status, counts) else {
         return Status::OutOfMemory;
@@ -231,14 +246,15 @@ fn cut_short(status: Status) -> Status
 }
 
 /// Runs the server on one thread: reads the configuration, takes the wire's events, writes the lines of their records to
-/// the outbox and prints one line. It takes at most as many events as the plan of the words allows, and always returns.
+/// the outbox and prints one line. It reads at most 16,777,217 bytes of the configuration, takes at most as many events
+/// as the plan of the words allows, and always returns.
 ///
 /// # Statuses
 ///
-/// `Usage`, `SourceFault`, `ConfigRefused` and `Unbuilt` end the opening, so that no event was taken and the outbox is untouched. `Ok`
-/// comes where the wire was read to its end. `TurnLimit` comes where as many events as the plan allows were taken and
-/// none closed the wire. `WireFault`, `OutboxFault` and `PrintFault` come where that object failed. `OutOfMemory` may come
-/// wherever memory is taken.
+/// `Usage`, `SourceFault`, `ConfigRefused` and `Unbuilt` end the opening: no event was taken, and wire and outbox are as
+/// they were. `Ok` comes where the wire was read to its end. `TurnLimit` comes where as many events as the plan allows
+/// were taken and none closed the wire. `WireFault`, `OutboxFault` and `PrintFault` come where that object failed.
+/// `OutOfMemory` may come wherever memory is taken.
 pub fn run_single<S: Source, W: Wire, O: Sink, P: Sink>(
     alloc: Global,
     words: &[Text],
@@ -247,46 +263,60 @@ pub fn run_single<S: Source, W: Wire, O: Sink, P: Sink>(
     outbox: O,
     print: &mut P,
 ) -> Ended<O>
-    // Usage comes exactly where the words have no plan.
+    // Usage comes exactly where the words have no plan, and then nothing was read.
     ensures usage { result.status ≡ Status.Usage → plan_of words.now ≡ None }
     ensures not_command { plan_of words.now ≡ None → (result.status ≡ Status.Usage) ⊎ (result.status ≡ Status.OutOfMemory) }
+    ensures unread { plan_of words.now ≡ None → config.new ≡ config.old }
+
+    // At most 16,777,217 bytes of the configuration were read; all of them, where the run began.
+    ensures taken { ReadsUpTo 16777216 (S.left config.old) (S.left config.new) }
+    ensures to_the_end { result.began ≡ true → IsAtEnd (S.left config.new) }
 
     // Unbuilt comes exactly where the configuration has a form that isn't built.
     ensures unbuilt { result.status ≡ Status.Unbuilt → IfSome (S.left config.old) (λ text. flat_of text ≡ Err unbuilt) }
     ensures not_built { (text : List ℕ) → S.left config.old ≡ Some text → flat_of text ≡ Err unbuilt
-        → (result.status ≡ Status.Unbuilt) ⊎ ((result.status ≡ Status.SourceFault) ⊎ ((result.status ≡ Status.Usage) ⊎ (result.status ≡ Status.OutOfMemory))) }
+        → (result.status ≡ Status.Unbuilt) ⊎ ((result.status ≡ Status.SourceFault)
+            ⊎ ((result.status ≡ Status.Usage) ⊎ (result.status ≡ Status.OutOfMemory))) }
 
     // ConfigRefused comes exactly where the configuration is refused, with its path and cause.
-    ensures config_refused { (path : List ℕ) (cause : Cause) → result.status ≡ Status.ConfigRefused path cause → IfSome (S.left config.old) (λ text. flat_of text ≡ refuse path cause) }
+    ensures config_refused { (path : List ℕ) (cause : Cause) → result.status ≡ Status.ConfigRefused path cause
+        → IfSome (S.left config.old) (λ text. flat_of text ≡ refuse path cause) }
     ensures refused_text { (text path : List ℕ) (cause : Cause) → S.left config.old ≡ Some text → flat_of text ≡ refuse path cause
-        → (result.status ≡ Status.ConfigRefused path cause) ⊎ ((result.status ≡ Status.SourceFault) ⊎ ((result.status ≡ Status.Usage) ⊎ (result.status ≡ Status.OutOfMemory))) }
+        → (result.status ≡ Status.ConfigRefused path cause) ⊎ ((result.status ≡ Status.SourceFault)
+            ⊎ ((result.status ≡ Status.Usage) ⊎ (result.status ≡ Status.OutOfMemory))) }
 
     // A fault comes only where the count of its object rose.
     ensures source { result.status ≡ Status.SourceFault → Rose (S.faults config.old) (S.faults config.new) }
-    ensures wire { result.status ≡ Status.WireFault → Rose (W.faults wire.old) (W.faults wire.new) }
-    ensures outbox { result.status ≡ Status.OutboxFault → Rose (O.faults outbox) (O.faults result.outbox) }
-    ensures print { result.status ≡ Status.PrintFault → Rose (P.faults print.old) (P.faults print.new) }
+    ensures wire { result.status ≡ Status.WireFault → Rose (W.tells wire.old).faults (W.tells wire.new).faults }
+    ensures outbox { result.status ≡ Status.OutboxFault → Rose (O.tells outbox).faults (O.tells result.outbox).faults }
+    ensures print { result.status ≡ Status.PrintFault → Rose (P.tells print.old).faults (P.tells print.new).faults }
 
     // A run that hasn't begun was refused at its opening, and left the wire and the outbox alone.
-    ensures not_begun { result.began ≡ false → IsRefusal result.status × (wire.new ≡ wire.old) × (result.outbox ≡ outbox) × (result.entries ≡ []) }
+    ensures not_begun { result.began ≡ false
+        → IsRefusal result.status × (wire.new ≡ wire.old) × (result.outbox ≡ outbox) × (result.entries ≡ []) }
     ensures begun { result.began ≡ true → IsCourse result.status }
 
-    // Replies and entries, reading to the end, the limit of turns.
-    ensures followed { result.began ≡ true → Followed words.now (S.left config.old) (W.left wire.old) (W.sent wire.old) (W.sent wire.new) (W.closed wire.old) (W.closed wire.new) (W.unsent wire.old) (W.unsent wire.new) result.status result.entries }
+    // Events taken, replies, closings and entries; reading to the end; the limit of turns.
+    ensures followed { result.began ≡ true
+        → Followed words.now (S.left config.old) (W.tells wire.old) (W.tells wire.new) result.status result.entries }
 
     // The lines in the outbox are those of one thread that replays the entries.
-    ensures lines { result.began ≡ true → LinesAre result.status (O.bytes outbox) (O.bytes result.outbox) (run_lines result.entries) }
-    ensures size { result.began ≡ true → SizeIs result.status (O.held outbox) (O.held result.outbox) (length (run_lines result.entries)) }
+    ensures lines { result.began ≡ true
+        → LinesAre (course_of result.status).out (O.tells outbox) (O.tells result.outbox) (run_lines result.entries) }
+    ensures size { result.began ≡ true
+        → SizeIs (course_of result.status).out (O.tells outbox) (O.tells result.outbox) (run_lines result.entries) }
 
     // The printed line is that of the status, over the counts of the entries.
-    ensures printed { Prints result.status (run_counts result.entries) (P.bytes print.old) (P.bytes print.new) (P.faults print.old) (P.faults print.new) }
+    ensures printed { Prints result.status (run_counts result.entries) (P.tells print.old) (P.tells print.new) }
 
     // What is accepted and doesn't fail ends well, if memory is there.
     ensures complete { (plan : Plan) (text : List ℕ) (conf : Conf) (all : List WireEvent)
-        → plan_of words.now ≡ Some plan → S.left config.old ≡ Some text → flat_of text ≡ Ok conf → W.left wire.old ≡ Some all
-        → (served conf (start text) (take plan.turns all)).stop ≡ Some stop.Closed
-        → (Rose (S.faults config.old) (S.faults config.new) → ⊥) → (Rose (W.faults wire.old) (W.faults wire.new) → ⊥)
-        → (Rose (O.faults outbox) (O.faults result.outbox) → ⊥) → (Rose (P.faults print.old) (P.faults print.new) → ⊥)
+        → plan_of words.now ≡ Some plan → S.left config.old ≡ Some text → flat_of text ≡ Ok conf
+        → (W.tells wire.old).left ≡ Some all → (served conf (start text) (take plan.turns all)).stop ≡ Some stop.Closed
+        → (Rose (S.faults config.old) (S.faults config.new) → ⊥)
+        → (Rose (W.tells wire.old).faults (W.tells wire.new).faults → ⊥)
+        → (Rose (O.tells outbox).faults (O.tells result.outbox).faults → ⊥)
+        → (Rose (P.tells print.old).faults (P.tells print.new).faults → ⊥)
         → (result.status ≡ Status.Ok) ⊎ (result.status ≡ Status.OutOfMemory) }
 {
     let mut outbox = outbox;

@@ -1,53 +1,26 @@
 //! Events are taken one after another, up to the one that ends the run.
 
-ghost use Rattle.std.specs.Prelude.{◌≡◌, ◌≤◌, ℕ, List, Option, drop};
+ghost use Rattle.std.specs.Prelude.{◌≡◌, ◌≤◌, IfErr, IsErrOf, drop};
 ghost use Rattle.outside.specs.Causes.{Rose};
-ghost use Rattle.server_run.specs.Standing.{Standing};
-ghost use Rattle.server_run.specs.Stepped.{Advances, Stands, step_of};
-ghost use Rattle.server_run.specs.Outcome.{Finished, Leaves};
+ghost use Rattle.outside.specs.Tells.{SinkTells};
+ghost use Rattle.outside.specs.Events.{HasNextCause};
+ghost use Rattle.server_run.specs.Events.{TookOrEnded};
+ghost use Rattle.server_run.specs.Outbox.{Settles, UpToDate, KeepsUp, Leaves};
+ghost use Rattle.server_run.specs.Runs.{Finished};
+ghost use Rattle.server_run.specs.Statuses.{course_of, IsUnprinted};
 
-use crate::book::{Ledger, Settled, settle};
-use crate::taking::{Taking, take};
+use crate::book::{Ledger, settle};
+use crate::taking::take;
 use entry_step::Ready;
 use intake_front::{Front, Stop};
-use outside::{Sink, Wire};
+use outside::{Sink, Trouble, Wire};
 use server_words::Status;
 use std::alloc::Global;
 use zbx_types::Numbered;
 
-/// What one turn came to.
-#[derive(Clone, Copy, Debug, PartialEq, Eq)]
-pub(crate) enum Step {
-    /// The next event may come.
-    On,
-    /// The event closed the wire.
-    Closed,
-    /// The wire gave no event.
-    WireFault,
-    /// The outbox failed behind an event.
-    OutboxFault,
-    /// Memory was refused before the event was taken.
-    Refused,
-    /// Memory was refused behind an event.
-    Spent,
-}
-
-fn step_of(settled: Settled, stop: Option<Stop>) -> Step
-    ensures { result ≡ step_of settled stop }
-{
-    match settled {
-        Settled::OutboxFault => Step::OutboxFault,
-        Settled::OutOfMemory => Step::Spent,
-        Settled::Done => match stop {
-            None => Step::On,
-            Some(Stop::Closed) => Step::Closed,
-        },
-    }
-}
-
-/// The entries behind the first ones of this number.
+/// The entries after the first ones of this number.
 #[tactic(auto, using(std::proofs::lemmas::List::drop_all))]
-fn behind(entries: &[Numbered], first: usize) -> &[Numbered]
+fn after_first(entries: &[Numbered], first: usize) -> &[Numbered]
     ensures { result.now ≡ drop first entries.now }
 {
     if first <= entries.len() {
@@ -57,31 +30,51 @@ fn behind(entries: &[Numbered], first: usize) -> &[Numbered]
     }
 }
 
-/// Takes an event, and applies its entries.
-fn turn<W: Wire, O: Sink>(
+/// Applies the entries after the first ones of this number, and writes their lines to the outbox. As `settle` fails.
+fn settle_after<O: Sink>(
+    alloc: Global,
+    ready: &Ready,
+    front: &Front,
+    first: usize,
+    ledger: &mut Ledger,
+    outbox: &mut O,
+) -> Result<(), Trouble>
+    ensures cause { HasNextCause (O.tells outbox.old).faults (O.tells outbox.new).faults result }
+    ensures settled { Settles ready.now ledger.old ledger.new (drop first front.now.entries) (O.tells outbox.old) (O.tells outbox.new) result }
+{
+    let entries = after_first(front.entries().as_slice(), first);
+    settle(alloc, ready, ledger, outbox, entries)
+}
+
+/// Takes an event, and applies its entries. Answers whether that event stops the run, or the status with which the run
+/// ends.
+fn serve_one<W: Wire, O: Sink>(
     alloc: Global,
     ready: &Ready,
     wire: &mut W,
     front: &mut Front,
     ledger: &mut Ledger,
     outbox: &mut O,
-) -> Step
-    ensures wire_later { W.faults wire.old ≤ W.faults wire.new }
-    ensures wire { result ≡ Step.WireFault → Rose (W.faults wire.old) (W.faults wire.new) }
-    ensures outbox_later { O.faults outbox.old ≤ O.faults outbox.new }
-    ensures outbox { result ≡ Step.OutboxFault → Rose (O.faults outbox.old) (O.faults outbox.new) }
-    ensures advances { Advances ready.now front.old front.new (W.left wire.old) (W.left wire.new) (W.sent wire.old) (W.sent wire.new) (W.closed wire.old) (W.closed wire.new) (W.unsent wire.old) (W.unsent wire.new) result }
-    ensures stands { (told : Option (List ℕ)) (held : ℕ) → Standing ready.now front.old ledger.old.cells ledger.old.tally told (O.bytes outbox.old) held (O.held outbox.old)
-        → Stands ready.now front.new ledger.new told (O.bytes outbox.new) held (O.held outbox.new) result }
+) -> Result<Option<Stop>, Status>
+    ensures wire_later { (W.tells wire.old).faults ≤ (W.tells wire.new).faults }
+    ensures wire { IsErrOf result Status.WireFault → Rose (W.tells wire.old).faults (W.tells wire.new).faults }
+    ensures outbox_later { (O.tells outbox.old).faults ≤ (O.tells outbox.new).faults }
+    ensures outbox { IsErrOf result Status.OutboxFault → Rose (O.tells outbox.old).faults (O.tells outbox.new).faults }
+    ensures unprinted { IfErr result IsUnprinted }
+    ensures took { TookOrEnded ready.now front.old front.new (W.tells wire.old) (W.tells wire.new) result }
+    ensures keeps_up { (sink : SinkTells) → UpToDate ready.now front.old ledger.old sink (O.tells outbox.old)
+        → KeepsUp ready.now front.new ledger.new sink (O.tells outbox.new) result }
 {
     let from = front.entries().len();
-    match take(alloc, ready, wire, front) {
-        Taking::Failed => Step::WireFault,
-        Taking::Refused => Step::Refused,
-        Taking::Went { stop } => {
-            let entries = behind(front.entries().as_slice(), from);
-            step_of(settle(alloc, ready, ledger, outbox, entries), stop)
-        }
+    let stop = match take(alloc, ready, wire, front) {
+        Ok(stop) => stop,
+        Err(Trouble::Failed) => return Err(Status::WireFault),
+        Err(Trouble::OutOfMemory) => return Err(Status::OutOfMemory),
+    };
+    match settle_after(alloc, ready, front, from, ledger, outbox) {
+        Ok(()) => Ok(stop),
+        Err(Trouble::Failed) => Err(Status::OutboxFault),
+        Err(Trouble::OutOfMemory) => Err(Status::OutOfMemory),
     }
 }
 
@@ -95,21 +88,18 @@ pub(crate) fn serve<W: Wire, O: Sink>(
     ledger: &mut Ledger,
     outbox: &mut O,
 ) -> Status
-    ensures wire { result ≡ Status.WireFault → Rose (W.faults wire.old) (W.faults wire.new) }
-    ensures outbox { result ≡ Status.OutboxFault → Rose (O.faults outbox.old) (O.faults outbox.new) }
-    ensures no_print { result ≡ Status.PrintFault → ⊥ }
-    ensures finished { Finished ready.now front.old front.new.entries turns (W.left wire.old) (W.sent wire.old) (W.sent wire.new) (W.closed wire.old) (W.closed wire.new) (W.unsent wire.old) (W.unsent wire.new) result }
-    ensures leaves { (told : Option (List ℕ)) (held : ℕ) → Standing ready.now front.old ledger.old.cells ledger.old.tally told (O.bytes outbox.old) held (O.held outbox.old)
-        → Leaves ready.now front.new.entries ledger.new.tally told (O.bytes outbox.new) held (O.held outbox.new) result }
+    ensures wire { result ≡ Status.WireFault → Rose (W.tells wire.old).faults (W.tells wire.new).faults }
+    ensures outbox { result ≡ Status.OutboxFault → Rose (O.tells outbox.old).faults (O.tells outbox.new).faults }
+    ensures unprinted { IsUnprinted result }
+    ensures finished { Finished ready.now front.old front.new.entries turns (W.tells wire.old) (W.tells wire.new) (course_of result).ending }
+    ensures leaves { (sink : SinkTells) → UpToDate ready.now front.old ledger.old sink (O.tells outbox.old)
+        → Leaves ready.now front.new.entries ledger.new.tally sink (O.tells outbox.new) (course_of result).out }
 {
     for _ in 0..turns {
-        match turn(alloc, ready, wire, front, ledger, outbox) {
-            Step::On => {}
-            Step::Closed => return Status::Ok,
-            Step::WireFault => return Status::WireFault,
-            Step::OutboxFault => return Status::OutboxFault,
-            Step::Refused => return Status::OutOfMemory,
-            Step::Spent => return Status::OutOfMemory,
+        match serve_one(alloc, ready, wire, front, ledger, outbox) {
+            Ok(None) => {}
+            Ok(Some(Stop::Closed)) => return Status::Ok,
+            Err(status) => return status,
         }
     }
     Status::TurnLimit

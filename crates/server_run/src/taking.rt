@@ -1,8 +1,7 @@
 //! One event is taken from the wire, and answered.
 
-ghost use Rattle.std.specs.Prelude.{◌≡◌, ◌≤◌};
-ghost use Rattle.outside.specs.Causes.{Rose};
-ghost use Rattle.server_run.specs.Course.{Takes};
+ghost use Rattle.outside.specs.Events.{HasNextCause};
+ghost use Rattle.server_run.specs.Events.{TookOrMissed};
 
 use crate::delivery::deliver;
 use entry_step::Ready;
@@ -11,32 +10,27 @@ use outside::{Trouble, Wire};
 use std::alloc::Global;
 use zbx_types::OutOfMemory;
 
-/// What became of the next event.
-pub(crate) enum Taking {
-    /// It was taken, its entries are numbered and its reply is sent.
-    Went { stop: Option<Stop> },
-    /// The wire gave none.
-    Failed,
-    /// Memory was refused. Nothing was numbered, nothing sent.
-    Refused,
-}
-
-/// Takes the next event, numbers its entries and sends its reply.
-pub(crate) fn take<W: Wire>(alloc: Global, ready: &Ready, wire: &mut W, front: &mut Front) -> Taking
-    ensures later { W.faults wire.old ≤ W.faults wire.new }
-    ensures failed { result ≡ Taking.Failed → Rose (W.faults wire.old) (W.faults wire.new) }
-    ensures taken { Takes ready.now front.old front.new (W.left wire.old) (W.left wire.new) (W.sent wire.old) (W.sent wire.new) (W.closed wire.old) (W.closed wire.new) (W.unsent wire.old) (W.unsent wire.new) result }
+/// Takes the next event, numbers its entries and sends its reply. Answers whether that event stops the run.
+///
+/// # Errors
+///
+/// `Failed` where the wire gave no event. `OutOfMemory` where memory was refused. Nothing was numbered then, nothing sent.
+#[tactic(auto, using(crate::proofs::Events::missed_event))]
+pub(crate) fn take<W: Wire>(
+    alloc: Global,
+    ready: &Ready,
+    wire: &mut W,
+    front: &mut Front,
+) -> Result<Option<Stop>, Trouble>
+    ensures cause { HasNextCause (W.tells wire.old).faults (W.tells wire.new).faults result }
+    ensures taken { TookOrMissed ready.now front.old front.new (W.tells wire.old) (W.tells wire.new) result }
 {
-    let event = match wire.next(alloc) {
-        Ok(event) => event,
-        Err(Trouble::Failed) => return Taking::Failed,
-        Err(Trouble::OutOfMemory) => return Taking::Refused,
-    };
+    let event = wire.next(alloc)?;
     match front.on_event(alloc, ready, &event) {
         Ok(answer) => {
             deliver(wire, &answer);
-            Taking::Went { stop: answer.stop }
+            Ok(answer.stop)
         }
-        Err(OutOfMemory) => Taking::Refused,
+        Err(OutOfMemory) => Err(Trouble::OutOfMemory),
     }
 }

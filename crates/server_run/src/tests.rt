@@ -120,11 +120,15 @@ fn put_sent(alloc: Global, report: &mut Bytes, sent: &[(u64, Bytes)]) -> Result<
     Ok(())
 }
 
-fn put_closed(alloc: Global, report: &mut Bytes, closed: Option<&Many<u64>>) -> Result<(), Fail> {
+/// Adds the connections that were closed, each with how many replies stood before it, as `1:1`.
+fn put_closed(
+    alloc: Global,
+    report: &mut Bytes,
+    closed: Option<&Many<(u64, u64)>>,
+) -> Result<(), Fail> {
     if let Some(closed) = closed {
-        for conn in closed.as_slice() {
-            report.extend(b" ")?;
-            report.extend(conn.to_string(alloc)?.as_bytes())?;
+        for (conn, replies) in closed.as_slice() {
+            report.extend(format!(in alloc; " {conn}:{replies}")?.as_bytes())?;
         }
     }
     Ok(())
@@ -189,7 +193,7 @@ fn one_frame() -> &'static str {
 }
 
 fn one_frame_report() -> &'static str {
-    "Ok begun C1T2V3 1\n1 {\"response\":\"success\",\"info\":\"processed: 1; failed: 0; total: 1; seconds spent: 0.000000\"}\nP|3-1|100.000000000|3|0|h|hot|hot\nstatus: Ok; entries: 3; problems: 1; recoveries: 0; messages: 0; outbox bytes: 34\n"
+    "Ok begun C1T2V3 1:1\n1 {\"response\":\"success\",\"info\":\"processed: 1; failed: 0; total: 1; seconds spent: 0.000000\"}\nP|3-1|100.000000000|3|0|h|hot|hot\nstatus: Ok; entries: 3; problems: 1; recoveries: 0; messages: 0; outbox bytes: 34\n"
 }
 
 #[test]
@@ -205,7 +209,7 @@ fn many_frames() -> &'static str {
 }
 
 fn many_frames_report() -> &'static str {
-    "Ok begun C1T2V3V4V5V6 2 1 4 3 5\n2 {\"response\":\"success\",\"info\":\"processed: 0; failed: 0; total: 0; seconds spent: 0.000000\"}\n1 {\"response\":\"success\",\"info\":\"processed: 1; failed: 0; total: 1; seconds spent: 0.000000\"}\n4 {\"response\":\"success\",\"info\":\"processed: 1; failed: 0; total: 1; seconds spent: 0.000000\"}\n3 {\"response\":\"success\",\"info\":\"processed: 1; failed: 0; total: 1; seconds spent: 0.000000\"}\n5 {\"response\":\"success\",\"info\":\"processed: 1; failed: 1; total: 2; seconds spent: 0.000000\"}\nP|3-1|100.000000000|3|0|h|hot|hot\nR|3-1|4|100.000000000|e\nF|5|h|k|value: not a number\nstatus: Ok; entries: 6; problems: 1; recoveries: 1; messages: 0; outbox bytes: 86\n"
+    "Ok begun C1T2V3V4V5V6 2:1 1:2 4:3 3:4 5:5\n2 {\"response\":\"success\",\"info\":\"processed: 0; failed: 0; total: 0; seconds spent: 0.000000\"}\n1 {\"response\":\"success\",\"info\":\"processed: 1; failed: 0; total: 1; seconds spent: 0.000000\"}\n4 {\"response\":\"success\",\"info\":\"processed: 1; failed: 0; total: 1; seconds spent: 0.000000\"}\n3 {\"response\":\"success\",\"info\":\"processed: 1; failed: 0; total: 1; seconds spent: 0.000000\"}\n5 {\"response\":\"success\",\"info\":\"processed: 1; failed: 1; total: 2; seconds spent: 0.000000\"}\nP|3-1|100.000000000|3|0|h|hot|hot\nR|3-1|4|100.000000000|e\nF|5|h|k|value: not a number\nstatus: Ok; entries: 6; problems: 1; recoveries: 1; messages: 0; outbox bytes: 86\n"
 }
 
 #[test]
@@ -221,7 +225,7 @@ fn bad_frames() -> &'static str {
 }
 
 fn bad_frames_report() -> &'static str {
-    "Ok begun C1T2V3 1 2 3 4\n2 {\"response\":\"failed\",\"info\":\"not JSON\"}\n3 {\"response\":\"failed\",\"info\":\"unsupported request\"}\n4 {\"response\":\"success\",\"info\":\"processed: 1; failed: 0; total: 1; seconds spent: 0.000000\"}\nstatus: Ok; entries: 3; problems: 0; recoveries: 0; messages: 0; outbox bytes: 0\n"
+    "Ok begun C1T2V3 1:0 2:1 3:2 4:3\n2 {\"response\":\"failed\",\"info\":\"not JSON\"}\n3 {\"response\":\"failed\",\"info\":\"unsupported request\"}\n4 {\"response\":\"success\",\"info\":\"processed: 1; failed: 0; total: 1; seconds spent: 0.000000\"}\nstatus: Ok; entries: 3; problems: 0; recoveries: 0; messages: 0; outbox bytes: 0\n"
 }
 
 #[test]
@@ -299,7 +303,7 @@ fn mixed(alloc: Global) -> Result<String, Fail> {
 }
 
 fn mixed_report() -> &'static str {
-    "Ok begun C1T2V3 1\n1 {\"response\":\"success\",\"info\":\"processed: 1; failed: 5; total: 6; seconds spent: 0.000000\"}\nstatus: Ok; entries: 3; problems: 0; recoveries: 0; messages: 0; outbox bytes: 0\n"
+    "Ok begun C1T2V3 1:1\n1 {\"response\":\"success\",\"info\":\"processed: 1; failed: 5; total: 6; seconds spent: 0.000000\"}\nstatus: Ok; entries: 3; problems: 0; recoveries: 0; messages: 0; outbox bytes: 0\n"
 }
 
 #[test]
@@ -376,7 +380,7 @@ fn wire_report() -> &'static str {
 }
 
 fn unsent_report() -> &'static str {
-    "Ok begun C1T2V3 1\nP|3-1|100.000000000|3|0|h|hot|hot\nstatus: Ok; entries: 3; problems: 1; recoveries: 0; messages: 0; outbox bytes: 34\n"
+    "Ok begun C1T2V3 1:1\nP|3-1|100.000000000|3|0|h|hot|hot\nstatus: Ok; entries: 3; problems: 1; recoveries: 0; messages: 0; outbox bytes: 34\n"
 }
 
 fn unprinted_report() -> &'static str {

@@ -1,6 +1,5 @@
 //! Writing all bytes to a sink.
 
-ghost use Rattle.std.specs.Prelude.{◌≡◌, ◌+◌, length, OnOk};
 ghost use Rattle.outside.specs.Causes.{HasCause};
 ghost use Rattle.server_run.specs.Ports.{Writes};
 
@@ -8,9 +7,8 @@ use outside::{Failed, Sink};
 
 /// Writes all the bytes. At `Err` some from the front were written.
 pub(crate) fn write_all<K: Sink>(sink: &mut K, bytes: &[u8]) -> Result<(), Failed>
-    ensures cause { HasCause (K.faults sink.old) (K.faults sink.new) result }
-    ensures bytes { Writes (K.bytes sink.old) (K.bytes sink.new) bytes.now result }
-    ensures size { OnOk result (K.held sink.new ≡ K.held sink.old + length bytes.now) }
+    ensures cause { HasCause (K.tells sink.old).faults (K.tells sink.new).faults result }
+    ensures written { Writes (K.tells sink.old) (K.tells sink.new) bytes.now result }
 {
     let mut rest = bytes;
     while !rest.is_empty() {

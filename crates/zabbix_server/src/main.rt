@@ -15,7 +15,8 @@
 //! [`StdSink`](standard::StdSink) writes to standard output. Each tells its bytes where the reader or the writer behind
 //! it does, and an error comes only where its count of faults rose.
 //!
-//! The one contract: the program's status is Usage exactly where its words have no plan, unless memory was refused.
+//! The one contract: the program exits with the number of the status of a run over its words, and all clauses of
+//! [`server_run::run_single`] hold of that run.
 #![tactic(auto)]
 
 mod arguments;
@@ -25,16 +26,28 @@ mod source;
 mod standard;
 mod writer;
 
+ghost use Rattle.std.specs.Prelude.{◌≡◌};
+ghost use Rattle.std.specs.Process.{exit_status};
+ghost use Rattle.server_words.specs.Printed.{exit_of};
+ghost use Rattle.zabbix_server.specs.Program.{status_in};
+
 use server_words::Status;
 use std::process::ExitCode;
 use zbx_types::OutOfMemory;
 
 fn main(rt: HostRuntime) -> ExitCode {
-    let status = match status(&rt) {
-        Ok(status) => status,
-        Err(OutOfMemory) => Status::OutOfMemory,
-    };
-    ExitCode::from(status.exit())
+    exit(status(&rt))
+}
+
+/// The program's exit: the number of the status of its run, or of OutOfMemory where there was no memory for its words or
+/// for what they name.
+fn exit(ended: Result<Status, OutOfMemory>) -> ExitCode
+    ensures { exit_status result ≡ exit_of (status_in ended) }
+{
+    match ended {
+        Ok(status) => ExitCode::from(status.exit()),
+        Err(OutOfMemory) => ExitCode::from(Status::OutOfMemory.exit()),
+    }
 }
 
 /// How the program ended. [`OutOfMemory`] where there is no memory for its words or what they name; nothing was printed

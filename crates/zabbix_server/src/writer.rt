@@ -54,11 +54,7 @@ impl<W: Write> WriterSink<W> {
 }
 
 impl<W: Write> Sink for WriterSink<W> {
-    ghost bytes = { λ s. s.bytes };
-
-    ghost held = { λ s. s.held };
-
-    ghost faults = { λ s. s.faults };
+    ghost tells = { λ s. record { bytes = s.bytes; held = s.held; faults = s.faults } };
 
     fn faults(&self) -> u64 {
         self.faults

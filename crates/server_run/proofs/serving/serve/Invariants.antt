@@ -1,14 +1,15 @@
-use Rattle.std.proofs.Common.{◌≤◌, ℕ, List}
-use Rattle.std.specs.Prelude.{Option, None}
-use Rattle.server_run.specs.Standing.{Standing}
-use Rattle.server_run.specs.Course.{Ran}
+use Rattle.std.proofs.Common.{◌≤◌}
+use Rattle.std.specs.Prelude.{None}
+use Rattle.outside.specs.Tells.{SinkTells}
+use Rattle.server_run.specs.Events.{Ran}
+use Rattle.server_run.specs.Outbox.{UpToDate}
 use Rattle.server_run.proofs.serving.serve.Given as goal
 
 abbrev pub invariant-loop : goal.invariant-loop
 invariant-loop g l = record {
-  wire_later : g.W.Wire.faults l.fn.wire ≤ g.W.Wire.faults l.wire;
-  outbox_later : g.O.Sink.faults l.fn.outbox ≤ g.O.Sink.faults l.outbox;
-  ran : Ran l.ready l.fn.front l.front (g.W.Wire.left l.fn.wire) (g.W.Wire.left l.wire) (g.W.Wire.sent l.fn.wire) (g.W.Wire.sent l.wire) (g.W.Wire.closed l.fn.wire) (g.W.Wire.closed l.wire) (g.W.Wire.unsent l.fn.wire) (g.W.Wire.unsent l.wire) l.counter None;
-  stands : (told : Option (List ℕ)) (held : ℕ) → Standing l.ready l.fn.front l.fn.ledger.cells l.fn.ledger.tally told (g.O.Sink.bytes l.fn.outbox) held (g.O.Sink.held l.fn.outbox)
-      → Standing l.ready l.front l.ledger.cells l.ledger.tally told (g.O.Sink.bytes l.outbox) held (g.O.Sink.held l.outbox);
+  wire_later : (g.W.Wire.tells l.fn.wire).faults ≤ (g.W.Wire.tells l.wire).faults;
+  outbox_later : (g.O.Sink.tells l.fn.outbox).faults ≤ (g.O.Sink.tells l.outbox).faults;
+  ran : Ran l.ready l.fn.front l.front (g.W.Wire.tells l.fn.wire) (g.W.Wire.tells l.wire) l.counter None;
+  up_to_date : (sink : SinkTells) → UpToDate l.ready l.fn.front l.fn.ledger sink (g.O.Sink.tells l.fn.outbox)
+      → UpToDate l.ready l.front l.ledger sink (g.O.Sink.tells l.outbox);
 }

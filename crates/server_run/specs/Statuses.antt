@@ -1,0 +1,111 @@
+-- What each status is to a run: one row a status. All that depends on the status is said over these rows.
+use Rattle.std.specs.Prelude.{◌≡◌, ◌⊎◌, ℕ, List, Bool, true, false, Option, Some, None, ⊤}
+use Rattle.outside.specs.declared.event.WireEvent.{WireEvent}
+use Rattle.intake_front.specs.declared.answer.Stop.{Stop}
+use Rattle.intake_front.specs.declared.answer.Stop.TheVariants as stop
+use Rattle.server_words.specs.declared.status.Status.{Status}
+use Rattle.server_words.specs.declared.status.Status.TheVariants as status
+
+-- how the taking of events ended: it never began; the last event closed the wire; as many were taken as the plan
+-- allows; the wire gave no more; after any event; or so, or memory was refused for the next one
+pub data Ending : Type 0 where
+  never : Ending
+  at_closed : Ending
+  at_limit : Ending
+  at_wire_fault : Ending
+  anywhere : Ending
+  at_refusal : Ending
+
+-- which lines of the entries are in the outbox: there is no such run; all of them; some from the front
+pub data Extent : Type 0 where
+  no_lines : Extent
+  all_lines : Extent
+  front_lines : Extent
+
+-- what was printed: the status's line; that line, or its front where the printer failed; its front; or the front of Ok's
+-- line, since the printer failed
+pub data Printing : Type 0 where
+  whole_line : Printing
+  own_line : Printing
+  front_of_line : Printing
+  front_of_ok : Printing
+
+-- what a status is to a run: whether it can end its opening, and, where the run began, how the taking of events ended and
+-- which lines are out; and what was printed
+pub record Course : Type 0 where
+  pub opening : Bool
+  pub ending : Ending
+  pub out : Extent
+  pub line : Printing
+
+-- a status that ends the opening alone
+abbrev pub refusal : Course
+refusal = record { opening = true; ending = never; out = no_lines; line = own_line }
+
+-- a status that ends a run which has begun, and none before
+abbrev pub begun : Ending → Extent → Printing → Course
+begun ending out line = record { opening = false; ending = ending; out = out; line = line }
+
+-- what each status is to a run
+abbrev pub course_of : Status → Course
+course_of status.Ok = begun at_closed all_lines whole_line
+course_of status.PrintFault = begun at_closed all_lines front_of_ok
+course_of status.TurnLimit = begun at_limit all_lines own_line
+course_of status.WireFault = begun at_wire_fault all_lines own_line
+course_of status.OutboxFault = begun anywhere front_lines own_line
+course_of status.OutOfMemory = record { opening = true; ending = at_refusal; out = front_lines; line = front_of_line }
+course_of status.Usage = refusal
+course_of status.SourceFault = refusal
+course_of (status.ConfigRefused path cause) = refusal
+course_of status.Unbuilt = refusal
+
+-- a status of a run that hasn't begun
+abbrev pub IsRefusal : Status → Type 0
+IsRefusal s = (course_of s).opening ≡ true
+
+-- events were taken up to some ending
+abbrev pub IsEnding : Ending → Type 0
+IsEnding never = ⊥
+IsEnding _ = ⊤
+
+-- a status of a run that has begun
+abbrev pub IsCourse : Status → Type 0
+IsCourse s = IsEnding (course_of s).ending
+
+-- How the taking of events ended, given how many turns the plan allows, how many events were handled, what the last of
+-- them stopped, and the event after them for which memory was refused, if any.
+abbrev pub EndsAs : Ending → ℕ → ℕ → Option Stop → Option WireEvent → Type 0
+EndsAs never turns count s lost = ⊥
+EndsAs at_closed turns count s lost = (s ≡ Some stop.Closed) × (lost ≡ None)
+EndsAs at_limit turns count s lost = (count ≡ turns) × (s ≡ None) × (lost ≡ None)
+EndsAs at_wire_fault turns count s lost = (s ≡ None) × (lost ≡ None)
+EndsAs anywhere turns count s lost = lost ≡ None
+EndsAs at_refusal turns count s lost = (s ≡ None) ⊎ (lost ≡ None)
+
+-- What is left of a wire is what stood after the events that it gave. After a call of next that failed nothing is told.
+abbrev pub LeftIs : Ending → Option WireEvent → Option (List WireEvent) → List WireEvent → Type 0
+LeftIs at_wire_fault lost left rest = ⊤
+LeftIs at_refusal None left rest = ⊤
+LeftIs _ lost left rest = left ≡ Some rest
+
+-- a status's line must be out whole for that status to stand
+abbrev pub cut_by : Printing → Status → Status
+cut_by whole_line s = status.PrintFault
+cut_by _ s = s
+
+-- what a run ends with whose line couldn't be printed
+abbrev pub cut_short : Status → Status
+cut_short s = cut_by (course_of s).line s
+
+-- a printing that isn't the end of another status
+abbrev pub IsOwn : Printing → Type 0
+IsOwn front_of_ok = ⊥
+IsOwn _ = ⊤
+
+-- a status that comes before anything is printed
+abbrev pub IsUnprinted : Status → Type 0
+IsUnprinted s = IsOwn (course_of s).line
+
+-- what printing may make of a status that comes before it: nothing, or want of memory, or PrintFault of Ok
+abbrev pub EndsPrinted : Status → Status → Type 0
+EndsPrinted s ended = IsUnprinted s × ((ended ≡ s) ⊎ ((ended ≡ status.OutOfMemory) ⊎ ((ended ≡ status.PrintFault) × (s ≡ status.Ok))))
