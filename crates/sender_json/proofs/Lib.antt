@@ -1,3 +1,5 @@
 pub mod LengthLemmas
-pub mod ListLemmas
 pub mod RequestLaws
+pub mod Turns
+pub mod Firsts
+pub mod Kept

@@ -1,2 +1,4 @@
 pub mod Requests
 pub mod Replies
+pub mod Seen
+pub mod Tokens

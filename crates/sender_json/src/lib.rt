@@ -24,13 +24,19 @@
 #![tactic(auto)]
 
 mod asked;
-mod json;
+mod element;
+mod failed;
+mod parts;
+mod passing;
 mod reading;
 mod refused;
 mod replying;
 mod request;
+mod seen;
 
 pub use asked::{Asked, Clock};
+pub use element::read_element;
+pub use failed::ElementError;
 pub use reading::read;
 pub use refused::Refusal;
 pub use replying::{refusal, reply};

@@ -1,130 +1,200 @@
 //! Reading of requests.
 
-ghost use Rattle.std.specs.Prelude.{◌≡◌, ◌<◌, IfOk, IfSome, option_and_then, codes};
-ghost use Rattle.serde_json.specs.View.{view, items_view};
-ghost use Rattle.serde_json.specs.Find.{as_str, get};
-ghost use Rattle.sender_json.specs.Requests.{value_text, ns_of, moment_of, clock_of, asked_of, all_asked, is_sender_data, sender_request, request_of};
+ghost use Rattle.std.specs.Prelude.{◌≡◌, ◌<◌, ◌≤◌, length, Some, None, IfOk, IfErr, OnOk, option_map, option_and_then};
+ghost use Rattle.serde_json.specs.Data.{Data, Items, Members, object, put};
+ghost use Rattle.serde_json.specs.Find.{as_array, as_str};
+ghost use Rattle.serde_json.specs.Read.{read as read_json};
+ghost use Rattle.sender_json.specs.Requests.{all_asked, is_sender_data, sender_request, request_of};
+ghost use Rattle.sender_json.specs.Seen.{data_of, HoldsTop};
+ghost use Rattle.sender_json.specs.Tokens.{value_first, items_first, members_first};
+ghost use Rattle.sender_json.specs.declared.failed.ElementError.TheVariants.{NotJson};
 
-use crate::asked::{Asked, Clock};
-use crate::json;
+use crate::asked::Asked;
+use crate::element::{keep, read_element};
+use crate::failed::ElementError;
+use crate::parts::text_of;
+use crate::passing::{pass, pass_rest};
 use crate::request::Request;
-use serde_json::Value;
+use crate::seen::Seen;
+use json::{Reader, Scratch, Token};
 use std::alloc::Global;
-use zbx_types::{Many, Moment, OutOfMemory, Text};
+use zbx_types::{Many, OutOfMemory};
 
-const MOST_SECONDS: u32 = 4_294_967_295;
+/// The arrays and objects that a body may nest, as in `serde_json`.
+const MOST_DEPTH: usize = 127;
 
-const MOST_NANOSECONDS: u32 = 999_999_999;
-
-fn text_of(alloc: Global, value: &Value, name: &str) -> Result<Option<Text>, OutOfMemory>
-    ensures { IfOk result (λ text. text ≡ option_and_then as_str (get name.now (view value.now))) }
-{
-    match json::text_at(value, name) {
-        Some(text) => Ok(Some(Text::of(alloc, text)?)),
-        None => Ok(None),
-    }
+/// What is kept of a body's members: of members with one name the last.
+#[derive(Drop)]
+pub(crate) struct Top<'a> {
+    pub(crate) request: Option<Seen<'a>>,
+    /// The asked values of `data`, where it is an array.
+    pub(crate) values: Option<Many<Asked>>,
 }
 
-fn value_of(alloc: Global, value: &Value) -> Result<Option<Text>, OutOfMemory>
-    ensures { IfOk result (λ text. text ≡ option_and_then value_text (get (codes "value") (view value.now))) }
+/// The asked values of the elements up to the end of their array.
+fn read_items(
+    alloc: Global,
+    reader: &mut Reader<'_>,
+    depth: usize,
+) -> Result<Many<Asked>, ElementError>
+    ensures ok { IfOk result (λ found. (ds : Items) × (items_first depth reader.old ≡ Some (ds, reader.new)) × (found ≡ all_asked ds)) }
+    ensures shorter { OnOk result (length reader.new ≤ length reader.old) }
+    ensures err { IfErr result (λ e. e ≡ NotJson → items_first depth reader.old ≡ None) }
 {
-    match value.get("value") {
-        Some(found) => json::value_text(alloc, found),
-        None => Ok(None),
-    }
-}
-
-/// The nanoseconds of an element.
-#[tactic(auto, unfolding(crate::specs::Requests::ns_of))]
-fn ns_of(value: &Value) -> Option<u32>
-    ensures value { result ≡ ns_of (get (codes "ns") (view value.now)) }
-    ensures within { IfSome result (λ n. n < 1000000000) }
-{
-    match value.get("ns") {
-        Some(ns) => json::whole_within(MOST_NANOSECONDS, ns),
-        None => Some(0),
-    }
-}
-
-#[tactic(auto, unfolding(crate::specs::Requests::moment_of))]
-fn moment_of(sec: Option<u32>, ns: Option<u32>) -> Clock
-    requires { IfSome ns (λ n. n < 1000000000) }
-    ensures { result ≡ moment_of sec ns }
-{
-    match (sec, ns) {
-        (Some(sec), Some(ns)) => Clock::At(Moment { sec, ns }),
-        (Some(_), None) | (None, _) => Clock::Bad,
-    }
-}
-
-/// What an element says of its moment.
-#[tactic(auto, unfolding(crate::specs::Requests::clock_of))]
-fn clock_of(value: &Value) -> Clock
-    ensures { result ≡ clock_of (get (codes "clock") (view value.now)) (get (codes "ns") (view value.now)) }
-{
-    match value.get("clock") {
-        Some(clock) => moment_of(json::whole_within(MOST_SECONDS, clock), ns_of(value)),
-        None => Clock::Absent,
-    }
-}
-
-/// The asked value that an element is.
-#[tactic(auto, unfolding(crate::specs::Requests::asked_of))]
-fn asked_of(alloc: Global, value: &Value) -> Result<Asked, OutOfMemory>
-    ensures { IfOk result (λ asked. asked ≡ asked_of (view value.now)) }
-{
-    Ok(Asked {
-        host: text_of(alloc, value, "host")?,
-        key: text_of(alloc, value, "key")?,
-        value: value_of(alloc, value)?,
-        clock: clock_of(value),
-    })
-}
-
-fn all(alloc: Global, values: &Vec<Value>) -> Result<Vec<Asked>, OutOfMemory>
-    ensures { IfOk result (λ found. found.items ≡ all_asked (items_view values.now.items)) }
-{
-    let mut found = Vec::new(alloc);
-    for value in values {
-        found.push(asked_of(alloc, value)?)?;
+    let mut found = Many::new(alloc);
+    'items: while !reader.take_end_array() {
+        let asked = read_element(alloc, reader, depth)?;
+        found.push(asked)?;
     }
     Ok(found)
 }
 
-fn is_sender_data(value: &Value) -> bool
-    ensures { result ≡ is_sender_data (option_and_then as_str (get (codes "request") (view value.now))) }
+/// The asked values of the value that comes first, where it is an array.
+fn read_data(
+    alloc: Global,
+    reader: &mut Reader<'_>,
+    depth: usize,
+) -> Result<Option<Many<Asked>>, ElementError>
+    ensures ok { IfOk result (λ found. (d : Data) × (value_first depth reader.old ≡ Some (d, reader.new)) × (found ≡ option_map all_asked (as_array d))) }
+    ensures shorter { OnOk result (length reader.new < length reader.old) }
+    ensures err { IfErr result (λ e. e ≡ NotJson → value_first depth reader.old ≡ None) }
 {
-    match json::text_at(value, "request") {
+    let token = reader.next().ok_or(ElementError::NotJson)?;
+    match token {
+        Token::BeginArray => {
+            if depth == 0 {
+                return Err(ElementError::NotJson);
+            }
+            Ok(Some(read_items(alloc, reader, depth - 1)?))
+        }
+        token => {
+            pass_rest(token, reader, depth)?;
+            Ok(None)
+        }
+    }
+}
+
+/// What is kept of a body behind a member with this name, whose value comes first. A later `data` takes the place of an
+/// earlier one, which is given up before it is read.
+fn with_member<'a>(
+    alloc: Global,
+    top: Top<'a>,
+    name: &str,
+    reader: &mut Reader<'a>,
+    depth: usize,
+) -> Result<Top<'a>, ElementError>
+    ensures ok { IfOk result (λ more. (d : Data) × (value_first depth reader.old ≡ Some (d, reader.new))
+        × ((found : Members) → HoldsTop top.entry (object found) → HoldsTop more (object (put name.now d found)))) }
+    ensures shorter { OnOk result (length reader.new < length reader.old) }
+    ensures err { IfErr result (λ e. e ≡ NotJson → value_first depth reader.old ≡ None) }
+{
+    let Top { request, values } = top;
+    if name == "data" {
+        drop(values);
+        let values = read_data(alloc, reader, depth)?;
+        return Ok(Top { request, values });
+    }
+    let seen = pass(reader, depth)?;
+    Ok(Top {
+        request: keep("request", name, seen, request),
+        values,
+    })
+}
+
+/// What is kept of a body's members, up to the end of their object.
+fn read_members<'a>(
+    alloc: Global,
+    reader: &mut Reader<'a>,
+    depth: usize,
+) -> Result<Top<'a>, ElementError>
+    ensures ok { IfOk result (λ top. (ms : Members) × (members_first depth reader.old ≡ Some (ms, reader.new)) × HoldsTop top (object ms)) }
+    ensures shorter { OnOk result (length reader.new ≤ length reader.old) }
+    ensures err { IfErr result (λ e. e ≡ NotJson → members_first depth reader.old ≡ None) }
+{
+    let mut top = Top {
+        request: None,
+        values: None,
+    };
+    'members: while let Some(name) = reader.next_key()? {
+        top = with_member(alloc, top, name, reader, depth)?;
+    }
+    Ok(top)
+}
+
+fn is_sender_data(request: Option<Seen<'_>>) -> bool
+    ensures { result ≡ is_sender_data (option_and_then as_str (option_map data_of request.entry)) }
+{
+    match text_of(request) {
         Some(name) => name == "sender data",
         None => false,
     }
 }
 
-/// The request that a JSON value is.
-#[tactic(auto, unfolding(crate::specs::Requests::sender_request))]
-fn sender_request(alloc: Global, value: &Value) -> Result<Request, OutOfMemory>
-    ensures { IfOk result (λ request. request ≡ sender_request (view value.now)) }
+/// The request that a body's members make.
+fn sender_request(top: Top<'_>) -> Request
+    ensures { (d : Data) → HoldsTop top.entry d → result ≡ sender_request d }
 {
-    if !is_sender_data(value) {
-        return Ok(Request::Other);
+    let Top { request, values } = top;
+    if !is_sender_data(request) {
+        return Request::Other;
     }
-    match value.get("data").and_then(Value::as_array) {
-        Some(values) => Ok(Request::Values(Many::from_vec(all(alloc, values)?))),
-        None => Ok(Request::Other),
+    match values {
+        Some(values) => Request::Values(values),
+        None => Request::Other,
     }
 }
 
-/// The request that a body is, by `request_of`. It takes memory and time in proportion to the body.
+/// The request that the value is that comes first.
+fn read_value(alloc: Global, reader: &mut Reader<'_>, depth: usize) -> Result<Request, ElementError>
+    ensures ok { IfOk result (λ request. (d : Data) × (value_first depth reader.old ≡ Some (d, reader.new)) × (request ≡ sender_request d)) }
+    ensures err { IfErr result (λ e. e ≡ NotJson → value_first depth reader.old ≡ None) }
+{
+    let token = reader.next().ok_or(ElementError::NotJson)?;
+    match token {
+        Token::BeginObject => {
+            if depth == 0 {
+                return Err(ElementError::NotJson);
+            }
+            let top = read_members(alloc, reader, depth - 1)?;
+            Ok(sender_request(top))
+        }
+        token => {
+            pass_rest(token, reader, depth)?;
+            Ok(Request::Other)
+        }
+    }
+}
+
+/// The request that a text is, if it is JSON.
+fn read_text(alloc: Global, text: &str) -> Result<Request, ElementError>
+    ensures ok { IfOk result (λ request. option_map sender_request (read_json text.now) ≡ Some request) }
+    ensures err { IfErr result (λ e. e ≡ NotJson → read_json text.now ≡ None) }
+{
+    let mut scratch = Scratch::new(alloc);
+    let mut reader = Reader::new(text, &mut scratch)?;
+    let request = read_value(alloc, &mut reader, MOST_DEPTH)?;
+    match reader.next() {
+        Some(_) => Err(ElementError::NotJson),
+        None => Ok(request),
+    }
+}
+
+/// The request that a body is, by `request_of`. It takes time in proportion to the body, and memory for a body's length
+/// and for the asked values.
 ///
 /// # Errors
 ///
 /// `OutOfMemory` where memory was refused, whatever the body is.
-#[tactic(auto, unfolding(crate::specs::Requests::request_of))]
+#[tactic(auto, unfolding(crate::specs::Requests::request_of, crate::specs::Requests::json_of))]
 pub fn read(alloc: Global, body: &[u8]) -> Result<Request, OutOfMemory>
     ensures { IfOk result (λ r. r ≡ request_of body.now) }
 {
-    match json::value_of(alloc, body)? {
-        Some(value) => sender_request(alloc, &value),
-        None => Ok(Request::NotJson),
+    let Ok(text) = str::from_utf8(body) else {
+        return Ok(Request::NotJson);
+    };
+    match read_text(alloc, text) {
+        Ok(request) => Ok(request),
+        Err(ElementError::NotJson) => Ok(Request::NotJson),
+        Err(ElementError::OutOfMemory) => Err(OutOfMemory),
     }
 }
