@@ -1,12 +1,11 @@
 -- The request that a body is, by the reading of JSON that `serde_json` states.
-use Rattle.std.specs.Prelude.{ℕ, ◌+◌, ◌*◌, nat_le, Bool, false, ◌&&◌, ◌==◌, List, [], ◌∷◌, length, Option, Some, None, if◌then◌else◌, codes}
+use Rattle.std.specs.Prelude.{ℕ, ◌+◌, ◌*◌, nat_le, Bool, false, ◌&&◌, List, [], ◌∷◌, length, Option, Some, None, if◌then◌else◌, codes}
 use Rattle.std.specs.Option.{option_map, option_and_then}
 use Rattle.std.specs.Str.{bytes_eq}
-use Rattle.std.specs.Str.Lossy.{utf8_valid_len}
 use Rattle.std.specs.Fmt.{signed_decimal}
 use Rattle.serde_json.specs.Data.{Data, null, boolean, number, string, array, object, Items, no_items, item}
-use Rattle.serde_json.specs.Read.{read as read_json}
 use Rattle.serde_json.specs.Find.{get, as_str, as_array, as_u64, as_integer}
+use Rattle.json_form.specs.Json.{json_of}
 use Rattle.zbx_types.specs.Numerals.{all_digits, digits_after}
 use Rattle.zbx_types.specs.Periods.{up_to}
 use Rattle.sender_json.specs.declared.asked.Asked.{Asked}
@@ -14,10 +13,6 @@ use Rattle.sender_json.specs.declared.asked.Clock.{Clock}
 use Rattle.sender_json.specs.declared.asked.Clock.TheVariants.{Absent, Bad, At}
 use Rattle.sender_json.specs.declared.request.Request.{Request}
 use Rattle.sender_json.specs.declared.request.Request.TheVariants.{NotJson, Other, Values}
-
--- the value of a JSON text; bytes that aren't UTF-8 have none
-unfoldable pub json_of : List ℕ → Option Data
-json_of body = if utf8_valid_len body == length body then read_json body else None
 
 -- the value's text: a text, or the digits of a whole number that the reading holds as one
 unfoldable pub value_text : Data → Option (List ℕ)

@@ -185,7 +185,7 @@ fn read_text(alloc: Global, text: &str) -> Result<Request, ElementError>
 /// # Errors
 ///
 /// `OutOfMemory` where memory was refused, whatever the body is.
-#[tactic(auto, unfolding(crate::specs::Requests::request_of, crate::specs::Requests::json_of))]
+#[tactic(auto, unfolding(crate::specs::Requests::request_of), using(json_form::proofs::Bytes::not_json))]
 pub fn read(alloc: Global, body: &[u8]) -> Result<Request, OutOfMemory>
     ensures { IfOk result (λ r. r ≡ request_of body.now) }
 {
