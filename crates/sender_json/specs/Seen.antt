@@ -1,4 +1,4 @@
--- What is kept of a JSON value that is passed over: a text or a whole number, and of anything else only that it was there.
+-- What is kept of a JSON value that is passed over: a text or a whole number, and else only that it was there.
 use Rattle.std.specs.Prelude.{◌≡◌, ℕ, List, Option, option_map, option_and_then, codes}
 use Rattle.serde_json.specs.Data.{Num, unsigned, negative, float, Data, null, boolean, number, string, array, object}
 use Rattle.serde_json.specs.Find.{get, as_array}

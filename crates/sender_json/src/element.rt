@@ -32,8 +32,8 @@ pub(crate) fn keep<'a>(
     seen: Seen<'a>,
     held: Option<Seen<'a>>,
 ) -> Option<Seen<'a>>
-    ensures { (found : Members) (d : Data) → Holds wanted.now held.entry (object found) → data_of seen.entry ≡ plain d
-        → Holds wanted.now result (object (put name.now d found)) }
+    ensures { (found : Members) (d : Data) → Holds wanted.now held.entry (object found)
+        → data_of seen.entry ≡ plain d → Holds wanted.now result (object (put name.now d found)) }
 {
     if name == wanted { Some(seen) } else { held }
 }
@@ -56,7 +56,8 @@ fn no_parts<'a>() -> Parts<'a>
 
 /// What is kept of the members up to the end of their object.
 fn read_members<'a>(reader: &mut Reader<'a>, depth: usize) -> Result<Parts<'a>, Invalid>
-    ensures ok { IfOk result (λ parts. (ms : Members) × (members_first depth reader.old ≡ Some (ms, reader.new)) × HoldsParts parts (object ms)) }
+    ensures ok { IfOk result (λ parts. (ms : Members) × (members_first depth reader.old ≡ Some (ms, reader.new))
+        × HoldsParts parts (object ms)) }
     ensures shorter { OnOk result (length reader.new ≤ length reader.old) }
     ensures err { OnErr result (members_first depth reader.old ≡ None) }
 {
@@ -84,7 +85,8 @@ fn read_members<'a>(reader: &mut Reader<'a>, depth: usize) -> Result<Parts<'a>, 
 
 /// What is kept of the element that comes first.
 fn read_parts<'a>(reader: &mut Reader<'a>, depth: usize) -> Result<Parts<'a>, Invalid>
-    ensures ok { IfOk result (λ parts. (d : Data) × (value_first depth reader.old ≡ Some (d, reader.new)) × HoldsParts parts d) }
+    ensures ok { IfOk result (λ parts. (d : Data) × (value_first depth reader.old ≡ Some (d, reader.new))
+        × HoldsParts parts d) }
     ensures shorter { OnOk result (length reader.new < length reader.old) }
     ensures err { OnErr result (value_first depth reader.old ≡ None) }
 {
@@ -116,7 +118,8 @@ pub fn read_element(
     reader: &mut Reader<'_>,
     depth: usize,
 ) -> Result<Asked, ElementError>
-    ensures ok { IfOk result (λ asked. (d : Data) × (value_first depth reader.old ≡ Some (d, reader.new)) × (asked ≡ asked_of d)) }
+    ensures ok { IfOk result (λ asked. (d : Data) × (value_first depth reader.old ≡ Some (d, reader.new))
+        × (asked ≡ asked_of d)) }
     ensures shorter { OnOk result (length reader.new < length reader.old) }
     ensures err { IfErr result (λ e. e ≡ NotJson → value_first depth reader.old ≡ None) }
 {

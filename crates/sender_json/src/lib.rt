@@ -10,8 +10,8 @@
 //! {"response":"success","info":"processed: 1; failed: 0; total: 1; seconds spent: 0.002500"}
 //! ```
 //!
-//! A body is read in one pass over its tokens. Of an element nothing but its host, key, value, clock and ns is kept, and
-//! no tree is made, so that a body takes room for its length and for the asked values, whatever stands in it.
+//! A body is read in one pass over its tokens. Of an element nothing but its host, key, value, clock and ns is kept,
+//! and no tree is made, so that a body takes room for its length and for the asked values, whatever stands in it.
 //! `read_element` reads one element, for a reader of another request with such elements.
 //!
 //! A body is `NotJson`, `Other` (JSON of another form) or `Values`. An element of any form is an asked value: a part

@@ -3,7 +3,8 @@
 ghost use Rattle.std.specs.Prelude.{◌≡◌, ◌<◌, ◌≤◌, IfOk, IfSome, option_map, option_and_then};
 ghost use Rattle.serde_json.specs.Data.{Data};
 ghost use Rattle.serde_json.specs.Find.{as_str};
-ghost use Rattle.sender_json.specs.Requests.{digits_within, whole_within, value_text, ns_of, moment_of, clock_of, asked_of};
+ghost use Rattle.sender_json.specs.Requests.{digits_within, whole_within, value_text, asked_of};
+ghost use Rattle.sender_json.specs.Requests.{ns_of, moment_of, clock_of};
 ghost use Rattle.sender_json.specs.Seen.{data_of, HoldsParts};
 
 use crate::asked::{Asked, Clock};

@@ -12,7 +12,8 @@ use json::{Invalid, Reader, Token};
 /// Passes over a value that nests no deeper than `depth`.
 #[cycle(pass)]
 pub(crate) fn pass<'a>(reader: &mut Reader<'a>, depth: usize) -> Result<Seen<'a>, Invalid>
-    ensures ok { IfOk result (λ seen. (d : Data) × (value_first depth reader.old ≡ Some (d, reader.new)) × (data_of seen ≡ plain d)) }
+    ensures ok { IfOk result (λ seen. (d : Data) × (value_first depth reader.old ≡ Some (d, reader.new))
+        × (data_of seen ≡ plain d)) }
     ensures shorter { OnOk result (length reader.new < length reader.old) }
     ensures err { OnErr result (value_first depth reader.old ≡ None) }
 {
@@ -27,7 +28,8 @@ pub(crate) fn pass_rest<'a>(
     reader: &mut Reader<'a>,
     depth: usize,
 ) -> Result<Seen<'a>, Invalid>
-    ensures ok { IfOk result (λ seen. (d : Data) × (value_first depth (token_of token.entry ∷ reader.old) ≡ Some (d, reader.new)) × (data_of seen ≡ plain d)) }
+    ensures ok { IfOk result (λ seen. (d : Data)
+        × (value_first depth (token_of token.entry ∷ reader.old) ≡ Some (d, reader.new)) × (data_of seen ≡ plain d)) }
     ensures shorter { OnOk result (length reader.new ≤ length reader.old) }
     ensures err { OnErr result (value_first depth (token_of token.entry ∷ reader.old) ≡ None) }
 {

@@ -1,6 +1,7 @@
 //! Reading of requests.
 
-ghost use Rattle.std.specs.Prelude.{◌≡◌, ◌<◌, ◌≤◌, length, Some, None, IfOk, IfErr, OnOk, option_map, option_and_then};
+ghost use Rattle.std.specs.Prelude.{◌≡◌, ◌<◌, ◌≤◌, length, Some, None, IfOk, IfErr, OnOk};
+ghost use Rattle.std.specs.Prelude.{option_map, option_and_then};
 ghost use Rattle.serde_json.specs.Data.{Data, Items, Members, object, put};
 ghost use Rattle.serde_json.specs.Find.{as_array, as_str};
 ghost use Rattle.serde_json.specs.Read.{read as read_json};
@@ -37,7 +38,8 @@ fn read_items(
     reader: &mut Reader<'_>,
     depth: usize,
 ) -> Result<Many<Asked>, ElementError>
-    ensures ok { IfOk result (λ found. (ds : Items) × (items_first depth reader.old ≡ Some (ds, reader.new)) × (found ≡ all_asked ds)) }
+    ensures ok { IfOk result (λ found. (ds : Items) × (items_first depth reader.old ≡ Some (ds, reader.new))
+        × (found ≡ all_asked ds)) }
     ensures shorter { OnOk result (length reader.new ≤ length reader.old) }
     ensures err { IfErr result (λ e. e ≡ NotJson → items_first depth reader.old ≡ None) }
 {
@@ -55,7 +57,8 @@ fn read_data(
     reader: &mut Reader<'_>,
     depth: usize,
 ) -> Result<Option<Many<Asked>>, ElementError>
-    ensures ok { IfOk result (λ found. (d : Data) × (value_first depth reader.old ≡ Some (d, reader.new)) × (found ≡ option_map all_asked (as_array d))) }
+    ensures ok { IfOk result (λ found. (d : Data) × (value_first depth reader.old ≡ Some (d, reader.new))
+        × (found ≡ option_map all_asked (as_array d))) }
     ensures shorter { OnOk result (length reader.new < length reader.old) }
     ensures err { IfErr result (λ e. e ≡ NotJson → value_first depth reader.old ≡ None) }
 {
@@ -107,7 +110,8 @@ fn read_members<'a>(
     reader: &mut Reader<'a>,
     depth: usize,
 ) -> Result<Top<'a>, ElementError>
-    ensures ok { IfOk result (λ top. (ms : Members) × (members_first depth reader.old ≡ Some (ms, reader.new)) × HoldsTop top (object ms)) }
+    ensures ok { IfOk result (λ top. (ms : Members) × (members_first depth reader.old ≡ Some (ms, reader.new))
+        × HoldsTop top (object ms)) }
     ensures shorter { OnOk result (length reader.new ≤ length reader.old) }
     ensures err { IfErr result (λ e. e ≡ NotJson → members_first depth reader.old ≡ None) }
 {
@@ -146,7 +150,8 @@ fn sender_request(top: Top<'_>) -> Request
 
 /// The request that the value is that comes first.
 fn read_value(alloc: Global, reader: &mut Reader<'_>, depth: usize) -> Result<Request, ElementError>
-    ensures ok { IfOk result (λ request. (d : Data) × (value_first depth reader.old ≡ Some (d, reader.new)) × (request ≡ sender_request d)) }
+    ensures ok { IfOk result (λ request. (d : Data) × (value_first depth reader.old ≡ Some (d, reader.new))
+        × (request ≡ sender_request d)) }
     ensures err { IfErr result (λ e. e ≡ NotJson → value_first depth reader.old ≡ None) }
 {
     let token = reader.next().ok_or(ElementError::NotJson)?;
