@@ -14,8 +14,10 @@ pub mod FirstFaults
 pub mod Levels
 pub mod LinkFaults
 pub mod LinkLemmas
+pub mod LongKeys
 pub mod Naming
 pub mod Once
 pub mod PlacedElements
 pub mod Ranked
 pub mod Sourced
+pub mod MacroLists

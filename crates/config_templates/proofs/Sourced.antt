@@ -11,7 +11,7 @@ use Rattle.config_templates.specs.Places.{Placed}
 use Rattle.config_templates.specs.Walks.{walk}
 use Rattle.config_templates.specs.Links.{placed_templates, links_of, templates_named, sources_of}
 use Rattle.config_templates.specs.Sources.{placed_of}
-use Rattle.config_templates.specs.declared.sources.Source.{Source}
+use Rattle.config_templates.specs.declared.templates.sources.Source.{Source}
 use Rattle.config_templates.proofs.PlacedElements.{placed_at, slice_get-placed}
 
 -- the templates of a walk, as they stand in the document

@@ -3,7 +3,7 @@ use Rattle.std.proofs.Common.{◌≡◌, ℕ, suc, ◌+◌, ◌<◌, List, [], �
 use Rattle.std.specs.Prelude.{Result, Ok, Err}
 use Rattle.std.proofs.Math.Seq.{drop-cons}
 use Rattle.config_read.specs.declared.raw.RawHost.{RawHost}
-use Rattle.config_templates.specs.declared.sources.Source.{Source}
+use Rattle.config_templates.specs.declared.templates.sources.Source.{Source}
 use Rattle.config_templates.specs.Sources.{placed_of}
 use Rattle.config_templates.specs.declared.fault.FlatError.{FlatError}
 use Rattle.config_templates.specs.declared.fault.FlatError.TheVariants.{Refused, Unbuilt, OutOfMemory}

@@ -7,7 +7,7 @@ use Rattle.config_read.specs.declared.raw.RawTrigger.{RawTrigger}
 use Rattle.config_read.specs.declared.raw.RawHost.{RawHost}
 use Rattle.config_templates.specs.Places.{Placed, placed}
 use Rattle.config_templates.specs.Sources.{placed_of}
-use Rattle.config_templates.specs.declared.sources.Source.{Source}
+use Rattle.config_templates.specs.declared.templates.sources.Source.{Source}
 use Rattle.config_templates.specs.declared.fault.FlatError.{FlatError}
 use Rattle.config_templates.specs.Answers.{Tells}
 

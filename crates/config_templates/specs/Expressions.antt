@@ -1,5 +1,5 @@
 -- The plain expression, `last(/HOST/KEY)>NUMBER`.
-use Rattle.std.specs.Prelude.{ℕ, zero, suc, ◌+◌, ◌-◌, nat_le, nat_eq, min, Bool, true, ◌&&◌, ◌==◌, List, [], ◌∷◌, length, take, drop, Option, Some, None, is_some, if◌then◌else◌, codes}
+use Rattle.std.specs.Prelude.{ℕ, zero, suc, ◌+◌, ◌-◌, nat_le, nat_eq, min, Bool, true, ◌&&◌, ◌==◌, List, [], ◌∷◌, ◌++◌, length, take, drop, Option, Some, None, is_some, if◌then◌else◌, codes}
 use Rattle.std.specs.List.{starts_with, prefix_len}
 use Rattle.zbx_types.specs.Numerals.{all_digits, front_digits, behind_digits, read_number}
 use Rattle.config_read.specs.Words.{is_name_byte}
@@ -14,6 +14,10 @@ None >>= f = None
 -- the most bytes of an expression (this project's own)
 abbrev pub longest_expression : ℕ
 longest_expression = 4096
+
+-- what decides of an expression: all of it, or where it is too long the front that it may have, and a digit for what follows
+unfoldable pub deciding : List ℕ → List ℕ
+deciding text = if nat_le (length text) longest_expression then text else take longest_expression text ++ codes "0"
 
 -- what a plain expression says: its host, its key, and the text of its number
 pub record Plain : Type 0 where

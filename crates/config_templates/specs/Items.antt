@@ -7,7 +7,7 @@ use Rattle.zbx_types.specs.declared.causes.Cause.TheVariants.{BadKey, Duplicate,
 use Rattle.item_key.specs.Grammar.{longest_key}
 use Rattle.item_key.specs.Machine.{ends_at, place_of}
 use Rattle.macro_text.specs.Expanded.{expanded}
-use Rattle.macro_text.specs.declared.replacing.Macro.{Macro}
+use Rattle.macro_text.specs.declared.macros.Macro.{Macro}
 use Rattle.config_read.specs.declared.raw.RawItem.{RawItem}
 use Rattle.config_read.specs.declared.raw.RawHost.{RawHost}
 use Rattle.config_read.specs.declared.raw.RawConf.{RawConf}

@@ -15,6 +15,7 @@ pub mod Braces
 pub mod Elements
 pub mod Owners
 pub mod Linked
+pub mod Inherited
 pub mod Read
 pub mod Tables
 pub mod Meanings

@@ -4,7 +4,7 @@ use Rattle.std.specs.Option.{option_or}
 use Rattle.json_form.specs.Faults.{Fault}
 use Rattle.config_read.specs.declared.raw.RawConf.{RawConf}
 use Rattle.config_templates.specs.Links.{links_of, templates_named, unknown_links, cycles}
-use Rattle.config_templates.specs.declared.links.Links.{Links}
+use Rattle.config_templates.specs.declared.templates.links.Links.{Links}
 
 -- for each template, and for each host, the places of its templates
 pub record HasLinks (raw : RawConf) (links : Links) : Type 0 where

@@ -1,6 +1,6 @@
 -- User macros of a host (the Zabbix 6.0 manual, "User macros").
 use Rattle.std.specs.Prelude.{List, ◌++◌, map, flat_map}
-use Rattle.macro_text.specs.declared.replacing.Macro.{Macro}
+use Rattle.macro_text.specs.declared.macros.Macro.{Macro}
 use Rattle.config_read.specs.declared.raw.RawMacro.{RawMacro}
 use Rattle.config_read.specs.declared.raw.RawHost.{RawHost}
 use Rattle.config_read.specs.declared.raw.RawConf.{RawConf}

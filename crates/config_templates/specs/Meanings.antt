@@ -8,7 +8,7 @@ use Rattle.config_templates.specs.Triggers.{NamedHost, NamedItem, Meant}
 use Rattle.config_templates.specs.declared.meanings.HostReferenced.{HostReferenced}
 use Rattle.config_templates.specs.declared.meanings.ItemFound.{ItemFound}
 use Rattle.config_templates.specs.declared.meanings.Meaning.{Meaning}
-use Rattle.config_templates.specs.declared.sources.Source.{Source}
+use Rattle.config_templates.specs.declared.templates.sources.Source.{Source}
 
 -- a host and an item that an expression names
 abbrev pub host_now : HostReferenced → NamedHost

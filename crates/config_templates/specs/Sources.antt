@@ -5,9 +5,9 @@ use Rattle.zbx_types.specs.declared.causes.Cause.{Cause}
 use Rattle.json_form.specs.Faults.{Fault}
 use Rattle.config_read.specs.declared.raw.RawHost.{RawHost}
 use Rattle.config_templates.specs.Places.{Placed}
-use Rattle.config_templates.specs.declared.sources.Origin.{Origin}
-use Rattle.config_templates.specs.declared.sources.Origin.TheVariants as origin
-use Rattle.config_templates.specs.declared.sources.Source.{Source}
+use Rattle.config_templates.specs.declared.templates.sources.Origin.{Origin}
+use Rattle.config_templates.specs.declared.templates.sources.Origin.TheVariants as origin
+use Rattle.config_templates.specs.declared.templates.sources.Source.{Source}
 
 -- the pointer to the list of hosts, or to that of templates
 abbrev pub list_path : Origin → List ℕ

@@ -15,7 +15,8 @@ use Rattle.zbx_types.specs.declared.expr.Expr.TheVariants.{Bin}
 use Rattle.zbx_types.specs.declared.expr.Op.TheVariants.{Gt}
 use Rattle.zbx_types.specs.declared.causes.Cause.TheVariants.{Duplicate, TooMany, BadExpression, UnknownName, WrongValueType}
 use Rattle.macro_text.specs.Expanded.{expanded}
-use Rattle.macro_text.specs.declared.replacing.Macro.{Macro}
+use Rattle.macro_text.specs.Limited.{whole_front}
+use Rattle.macro_text.specs.declared.macros.Macro.{Macro}
 use Rattle.config_read.specs.declared.raw.RawTrigger.{RawTrigger}
 use Rattle.config_read.specs.declared.raw.RawHost.{RawHost}
 use Rattle.config_read.specs.declared.raw.RawConf.{RawConf}
@@ -23,7 +24,7 @@ use Rattle.config_templates.specs.Places.{Flaw, Placed, placed, refuse, each, ea
 use Rattle.config_templates.specs.Places.Flaw.{unbuilt}
 use Rattle.config_templates.specs.Links.{sources_of, placed_hosts}
 use Rattle.config_templates.specs.Macros.{macros_of}
-use Rattle.config_templates.specs.Expressions.{Plain, plain_of, range_end, longest_expression}
+use Rattle.config_templates.specs.Expressions.{Plain, plain_of, range_end, longest_expression, deciding}
 
 -- the most triggers of all hosts
 abbrev pub most_triggers : ℕ
@@ -127,13 +128,21 @@ trigger_made host title raw meant = record {
   depth = 0;
 }
 
+-- the most bytes of a title, as of the name of an event
+abbrev pub longest_title : ℕ
+longest_title = 2048
+
+-- the title of a trigger of a host with these macros: its name with their values, cut to whole characters
+abbrev pub title_of : List Macro → RawTrigger → List ℕ
+title_of macros raw = whole_front longest_title (expanded macros raw.name)
+
 -- a trigger of a host with these macros, behind those before it
 unfoldable pub trigger_of : RawConf → List Item → Owner → List Macro → List Trigger → Placed RawTrigger → Result Trigger Flaw
 trigger_of raw items owner macros before p =
     if has_trigger before owner.id p.body.name then refuse (p.path ++ codes "/name") Duplicate
     else if nat_le most_triggers (length before) then refuse p.path TooMany
-    else (meant_of raw items owner (p.path ++ codes "/expression") (expanded macros p.body.expression)
-    >>= λ meant. Ok (trigger_made owner.id (expanded macros p.body.name) p.body meant))
+    else (meant_of raw items owner (p.path ++ codes "/expression") (deciding (expanded macros p.body.expression))
+    >>= λ meant. Ok (trigger_made owner.id (title_of macros p.body) p.body meant))
 
 -- the triggers of some sources, in their order
 abbrev pub placed_triggers : List (Placed RawHost) → List (Placed RawTrigger)

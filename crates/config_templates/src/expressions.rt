@@ -2,14 +2,14 @@
 
 ghost use Rattle.std.specs.Prelude.{◌≡◌, ◌≤◌, min, option_map, length};
 ghost use Rattle.std.specs.List.{prefix_len};
-ghost use Rattle.zbx_types.specs.Numerals.{digit_count, all_digits};
+ghost use Rattle.zbx_types.specs.Numerals.{digit_count};
 ghost use Rattle.config_read.specs.Words.{is_name_byte};
 ghost use Rattle.config_templates.specs.Expressions.{behind, parted, host_front, key_front, is_number_end, number_text, plain_of, in_range, range_end, longest_expression};
 ghost use Rattle.config_templates.specs.Items.{longest_up_to};
 ghost use Rattle.config_templates.specs.Read.{plain_now, split};
 
 use crate::keys::key_length;
-use zbx_types::Fix;
+use zbx_types::{Fix, all_digits};
 
 /// The most bytes of an expression (this project's own).
 pub(crate) const LONGEST_EXPRESSION: usize = 4096;
@@ -91,12 +91,6 @@ fn digit_count(text: &[u8]) -> usize
     ensures within { result ≤ length text.now }
 {
     text.iter().take_while(|c| c.is_ascii_digit()).count()
-}
-
-fn all_digits(text: &[u8]) -> bool
-    ensures { result ≡ all_digits text.now }
-{
-    text.iter().all(|c| c.is_ascii_digit())
 }
 
 /// Nothing, or a point and digits.

@@ -5,15 +5,15 @@ ghost use Rattle.config_read.specs.Document.{conf_of};
 ghost use Rattle.config_templates.specs.Answers.{Gives, GivesAs};
 ghost use Rattle.config_templates.specs.Flat.{host_made, conf_made, read_of, laid_out, flat_of};
 ghost use Rattle.config_templates.specs.Laid.{lists_of};
-ghost use Rattle.config_templates.specs.Linked.{HasLinks};
+ghost use Rattle.config_templates.specs.Inherited.{Inherits};
 ghost use Rattle.config_templates.specs.Places.{refuse};
 ghost use Rattle.config_templates.specs.Places.Flaw.{unbuilt};
 ghost use Rattle.zbx_types.specs.declared.causes.Cause.{Cause};
 
 use crate::built::is_built;
 use crate::fault::FlatError;
+use crate::inheritance::Inheritance;
 use crate::items::items;
-use crate::links::Links;
 use crate::meanings::Scope;
 use crate::owners::host_names;
 use crate::triggers::triggers;
@@ -93,22 +93,22 @@ fn conf(
 }
 
 /// The items and the triggers of a document whose links are right.
-fn lists(
+fn lists<'r>(
     alloc: Global,
-    raw: &RawConf,
-    links: &Links,
+    raw: &'r RawConf,
+    inheritance: &Inheritance<'r>,
 ) -> Result<(Many<Item>, Many<Trigger>), FlatError>
-    requires { HasLinks raw.now links.now }
+    requires { Inherits raw.now inheritance.now }
     ensures { Gives result (lists_of raw.now) }
 {
-    let items = items(alloc, raw, links)?;
+    let items = items(alloc, raw, inheritance)?;
     let hosts = host_names(alloc, &raw.hosts)?;
     let scope = Scope {
         raw,
         hosts: &hosts,
         items: &items,
     };
-    let triggers = triggers(alloc, &scope, links)?.triggers;
+    let triggers = triggers(alloc, &scope, inheritance)?.triggers;
     Ok((items.items, triggers))
 }
 
@@ -120,8 +120,8 @@ fn laid_lists(alloc: Global, raw: &RawConf) -> Result<(Many<Item>, Many<Trigger>
     if !is_built(raw) {
         return Err(FlatError::Unbuilt);
     }
-    let links = Links::of(alloc, raw)?;
-    lists(alloc, raw, &links)
+    let inheritance = Inheritance::of(alloc, raw)?;
+    lists(alloc, raw, &inheritance)
 }
 
 /// The flat configuration of a document.

@@ -1,25 +1,29 @@
 //! The items of the flat configuration.
 
-ghost use Rattle.std.specs.Prelude.{◌≡◌, ◌+◌, ◌++◌, ◌∷◌, [], ◌<◌, length, Some, slice_get, IfOk, OnOk};
-ghost use Rattle.config_templates.specs.Answers.{Gives, GivesAs};
-ghost use Rattle.config_templates.specs.Elements.{placed_item, placed_host, own_items};
-ghost use Rattle.config_templates.specs.Items.{item_made, item_keyed_of, item_of, placed_items, items_from, items_of};
-ghost use Rattle.config_templates.specs.Linked.{HasLinks};
+ghost use Rattle.std.specs.Prelude.{◌≡◌, ◌+◌, ◌++◌, ◌∷◌, [], ◌<◌, List, length, codes, Some, slice_get, IfOk, IfErr, OnOk};
+ghost use Rattle.config_templates.specs.Answers.{Fails, Gives, GivesAs};
+ghost use Rattle.config_templates.specs.Elements.{element_path, placed_item, placed_host, own_items, IsRefusal};
+ghost use Rattle.config_templates.specs.Items.{key_length, item_made, item_keyed_of, item_of, placed_items, items_from, items_of};
+ghost use Rattle.config_templates.specs.Inherited.{Inherits};
 ghost use Rattle.config_templates.specs.Links.{placed_hosts, sources_of};
 ghost use Rattle.config_templates.specs.Names.{named_item, named_items};
 ghost use Rattle.config_templates.specs.Owners.{sources_now};
 ghost use Rattle.config_templates.specs.Places.{each};
+ghost use Rattle.macro_text.specs.Expanded.{expanded};
+ghost use Rattle.zbx_types.specs.declared.causes.Cause.TheVariants.{BadKey};
+ghost use Rattle.zbx_types.specs.declared.items.Item.{Item};
 
 use crate::copying::copy_steps;
 use crate::fault::FlatError;
-use crate::host_names::HostNames;
+use crate::inheritance::Inheritance;
 use crate::keys::{is_key, key_length};
-use crate::links::Links;
+use crate::owned_names::OwnedNames;
 use crate::owners::{Owner, owner_at};
 use crate::refusals::{refused_element, refused_member};
-use crate::sources::Source;
+use crate::templates::sources::Source;
 use config_read::{RawConf, RawHost, RawItem};
-use macro_text::expand;
+use item_key::LONGEST_KEY;
+use macro_text::{Expansion, expand_within};
 use std::alloc::Global;
 use zbx_types::{Cause, Item, Many, OutOfMemory, Text};
 
@@ -30,7 +34,7 @@ const MOST_ITEMS: usize = 100_000;
 #[derive(Drop)]
 pub(crate) struct ItemList {
     pub items: Many<Item>,
-    pub names: HostNames,
+    pub names: OwnedNames,
 }
 
 fn make(alloc: Global, host: u32, key: Text, raw: &RawItem) -> Result<Item, OutOfMemory>
@@ -46,6 +50,16 @@ fn make(alloc: Global, host: u32, key: Text, raw: &RawItem) -> Result<Item, OutO
         enabled: raw.enabled,
         steps,
     })
+}
+
+/// The refusal of a key.
+fn bad_key(alloc: Global, source: &Source<'_>, index: usize, key: &[u8]) -> FlatError
+    ensures { IsRefusal (element_path source.now (codes "/items") index ++ codes "/key") (BadKey (key_length key.now)) result }
+{
+    let cause = Cause::BadKey {
+        at: key_length(key),
+    };
+    refused_member(alloc, source, "/items", index, "/key", cause)
 }
 
 /// The item of a host with this key, behind those before it.
@@ -65,10 +79,7 @@ fn keyed_item(
     ensures names { IfOk result (λ item. list.new.names ≡ list.old.names ++ named_item item ∷ []) }
 {
     if !is_key(key.as_bytes()) {
-        let cause = Cause::BadKey {
-            at: key_length(key.as_bytes()),
-        };
-        return Err(refused_member(alloc, source, "/items", index, "/key", cause));
+        return Err(bad_key(alloc, source, index, key.as_bytes()));
     }
     if !list.names.take(alloc, host, key.as_bytes())? {
         let cause = Cause::Duplicate;
@@ -80,11 +91,28 @@ fn keyed_item(
     Ok(make(alloc, host, key, raw)?)
 }
 
+/// The key of an item of a host, its macros having their values. Refused where it is longer than a key.
+fn expanded_key(
+    alloc: Global,
+    owner: &Owner<'_, '_>,
+    source: &Source<'_>,
+    index: usize,
+    raw: &RawItem,
+) -> Result<Text, FlatError>
+    ensures key { IfOk result (λ key. key ≡ expanded owner.now.macros raw.now.key) }
+    ensures refused { IfErr result (λ e. (before : List Item) → Fails e (item_of owner.now.id owner.now.macros before (placed_item source.now index raw.now))) }
+{
+    match expand_within(alloc, &raw.key, &owner.macros, LONGEST_KEY as usize)? {
+        Expansion::Whole(key) => Ok(key),
+        Expansion::Longer(front) => Err(bad_key(alloc, source, index, front.as_slice())),
+    }
+}
+
 /// Adds an item of a host.
 #[tactic(auto, unfolding(crate::specs::Items::item_of))]
 fn add_item(
     alloc: Global,
-    owner: &Owner<'_>,
+    owner: &Owner<'_, '_>,
     list: &mut ItemList,
     source: &Source<'_>,
     index: usize,
@@ -94,7 +122,7 @@ fn add_item(
     ensures gives { GivesAs (λ _. list.new.items) result (each (item_of owner.now.id owner.now.macros) list.old.items (placed_item source.now index raw.now ∷ [])) }
     ensures names { OnOk result (list.new.names ≡ named_items list.new.items) }
 {
-    let key = expand(alloc, &raw.key, &owner.macros)?;
+    let key = expanded_key(alloc, owner, source, index, raw)?;
     let item = keyed_item(alloc, owner.id, key, list, source, index, raw)?;
     list.items.push(item)?;
     Ok(())
@@ -103,7 +131,7 @@ fn add_item(
 /// Adds the items of a source.
 fn add_items(
     alloc: Global,
-    owner: &Owner<'_>,
+    owner: &Owner<'_, '_>,
     list: &mut ItemList,
     source: &Source<'_>,
 ) -> Result<(), FlatError>
@@ -119,7 +147,7 @@ fn add_items(
 
 /// Adds the items of all sources of a host.
 #[tactic(auto, using(crate::proofs::Steps::source_then, crate::proofs::Steps::source_fails))]
-fn add_owned(alloc: Global, owner: &Owner<'_>, list: &mut ItemList) -> Result<(), FlatError>
+fn add_owned(alloc: Global, owner: &Owner<'_, '_>, list: &mut ItemList) -> Result<(), FlatError>
     requires { list.old.names ≡ named_items list.old.items }
     ensures gives { GivesAs (λ _. list.new.items) result (each (item_of owner.now.id owner.now.macros) list.old.items (placed_items (sources_now owner.now))) }
     ensures names { OnOk result (list.new.names ≡ named_items list.new.items) }
@@ -132,38 +160,42 @@ fn add_owned(alloc: Global, owner: &Owner<'_>, list: &mut ItemList) -> Result<()
 
 /// Adds the items of the host that stands at this place.
 #[tactic(auto, unfolding(crate::specs::Items::items_from))]
-fn add_host(
+fn add_host<'r>(
     alloc: Global,
-    raw: &RawConf,
-    links: &Links,
+    raw: &'r RawConf,
+    inheritance: &Inheritance<'r>,
     place: usize,
-    host: &RawHost,
+    host: &'r RawHost,
     list: &mut ItemList,
 ) -> Result<(), FlatError>
     requires place { place < length raw.now.hosts }
     requires there { slice_get (placed_hosts raw.now) place ≡ Some (placed_host place host.now) }
-    requires links { HasLinks raw.now links.now }
+    requires inheritance { Inherits raw.now inheritance.now }
     requires names { list.old.names ≡ named_items list.old.items }
     ensures gives { GivesAs (λ _. list.new.items) result (items_from raw.now (place + 1) (sources_of raw.now (placed_host place host.now)) list.old.items) }
     ensures names { OnOk result (list.new.names ≡ named_items list.new.items) }
 {
-    let owner = owner_at(alloc, raw, links, place, host)?;
+    let owner = owner_at(alloc, raw, inheritance, place, host)?;
     add_owned(alloc, &owner, list)
 }
 
 /// The items of all hosts, in the order of the hosts.
 #[tactic(auto, unfolding(crate::specs::Items::items_of))]
-pub(crate) fn items(alloc: Global, raw: &RawConf, links: &Links) -> Result<ItemList, FlatError>
-    requires { HasLinks raw.now links.now }
+pub(crate) fn items<'r>(
+    alloc: Global,
+    raw: &'r RawConf,
+    inheritance: &Inheritance<'r>,
+) -> Result<ItemList, FlatError>
+    requires { Inherits raw.now inheritance.now }
     ensures gives { GivesAs (λ l. l.items) result (items_of raw.now) }
     ensures names { IfOk result (λ l. l.names ≡ named_items l.items) }
 {
     let mut list = ItemList {
         items: Many::new(alloc),
-        names: HostNames::new(alloc),
+        names: OwnedNames::new(alloc),
     };
     for (place, host) in raw.hosts.as_slice().iter().enumerate() {
-        add_host(alloc, raw, links, place, host, &mut list)?;
+        add_host(alloc, raw, inheritance, place, host, &mut list)?;
     }
     Ok(list)
 }

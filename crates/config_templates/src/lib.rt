@@ -26,30 +26,24 @@
 
 mod built;
 mod copying;
-mod cycles;
 mod expressions;
 mod fault;
 mod firsts;
 mod flattening;
-mod host_names;
+mod inheritance;
 mod items;
 mod keys;
-mod links;
 mod macros;
 mod meanings;
-mod names;
+mod owned_names;
 mod owners;
 mod pointers;
-mod ranks;
 mod refusals;
-mod sources;
+mod templates;
 mod triggers;
-mod walks;
 
 pub use fault::FlatError;
 pub use flattening::flat;
 
 #[cfg(test)]
 mod tests;
-#[cfg(test)]
-mod tests_links;

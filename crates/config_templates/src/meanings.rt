@@ -16,7 +16,7 @@ use crate::firsts::FirstPlaces;
 use crate::items::ItemList;
 use crate::owners::{Owner, id_of};
 use crate::refusals::refused_member;
-use crate::sources::Source;
+use crate::templates::sources::Source;
 use config_read::RawConf;
 use std::alloc::Global;
 use zbx_types::{Call, Cause, Fix, Fun, OutOfMemory, Range, Text, ValueType};
@@ -81,7 +81,7 @@ fn host_named(
 fn referenced(
     alloc: Global,
     scope: &Scope<'_>,
-    owner: &Owner<'_>,
+    owner: &Owner<'_, '_>,
     name: &[u8],
 ) -> Result<Option<HostReferenced>, OutOfMemory>
     requires scope { IsScope scope.now }
@@ -185,7 +185,7 @@ fn typed(
 fn resolved(
     alloc: Global,
     scope: &Scope<'_>,
-    owner: &Owner<'_>,
+    owner: &Owner<'_, '_>,
     source: &Source<'_>,
     index: usize,
     plain: &Plain<'_>,
@@ -217,7 +217,7 @@ fn bad_number(text: &[u8], plain: &Plain<'_>) -> Cause
 fn numbered(
     alloc: Global,
     scope: &Scope<'_>,
-    owner: &Owner<'_>,
+    owner: &Owner<'_, '_>,
     source: &Source<'_>,
     index: usize,
     text: &[u8],
@@ -248,7 +248,7 @@ fn numbered(
 pub(crate) fn meaning_of(
     alloc: Global,
     scope: &Scope<'_>,
-    owner: &Owner<'_>,
+    owner: &Owner<'_, '_>,
     source: &Source<'_>,
     index: usize,
     text: &[u8],

@@ -2,7 +2,7 @@
 
 ghost use Rattle.std.specs.Prelude.{◌≡◌, ◌+◌, ◌<◌, map, Some, slice_get, IfOk, length};
 ghost use Rattle.config_templates.specs.Elements.{placed_host};
-ghost use Rattle.config_templates.specs.Linked.{HasLinks};
+ghost use Rattle.config_templates.specs.Inherited.{Inherits};
 ghost use Rattle.config_templates.specs.Links.{placed_hosts};
 ghost use Rattle.config_templates.specs.Macros.{macros_of};
 ghost use Rattle.config_templates.specs.Owners.{sources_now, owner_now, KnowsHosts, KnowsSources};
@@ -10,17 +10,18 @@ ghost use Rattle.config_templates.specs.Sources.{placed_of};
 ghost use Rattle.config_templates.specs.Triggers.{owner_of};
 
 use crate::firsts::FirstPlaces;
-use crate::links::{Links, sources};
+use crate::inheritance::Inheritance;
 use crate::macros::macros;
-use crate::sources::Source;
+use crate::templates::links::sources;
+use crate::templates::sources::Source;
 use config_read::{RawConf, RawHost};
-use macro_text::Macro;
+use macro_text::Macros;
 use std::alloc::Global;
 use zbx_types::{Many, OutOfMemory, Text};
 
 /// A host whose items or triggers are read.
 #[derive(Drop)]
-pub(crate) struct Owner<'r> {
+pub(crate) struct Owner<'r, 'g> {
     /// Its id.
     pub id: u32,
     /// Its name.
@@ -28,7 +29,7 @@ pub(crate) struct Owner<'r> {
     /// The host and the templates of its walk.
     pub sources: Many<Source<'r>>,
     /// Their macros, and the global ones.
-    pub macros: Many<Macro>,
+    pub macros: Macros<'r, 'g>,
     /// Where their names stand.
     pub names: FirstPlaces,
 }
@@ -66,23 +67,23 @@ fn source_names(alloc: Global, sources: &Many<Source<'_>>) -> Result<FirstPlaces
 }
 
 /// The host that stands at this place, with its sources.
-pub(crate) fn owner_at<'r>(
+pub(crate) fn owner_at<'r, 'g>(
     alloc: Global,
     raw: &'r RawConf,
-    links: &Links,
+    inheritance: &'g Inheritance<'r>,
     place: usize,
     host: &'r RawHost,
-) -> Result<Owner<'r>, OutOfMemory>
+) -> Result<Owner<'r, 'g>, OutOfMemory>
     requires place { place < length raw.now.hosts }
     requires there { slice_get (placed_hosts raw.now) place ≡ Some (placed_host place host.now) }
-    requires links { HasLinks raw.now links.now }
+    requires inheritance { Inherits raw.now inheritance.now }
     ensures owner { IfOk result (λ o. owner_now o ≡ owner_of raw.now (placed_host place host.now)) }
     ensures macros { IfOk result (λ o. o.macros ≡ macros_of raw.now (sources_now o)) }
     ensures names { IfOk result (λ o. KnowsSources o.names (sources_now o)) }
 {
     let id = id_of(place)?;
-    let sources = sources(alloc, raw, links, place)?;
-    let macros = macros(alloc, raw, &sources)?;
+    let sources = sources(alloc, raw, &inheritance.links, place)?;
+    let macros = macros(alloc, &inheritance.macros, &sources)?;
     let names = source_names(alloc, &sources)?;
     Ok(Owner {
         id,

@@ -4,7 +4,7 @@ ghost use Rattle.std.specs.Prelude.{◌≡◌, ◌++◌, IfOk, codes};
 ghost use Rattle.std.specs.Fmt.{decimal};
 ghost use Rattle.config_templates.specs.Sources.{list_path};
 
-use crate::sources::Origin;
+use crate::templates::sources::Origin;
 use std::alloc::Global;
 use std::convert::AsStr;
 use zbx_types::{OutOfMemory, Text};

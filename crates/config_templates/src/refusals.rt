@@ -5,7 +5,7 @@ ghost use Rattle.config_templates.specs.Elements.{element_path, IsRefusal};
 
 use crate::fault::FlatError;
 use crate::pointers::{element, list_pointer};
-use crate::sources::Source;
+use crate::templates::sources::Source;
 use std::alloc::Global;
 use std::convert::AsStr;
 use zbx_types::{Cause, OutOfMemory, Text};

@@ -3,7 +3,8 @@
 ghost use Rattle.std.specs.Prelude.{◌≡◌, ◌+◌, ◌++◌, ◌∷◌, [], ◌<◌, length, Some, slice_get, IfOk, OnOk};
 ghost use Rattle.config_templates.specs.Answers.{Gives, GivesAs};
 ghost use Rattle.config_templates.specs.Elements.{placed_trigger, placed_host, own_triggers};
-ghost use Rattle.config_templates.specs.Linked.{HasLinks};
+ghost use Rattle.config_templates.specs.Expressions.{deciding};
+ghost use Rattle.config_templates.specs.Inherited.{Inherits};
 ghost use Rattle.config_templates.specs.Links.{placed_hosts};
 ghost use Rattle.config_templates.specs.Meanings.{meant_now};
 ghost use Rattle.config_templates.specs.Names.{named_trigger, named_triggers};
@@ -11,31 +12,36 @@ ghost use Rattle.config_templates.specs.Owners.{owner_now, sources_now, KnowsSou
 ghost use Rattle.config_templates.specs.Places.{each};
 ghost use Rattle.config_templates.specs.Triggers.{trigger_made, trigger_of, placed_triggers, owner_of, triggers_from, triggers_of};
 ghost use Rattle.config_templates.specs.Written.{written, meant_trigger};
+ghost use Rattle.macro_text.specs.Expanded.{expanded};
 ghost use Rattle.zbx_types.specs.declared.expr.Expr.TheVariants.{Bin};
 ghost use Rattle.zbx_types.specs.declared.expr.Op.TheVariants.{Gt};
 ghost use Rattle.zbx_types.specs.Tree.{call, constant};
 
 use crate::copying::copy_tags;
+use crate::expressions::LONGEST_EXPRESSION;
 use crate::fault::FlatError;
-use crate::host_names::HostNames;
-use crate::links::Links;
+use crate::inheritance::Inheritance;
 use crate::meanings::{Meaning, Scope, meaning_of};
+use crate::owned_names::OwnedNames;
 use crate::owners::{Owner, owner_at};
 use crate::refusals::{refused_element, refused_member};
-use crate::sources::Source;
+use crate::templates::sources::Source;
 use config_read::{RawHost, RawTrigger};
-use macro_text::expand;
+use macro_text::{Expansion, expand_front, expand_within};
 use std::alloc::Global;
-use zbx_types::{Cause, Expr, Fix, Many, Op, Operand, OutOfMemory, Tag, Text, Trigger};
+use zbx_types::{Bytes, Cause, Expr, Fix, Many, Op, Operand, OutOfMemory, Tag, Text, Trigger};
 
 /// The most triggers of all hosts (this project's own).
 const MOST_TRIGGERS: usize = 50_000;
+
+/// The most bytes of a title, which are as many as the name of an event has (this project's own).
+const LONGEST_TITLE: usize = 2048;
 
 /// Triggers, and their names.
 #[derive(Drop)]
 pub(crate) struct TriggerList {
     pub triggers: Many<Trigger>,
-    pub names: HostNames,
+    pub names: OwnedNames,
 }
 
 /// A list of one.
@@ -113,11 +119,26 @@ fn make(
     })
 }
 
+/// What decides of the expression of a trigger of a host.
+#[tactic(auto, unfolding(crate::specs::Expressions::deciding))]
+fn deciding(alloc: Global, owner: &Owner<'_, '_>, raw: &RawTrigger) -> Result<Bytes, OutOfMemory>
+    ensures { IfOk result (λ made. made ≡ deciding (expanded owner.now.macros raw.now.expression)) }
+{
+    match expand_within(alloc, &raw.expression, &owner.macros, LONGEST_EXPRESSION)? {
+        Expansion::Whole(text) => Bytes::of(alloc, text.as_bytes()),
+        Expansion::Longer(front) => {
+            let mut front = front;
+            front.extend(b"0")?;
+            Ok(front)
+        }
+    }
+}
+
 /// The trigger of a host, its name and the number of triggers before it being right.
 fn meant_trigger(
     alloc: Global,
     scope: &Scope<'_>,
-    owner: &Owner<'_>,
+    owner: &Owner<'_, '_>,
     source: &Source<'_>,
     index: usize,
     raw: &RawTrigger,
@@ -126,9 +147,9 @@ fn meant_trigger(
     requires sources { KnowsSources owner.now.names (sources_now owner.now) }
     ensures { Gives result (meant_trigger scope.now.raw.now scope.now.items.now.items (owner_now owner.now) owner.now.macros (placed_trigger source.now index raw.now)) }
 {
-    let expression = expand(alloc, &raw.expression, &owner.macros)?;
-    let meaning = meaning_of(alloc, scope, owner, source, index, expression.as_bytes())?;
-    let title = expand(alloc, &raw.name, &owner.macros)?;
+    let expression = deciding(alloc, owner, raw)?;
+    let meaning = meaning_of(alloc, scope, owner, source, index, expression.as_slice())?;
+    let title = expand_front(alloc, &raw.name, &owner.macros, LONGEST_TITLE)?;
     Ok(make(alloc, owner.id, title, raw, meaning)?)
 }
 
@@ -137,7 +158,7 @@ fn meant_trigger(
 fn trigger(
     alloc: Global,
     scope: &Scope<'_>,
-    owner: &Owner<'_>,
+    owner: &Owner<'_, '_>,
     list: &mut TriggerList,
     source: &Source<'_>,
     index: usize,
@@ -164,7 +185,7 @@ fn trigger(
 fn add_trigger(
     alloc: Global,
     scope: &Scope<'_>,
-    owner: &Owner<'_>,
+    owner: &Owner<'_, '_>,
     list: &mut TriggerList,
     source: &Source<'_>,
     index: usize,
@@ -185,7 +206,7 @@ fn add_trigger(
 fn add_triggers(
     alloc: Global,
     scope: &Scope<'_>,
-    owner: &Owner<'_>,
+    owner: &Owner<'_, '_>,
     list: &mut TriggerList,
     source: &Source<'_>,
 ) -> Result<(), FlatError>
@@ -206,7 +227,7 @@ fn add_triggers(
 fn add_owned(
     alloc: Global,
     scope: &Scope<'_>,
-    owner: &Owner<'_>,
+    owner: &Owner<'_, '_>,
     list: &mut TriggerList,
 ) -> Result<(), FlatError>
     requires scope { IsScope scope.now }
@@ -223,43 +244,43 @@ fn add_owned(
 
 /// Adds the triggers of the host that stands at this place.
 #[tactic(auto, unfolding(crate::specs::Triggers::triggers_from))]
-fn add_host(
+fn add_host<'r>(
     alloc: Global,
-    scope: &Scope<'_>,
-    links: &Links,
+    scope: &Scope<'r>,
+    inheritance: &Inheritance<'r>,
     place: usize,
-    host: &RawHost,
+    host: &'r RawHost,
     list: &mut TriggerList,
 ) -> Result<(), FlatError>
     requires scope { IsScope scope.now }
     requires place { place < length scope.now.raw.now.hosts }
     requires there { slice_get (placed_hosts scope.now.raw.now) place ≡ Some (placed_host place host.now) }
-    requires links { HasLinks scope.now.raw.now links.now }
+    requires inheritance { Inherits scope.now.raw.now inheritance.now }
     requires names { list.old.names ≡ named_triggers list.old.triggers }
     ensures gives { GivesAs (λ _. list.new.triggers) result (triggers_from scope.now.raw.now scope.now.items.now.items (owner_of scope.now.raw.now (placed_host place host.now)) list.old.triggers) }
     ensures names { OnOk result (list.new.names ≡ named_triggers list.new.triggers) }
 {
-    let owner = owner_at(alloc, scope.raw, links, place, host)?;
+    let owner = owner_at(alloc, scope.raw, inheritance, place, host)?;
     add_owned(alloc, scope, &owner, list)
 }
 
 /// The triggers of all hosts, in the order of the hosts, over the items of all hosts.
 #[tactic(auto, unfolding(crate::specs::Triggers::triggers_of))]
-pub(crate) fn triggers(
+pub(crate) fn triggers<'r>(
     alloc: Global,
-    scope: &Scope<'_>,
-    links: &Links,
+    scope: &Scope<'r>,
+    inheritance: &Inheritance<'r>,
 ) -> Result<TriggerList, FlatError>
     requires scope { IsScope scope.now }
-    requires links { HasLinks scope.now.raw.now links.now }
+    requires inheritance { Inherits scope.now.raw.now inheritance.now }
     ensures { GivesAs (λ l. l.triggers) result (triggers_of scope.now.raw.now scope.now.items.now.items) }
 {
     let mut list = TriggerList {
         triggers: Many::new(alloc),
-        names: HostNames::new(alloc),
+        names: OwnedNames::new(alloc),
     };
     for (place, host) in scope.raw.hosts.as_slice().iter().enumerate() {
-        add_host(alloc, scope, links, place, host, &mut list)?;
+        add_host(alloc, scope, inheritance, place, host, &mut list)?;
     }
     Ok(list)
 }

@@ -4,7 +4,7 @@ use Rattle.std.proofs.lemmas.Grind.{common_steps}
 use Rattle.std.proofs.lemmas.Bool.{cases_Bool}
 use Rattle.macro_text.specs.References.{reference_len, before_brace, is_plain, plain_len}
 use Rattle.macro_text.specs.Expanded.{value_of, front_of, expanded_behind, expanded, OpensNoReference}
-use Rattle.macro_text.specs.declared.replacing.Macro.{Macro}
+use Rattle.macro_text.specs.declared.macros.Macro.{Macro}
 
 -- bytes of a replaced reference are left out
 passed-drop : (lookup : List Macro) (passed : ℕ) (text : List ℕ) → expanded_behind lookup passed text ≡ expanded lookup (drop passed text)

@@ -4,7 +4,7 @@ use Rattle.std.specs.Option.{option_map_or}
 use Rattle.std.specs.List.{find}
 use Rattle.std.specs.Str.{bytes_eq}
 use Rattle.macro_text.specs.References.{reference_len}
-use Rattle.macro_text.specs.declared.replacing.Macro.{Macro}
+use Rattle.macro_text.specs.declared.macros.Macro.{Macro}
 
 -- the value of the first macro of that name, or the reference itself where there is none
 abbrev pub value_of : List Macro → List ℕ → List ℕ

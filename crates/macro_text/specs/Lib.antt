@@ -1,2 +1,5 @@
 pub mod References
 pub mod Expanded
+pub mod Parts
+pub mod Index
+pub mod Limited

@@ -3,20 +3,11 @@
 ghost use Rattle.std.specs.Prelude.{◌≡◌, ◌++◌, ◌<◌, length, IfOk};
 ghost use Rattle.macro_text.specs.Expanded.{value_of, expanded, OpensNoReference};
 
-use crate::references::{plain_len, reference_len};
+use crate::macros::Macro;
+use crate::parts::front_of;
 use std::alloc::Global;
 use std::convert::AsStr;
 use zbx_types::{Many, OutOfMemory, Text};
-
-/// A user macro: its name as texts write it, with braces and dollar, as `{$MAX}`, and the text that stands for it (the
-/// Zabbix 6.0 manual, "User macros").
-#[derive(Debug, Drop)]
-pub struct Macro {
-    /// As written: `{$`, the name and `}`. A macro whose name is no reference is never used.
-    pub name: Text,
-    /// What is put in. May be empty, and may hold references, which then stay.
-    pub value: Text,
-}
 
 /// The value of a reference, or itself where no macro has its name.
 fn value_of<'a>(name: &'a str, lookup: &'a Many<Macro>) -> &'a str
@@ -36,12 +27,12 @@ fn replace_front<'a>(text: &'a str, lookup: &'a Many<Macro>) -> (&'a str, &'a st
     ensures front { expanded lookup.now text.now ≡ result.0.now ++ expanded lookup.now result.1.now }
     ensures shorter { length result.1.now < length text.now }
 {
-    let length = reference_len(text.as_bytes());
-    if length == 0 {
-        return text.split_at(plain_len(text.as_bytes()));
+    let front = front_of(text);
+    if front.is_reference {
+        (value_of(front.text, lookup), front.rest)
+    } else {
+        (front.text, front.rest)
     }
-    let (name, rest) = text.split_at(length);
-    (value_of(name, lookup), rest)
 }
 
 /// A text with each reference replaced by the value of the first macro of its name (the Zabbix 6.0 manual, "User

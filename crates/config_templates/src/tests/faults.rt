@@ -57,7 +57,7 @@ BadExpression{at:42} /hosts/0/triggers/0/expression {"hosts":[{"name":"h","trigg
 }
 
 /// What is told of a document, as `Unbuilt`, or as `UnknownName /hosts/0/templates/0`, with `-` for an empty pointer.
-fn told(alloc: Global, text: &str) -> Result<Text, OutOfMemory> {
+pub(super) fn told(alloc: Global, text: &str) -> Result<Text, OutOfMemory> {
     match flat(alloc, text.as_bytes()) {
         Ok(_) => Text::of(alloc, "a configuration"),
         Err(FlatError::Refused { path, cause }) => {
@@ -84,7 +84,7 @@ fn first_not_told(alloc: Global, lines: &'static str) -> Result<Text, OutOfMemor
 }
 
 /// Whether two tellings are one, blanks left out.
-fn is_told(alloc: Global, met: &str, expected: &str) -> Result<bool, OutOfMemory> {
+pub(super) fn is_told(alloc: Global, met: &str, expected: &str) -> Result<bool, OutOfMemory> {
     Ok(without_blanks(alloc, met)?.as_str() == without_blanks(alloc, expected)?.as_str())
 }
 
