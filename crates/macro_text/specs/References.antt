@@ -1,15 +1,11 @@
 -- References to user macros: `{$`, a name and `}`.
-use Rattle.std.specs.Prelude.{ℕ, ◌+◌, ◌==◌, Bool, ◌||◌, ◌&&◌, not, nat_lt, List, [], ◌∷◌, if◌then◌else◌, slice_index}
+use Rattle.std.specs.Prelude.{ℕ, ◌+◌, ◌==◌, Bool, ◌&&◌, not, nat_lt, List, [], ◌∷◌, if◌then◌else◌, slice_index}
 use Rattle.std.specs.List.{prefix_len}
-use Rattle.std.specs.Char.{is_ascii_uppercase, is_ascii_digit}
-
--- A to Z, 0 to 9, `_` and `.`
-abbrev pub is_name_byte : ℕ → Bool
-is_name_byte c = is_ascii_uppercase c || is_ascii_digit c || c == 95 || c == 46
+use Rattle.zbx_types.specs.NameBytes.{is_macro_name_byte}
 
 -- how many bytes at the front may stand in a name
 abbrev pub name_len : List ℕ → ℕ
-name_len text = prefix_len is_name_byte text
+name_len text = prefix_len is_macro_name_byte text
 
 -- the length of a whole reference whose bytes behind `{$` begin here: a name of at least one byte, then `}`; else 0
 abbrev pub named_len : List ℕ → ℕ

@@ -1,20 +1,15 @@
 //! Where references stand.
 
 ghost use Rattle.std.specs.Prelude.{◌≡◌, ◌≤◌, ◌<◌, length};
-ghost use Rattle.macro_text.specs.References.{is_name_byte, name_len, named_len, reference_len, before_brace, plain_len};
+ghost use Rattle.macro_text.specs.References.{name_len, named_len, reference_len, before_brace, plain_len};
 
-/// Whether a byte may stand in a name.
-fn is_name_byte(c: u8) -> bool
-    ensures { result ≡ is_name_byte c }
-{
-    c.is_ascii_uppercase() || c.is_ascii_digit() || c == b'_' || c == b'.'
-}
+use zbx_types::is_macro_name_byte;
 
 /// How many bytes at the front may stand in a name.
 fn name_len(text: &[u8]) -> usize
     ensures { result ≡ name_len text.now }
 {
-    text.iter().take_while(|c| is_name_byte(**c)).count()
+    text.iter().take_while(|c| is_macro_name_byte(**c)).count()
 }
 
 /// The length of the reference whose bytes behind `{$` begin here, or 0.
