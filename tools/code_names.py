@@ -33,7 +33,7 @@ def files(folder, ending):
 
 
 class Call:
-    """A function of a crate: its type and trait where it has them, whether others may call it, and its clauses' names."""
+    """A function of a crate, with its type and trait where it has them, and the names of its clauses."""
 
     def __init__(self, name, type_, trait, is_public, clauses):
         self.name, self.type, self.trait, self.is_public, self.clauses = name, type_, trait, is_public, clauses
