@@ -1,8 +1,7 @@
 -- The forms of documents that are built.
 use Rattle.std.specs.Prelude.{ℕ, Bool, true, false, not, ◌&&◌, ◌||◌, ◌==◌, List, [], ◌∷◌}
 use Rattle.std.specs.List.{list_all}
-use Rattle.zbx_types.specs.declared.items.ItemKind.{ItemKind}
-use Rattle.zbx_types.specs.declared.items.ItemKind.TheVariants as kinds
+use Rattle.zbx_types.specs.Items.{is_trapper_kind}
 use Rattle.zbx_types.specs.declared.triggers.RecoveryMode.{RecoveryMode}
 use Rattle.zbx_types.specs.declared.triggers.RecoveryMode.TheVariants as modes
 use Rattle.config_read.specs.declared.raw.RawItem.{RawItem}
@@ -10,6 +9,7 @@ use Rattle.config_read.specs.declared.raw.RawTrigger.{RawTrigger}
 use Rattle.config_read.specs.declared.raw.RawHost.{RawHost}
 use Rattle.config_read.specs.declared.raw.RawConf.{RawConf}
 
+-- a list has no items
 abbrev pub is_empty : {A : Type 0} → List A → Bool
 is_empty [] = true
 is_empty (a ∷ rest) = false
@@ -20,10 +20,7 @@ has_user_macros_only [] = true
 has_user_macros_only (c ∷ []) = not (c == 123)
 has_user_macros_only (c ∷ d ∷ rest) = (not (c == 123) || d == 36) && has_user_macros_only (d ∷ rest)
 
-abbrev pub is_trapper : ItemKind → Bool
-is_trapper kinds.Trapper = true
-is_trapper kinds.Dependent = false
-
+-- the mode in which a problem ends where the expression no longer holds
 abbrev pub recovers_by_expression : RecoveryMode → Bool
 recovers_by_expression modes.Expression = true
 recovers_by_expression modes.RecoveryExpression = false
@@ -31,7 +28,7 @@ recovers_by_expression modes.Nothing = false
 
 -- an item that senders send, without preprocessing steps
 abbrev pub is_built_item : RawItem → Bool
-is_built_item item = is_trapper item.kind && is_empty item.steps
+is_built_item item = is_trapper_kind item.kind && is_empty item.steps
 
 -- a trigger that recovers by its expression, has one problem at a time, no tags and no dependencies, and whose name has
 -- no macros but users'

@@ -2,7 +2,7 @@
 use Rattle.std.specs.Prelude.{ℕ, zero, suc, ◌+◌, ◌-◌, nat_le, nat_eq, min, Bool, true, ◌&&◌, ◌==◌, List, [], ◌∷◌, ◌++◌, length, take, drop, Option, Some, None, is_some, if◌then◌else◌, codes}
 use Rattle.std.specs.List.{starts_with, prefix_len}
 use Rattle.zbx_types.specs.Numerals.{all_digits, front_digits, behind_digits, read_number}
-use Rattle.config_read.specs.Words.{is_name_byte}
+use Rattle.zbx_types.specs.NameBytes.{is_host_name_byte}
 use Rattle.config_templates.specs.Items.{longest_up_to, key_length}
 
 -- one step after the other, where each has an answer
@@ -41,7 +41,7 @@ parted (suc n) text = Some (record { front = take (suc n) text; rest = drop (suc
 
 -- the name of a host at the front of a text, of at most 128 bytes
 unfoldable pub host_front : List ℕ → Option Split
-host_front text = if nat_le (prefix_len is_name_byte text) 128 then parted (prefix_len is_name_byte text) text else None
+host_front text = if nat_le (prefix_len is_host_name_byte text) 128 then parted (prefix_len is_host_name_byte text) text else None
 
 -- the key at the front of a text
 unfoldable pub key_front : List ℕ → Option Split

@@ -3,10 +3,10 @@
 ghost use Rattle.std.specs.Prelude.{◌≡◌};
 ghost use Rattle.std.specs.List.{list_all};
 ghost use Rattle.config_templates.specs.Braces.{begins_with_dollar};
-ghost use Rattle.config_templates.specs.Built.{is_empty, has_user_macros_only, is_trapper, recovers_by_expression, is_built_item, is_built_trigger, is_built_host, is_built};
+ghost use Rattle.config_templates.specs.Built.{is_empty, has_user_macros_only, recovers_by_expression, is_built_item, is_built_trigger, is_built_host, is_built};
 
 use config_read::{RawConf, RawHost, RawItem, RawTrigger};
-use zbx_types::{ItemKind, Many, RecoveryMode};
+use zbx_types::{Many, RecoveryMode};
 
 fn is_empty<T>(items: &Many<T>) -> bool
     ensures { result ≡ is_empty items.now }
@@ -42,15 +42,6 @@ fn has_user_macros_only(text: &[u8]) -> bool
     true
 }
 
-fn is_trapper(kind: ItemKind) -> bool
-    ensures { result ≡ is_trapper kind }
-{
-    match kind {
-        ItemKind::Trapper => true,
-        ItemKind::Dependent => false,
-    }
-}
-
 fn recovers_by_expression(recovery: RecoveryMode) -> bool
     ensures { result ≡ recovers_by_expression recovery }
 {
@@ -63,7 +54,7 @@ fn recovers_by_expression(recovery: RecoveryMode) -> bool
 fn is_built_item(item: &RawItem) -> bool
     ensures { result ≡ is_built_item item.now }
 {
-    is_trapper(item.kind) && is_empty(&item.steps)
+    item.kind.is_trapper() && is_empty(&item.steps)
 }
 
 fn is_built_trigger(trigger: &RawTrigger) -> bool

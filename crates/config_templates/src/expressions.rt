@@ -2,20 +2,14 @@
 
 ghost use Rattle.std.specs.Prelude.{◌≡◌, ◌≤◌, min, option_map, length};
 ghost use Rattle.std.specs.List.{prefix_len};
+ghost use Rattle.zbx_types.specs.NameBytes.{is_host_name_byte};
 ghost use Rattle.zbx_types.specs.Numerals.{digit_count};
-ghost use Rattle.config_read.specs.Words.{is_name_byte};
 ghost use Rattle.config_templates.specs.Expressions.{behind, parted, host_front, key_front, is_number_end, number_text, plain_of, in_range, range_end, longest_expression};
 ghost use Rattle.config_templates.specs.Items.{longest_up_to};
 ghost use Rattle.config_templates.specs.Read.{plain_now, split};
 
 use crate::keys::key_length;
-use zbx_types::{Fix, all_digits};
-
-/// The most bytes of an expression (this project's own).
-pub(crate) const LONGEST_EXPRESSION: usize = 4096;
-
-/// The most bytes of a host's name (this project's own).
-const LONGEST_NAME: usize = 128;
+use zbx_types::{Fix, LONGEST_EXPRESSION, LONGEST_NAME, all_digits, is_host_name_byte};
 
 /// What a plain expression says: its host, its key, and the text of its number.
 #[derive(Clone, Copy)]
@@ -49,19 +43,13 @@ fn parted(count: usize, text: &[u8]) -> Option<(&[u8], &[u8])>
     }
 }
 
-fn is_name_byte(c: u8) -> bool
-    ensures { result ≡ is_name_byte c }
-{
-    c.is_ascii_alphanumeric() || c == b' ' || c == b'_' || c == b'-' || c == b'.'
-}
-
 /// How many bytes at the front may stand in a host's name.
 #[tactic(auto, using(crate::proofs::Fronts::name_within))]
 fn name_length(text: &[u8]) -> usize
-    ensures value { result ≡ prefix_len is_name_byte text.now }
+    ensures value { result ≡ prefix_len is_host_name_byte text.now }
     ensures within { result ≤ length text.now }
 {
-    text.iter().take_while(|c| is_name_byte(**c)).count()
+    text.iter().take_while(|c| is_host_name_byte(**c)).count()
 }
 
 /// The name of a host at the front of a text.

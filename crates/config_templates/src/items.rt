@@ -22,10 +22,9 @@ use crate::owners::{Owner, owner_at};
 use crate::refusals::{refused_element, refused_member};
 use crate::templates::sources::Source;
 use config_read::{RawConf, RawHost, RawItem};
-use item_key::LONGEST_KEY;
 use macro_text::{Expansion, expand_within};
 use std::alloc::Global;
-use zbx_types::{Cause, Item, Many, OutOfMemory, Text};
+use zbx_types::{Cause, Item, LONGEST_KEY, Many, OutOfMemory, Text};
 
 /// The most items of all hosts (this project's own).
 const MOST_ITEMS: usize = 100_000;
@@ -102,7 +101,7 @@ fn expanded_key(
     ensures key { IfOk result (λ key. key ≡ expanded owner.now.macros raw.now.key) }
     ensures refused { IfErr result (λ e. (before : List Item) → Fails e (item_of owner.now.id owner.now.macros before (placed_item source.now index raw.now))) }
 {
-    match expand_within(alloc, &raw.key, &owner.macros, LONGEST_KEY as usize)? {
+    match expand_within(alloc, &raw.key, &owner.macros, LONGEST_KEY)? {
         Expansion::Whole(key) => Ok(key),
         Expansion::Longer(front) => Err(bad_key(alloc, source, index, front.as_slice())),
     }

@@ -10,16 +10,18 @@ ghost use Rattle.config_templates.specs.Triggers.{host_named, referenced, item_n
 ghost use Rattle.config_templates.specs.Read.{plain_now};
 ghost use Rattle.zbx_types.specs.Numerals.{read_number};
 
-use crate::expressions::{LONGEST_EXPRESSION, Plain, plain_of, range_end};
+use crate::expressions::{Plain, plain_of, range_end};
 use crate::fault::FlatError;
 use crate::firsts::FirstPlaces;
 use crate::items::ItemList;
-use crate::owners::{Owner, id_of};
+use crate::owners::Owner;
 use crate::refusals::refused_member;
 use crate::templates::sources::Source;
 use config_read::RawConf;
 use std::alloc::Global;
-use zbx_types::{Call, Cause, Fix, Fun, OutOfMemory, Range, Text, ValueType};
+use zbx_types::{
+    Call, Cause, Fix, Fun, LONGEST_EXPRESSION, OutOfMemory, Range, Text, ValueType, id_of,
+};
 
 /// What expressions are read against.
 #[derive(Clone, Copy)]

@@ -17,7 +17,7 @@ use crate::templates::sources::Source;
 use config_read::{RawConf, RawHost};
 use macro_text::Macros;
 use std::alloc::Global;
-use zbx_types::{Many, OutOfMemory, Text};
+use zbx_types::{Many, OutOfMemory, Text, id_of};
 
 /// A host whose items or triggers are read.
 #[derive(Drop)]
@@ -32,17 +32,6 @@ pub(crate) struct Owner<'r, 'g> {
     pub macros: Macros<'r, 'g>,
     /// Where their names stand.
     pub names: FirstPlaces,
-}
-
-/// The id of the place of a host or an item. Ids count from 1, and there are no more than a `u32` holds.
-pub(crate) fn id_of(place: usize) -> Result<u32, OutOfMemory>
-    ensures { IfOk result (λ id. id ≡ place + 1) }
-{
-    if place < u32::MAX as usize {
-        Ok(place as u32 + 1)
-    } else {
-        Err(OutOfMemory)
-    }
 }
 
 /// The places of the hosts' names.

@@ -17,8 +17,6 @@ ghost use Rattle.zbx_types.specs.declared.expr.Expr.TheVariants.{Bin};
 ghost use Rattle.zbx_types.specs.declared.expr.Op.TheVariants.{Gt};
 ghost use Rattle.zbx_types.specs.Tree.{call, constant};
 
-use crate::copying::copy_tags;
-use crate::expressions::LONGEST_EXPRESSION;
 use crate::fault::FlatError;
 use crate::inheritance::Inheritance;
 use crate::meanings::{Meaning, Scope, meaning_of};
@@ -29,7 +27,10 @@ use crate::templates::sources::Source;
 use config_read::{RawHost, RawTrigger};
 use macro_text::{Expansion, expand_front, expand_within};
 use std::alloc::Global;
-use zbx_types::{Bytes, Cause, Expr, Fix, Many, Op, Operand, OutOfMemory, Tag, Text, Trigger};
+use zbx_types::{
+    Bytes, Cause, Expr, Fix, LONGEST_EXPRESSION, Many, Op, Operand, OutOfMemory, Tag, Text,
+    Trigger, copy_tags,
+};
 
 /// The most triggers of all hosts (this project's own).
 const MOST_TRIGGERS: usize = 50_000;
