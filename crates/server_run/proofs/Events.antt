@@ -1,15 +1,17 @@
 -- Laws of the taking of events.
 use Rattle.std.proofs.Common.{◌≡◌, ℕ, ◌+◌, ◌≤◌, ◌<◌, List, [], ◌∷◌, ◌++◌, length, refl, sym, ap, ◌∙◌, subst, append_assoc, length-append, arith, inl, inr}
-use Rattle.std.specs.Prelude.{Option, Some, None, IfSome}
+use Rattle.std.specs.Prelude.{Option, Some, None, IfSome, Err}
 use Rattle.std.specs.Option.{option_to_list}
 use Rattle.zbx_types.specs.declared.conf.Conf.{Conf}
 use Rattle.zbx_types.specs.declared.entries.Numbered.{Numbered}
 use Rattle.outside.specs.Tells.{WireTells}
 use Rattle.outside.specs.declared.event.WireEvent.{WireEvent}
+use Rattle.outside.specs.declared.event.Trouble.{Trouble}
+use Rattle.outside.specs.declared.event.Trouble.TheVariants as trouble
 use Rattle.intake_front.specs.Intake.{Intake, handled}
 use Rattle.intake_front.specs.Served.{Served, grown, served_on, served_from, served}
 use Rattle.intake_front.specs.declared.answer.Stop.{Stop}
-use Rattle.server_run.specs.Events.{NextWere, Took, Missed, EndsTaking, Ran}
+use Rattle.server_run.specs.Events.{NextWere, Took, Missed, TookOrMissed, EndsTaking, Ran}
 use Rattle.server_run.specs.Sending.{Shows}
 use Rattle.server_run.specs.Statuses.{Ending, never, at_closed, at_limit, at_wire_fault, anywhere, at_refusal, EndsAs, LeftIs}
 use Rattle.server_run.specs.Runs.{Finished}
@@ -74,6 +76,10 @@ module _ (conf : Conf) (start now new : Intake) (w0 w1 w2 : WireTells) (count : 
         later = omega (arith, r.later, t.delivers.later);
       }
 
+-- one event more that stops nothing
+pub ran_on : (conf : Conf) (start now new : Intake) (w0 w1 w2 : WireTells) (count : ℕ) {stop : Option Stop} → stop ≡ None → Ran conf start now w0 w1 count None → Took conf now new w1 w2 stop → Ran conf start new w0 w2 (count + 1) None
+ran_on conf start now new w0 w1 w2 count {stop = s} none r t = subst (Ran conf start new w0 w2 (count + 1)) none (ran_more conf start now new w0 w1 w2 count s r t)
+
 -- where no call of next failed, the rest is left
 left_is : (e : Ending) (lost : Option WireEvent) (left : Option (List WireEvent)) (rest : List WireEvent) → left ≡ Some rest → LeftIs e lost left rest
 left_is never lost left rest is = is
@@ -112,6 +118,11 @@ told_missed e (Some all) left' left'' taken None told next free = (told.0, told.
 told_missed e (Some all) left' left'' taken (Some x) told next free =
     let both = told_more (Some all) left' left'' taken x told next in
     (both.0, both.1 ∙ append_assoc taken (x ∷ []) both.0, left_is e (Some x) left'' both.0 both.2)
+
+-- where no event was handled nothing was numbered
+pub entries_stay : (conf : Conf) (old new : Intake) (w w' : WireTells) (t : Trouble) → TookOrMissed conf old new w w' (Err t) → new.entries ≡ old.entries
+entries_stay conf old new w w' trouble.Failed m = m.entries_stay
+entries_stay conf old new w w' trouble.OutOfMemory m = m.1.entries_stay
 
 -- an event for which memory was refused: nothing was numbered, sent or closed
 pub missed_event : (old new : Intake) (wire wire' : WireTells) (event : WireEvent) → NextWere wire.left wire'.left (event ∷ []) → wire'.given ≡ wire.given + 1 → new.entries ≡ old.entries

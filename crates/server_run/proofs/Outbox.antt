@@ -9,6 +9,7 @@ use Rattle.zbx_types.specs.declared.conf.Conf.{Conf}
 use Rattle.zbx_types.specs.declared.entries.Numbered.{Numbered}
 use Rattle.outside.specs.Tells.{SinkTells}
 use Rattle.outside.specs.declared.event.WireEvent.{WireEvent}
+use Rattle.outside.specs.declared.event.Trouble.{Trouble}
 use Rattle.outside.specs.declared.event.Trouble.TheVariants as trouble
 use Rattle.event_text.specs.Lines.{lines_of}
 use Rattle.entry_step.specs.Log.{log_of, Fits}
@@ -84,8 +85,8 @@ module _ (conf : Conf) (old new : Intake) (ledger ledger' : Ledger) (sink now la
   conf_is_new = ap conf_of_run is ∙ conf_front old.entries group conf u.conf_is
 
   -- all lines of an event's entries are out
-  pub settled : Settles conf ledger ledger' group now later (Ok tt) → UpToDate conf new ledger' sink later
-  settled settles =
+  pub settled : (done : Unit {0}) → Settles conf ledger ledger' group now later (Ok done) → UpToDate conf new ledger' sink later
+  settled done settles =
       let set = settles (log_of old.entries) u.applied fits_onto in
       let more = set.1 in
       let lines : before ++ more.0 ≡ log_lines conf (log_of new.entries) = sym more.1 ∙ ap (log_lines conf) same_log in
@@ -97,19 +98,24 @@ module _ (conf : Conf) (old new : Intake) (ledger ledger' : Ledger) (sink now la
       }
 
   -- some are, since the outbox failed
-  pub unsettled : Settles conf ledger ledger' group now later (Err trouble.Failed) → FrontOut conf new.entries sink later
-  unsettled settles =
+  failed : Settles conf ledger ledger' group now later (Err trouble.Failed) → FrontOut conf new.entries sink later
+  failed settles =
       let set = settles (log_of old.entries) u.applied fits_onto in
       let lines : before ++ set.0 ≡ log_lines conf (log_of new.entries) = sym set.1 ∙ ap (log_lines conf) same_log in
       record { fits = sound.fits; conf_is = conf_is_new; lines = front_more sink now later before set.0 (log_lines conf (log_of new.entries)) lines u.lines set.2 }
 
   -- none is, since memory was refused
-  pub refused : later ≡ now → FrontOut conf new.entries sink later
+  refused : later ≡ now → FrontOut conf new.entries sink later
   refused same =
       let grown = lines_grow conf (log_of old.entries) group in
       let lines : before ++ grown.0 ≡ log_lines conf (log_of new.entries) = sym grown.1 ∙ ap (log_lines conf) same_log in
       let stays : GrewByFront now later grown.0 = subst (λ t. GrewByFront now t grown.0) (sym same) (none_front now grown.0) in
       record { fits = sound.fits; conf_is = conf_is_new; lines = front_more sink now later before grown.0 (log_lines conf (log_of new.entries)) lines u.lines stays }
+
+  -- some are, or none
+  pub unsettled : (t : Trouble) → Settles conf ledger ledger' group now later (Err t) → FrontOut conf new.entries sink later
+  unsettled trouble.Failed settles = failed settles
+  unsettled trouble.OutOfMemory same = refused same
 
 -- what is up to date has all lines out
 pub all_out : (conf : Conf) (i : Intake) (entries : List Numbered) (ledger : Ledger) (sink now : SinkTells) → entries ≡ i.entries → UpToDate conf i ledger sink now → AllOut conf entries ledger.tally sink now

@@ -95,7 +95,7 @@ followed words source source' turns conf intake ledger entries out wire wire' s 
 
 -- where nothing was read
 pub reads_none : (most : ℕ) (left : Option (List ℕ)) → ReadsUpTo most left left
-reads_none most left = ([], omega arith, Consumes-nil left)
+reads_none most left = ([], (omega arith, Consumes-nil left))
 
 -- ---- what printing leaves of a run
 

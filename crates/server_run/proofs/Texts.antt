@@ -19,7 +19,7 @@ use Rattle.server_run.specs.Ports.{IsTextUpTo, ReadsUpTo}
 
 -- a piece more was taken from a source
 pub reads_piece : (most : ℕ) (a b c : Option (List ℕ)) (text piece : List ℕ) → Consumes a b text → Consumes b c piece → length text + length piece ≤ most + 1 → ReadsUpTo most a c
-reads_piece most a b c text piece p q few = (text ++ piece, omega (arith, few, length-append text piece), Consumes-trans a b c text piece p q)
+reads_piece most a b c text piece p q few = (text ++ piece, (omega (arith, few, length-append text piece), Consumes-trans a b c text piece p q))
 
 -- a text that is too long is refused
 flat_of-long : (text : List ℕ) → 16777216 < length text → flat_of text ≡ refuse [] TooLong

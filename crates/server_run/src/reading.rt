@@ -16,7 +16,6 @@ pub(crate) enum ReadError {
 }
 
 /// Reads a source to its end, or until it has given more than this many bytes.
-#[tactic(auto, using(crate::proofs::Texts::reads_piece))]
 pub(crate) fn read_all<S: Source>(
     alloc: Global,
     most: u32,

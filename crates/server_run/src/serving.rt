@@ -40,7 +40,7 @@ fn settle_after<O: Sink>(
     outbox: &mut O,
 ) -> Result<(), Trouble>
     ensures cause { HasNextCause (O.tells outbox.old).faults (O.tells outbox.new).faults result }
-    ensures settled { Settles ready.now ledger.old ledger.new (drop first front.now.entries) (O.tells outbox.old) (O.tells outbox.new) result }
+    ensures settled { Settles ready.now ledger.old ledger.new (drop first front.entry.now.entries) (O.tells outbox.old) (O.tells outbox.new) result }
 {
     let entries = after_first(front.entries().as_slice(), first);
     settle(alloc, ready, ledger, outbox, entries)

@@ -15,7 +15,6 @@ use zbx_types::OutOfMemory;
 /// # Errors
 ///
 /// `Failed` where the wire gave no event. `OutOfMemory` where memory was refused. Nothing was numbered then, nothing sent.
-#[tactic(auto, using(crate::proofs::Events::missed_event))]
 pub(crate) fn take<W: Wire>(
     alloc: Global,
     ready: &Ready,

@@ -133,10 +133,10 @@ impl Env for Given {
         let Some(argument) = self.arguments.get(i) else {
             return Err(FillError::NotPresent);
         };
-        let Some(room) = buf.get_mut(..argument.len()) else {
+        if buf.len() < argument.len() {
             return Err(FillError::TooLong);
-        };
-        room.copy_from_slice(argument);
+        }
+        buf[..argument.len()].copy_from_slice(argument);
         Ok(argument.len())
     }
 

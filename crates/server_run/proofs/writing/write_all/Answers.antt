@@ -13,7 +13,7 @@ loop-rest-preserved g c =
     let parts = ap (λ r. w.0 ++ r) (sym (take-append-drop c.in-Ok.count c.loop-rest.rest.now)) in
     let regrouped = sym (append_assoc w.0 piece after) in
     let few : length piece ≡ c.in-Ok.count = length-take-le c.in-Ok.count c.loop-rest.rest.now c.in-Ok.ensures.bound in
-    let step : Grew (g.K.Sink.tells c.loop-rest.sink.now) (g.K.Sink.tells c.write.new.sink) piece = record { bytes = c.in-Ok.ensures.bytes; size = omega (arith, c.in-Ok.ensures.size, few) } in
+    let step : Grew (g.K.Sink.tells c.loop-rest.sink) (g.K.Sink.tells c.write.new.self) piece = record { bytes = c.in-Ok.ensures.bytes; size = omega (arith, c.in-Ok.ensures.size, few) } in
     record {
       later = omega (arith, c.loop-rest.invariant.later, c.write.ensures.cause.later);
       written = (w.0 ++ piece, rw c.split_at.ensures.back (w.1 ∙ (parts ∙ regrouped)), grew_more _ _ _ w.0 piece w.2 step);
