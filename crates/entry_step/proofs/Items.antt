@@ -1,6 +1,6 @@
 -- Cells of items, and one more value.
-use Rattle.std.proofs.Common.{◌≡◌, ◌≢◌, ℕ, zero, suc, ◌-◌, ◌<◌, ◌≤◌, ◌==◌, Bool, true, false, Option, Some, None, List, [], ◌∷◌, length, get_or, set, slice_get, refl, sym, ◌∙◌, ap, ne_eqb, eq-eqb, eqb-true, arith, option_map}
-use Rattle.std.proofs.lemmas.List.{set-get_or, set_past}
+use Rattle.std.proofs.Common.{◌≡◌, ◌≢◌, ℕ, zero, suc, ◌-◌, ◌<◌, ◌≤◌, ◌==◌, Bool, true, false, cond, Option, Some, None, List, [], ◌∷◌, length, get_or, set, slice_get, refl, sym, ◌∙◌, ap, ne_eqb, eq-eqb, eqb-true, arith, option_map}
+use Rattle.std.proofs.lemmas.List.{set-get_or, set_past, length-set}
 use Rattle.std.proofs.lemmas.Option.{slice_get_read}
 use Rattle.std.specs.Option.{option_flatten}
 use Rattle.zbx_types.specs.Ids.{at_id}
@@ -113,3 +113,11 @@ put_late latest item s cell h l e n =
     go : (c : Option Stored) → is_newer c s ≡ false → Some (newer c s) ≡ c
     go None q = cc
     go (Some x) q = rw q refl
+
+pub length-with_value : (latest : List (Option Stored)) (item : ℕ) (s : Stored) → length (with_value latest item s) ≡ length latest
+unfolding with_value
+length-with_value latest item s = go (item == 0)
+  where
+    go : (b : Bool) → length (cond b latest (set latest (item - 1) (Some (newer (latest_at latest item) s)))) ≡ length latest
+    go true = refl
+    go false = length-set latest (item - 1) (Some (newer (latest_at latest item) s))

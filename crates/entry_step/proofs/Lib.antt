@@ -1,9 +1,11 @@
-pub mod Items
+pub mod Members
 pub mod Problems
 pub mod Writes
-pub mod Plans
+pub mod Landing
 pub mod Histories
 pub mod Phases
-pub mod Entries
+pub mod Represented
+pub mod Orders
+pub mod Items
 pub mod Naming
 pub mod Listing

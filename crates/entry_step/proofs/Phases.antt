@@ -1,105 +1,156 @@
--- Triggers evaluated one after another: each sees its own problems as they were.
-use Rattle.std.proofs.Common.{◌≡◌, ℕ, zero, suc, ◌+◌, ◌<◌, ◌≤◌, ◌==◌, Bool, true, false, cond, List, [], ◌∷◌, ◌++◌, length, map, filter, flat_map, refl, sym, ◌∙◌, ap, ap₂, subst, arith, eqb-true, eq-eqb, ne_eqb}
-use Rattle.std.specs.List.{list_any}
-use Rattle.zbx_types.specs.Ids.{ids_from}
-use Rattle.zbx_types.specs.declared.entries.EventId.{EventId}
+-- Triggers evaluated one after another.
+use Rattle.std.proofs.Common.{◌≡◌, ◌≢◌, ℕ, zero, suc, ◌+◌, ◌<◌, ◌≤◌, ◌==◌, inl, inr, option_map, ne_eqb, Bool, true, false, cond, Option, Some, None, List, [], ◌∷◌, ◌++◌, length, map, filter, get_or, take, set, ◌-◌, slice_get, refl, sym, ◌∙◌, ap, subst, append_assoc, append-nil, eqb-true, eq-eqb, arith}
+use mathlib.Core.Path.{fun_ext}
+use Rattle.std.specs.Option.{unwrap_or}
+use Rattle.std.proofs.lemmas.List.{take_more, length-set}
+use Rattle.zbx_types.specs.Ids.{at_id}
+use Rattle.zbx_types.specs.declared.conf.Conf.{Conf}
 use Rattle.zbx_types.specs.declared.entries.Rec.{Rec}
-use Rattle.entry_step.specs.Problems.{event_of}
-use Rattle.entry_step.specs.Records.{phase}
-use Rattle.entry_step.specs.Changes.{events_after}
-use Rattle.entry_step.proofs.Problems.{open_events, events_append, Homes, homes_open, homes_after, AllLand, off, after_append}
+use Rattle.entry_step.specs.Problems.{absorbed_all, grown, open_of}
+use Rattle.zbx_types.specs.declared.entries.Stored.{Stored}
+use Rattle.entry_step.specs.Records.{evaluated, phase, phase_over}
+use Rattle.std.proofs.lemmas.Bool.Decides.{leb_tells}
+use Rattle.std.proofs.lemmas.Option.{slice_get_past}
+use Rattle.entry_step.proofs.Landing.{LandIn, only, land_off, evaluated_lands, evaluated_none}
+use Rattle.entry_step.specs.Represents.{problems_at, AllAtHome}
+use Rattle.entry_step.specs.Changes.{with_row, outcome_records, outcome_opens, outcome_rows, AreTidy, Runs}
+use Rattle.entry_step.specs.declared.opens.Open.{Open}
+use Rattle.entry_step.specs.declared.changes.Outcome.{Outcome}
+use Rattle.entry_step.proofs.Items.{at_zero, at_suc, slice_get_set_same, slice_get_set_other}
+use Rattle.entry_step.proofs.Problems.{open_append, absorbed_append, home_all}
 
-pub flat_filter : {A B : Type 0} (p : A → Bool) (f : A → List B) (xs : List A) → flat_map f (filter p xs) ≡ flat_map (λ x. cond (p x) (f x) []) xs
-flat_filter p f [] = refl
-flat_filter {A} {B} p f (x ∷ xs) = go (p x) (flat_filter p f xs)
+-- by search, the same is made
+pub phase_is : (conf : Conf) (one : (ℕ → List Open) → ℕ → List Rec) (rs : List Rec) (ids : List ℕ) → phase conf one (open_of conf rs) ids ≡ phase_over conf one rs ids
+phase_is conf one rs [] = refl
+phase_is conf one rs (id ∷ ids) =
+    ap (λ xs. one (open_of conf rs) id ++ xs)
+    (ap (λ p. phase conf one p ids) (fun_ext (λ u. sym (open_append conf u rs (one (open_of conf rs) id)))) ∙ phase_is conf one (rs ++ one (open_of conf rs) id) ids)
+
+-- one trigger more
+pub phase_push : (conf : Conf) (one : (ℕ → List Open) → ℕ → List Rec) (all : ℕ → List Open) (ids : List ℕ) (id : ℕ)
+    → phase conf one all (ids ++ id ∷ []) ≡ phase conf one all ids ++ one (grown conf all (phase conf one all ids)) id
+phase_push conf one all [] id = append-nil (one all id)
+phase_push conf one all (x ∷ ids) id =
+    let rs = one all x in
+    let more = phase conf one (grown conf all rs) ids in
+    ap (λ xs. rs ++ xs) (phase_push conf one (grown conf all rs) ids id)
+    ∙ sym (append_assoc rs more (one (grown conf (grown conf all rs) more) id))
+    ∙ ap (λ p. (rs ++ more) ++ one p id) (fun_ext (λ u. sym (absorbed_append conf u (all u) rs more)))
+
+-- a row that is put in
+with_suc : (rows : List (List Open)) (k : ℕ) (os : List Open) → with_row rows (suc k) os ≡ set rows k os
+unfolding with_row
+with_suc rows k os =
+    let t : (suc k == 0) ≡ false = ne_eqb (suc k) 0 (λ q. absurd (omega arith)) in
+    let m : suc k - 1 ≡ k = omega arith in
+    rw (t, m) refl
+
+row_other : (rows : List (List Open)) (id j : ℕ) (os : List Open) → id ≢ j → problems_at (with_row rows id os) j ≡ problems_at rows j
+unfolding problems_at with_row
+row_other rows zero j os ne = refl
+row_other rows (suc i) zero os ne = ap (λ o. unwrap_or o []) (at_zero (with_row rows (suc i) os) ∙ sym (at_zero rows))
+row_other rows (suc i) (suc j) os ne =
+    ap (λ o. unwrap_or o [])
+    (ap (λ xs. at_id xs (suc j)) (with_suc rows i os) ∙ at_suc (set rows i os) j ∙ slice_get_set_other rows i j os (λ e. ne (ap suc e)) ∙ sym (at_suc rows j))
+
+row_same : (rows : List (List Open)) (id : ℕ) (os : List Open) → problems_at (with_row rows id os) id ≡ unwrap_or (option_map (λ _. os) (at_id rows id)) []
+unfolding problems_at with_row
+row_same rows zero os = ap (λ o. unwrap_or o []) (at_zero rows ∙ ap (option_map (λ _. os)) (sym (at_zero rows)))
+row_same rows (suc k) os =
+    ap (λ o. unwrap_or o [])
+    (ap (λ xs. at_id xs (suc k)) (with_suc rows k os) ∙ at_suc (set rows k os) k ∙ slice_get_set_same rows k os ∙ ap (option_map (λ _. os)) (sym (at_suc rows k)))
+
+length_row : (rows : List (List Open)) (id : ℕ) (os : List Open) → length (with_row rows id os) ≡ length rows
+length_row rows zero os = unfold with_row in refl
+length_row rows (suc k) os = ap length (with_suc rows k os) ∙ length-set rows k os
+
+length_outcome : (rows : List (List Open)) (id : ℕ) (o : Option Outcome) → length (outcome_rows rows id o) ≡ length rows
+length_outcome rows id None = refl
+length_outcome rows id (Some o) = length_row rows id o.opens
+
+pub none_same : {A B : Type 0} (xs : List A) (ys : List B) (id : ℕ) → length xs ≡ length ys → at_id xs id ≡ None → at_id ys id ≡ None
+none_same xs ys zero l e = at_zero ys
+none_same {A} {B} xs ys (suc k) l e = elim (leb_tells (length xs) k) [
+  | inl p ↦ at_suc ys k ∙ slice_get_past ys k (omega arith)
+  | inr p ↦ let q = go xs k p.1 (sym (at_suc xs k) ∙ e) in absurd q
+]
   where
-    go : (b : Bool) → flat_map f (filter p xs) ≡ flat_map (λ x. cond (p x) (f x) []) xs → flat_map f (cond b (x ∷ filter p xs) (filter p xs)) ≡ cond b (f x) [] ++ flat_map (λ x. cond (p x) (f x) []) xs
-    go true e = ap (λ ys. f x ++ ys) e
-    go false e = e
+    go : (xs : List A) (k : ℕ) → k < length xs → slice_get xs k ≡ None → ⊥
+    go [] k l e = omega arith
+    go (x ∷ xs) zero l e = cc
+    go (x ∷ xs) (suc k) l e = go xs k (omega arith) e
 
--- two functions that agree on the ids
-pub ids_same : {A B : Type 0} (f g : ℕ → List B) (n : ℕ) (xs : List A) → ((k : ℕ) → k < length xs → f (n + k) ≡ g (n + k)) → flat_map f (ids_from n xs) ≡ flat_map g (ids_from n xs)
-ids_same f g n [] h = refl
-ids_same f g n (x ∷ xs) h =
-    ap₂ (λ a b. a ++ b) (let e : n ≡ n + 0 = omega arith in ap f e ∙ h 0 (omega arith) ∙ ap g (sym e))
-    (ids_same f g (n + 1) xs (λ k l. let e : n + 1 + k ≡ n + suc k = omega arith in ap f e ∙ h (suc k) (omega arith) ∙ ap g (sym e)))
+-- What the outcome of a trigger makes of the rows
+module _ (conf : Conf) (rows : List (List Open)) (id : ℕ) (o : Option Outcome)
+    (size : length rows ≡ length conf.triggers)
+    (opens : outcome_opens (problems_at rows id) o ≡ absorbed_all conf id (problems_at rows id) (outcome_records o))
+    (own : LandIn conf (only id) (outcome_records o)) (none : at_id conf.triggers id ≡ None → outcome_records o ≡ []) where
+  row_own : problems_at (outcome_rows rows id o) id ≡ absorbed_all conf id (problems_at rows id) (outcome_records o)
+  row_own = go o refl
+    where
+      go : (x : Option Outcome) → o ≡ x → problems_at (outcome_rows rows id o) id ≡ absorbed_all conf id (problems_at rows id) (outcome_records o)
+      go None e = ap (λ y. problems_at (outcome_rows rows id y) id) e ∙ sym (ap (outcome_opens (problems_at rows id)) e) ∙ opens
+      go (Some out) e = ap (λ y. problems_at (outcome_rows rows id y) id) e ∙ row_same rows id out.opens ∙ at (at_id rows id) refl
+        where
+          at : (r : Option (List Open)) → at_id rows id ≡ r → unwrap_or (option_map (λ _. out.opens) (at_id rows id)) [] ≡ absorbed_all conf id (problems_at rows id) (outcome_records o)
+          at None q = unfold problems_at in
+              ap (λ y. unwrap_or (option_map (λ _. out.opens) y) []) q
+              ∙ sym (ap (λ rs. absorbed_all conf id (unwrap_or (at_id rows id) []) rs) (none (none_same rows conf.triggers id size q)) ∙ ap (λ y. unwrap_or y []) q)
+          at (Some os) q = ap (λ y. unwrap_or (option_map (λ _. out.opens) y) []) q ∙ sym (ap (outcome_opens (problems_at rows id)) e) ∙ opens
 
--- two functions that agree from an id on
-ids_above : {A B : Type 0} (f g : ℕ → List B) (p : ℕ → Bool) (n : ℕ) (xs : List A) → ((j : ℕ) → n ≤ j → f j ≡ g j) → flat_map f (filter p (ids_from n xs)) ≡ flat_map g (filter p (ids_from n xs))
-ids_above f g p n [] h = refl
-ids_above {A} {B} f g p n (x ∷ xs) h = go (p n) (ids_above f g p (n + 1) xs (λ j l. h j (omega arith)))
+  row_off : (j : ℕ) → (id == j) ≡ false → problems_at (outcome_rows rows id o) j ≡ problems_at rows j
+  row_off j n = go o
+    where
+      go : (x : Option Outcome) → problems_at (outcome_rows rows id x) j ≡ problems_at rows j
+      go None = refl
+      go (Some out) = row_other rows id j out.opens (λ q. let t : (id == j) ≡ true = eq-eqb id j q in cc)
+
+  pub rows_after : (j : ℕ) → problems_at (outcome_rows rows id o) j ≡ absorbed_all conf j (problems_at rows j) (outcome_records o)
+  rows_after j = go (id == j) refl
+    where
+      go : (b : Bool) → (id == j) ≡ b → problems_at (outcome_rows rows id o) j ≡ absorbed_all conf j (problems_at rows j) (outcome_records o)
+      go true e = subst (λ i. problems_at (outcome_rows rows id o) i ≡ absorbed_all conf i (problems_at rows i) (outcome_records o)) (eqb-true id j e) row_own
+      go false e = row_off j e ∙ sym (land_off conf (only id) j (problems_at rows j) (outcome_records o) own e)
+
+-- No trigger yet
+pub run_none : (conf : Conf) (one : (ℕ → List Open) → ℕ → List Rec) (rows : List (List Open)) (made : List Rec) → made ≡ [] → Runs conf one rows [] made rows
+run_none conf one rows made e = record { records = e; changes = λ id. ap (absorbed_all conf id (problems_at rows id)) (sym e); size = refl }
+
+-- One trigger more, as the loop has it
+pub run_more : (conf : Conf) (number now : ℕ) (items : ℕ → List Stored) (before rows next : List (List Open)) (ids : List ℕ) (k id : ℕ) (made more : List Rec) (o : Option Outcome)
+    → k < length ids → id ≡ get_or ids k 0 → outcome_records o ≡ evaluated conf number now items (problems_at rows) id
+    → (AllAtHome conf id (problems_at rows id) → outcome_opens (problems_at rows id) o ≡ absorbed_all conf id (problems_at rows id) (outcome_records o))
+    → more ≡ made ++ outcome_records o → next ≡ outcome_rows rows id o
+    → AreTidy conf before → Runs conf (evaluated conf number now items) before (take k ids) made rows → Runs conf (evaluated conf number now items) before (take (k + 1) ids) more next
+run_more conf number now items before rows next ids k id made more o l is r opens m n tidy runs =
+    record {
+      records = m ∙ ap (λ xs. xs ++ outcome_records o) runs.records ∙ ap (λ xs. so_far ++ xs) (r ∙ ap (λ p. one p id) all) ∙ sym (phase_push conf one (problems_at before) (take k ids) id) ∙ ap (phase conf one (problems_at before)) (sym front);
+      changes = λ j. ap (λ rs. problems_at rs j) n ∙ rows_after conf rows id o size (opens home) own none j
+          ∙ ap (λ os. absorbed_all conf j os (outcome_records o)) (runs.changes j)
+          ∙ sym (absorbed_append conf j (problems_at before j) made (outcome_records o)) ∙ ap (absorbed_all conf j (problems_at before j)) (sym m);
+      size = ap length n ∙ length_outcome rows id o ∙ runs.size;
+    }
   where
-    go : (b : Bool) → flat_map f (filter p (ids_from (n + 1) xs)) ≡ flat_map g (filter p (ids_from (n + 1) xs))
-        → flat_map f (cond b (n ∷ filter p (ids_from (n + 1) xs)) (filter p (ids_from (n + 1) xs))) ≡ flat_map g (cond b (n ∷ filter p (ids_from (n + 1) xs)) (filter p (ids_from (n + 1) xs)))
-    go true e = ap₂ (λ a b. a ++ b) (h n (omega arith)) e
-    go false e = e
+    one : (ℕ → List Open) → ℕ → List Rec
+    one = evaluated conf number now items
 
--- an id is among those that pass a test where it passes
-any_above : {A : Type 0} (p : ℕ → Bool) (j n : ℕ) (xs : List A) → j < n → list_any (λ i. i == j) (filter p (ids_from n xs)) ≡ false
-any_above p j n [] l = refl
-any_above {A} p j n (x ∷ xs) l = go (p n) (any_above p j (n + 1) xs (omega arith))
-  where
-    go : (b : Bool) → list_any (λ i. i == j) (filter p (ids_from (n + 1) xs)) ≡ false → list_any (λ i. i == j) (cond b (n ∷ filter p (ids_from (n + 1) xs)) (filter p (ids_from (n + 1) xs))) ≡ false
-    go true h = rw (ne_eqb n j (λ q. absurd (omega arith))) h
-    go false h = h
+    so_far : List Rec
+    so_far = phase conf one (problems_at before) (take k ids)
 
-pub any_id : {A : Type 0} (p : ℕ → Bool) (j n : ℕ) (xs : List A) → n ≤ j → j < n + length xs → list_any (λ i. i == j) (filter p (ids_from n xs)) ≡ p j
-any_id p j n [] l m = absurd (omega arith)
-any_id {A} p j n (x ∷ xs) l m = go (λ k. any_id p j (n + 1) xs k (omega arith)) (n == j) refl (p n) refl
-  where
-    rest : List ℕ
-    rest = filter p (ids_from (n + 1) xs)
+    all : problems_at rows ≡ grown conf (problems_at before) so_far
+    all = fun_ext (λ j. runs.changes j ∙ ap (absorbed_all conf j (problems_at before j)) runs.records)
 
-    below : (n == j) ≡ false → n + 1 ≤ j
-    below e = let ne : n ≡ j → ⊥ = λ q. let t : (n == j) ≡ true = eq-eqb n j q in cc in omega arith
+    size : length rows ≡ length conf.triggers
+    size = runs.size ∙ tidy.size
 
-    go : (n + 1 ≤ j → list_any (λ i. i == j) rest ≡ p j) → (a : Bool) → (n == j) ≡ a → (b : Bool) → p n ≡ b → list_any (λ i. i == j) (cond b (n ∷ rest) rest) ≡ p j
-    go h true e true t = rw e (sym (ap p (sym (eqb-true n j e)) ∙ t))
-    go h true e false t = let q = eqb-true n j e in any_above p j (n + 1) xs (omega arith) ∙ sym (ap p (sym q) ∙ t)
-    go h false e true t = rw e (h (below e))
-    go h false e false t = h (below e)
+    home : AllAtHome conf id (problems_at rows id)
+    home = subst (AllAtHome conf id) (sym (runs.changes id)) (home_all conf id (problems_at before id) made (tidy.homes id))
 
--- what a trigger adds is about itself, where its problems are
-abbrev pub IsOwn : (ℕ → List EventId → List Rec) → Type 0
-IsOwn one = (id : ℕ) (es : List EventId) → Homes id es → AllLand id (one id es)
+    own : LandIn conf (only id) (outcome_records o)
+    own = subst (LandIn conf (only id)) (sym r) (evaluated_lands conf number now items (problems_at rows) id home)
 
-pub phase_is : {A : Type 0} (one : ℕ → List EventId → List Rec) (p : ℕ → Bool) → IsOwn one → (rs : List Rec) (n : ℕ) (xs : List A)
-    → phase (λ id problems. one id (map event_of problems)) rs (filter p (ids_from n xs)) ≡ flat_map (λ id. one id (open_events rs id)) (filter p (ids_from n xs))
-phase_is one p own rs n [] = refl
-phase_is {A} one p own rs n (x ∷ xs) = go (p n) (phase_is one p own rs (n + 1) xs) (phase_is one p own (rs ++ one n (open_events rs n)) (n + 1) xs)
-  where
-    rest : List ℕ
-    rest = filter p (ids_from (n + 1) xs)
+    none : at_id conf.triggers id ≡ None → outcome_records o ≡ []
+    none e = r ∙ evaluated_none conf number now items (problems_at rows) id e
 
-    go : (b : Bool) → phase (λ id problems. one id (map event_of problems)) rs (filter p (ids_from (n + 1) xs)) ≡ flat_map (λ id. one id (open_events rs id)) (filter p (ids_from (n + 1) xs))
-        → phase (λ id problems. one id (map event_of problems)) (rs ++ one n (open_events rs n)) (filter p (ids_from (n + 1) xs)) ≡ flat_map (λ id. one id (open_events (rs ++ one n (open_events rs n)) id)) (filter p (ids_from (n + 1) xs))
-        → phase (λ id problems. one id (map event_of problems)) rs (cond b (n ∷ filter p (ids_from (n + 1) xs)) (filter p (ids_from (n + 1) xs))) ≡ flat_map (λ id. one id (open_events rs id)) (cond b (n ∷ filter p (ids_from (n + 1) xs)) (filter p (ids_from (n + 1) xs)))
-    go true a b =
-        ap (λ ys. one n (open_events rs n) ++ ys) (b ∙ ids_above (λ id. one id (open_events (rs ++ one n (open_events rs n)) id)) (λ id. one id (open_events rs id)) p (n + 1) xs
-        (λ j l. ap (one j) (events_append j rs (one n (open_events rs n)) ∙ off j n (open_events rs j) (one n (open_events rs n)) (λ q. absurd (omega arith)) (own n (open_events rs n) (homes_open n rs)) (homes_open j rs))))
-    go false a b = a
-
--- the records of later triggers change nothing
-above_off : {A : Type 0} (one : ℕ → List Rec) (j : ℕ) (es : List EventId) (n : ℕ) (xs : List A) → ((k : ℕ) → k < length xs → AllLand (n + k) (one (n + k))) → j < n → Homes j es → events_after j es (flat_map one (ids_from n xs)) ≡ es
-above_off one j es n [] land l h = refl
-above_off one j es n (x ∷ xs) land l h =
-    after_append j es (one n) (flat_map one (ids_from (n + 1) xs))
-    ∙ ap (λ ys. events_after j ys (flat_map one (ids_from (n + 1) xs))) (off j (n + 0) es (one n) (λ q. absurd (omega arith)) (let e : n + 0 ≡ n = omega arith in subst (λ m. AllLand (n + 0) (one m)) e (land 0 (omega arith))) h)
-    ∙ above_off one j es (n + 1) xs (λ k m. let e : n + suc k ≡ n + 1 + k = omega arith in subst (λ m. AllLand m (one m)) e (land (suc k) (omega arith))) (omega arith) h
-
--- only a trigger's own records change its problems
-pub own_only : {A : Type 0} (one : ℕ → List Rec) (n k : ℕ) (es : List EventId) (xs : List A) → ((k : ℕ) → k < length xs → AllLand (n + k) (one (n + k))) → k < length xs → Homes (n + k) es
-    → events_after (n + k) es (flat_map one (ids_from n xs)) ≡ events_after (n + k) es (one (n + k))
-own_only one n k es [] land l h = absurd (omega arith)
-own_only one n zero es (x ∷ xs) land l h =
-    let e : n + 0 ≡ n = omega arith in
-    after_append (n + 0) es (one n) (flat_map one (ids_from (n + 1) xs))
-    ∙ above_off one (n + 0) (events_after (n + 0) es (one n)) (n + 1) xs (λ k m. let e : n + suc k ≡ n + 1 + k = omega arith in subst (λ m. AllLand m (one m)) e (land (suc k) (omega arith))) (omega arith) (homes_after (n + 0) es (one n) h)
-    ∙ ap (λ m. events_after (n + 0) es (one m)) (sym e)
-own_only one n (suc k) es (x ∷ xs) land l h =
-    let e : n + 1 + k ≡ n + suc k = omega arith in
-    let e0 : n + 0 ≡ n = omega arith in
-    after_append (n + suc k) es (one n) (flat_map one (ids_from (n + 1) xs))
-    ∙ ap (λ ys. events_after (n + suc k) ys (flat_map one (ids_from (n + 1) xs))) (off (n + suc k) n es (one n) (λ q. absurd (omega arith)) (subst (λ m. AllLand m (one m)) e0 (land 0 (omega arith))) h)
-    ∙ subst (λ m. events_after m es (flat_map one (ids_from (n + 1) xs)) ≡ events_after m es (one m)) e
-    (own_only one (n + 1) k es xs (λ i m. let q : n + suc i ≡ n + 1 + i = omega arith in subst (λ m. AllLand m (one m)) q (land (suc i) (omega arith))) (omega arith) (subst (λ m. Homes m es) (sym e) h))
+    front : take (k + 1) ids ≡ take k ids ++ id ∷ []
+    front = take_more ids k 0 l ∙ ap (λ i. take k ids ++ i ∷ []) (sym is)

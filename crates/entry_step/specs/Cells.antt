@@ -1,25 +1,92 @@
--- What the cells of a run stand for.
-use Rattle.std.specs.Prelude.{◌≡◌, ℕ, ◌+◌, ◌<◌, List, [], ◌∷◌, length, map, Option, Some, None, get_or}
+-- Cells: what is kept of each item and each trigger, and what they are by search.
+use Rattle.std.specs.Prelude.{◌≡◌, ◌≤◌, ℕ, ◌==◌, Bool, true, false, ◌&&◌, ◌||◌, List, [], ◌∷◌, ◌++◌, Option, if◌then◌else◌}
+use Rattle.std.specs.List.{list_any}
+use Rattle.zbx_types.specs.Ids.{at_id}
 use Rattle.zbx_types.specs.declared.conf.Conf.{Conf}
-use Rattle.zbx_types.specs.declared.entries.EventId.{EventId}
+use Rattle.zbx_types.specs.declared.entries.Entry.{Entry}
+use Rattle.zbx_types.specs.declared.entries.Entry.TheVariants.{Config, Value, Tick}
 use Rattle.zbx_types.specs.declared.entries.Numbered.{Numbered}
 use Rattle.zbx_types.specs.declared.entries.Rec.{Rec}
 use Rattle.zbx_types.specs.declared.entries.Stored.{Stored}
-use Rattle.entry_step.specs.History.{history_of}
-use Rattle.entry_step.specs.Problems.{event_of, open_problems}
+use Rattle.entry_step.specs.Log.{moment_of, tick_with, first_tick}
+use Rattle.entry_step.specs.History.{stored_of, with_stored, history_of}
+use Rattle.entry_step.specs.Order.{order}
+use Rattle.entry_step.specs.Problems.{open_of, absorbed_all}
+use Rattle.entry_step.specs.Records.{evaluated, phase, is_over, triggers_at, failures_at, replay}
+use Rattle.entry_step.specs.declared.opens.Open.{Open}
 
--- the latest stored value of each item, and the events of the open problems of each trigger, in the order of ids
-pub record CellsView : Type 0 where
-  pub latest : List (Option Stored)
-  pub problems : List (List EventId)
+-- the key of a cell: that of an item, of a trigger, or of the first Tick
+pub data Key : Type 0 where
+  ItemKey : ℕ → Key
+  TriggerKey : ℕ → Key
+  TickKey : Key
 
-abbrev pub first_of : List Stored → Option Stored
-first_of [] = None
-first_of (s ∷ rest) = Some s
+-- an item's values, the latest first, and the moment of the last entry whose foot holds the item
+pub record ItemCell : Type 0 where
+  pub history : List Stored
+  pub seen : ℕ
 
--- the cells stand for a log and its records
-pub record StandFor (conf : Conf) (cells : CellsView) (log : List Numbered) (rs : List Rec) : Type 0 where
-  pub items : length cells.latest ≡ length conf.items
-  pub triggers : length cells.problems ≡ length conf.triggers
-  pub latest : (i : ℕ) → i < length conf.items → get_or cells.latest i None ≡ first_of (history_of conf log (i + 1))
-  pub problems : (t : ℕ) → t < length conf.triggers → get_or cells.problems t [] ≡ map event_of (open_problems rs (t + 1))
+-- what a cell holds: of a trigger its open problems in the order of making, and the moment of the first Tick
+abbrev pub CellOf : Key → Type 0
+CellOf (ItemKey item) = ItemCell
+CellOf (TriggerKey id) = List Open
+CellOf TickKey = Option ℕ
+
+abbrev pub Cells : Type 0
+Cells = (k : Key) → CellOf k
+
+abbrev pub opens_in : Cells → ℕ → List Open
+opens_in c id = c (TriggerKey id)
+
+-- The foot of an entry, as a test of keys: what it may read or change. Of a value that is its item, the triggers over it
+-- and their items; of other entries everything.
+unfoldable pub touches : Conf → Entry → Key → Bool
+touches conf (Config now text) k = true
+touches conf (Tick now) k = true
+touches conf (Value now item time value) (ItemKey i) =
+    (i == item) || list_any (λ id. is_over item (at_id conf.triggers id) && is_over i (at_id conf.triggers id)) (order conf)
+touches conf (Value now item time value) (TriggerKey id) = is_over item (at_id conf.triggers id)
+touches conf (Value now item time value) TickKey = false
+
+-- the cell of an item behind an entry
+unfoldable pub item_after : Conf → ℕ → Entry → ℕ → ItemCell → ItemCell
+item_after conf number entry i cell = record {
+  history = with_stored (stored_of conf number entry i) cell.history;
+  seen = if touches conf entry (ItemKey i) then moment_of entry else cell.seen;
+}
+
+-- the histories behind an entry
+abbrev pub histories_after : Conf → Cells → ℕ → Entry → ℕ → List Stored
+histories_after conf c number entry i = (item_after conf number entry i (c (ItemKey i))).history
+
+-- the records that an entry makes over cells: for a value its failures, and then those of the triggers that it evaluates
+unfoldable pub records_at : Conf → Cells → ℕ → Entry → List Rec
+records_at conf c number (Config now text) = []
+records_at conf c number (Tick now) = []
+records_at conf c number (Value now item time value) =
+    failures_at conf number (Value now item time value)
+    ++ phase conf (evaluated conf number now (histories_after conf c number (Value now item time value))) (opens_in c) (triggers_at conf number (Value now item time value))
+
+abbrev pub records : Conf → Cells → Numbered → List Rec
+records conf c e = records_at conf c e.number e.entry
+
+-- the cells behind an entry
+unfoldable pub after : Conf → Cells → Numbered → Cells
+after conf c e (ItemKey i) = item_after conf e.number e.entry i (c (ItemKey i))
+after conf c e (TriggerKey id) = absorbed_all conf id (c (TriggerKey id)) (records conf c e)
+after conf c e TickKey = tick_with (c TickKey) e.entry
+
+-- the moment of the last entry of a log whose foot holds the item
+abbrev pub seen_of : Conf → List Numbered → ℕ → ℕ
+seen_of conf [] i = 0
+seen_of conf (e ∷ log) i = if touches conf e.entry (ItemKey i) then moment_of e.entry else seen_of conf log i
+
+-- what the cells hold, found by searching a log and its records
+unfoldable pub look : Conf → List Numbered → List Rec → Cells
+look conf log rs (ItemKey i) = record { history = history_of conf log i; seen = seen_of conf log i }
+look conf log rs (TriggerKey id) = open_of conf rs id
+look conf log rs TickKey = first_tick log
+
+-- cells stand for a log: they are what the search finds in it and in its records
+unfoldable pub StandFor : Conf → Cells → List Numbered → Type 0
+StandFor conf c log = c ≡ look conf log (replay conf log)

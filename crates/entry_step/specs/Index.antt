@@ -1,8 +1,8 @@
 -- The indexes by which hosts, items and triggers are found.
-use Rattle.std.specs.Prelude.{◌≡◌, ℕ, nat_eq, Bool, List, [], ◌∷◌, ◌++◌, String, Option, Some, None, if◌then◌else◌, option_and_then}
+use Rattle.std.specs.Prelude.{◌≡◌, ℕ, nat_eq, ◌==◌, Bool, List, [], ◌∷◌, String, Option, Some, None, if◌then◌else◌, option_and_then}
 use Rattle.std.specs.HashMap.{HashMap, get, get_by_text}
-use Rattle.std.specs.List.{last_or}
-use Rattle.std.specs.Option.{unwrap_or, option_or, option_eq}
+use Rattle.std.specs.List.{list_any}
+use Rattle.std.specs.Option.{unwrap_or, option_or}
 use Rattle.zbx_types.specs.declared.conf.Conf.{Conf}
 use Rattle.entry_step.specs.Names.{host_named, item_keyed}
 use Rattle.entry_step.specs.Records.{triggers_over}
@@ -25,10 +25,6 @@ pub record IsIndex {A S T U : Type 0} (conf : Conf) (hosts : HashMap (String A) 
 abbrev pub noted : Option ℕ → Bool → ℕ → Option ℕ
 noted before named id = option_or before (if named then Some id else None)
 
--- a list ends with an id
-abbrev pub ends_with : List ℕ → ℕ → Bool
-ends_with ids id = option_eq nat_eq (last_or None ids) (Some id)
-
--- a list with an id at its end, which isn't put there twice
-abbrev pub with_last : List ℕ → ℕ → List ℕ
-with_last ids id = if ends_with ids id then ids else ids ++ id ∷ []
+-- an id is among these
+abbrev pub has_id : ℕ → List ℕ → Bool
+has_id id ids = list_any (λ i. i == id) ids

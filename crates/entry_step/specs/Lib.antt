@@ -1,9 +1,13 @@
+pub mod Each
 pub mod Log
 pub mod History
 pub mod Evaluation
 pub mod Problems
+pub mod Order
 pub mod Records
 pub mod Cells
+pub mod Represents
+pub mod Laws
 pub mod Kept
 pub mod Calls
 pub mod Changes

@@ -1,8 +1,8 @@
 -- The records that entries make.
-use Rattle.std.specs.Prelude.{ℕ, ◌==◌, Bool, false, ◌&&◌, List, [], ◌∷◌, ◌++◌, map, filter, Option, Some, None, if◌then◌else◌, ℤ, pos, codes}
+use Rattle.std.specs.Prelude.{ℕ, ◌==◌, Bool, true, false, ◌&&◌, List, [], ◌∷◌, ◌++◌, map, filter, Option, Some, None, is_some, if◌then◌else◌, ℤ, pos, codes}
 use Rattle.std.specs.Ordering.{int_eq}
 use Rattle.std.specs.List.{list_any}
-use Rattle.zbx_types.specs.Ids.{at_id, ids_from}
+use Rattle.zbx_types.specs.Ids.{at_id}
 use Rattle.zbx_types.specs.Trees.{tree_of}
 use Rattle.zbx_types.specs.declared.conf.Conf.{Conf}
 use Rattle.zbx_types.specs.declared.conf.Host.{Host}
@@ -18,7 +18,9 @@ use Rattle.zbx_types.specs.declared.entries.Cause2.TheVariants as causes
 use Rattle.zbx_types.specs.declared.entries.Stored.{Stored}
 use Rattle.entry_step.specs.History.{stored_of, history_of}
 use Rattle.entry_step.specs.Evaluation.{call_value, expression_value}
-use Rattle.entry_step.specs.Problems.{event_of, open_problems}
+use Rattle.entry_step.specs.Order.{order}
+use Rattle.entry_step.specs.Problems.{event_in, open_of, grown}
+use Rattle.entry_step.specs.declared.opens.Open.{Open}
 
 abbrev pub host_name : Option Host → List ℕ
 host_name None = []
@@ -29,52 +31,65 @@ unfoldable pub problem_of : Conf → ℕ → ℕ → ℕ → Trigger → Rec
 problem_of conf number now id trigger =
     Problem (record { number = number; trigger = id }) now trigger.severity false (host_name (at_id conf.hosts trigger.host)) trigger.name trigger.title []
 
--- the Recovery record of an event at an entry
-abbrev pub recovery_of : ℕ → ℕ → EventId → Rec
-recovery_of number now event = Recovery event number now causes.Expression
+-- the Recovery record of an open problem at an entry, which names the problem's own event
+abbrev pub recovery_of : ℕ → ℕ → Open → Rec
+recovery_of number now o = Recovery (event_in o) number now causes.Expression
 
 -- a new problem where none is open
-abbrev pub opened : Conf → ℕ → ℕ → ℕ → Trigger → List EventId → List Rec
-opened conf number now id trigger [] = problem_of conf number now id trigger ∷ []
-opened conf number now id trigger (event ∷ rest) = []
+abbrev pub begun : Conf → ℕ → ℕ → ℕ → Trigger → List Open → List Rec
+begun conf number now id trigger [] = problem_of conf number now id trigger ∷ []
+begun conf number now id trigger (o ∷ rest) = []
 
--- What a trigger adds where its expression has this value and these are the events of its open problems: where the value
--- is unknown nothing; where it is 0 the open problems close; else there is a new problem where none is open.
-unfoldable pub verdict_records : Conf → ℕ → ℕ → ℕ → Trigger → List EventId → Option ℤ → List Rec
-verdict_records conf number now id trigger events None = []
-verdict_records conf number now id trigger events (Some p) =
-    if int_eq p (pos 0) then map (recovery_of number now) events else opened conf number now id trigger events
+-- What a trigger adds where its expression has this value and these are its open problems: where the value is unknown
+-- nothing; where it is 0 the open problems close; else there is a new problem where none is open.
+unfoldable pub verdict_records : Conf → ℕ → ℕ → ℕ → Trigger → List Open → Option ℤ → List Rec
+verdict_records conf number now id trigger os None = []
+verdict_records conf number now id trigger os (Some p) =
+    if int_eq p (pos 0) then map (recovery_of number now) os else begun conf number now id trigger os
 
 -- what a trigger adds where it is evaluated over the histories of the items
-unfoldable pub judged : Conf → (ℕ → List Stored) → ℕ → ℕ → ℕ → Trigger → List EventId → List Rec
-judged conf items number now id trigger events =
-    verdict_records conf number now id trigger events (expression_value (call_value items now trigger) (tree_of trigger.expr))
+unfoldable pub judged : Conf → (ℕ → List Stored) → ℕ → ℕ → ℕ → Trigger → List Open → List Rec
+judged conf items number now id trigger os =
+    verdict_records conf number now id trigger os (expression_value (call_value items now trigger) (tree_of trigger.expr))
 
-abbrev pub judged_by : Conf → (ℕ → List Stored) → ℕ → ℕ → ℕ → Option Trigger → List EventId → List Rec
-judged_by conf items number now id None events = []
-judged_by conf items number now id (Some trigger) events = judged conf items number now id trigger events
+abbrev pub judged_by : Conf → (ℕ → List Stored) → ℕ → ℕ → ℕ → Option Trigger → List Open → List Rec
+judged_by conf items number now id None os = []
+judged_by conf items number now id (Some trigger) os = judged conf items number now id trigger os
 
--- what the trigger with an id adds, over its open problems
-unfoldable pub evaluated : Conf → (ℕ → List Stored) → ℕ → ℕ → ℕ → List Rec → List Rec
-evaluated conf items number now id problems = judged_by conf items number now id (at_id conf.triggers id) (map event_of problems)
+-- what the trigger with an id adds, over the histories of the items and the open problems of the triggers
+unfoldable pub evaluated : Conf → ℕ → ℕ → (ℕ → List Stored) → (ℕ → List Open) → ℕ → List Rec
+evaluated conf number now items all id = judged_by conf items number now id (at_id conf.triggers id) (all id)
 
--- the records of evaluating triggers one after another, behind these records
-abbrev pub phase : (ℕ → List Rec → List Rec) → List Rec → List ℕ → List Rec
-phase one rs [] = []
-phase one rs (id ∷ ids) = one id (open_problems rs id) ++ phase one (rs ++ one id (open_problems rs id)) ids
+-- triggers evaluated one after another, each over the open problems that those before it leave
+abbrev pub phase : Conf → ((ℕ → List Open) → ℕ → List Rec) → (ℕ → List Open) → List ℕ → List Rec
+phase conf one all [] = []
+phase conf one all (id ∷ ids) = one all id ++ phase conf one (grown conf all (one all id)) ids
+
+-- and by search: each over the open problems of all records so far
+abbrev pub phase_over : Conf → ((ℕ → List Open) → ℕ → List Rec) → List Rec → List ℕ → List Rec
+phase_over conf one rs [] = []
+phase_over conf one rs (id ∷ ids) = one (open_of conf rs) id ++ phase_over conf one (rs ++ one (open_of conf rs) id) ids
+
+-- a trigger is enabled and has a call over an item that passes a test
+abbrev pub has_call : (ℕ → Bool) → Option Trigger → Bool
+has_call test None = false
+has_call test (Some trigger) = trigger.enabled && list_any test trigger.call_items
 
 -- a trigger is enabled and has a call over this item
 abbrev pub is_over : ℕ → Option Trigger → Bool
-is_over item None = false
-is_over item (Some trigger) = trigger.enabled && list_any (λ i. i == item) trigger.call_items
+is_over item trigger = has_call (λ i. i == item) trigger
 
--- the triggers in the order of evaluation: by depth, then by id. Dependencies aren't built, so all depths are 0.
-abbrev pub evaluation_order : Conf → List ℕ
-evaluation_order conf = ids_from 1 conf.triggers
-
--- the triggers that are evaluated where an item stored a value
+-- the triggers over an item, in the order of evaluation
 unfoldable pub triggers_over : Conf → ℕ → List ℕ
-triggers_over conf item = filter (λ id. is_over item (at_id conf.triggers id)) (evaluation_order conf)
+triggers_over conf item = filter (λ id. is_over item (at_id conf.triggers id)) (order conf)
+
+-- whether an entry stores a value of an item
+abbrev pub stores : Conf → ℕ → Entry → ℕ → Bool
+stores conf number entry item = is_some (stored_of conf number entry item)
+
+-- the triggers that an entry evaluates: those with a call over an item that it stores a value of
+unfoldable pub triggers_at : Conf → ℕ → Entry → List ℕ
+triggers_at conf number entry = filter (λ id. has_call (stores conf number entry) (at_id conf.triggers id)) (order conf)
 
 -- the Failure record of a value that this item can't keep
 abbrev pub failure_by : Conf → ℕ → Option Item → List Rec
@@ -85,16 +100,19 @@ failure_by conf number (Some item) = Failure number (host_name (at_id conf.hosts
 unfoldable pub failure_of : Conf → ℕ → ℕ → List Rec
 failure_of conf number item = failure_by conf number (at_id conf.items item)
 
--- the records of a value: a Failure where it isn't stored, else those of the triggers over its item
-abbrev pub value_records : Conf → List Numbered → Numbered → ℕ → ℕ → List Rec → Option Stored → List Rec
-value_records conf log e now item rs None = failure_of conf e.number item
-value_records conf log e now item rs (Some stored) = phase (evaluated conf (history_of conf (e ∷ log)) e.number now) rs (triggers_over conf item)
+-- the Failure records of an entry: of a value that isn't stored
+unfoldable pub failures_at : Conf → ℕ → Entry → List Rec
+failures_at conf number (Config now text) = []
+failures_at conf number (Tick now) = []
+failures_at conf number (Value now item time value) = if stores conf number (Value now item time value) item then [] else failure_of conf number item
 
--- the records that an entry adds to those before it, behind this log
+-- the records that an entry adds to those before it, behind this log: for a value its failures, and then those of the
+-- triggers that it evaluates
 unfoldable pub out_of : Conf → List Numbered → Numbered → Entry → List Rec → List Rec
 out_of conf log e (Config now text) rs = []
 out_of conf log e (Tick now) rs = []
-out_of conf log e (Value now item time value) rs = value_records conf log e now item rs (stored_of conf e.number e.entry item)
+out_of conf log e (Value now item time value) rs =
+    failures_at conf e.number e.entry ++ phase_over conf (evaluated conf e.number now (history_of conf (e ∷ log))) (rs ++ failures_at conf e.number e.entry) (triggers_at conf e.number e.entry)
 
 -- all records that the entries of a log make, one thread taking them in the order of their numbers
 abbrev pub replay : Conf → List Numbered → List Rec

@@ -1,26 +1,28 @@
 //! The cells of a run.
 
 ghost use Rattle.std.specs.Prelude.{◌≡◌, [], None, replicate, IfOk};
-ghost use Rattle.entry_step.specs.Cells.{StandFor};
+ghost use Rattle.entry_step.specs.Represents.{Holds};
 
+use crate::opens::Open;
 use std::alloc::Global;
 use std::marker::Model;
-use zbx_types::{Conf, EventId, Many, OutOfMemory, Stored};
+use zbx_types::{Conf, Many, Moment, OutOfMemory, Stored};
 
-/// What a run keeps between entries: the latest stored value of each item, and for each trigger the events of its open
-/// problems, in the order in which they were made. Both stand in the order of ids.
+/// What a run keeps between entries: the latest stored value of each item, the open problems of each trigger in the order
+/// in which they were made, and the moment of the first Tick. Items and triggers stand in the order of ids.
 #[derive(Drop)]
 pub struct Cells {
     pub(crate) latest: Vec<Option<Stored>>,
-    pub(crate) problems: Vec<Many<EventId>>,
+    pub(crate) problems: Vec<Many<Open>>,
+    pub(crate) tick: Option<Moment>,
 }
 
 impl Model for Cells {
-    ghost use Rattle.entry_step.specs.Cells.{CellsView};
+    ghost use Rattle.entry_step.specs.Represents.{CellsView};
 
     ghost Value = { CellsView };
 
-    ghost view = { λ c. record { latest = c.latest.items; problems = c.problems.items } };
+    ghost view = { λ c. record { latest = c.latest.items; problems = c.problems.items; tick = c.tick } };
 }
 
 /// The latest values of items that have none.
@@ -35,7 +37,7 @@ fn no_values(alloc: Global, count: usize) -> Result<Vec<Option<Stored>>, OutOfMe
 }
 
 /// The open problems of triggers that have none.
-fn no_problems(alloc: Global, count: usize) -> Result<Vec<Many<EventId>>, OutOfMemory>
+fn no_problems(alloc: Global, count: usize) -> Result<Vec<Many<Open>>, OutOfMemory>
     ensures { IfOk result (λ problems. problems.items ≡ replicate count []) }
 {
     let mut problems = Vec::new(alloc);
@@ -48,11 +50,12 @@ fn no_problems(alloc: Global, count: usize) -> Result<Vec<Many<EventId>>, OutOfM
 impl Cells {
     /// The cells before the first entry of a configuration. `Err` where no memory is to be had.
     pub fn new(alloc: Global, conf: &Conf) -> Result<Cells, OutOfMemory>
-        ensures { IfOk result (λ cells. StandFor conf.now cells [] []) }
+        ensures { IfOk result (λ cells. Holds conf.now cells []) }
     {
         Ok(Cells {
             latest: no_values(alloc, conf.items.len())?,
             problems: no_problems(alloc, conf.triggers.len())?,
+            tick: None,
         })
     }
 }

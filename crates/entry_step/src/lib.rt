@@ -30,14 +30,20 @@ mod changes;
 mod evaluation;
 mod history;
 mod index;
+pub mod laws;
 mod lists;
 mod names;
+mod opens;
+mod order;
+
 mod records;
 mod stepping;
+mod steps;
 
 pub use cells::Cells;
 pub use index::Ready;
 pub use stepping::step;
+pub use steps::Steps;
 
 #[cfg(test)]
 mod tests;

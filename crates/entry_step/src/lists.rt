@@ -1,44 +1,33 @@
 //! The triggers over each item.
 
-ghost use Rattle.std.specs.Prelude.{◌≡◌, ◌==◌, false, ◌++◌, ◌∷◌, [], ℕ, Some, IfOk, OnOk, if◌then◌else◌};
+ghost use Rattle.std.specs.Prelude.{◌≡◌, ◌==◌, ◌++◌, ◌∷◌, [], ℕ, Some, IfOk, OnOk, if◌then◌else◌};
+ghost use Rattle.zbx_types.specs.Ids.{at_id};
 ghost use Rattle.entry_step.specs.Records.{is_over, triggers_over};
-ghost use Rattle.entry_step.specs.Index.{listed, ends_with, with_last};
+ghost use Rattle.entry_step.specs.Index.{listed, has_id};
 
-use crate::names::id_of;
+use crate::order::order;
 use std::alloc::Global;
 use std::collections::HashMap;
-use zbx_types::{Conf, Many, OutOfMemory, Trigger};
+use zbx_types::{Conf, Many, OutOfMemory, Trigger, by_id};
 
-/// Whether a list ends with an id.
-fn ends_with(ids: &[u32], id: u32) -> bool
-    ensures { result ≡ ends_with ids.now id }
+/// Whether an id is among these.
+fn has_id(ids: &[u32], id: u32) -> bool
+    ensures { result ≡ has_id id ids.now }
 {
-    match ids {
-        [.., last] => *last == id,
-        [] => false,
-    }
+    ids.contains(&id)
 }
 
-/// Adds an id to a list, unless the list ends with it.
-fn add(ids: &mut Many<u32>, id: u32) -> Result<(), OutOfMemory>
-    ensures { OnOk result (ids.new ≡ with_last ids.old id) }
-{
-    if !ends_with(ids.as_slice(), id) {
-        ids.push(id)?;
-    }
-    Ok(())
-}
-
-/// Adds an id to the list of an item, unless the list ends with it.
+/// Adds an id to the list of an item.
 fn enter(
     alloc: Global,
     over: &mut HashMap<u32, Many<u32>>,
     item: u32,
     id: u32,
 ) -> Result<(), OutOfMemory>
-    ensures { OnOk result ((i : ℕ) → listed over.new i ≡ (if item == i then with_last (listed over.old i) id else listed over.old i)) }
+    ensures { OnOk result ((i : ℕ) → listed over.new i ≡ (if item == i then listed over.old i ++ id ∷ [] else listed over.old i)) }
 {
-    add(over.entry(item)?.or_insert(Many::new(alloc)), id)
+    over.entry(item)?.or_insert(Many::new(alloc)).push(id)?;
+    Ok(())
 }
 
 /// Adds an enabled trigger's id to the lists of the items that it has calls over, to each once.
@@ -48,15 +37,32 @@ fn enter_all(
     trigger: &Trigger,
     id: u32,
 ) -> Result<(), OutOfMemory>
-    requires { (item : ℕ) → ends_with (listed over.old item) id ≡ false }
     ensures { OnOk result ((item : ℕ) → listed over.new item ≡ listed over.old item ++ (if is_over item (Some trigger.now) then id ∷ [] else [])) }
 {
     if trigger.enabled {
-        for item in trigger.call_items.as_slice() {
-            enter(alloc, over, *item, id)?;
+        let items = trigger.call_items.as_slice();
+        for (place, item) in items.iter().enumerate() {
+            if !has_id(&items[..place], *item) {
+                enter(alloc, over, *item, id)?;
+            }
         }
     }
     Ok(())
+}
+
+/// Adds a trigger's id to the lists of the items that the trigger is over.
+fn enter_by_id(
+    alloc: Global,
+    over: &mut HashMap<u32, Many<u32>>,
+    conf: &Conf,
+    id: u32,
+) -> Result<(), OutOfMemory>
+    ensures { OnOk result ((item : ℕ) → listed over.new item ≡ listed over.old item ++ (if is_over item (at_id conf.now.triggers id) then id ∷ [] else [])) }
+{
+    match by_id(conf.triggers.as_slice(), id) {
+        None => Ok(()),
+        Some(trigger) => enter_all(alloc, over, trigger, id),
+    }
 }
 
 /// The ids of the triggers over each item, in the order of evaluation.
@@ -65,8 +71,9 @@ pub(crate) fn lists_of(alloc: Global, conf: &Conf) -> Result<HashMap<u32, Many<u
     ensures { IfOk result (λ over. (item : ℕ) → listed over item ≡ triggers_over conf.now item) }
 {
     let mut over = HashMap::new(alloc);
-    for (place, trigger) in conf.triggers.as_slice().iter().enumerate() {
-        enter_all(alloc, &mut over, trigger, id_of(place)?)?;
+    let ids = order(alloc, conf)?;
+    for id in ids.as_slice() {
+        enter_by_id(alloc, &mut over, conf, *id)?;
     }
     Ok(over)
 }

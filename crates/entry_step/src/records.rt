@@ -1,13 +1,17 @@
 //! The records that an entry makes.
 
-ghost use Rattle.std.specs.Prelude.{◌≡◌, ◌∷◌, [], map, IfOk};
+ghost use Rattle.std.specs.Prelude.{◌≡◌, ◌∷◌, [], ℕ, map, Some, IfOk};
+ghost use Rattle.zbx_types.specs.declared.conf.Conf.{Conf};
 ghost use Rattle.zbx_types.specs.Ids.{at_id};
-ghost use Rattle.entry_step.specs.Records.{host_name, problem_of, recovery_of, failure_of, opened, verdict_records, judged};
-ghost use Rattle.entry_step.specs.Changes.{outcome_records, outcome_events, events_after};
+ghost use Rattle.entry_step.specs.Problems.{event_of, absorbed_all};
+ghost use Rattle.entry_step.specs.Records.{host_name, problem_of, recovery_of, failure_of, begun, verdict_records, judged};
+ghost use Rattle.entry_step.specs.Represents.{AllAtHome};
+ghost use Rattle.entry_step.specs.Changes.{outcome_records, outcome_opens};
 ghost use Rattle.entry_step.specs.Calls.{histories};
 
 use crate::changes::Outcome;
 use crate::evaluation::{Calls, expression_value};
+use crate::opens::Open;
 use std::alloc::Global;
 use zbx_types::{Cause2, Conf, EventId, Fix, Many, Moment, OutOfMemory, Rec, Text, Trigger, by_id};
 
@@ -70,19 +74,35 @@ fn problem_of(
     })
 }
 
-/// The Recovery records of events at an entry.
+/// The event that a record is about.
+fn event_of(rec: &Rec) -> EventId
+    ensures { result ≡ event_of rec.now }
+{
+    match rec {
+        Rec::Failure { number, .. } => EventId {
+            number: *number,
+            trigger: 0,
+        },
+        Rec::Problem { event, .. } => *event,
+        Rec::Recovery { event, .. } => *event,
+        Rec::Step { event, .. } => *event,
+        Rec::Message { event, .. } => *event,
+    }
+}
+
+/// The Recovery records of open problems at an entry.
 fn recoveries(
     alloc: Global,
     number: u64,
     now: Moment,
-    events: &[EventId],
+    opens: &[Open],
 ) -> Result<Many<Rec>, OutOfMemory>
-    ensures { IfOk result (λ made. made ≡ map (recovery_of number now) events.now) }
+    ensures { IfOk result (λ made. made ≡ map (recovery_of number now) opens.now) }
 {
     let mut made = Many::new(alloc);
-    for event in events {
+    for open in opens {
         made.push(Rec::Recovery {
-            event: *event,
+            event: event_of(&open.problem),
             by: number,
             now,
             cause: Cause2::Expression,
@@ -102,16 +122,16 @@ fn open_one(
     trigger: &Trigger,
 ) -> Result<Outcome, OutOfMemory>
     ensures records { IfOk result (λ made. made.records ≡ problem_of conf.now number now id trigger.now ∷ []) }
-    ensures events { IfOk result (λ made. made.events ≡ events_after id [] (problem_of conf.now number now id trigger.now ∷ [])) }
+    ensures opens { IfOk result (λ made. at_id conf.now.triggers id ≡ Some trigger.now → made.opens ≡ absorbed_all conf.now id [] (problem_of conf.now number now id trigger.now ∷ [])) }
 {
     let mut records = Many::new(alloc);
     records.push(problem_of(alloc, conf, number, now, id, trigger)?)?;
-    let mut events = Many::new(alloc);
-    events.push(EventId {
-        number,
-        trigger: id,
+    let mut opens = Many::new(alloc);
+    opens.push(Open {
+        problem: problem_of(alloc, conf, number, now, id, trigger)?,
+        depth: trigger.depth,
     })?;
-    Ok(Outcome { records, events })
+    Ok(Outcome { records, opens })
 }
 
 /// A new problem of a trigger where none is open.
@@ -122,12 +142,12 @@ fn begin(
     now: Moment,
     id: u32,
     trigger: &Trigger,
-    events: &[EventId],
+    opens: &[Open],
 ) -> Result<Option<Outcome>, OutOfMemory>
-    ensures records { IfOk result (λ made. outcome_records made ≡ opened conf.now number now id trigger.now events.now) }
-    ensures events { IfOk result (λ made. outcome_events events.now made ≡ events_after id events.now (outcome_records made)) }
+    ensures records { IfOk result (λ made. outcome_records made ≡ begun conf.now number now id trigger.now opens.now) }
+    ensures opens { IfOk result (λ made. at_id conf.now.triggers id ≡ Some trigger.now → outcome_opens opens.now made ≡ absorbed_all conf.now id opens.now (outcome_records made)) }
 {
-    if events.is_empty() {
+    if opens.is_empty() {
         Ok(Some(open_one(alloc, conf, number, now, id, trigger)?))
     } else {
         Ok(None)
@@ -135,19 +155,20 @@ fn begin(
 }
 
 /// The end of the open problems of a trigger.
+#[tactic(auto, using(crate::proofs::Problems::all_closed))]
 fn end(
     alloc: Global,
     number: u64,
     now: Moment,
-    events: &[EventId],
+    opens: &[Open],
 ) -> Result<Option<Outcome>, OutOfMemory>
-    ensures records { IfOk result (λ made. outcome_records made ≡ map (recovery_of number now) events.now) }
-    ensures events { IfOk result (λ made. outcome_events events.now made ≡ []) }
+    ensures records { IfOk result (λ made. outcome_records made ≡ map (recovery_of number now) opens.now) }
+    ensures opens { IfOk result (λ made. (conf : Conf) (id : ℕ) → AllAtHome conf id opens.now → outcome_opens opens.now made ≡ absorbed_all conf id opens.now (outcome_records made)) }
 {
-    if !events.is_empty() {
+    if !opens.is_empty() {
         Ok(Some(Outcome {
-            records: recoveries(alloc, number, now, events)?,
-            events: Many::new(alloc),
+            records: recoveries(alloc, number, now, opens)?,
+            opens: Many::new(alloc),
         }))
     } else {
         Ok(None)
@@ -155,7 +176,7 @@ fn end(
 }
 
 /// What a trigger adds where its expression has this value. None: nothing changes.
-#[tactic(auto, using(crate::proofs::Problems::all_closed), unfolding(crate::specs::Records::verdict_records))]
+#[tactic(auto, unfolding(crate::specs::Records::verdict_records))]
 fn verdict(
     alloc: Global,
     conf: &Conf,
@@ -163,19 +184,19 @@ fn verdict(
     now: Moment,
     id: u32,
     trigger: &Trigger,
-    events: &[EventId],
+    opens: &[Open],
     value: Option<Fix>,
 ) -> Result<Option<Outcome>, OutOfMemory>
-    ensures records { IfOk result (λ made. outcome_records made ≡ verdict_records conf.now number now id trigger.now events.now value) }
-    ensures events { IfOk result (λ made. outcome_events events.now made ≡ events_after id events.now (outcome_records made)) }
+    ensures records { IfOk result (λ made. outcome_records made ≡ verdict_records conf.now number now id trigger.now opens.now value) }
+    ensures opens { IfOk result (λ made. at_id conf.now.triggers id ≡ Some trigger.now → AllAtHome conf.now id opens.now → outcome_opens opens.now made ≡ absorbed_all conf.now id opens.now (outcome_records made)) }
 {
     match value {
         None => Ok(None),
         Some(number_is) => {
             if number_is.raw() == 0 {
-                end(alloc, number, now, events)
+                end(alloc, number, now, opens)
             } else {
-                begin(alloc, conf, number, now, id, trigger, events)
+                begin(alloc, conf, number, now, id, trigger, opens)
             }
         }
     }
@@ -189,10 +210,10 @@ pub(crate) fn judge(
     number: u64,
     id: u32,
     calls: &Calls,
-    events: &[EventId],
+    opens: &[Open],
 ) -> Result<Option<Outcome>, OutOfMemory>
-    ensures records { IfOk result (λ made. outcome_records made ≡ judged conf.now (histories calls.entry.now) number calls.entry.now.now id calls.entry.now.trigger.now events.now) }
-    ensures events { IfOk result (λ made. outcome_events events.now made ≡ events_after id events.now (outcome_records made)) }
+    ensures records { IfOk result (λ made. outcome_records made ≡ judged conf.now (histories calls.entry.now) number calls.entry.now.now id calls.entry.now.trigger.now opens.now) }
+    ensures opens { IfOk result (λ made. at_id conf.now.triggers id ≡ Some calls.entry.now.trigger.now → AllAtHome conf.now id opens.now → outcome_opens opens.now made ≡ absorbed_all conf.now id opens.now (outcome_records made)) }
 {
     let value = expression_value(calls, &calls.trigger.expr);
     verdict(
@@ -202,7 +223,7 @@ pub(crate) fn judge(
         calls.now,
         id,
         calls.trigger,
-        events,
+        opens,
         value,
     )
 }

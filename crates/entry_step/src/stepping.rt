@@ -1,91 +1,100 @@
-//! One step: first all that may fail is worked out, then the cells are written.
+//! One step: the triggers over the entry's item are evaluated one after another, each over what those before it left in
+//! the cells. Where memory is refused, what was changed is put back.
 
-ghost use Rattle.std.specs.Prelude.{◌≡◌, ◌∷◌, ◌++◌, [], List, IfOk, OnErr};
+ghost use Rattle.std.specs.Prelude.{◌≡◌, ◌≤◌, ◌+◌, ◌∷◌, [], ℕ, List, length, Some, IfOk, OnOk, OnErr};
+ghost use Rattle.std.specs.Option.{option_or};
 ghost use Rattle.zbx_types.specs.declared.entries.Entry.TheVariants.{Value};
 ghost use Rattle.zbx_types.specs.declared.entries.Numbered.{Numbered};
-ghost use Rattle.zbx_types.specs.declared.entries.Rec.{Rec};
-ghost use Rattle.entry_step.specs.Log.{Fits};
+ghost use Rattle.entry_step.specs.Log.{AllSuit};
 ghost use Rattle.entry_step.specs.History.{stored_of};
-ghost use Rattle.entry_step.specs.Records.{triggers_over, out_of};
-ghost use Rattle.entry_step.specs.Kept.{kept, with_value};
-ghost use Rattle.entry_step.specs.Changes.{outcome_records, outcome_events, events_after, events_at, added_at, IsPlan, Takes};
-ghost use Rattle.entry_step.specs.Cells.{StandFor};
+ghost use Rattle.entry_step.specs.Problems.{absorbed_all};
+ghost use Rattle.entry_step.specs.Records.{triggers_over, triggers_at, out_of, replay};
+ghost use Rattle.entry_step.specs.Represents.{Holds, StepsTo, AllAtHome, problems_at};
+ghost use Rattle.entry_step.specs.Changes.{outcome_records, outcome_opens, put_back, one_of, AreTidy, Runs, Takes};
 
 use crate::cells::Cells;
-use crate::changes::{Outcome, Plan, apply};
+use crate::changes::{Draft, Outcome, put_back};
 use crate::evaluation::Calls;
 use crate::history::{put, store};
 use crate::index::Ready;
+use crate::opens::Open;
 use crate::records::{failure_of, judge};
+use crate::steps::Steps;
 use std::alloc::Global;
-use zbx_types::{
-    Conf, Entry, EventId, Many, Moment, Numbered, OutOfMemory, Rec, Stored, Text, by_id,
-};
+use std::sync::ledger::Ledger;
+use zbx_types::{Conf, Entry, Many, Moment, Numbered, OutOfMemory, Rec, Stored, Text, by_id};
 
-/// The events of the open problems of the trigger with an id.
-fn events_at(problems: &[Many<EventId>], id: u32) -> &[EventId]
-    ensures { result.now ≡ events_at problems.now id }
+/// The open problems of the trigger with an id.
+#[tactic(auto, unfolding(crate::specs::Represents::problems_at))]
+fn problems_at(problems: &[Many<Open>], id: u32) -> &[Open]
+    ensures { result.now ≡ problems_at problems.now id }
 {
-    match problems.get(id.saturating_sub(1) as usize) {
+    match by_id(problems, id) {
         None => &[],
-        Some(events) => events.as_slice(),
+        Some(opens) => opens.as_slice(),
     }
 }
 
 /// What the trigger with an id adds where an item stored a value. None: nothing changes.
-fn evaluate(
+#[tactic(auto, unfolding(crate::specs::Records::evaluated))]
+fn outcome_of(
     alloc: Global,
     conf: &Conf,
-    cells: &Cells,
+    latest: &[Option<Stored>],
+    problems: &[Many<Open>],
     number: u64,
     now: Moment,
     item: u32,
     stored: &Stored,
     id: u32,
 ) -> Result<Option<Outcome>, OutOfMemory>
-    ensures records { IfOk result (λ made. outcome_records made ≡ added_at conf.now (kept (with_value cells.now.latest item stored.now)) number now cells.now.problems id) }
-    ensures events { IfOk result (λ made. outcome_events (events_at cells.now.problems id) made ≡ events_after id (events_at cells.now.problems id) (outcome_records made)) }
+    ensures records { IfOk result (λ made. outcome_records made ≡ one_of conf.now number now latest.now item stored.now (problems_at problems.now) id) }
+    ensures opens { IfOk result (λ made. AllAtHome conf.now id (problems_at problems.now id) → outcome_opens (problems_at problems.now id) made ≡ absorbed_all conf.now id (problems_at problems.now id) (outcome_records made)) }
 {
     let Some(trigger) = by_id(conf.triggers.as_slice(), id) else {
         return Ok(None);
     };
     let calls = Calls {
-        latest: cells.latest.as_slice(),
+        latest,
         item,
         stored,
         now,
         trigger,
     };
-    let events = events_at(cells.problems.as_slice(), id);
-    judge(alloc, conf, number, id, &calls, events)
+    judge(alloc, conf, number, id, &calls, problems_at(problems, id))
 }
 
-/// What the triggers over an item add, and how that changes their open problems.
-fn evaluate_all(
+/// Evaluates the triggers over an item that stored a value, one after another. What they had before is kept in the draft,
+/// also at `Err`.
+fn evaluate_all<L: Ledger>(
     alloc: Global,
     ready: &Ready,
-    cells: &Cells,
+    latest: &[Option<Stored>],
+    problems: &mut Vec<Many<Open>>,
     number: u64,
     now: Moment,
     item: u32,
     stored: &Stored,
-) -> Result<Plan, OutOfMemory>
-    ensures { IfOk result (λ plan. IsPlan (added_at ready.now (kept (with_value cells.now.latest item stored.now)) number now cells.now.problems) cells.now.problems (triggers_over ready.now item) plan) }
+    draft: &mut Draft,
+    steps: &mut Steps<L>,
+) -> Result<(), OutOfMemory>
+    requires { draft.old.records ≡ [] }
+    ensures same { put_back problems.new.items draft.new.taken ≡ put_back problems.old.items draft.old.taken }
+    ensures runs { OnOk result (AreTidy ready.now problems.old.items → Runs ready.now (one_of ready.now number now latest.now item stored.now) problems.old.items (triggers_over ready.now item) draft.new.records problems.new.items) }
+    ensures counted { OnOk result (steps.new ≡ steps.old + length (triggers_over ready.now item)) }
+    ensures most { steps.new ≤ steps.old + length (triggers_over ready.now item) }
 {
     let conf = ready.conf();
-    let mut plan = Plan {
-        records: Many::new(alloc),
-        changes: Many::new(alloc),
-    };
     for id in ready.over(item) {
-        let outcome = evaluate(alloc, conf, cells, number, now, item, stored, *id)?;
-        plan.add(*id, outcome)?;
+        let outcome = outcome_of(alloc, conf, latest, problems.as_slice(), number, now, item, stored, *id)?;
+        draft.take(problems, *id, outcome)?;
+        steps.tick();
     }
-    Ok(plan)
+    Ok(())
 }
 
 /// Takes a value of an item: what it stores goes into the cells, and the triggers over the item are evaluated.
-fn take_value(
+fn take_value<L: Ledger>(
     alloc: Global,
     ready: &Ready,
     cells: &mut Cells,
@@ -94,45 +103,100 @@ fn take_value(
     item: u32,
     time: Moment,
     value: &Text,
+    steps: &mut Steps<L>,
 ) -> Result<Many<Rec>, OutOfMemory>
     ensures ok { IfOk result (λ made. Takes ready.now number now item (stored_of ready.now number (Value now item time value.now) item) cells.old made cells.new) }
     ensures err { OnErr result (cells.new ≡ cells.old) }
+    ensures counted { OnOk result (steps.new ≡ steps.old + length (triggers_at ready.now number (Value now item time value.now))) }
 {
     let Some(stored) = store(alloc, ready.conf(), number, item, time, value)? else {
         return failure_of(alloc, ready.conf(), number, item);
     };
-    let plan = evaluate_all(alloc, ready, cells, number, now, item, &stored)?;
-    apply(&mut cells.problems, plan.changes);
-    put(&mut cells.latest, item, stored);
-    Ok(plan.records)
+    let mut draft = Draft {
+        records: Many::new(alloc),
+        taken: Many::new(alloc),
+    };
+    match evaluate_all(
+        alloc,
+        ready,
+        cells.latest.as_slice(),
+        &mut cells.problems,
+        number,
+        now,
+        item,
+        &stored,
+        &mut draft,
+        steps,
+    ) {
+        Ok(()) => {
+            put(&mut cells.latest, item, stored);
+            Ok(draft.records)
+        }
+        Err(OutOfMemory) => {
+            put_back(&mut cells.problems, draft.taken);
+            Err(OutOfMemory)
+        }
+    }
 }
 
-/// Takes an entry: answers the records that it makes, in their order, and brings the cells up to it.
-///
-/// The cells must stand for the log so far and its records under this configuration, and the entry must be one that may
-/// follow the log; else the answer means nothing, and the cells are of no more use.
-///
-/// `Err` where no memory is to be had. The cells are then as before, and the entry may be taken again.
-///
-/// Only the triggers over the entry's item are looked at.
-pub fn step(
+/// Takes a Tick: the first one is kept.
+fn take_tick(tick: &mut Option<Moment>, now: Moment)
+    ensures { tick.new ≡ option_or tick.old (Some now) }
+{
+    if tick.is_none() {
+        *tick = Some(now);
+    }
+}
+
+/// Takes an entry, whatever cells these represent.
+fn advance<L: Ledger>(
     alloc: Global,
     ready: &Ready,
     cells: &mut Cells,
     entry: &Numbered,
+    steps: &mut Steps<L>,
 ) -> Result<Many<Rec>, OutOfMemory>
-    ensures out { IfOk result (λ made. (log : List Numbered) (rs : List Rec) → StandFor ready.now cells.old log rs → Fits ready.now (entry.now ∷ log) → made ≡ out_of ready.now log entry.now entry.now.entry rs) }
-    ensures after { IfOk result (λ made. (log : List Numbered) (rs : List Rec) → StandFor ready.now cells.old log rs → Fits ready.now (entry.now ∷ log) → StandFor ready.now cells.new (entry.now ∷ log) (rs ++ made)) }
+    ensures made { IfOk result (λ made. StepsTo ready.now cells.old entry.now made cells.new) }
+    ensures counted { OnOk result (steps.new ≡ steps.old + length (triggers_at ready.now entry.now.number entry.now.entry)) }
     ensures err { OnErr result (cells.new ≡ cells.old) }
 {
     match &entry.entry {
         Entry::Config { .. } => Ok(Many::new(alloc)),
-        Entry::Tick { .. } => Ok(Many::new(alloc)),
+        Entry::Tick { now } => {
+            take_tick(&mut cells.tick, *now);
+            Ok(Many::new(alloc))
+        }
         Entry::Value {
             now,
             item,
             time,
             value,
-        } => take_value(alloc, ready, cells, entry.number, *now, *item, *time, value),
+        } => take_value(alloc, ready, cells, entry.number, *now, *item, *time, value, steps),
     }
+}
+
+/// Takes an entry: answers the records that it makes, in their order, and brings the cells up to it.
+///
+/// The cells must represent cells to which the entry comes after, and the entry's value must fit this configuration; else
+/// the answer means nothing, and the cells are of no more use. Cells that hold a log are such cells, where the log with the
+/// entry suits.
+///
+/// One step is counted for each trigger that is evaluated. `Err` where no memory is to be had. The cells are then as
+/// before, and the entry may be taken again.
+///
+/// Only the triggers over the entry's item are looked at.
+pub fn step<L: Ledger>(
+    alloc: Global,
+    ready: &Ready,
+    cells: &mut Cells,
+    entry: &Numbered,
+    steps: &mut Steps<L>,
+) -> Result<Many<Rec>, OutOfMemory>
+    ensures made { IfOk result (λ made. StepsTo ready.now cells.old entry.now made cells.new) }
+    ensures out { IfOk result (λ made. (log : List Numbered) → Holds ready.now cells.old log → AllSuit ready.now (entry.now ∷ log) → made ≡ out_of ready.now log entry.now entry.now.entry (replay ready.now log)) }
+    ensures holds { OnOk result ((log : List Numbered) → Holds ready.now cells.old log → AllSuit ready.now (entry.now ∷ log) → Holds ready.now cells.new (entry.now ∷ log)) }
+    ensures counted { OnOk result (steps.new ≡ steps.old + length (triggers_at ready.now entry.now.number entry.now.entry)) }
+    ensures err { OnErr result (cells.new ≡ cells.old) }
+{
+    advance(alloc, ready, cells, entry, steps)
 }

@@ -5,9 +5,11 @@ use Rattle.zbx_types.specs.declared.entries.Numbered.{Numbered}
 use Rattle.zbx_types.specs.declared.entries.Rec.{Rec}
 use Rattle.event_text.specs.Lines.{lines_of}
 use Rattle.entry_step.specs.Log.{log_of, Fits}
-use Rattle.entry_step.specs.History.{stored_of}
+use Rattle.zbx_types.specs.declared.entries.Entry.TheVariants.{Config}
 use Rattle.entry_step.specs.Records.{replay, out_of}
-use Rattle.entry_step.specs.Cells.{CellsView, StandFor}
+use Rattle.entry_step.specs.Log.{AllSuit}
+use Rattle.entry_step.specs.Represents.{CellsView, Holds}
+use Rattle.entry_step.proofs.Represented.{fits_suit, config_holds}
 use Rattle.intake_front.specs.Intake.{start}
 use Rattle.server_run.specs.declared.tally.Tally.{Tally}
 use Rattle.server_run.specs.Tally.{tally_of, tally_with}
@@ -17,26 +19,24 @@ use Rattle.server_run.proofs.Counting.{tally_more}
 
 -- one entry more
 pub applied_more : (conf : Conf) (cells cells' : CellsView) (tally tally' : Tally) (e : Numbered) (records : List Rec) (lines lines' : List ℕ)
-    → ((log : List Numbered) (rs : List Rec) → StandFor conf cells log rs → Fits conf (e ∷ log) → records ≡ out_of conf log e e.entry rs)
-    → ((log : List Numbered) (rs : List Rec) → StandFor conf cells log rs → Fits conf (e ∷ log) → StandFor conf cells' (e ∷ log) (rs ++ records))
+    → ((log : List Numbered) → Holds conf cells log → AllSuit conf (e ∷ log) → records ≡ out_of conf log e e.entry (replay conf log))
+    → ((log : List Numbered) → Holds conf cells log → AllSuit conf (e ∷ log) → Holds conf cells' (e ∷ log))
     → tally' ≡ tally_with tally records → lines' ≡ lines ++ lines_of records
     → (log : List Numbered) → Applied conf cells tally log → Fits conf (e ∷ log)
     → Applied conf cells' tally' (e ∷ log) × ((more : List ℕ) × (lines' ≡ lines ++ more) × (log_lines conf (e ∷ log) ≡ log_lines conf log ++ more))
 applied_more conf cells cells' tally tally' e records lines lines' out after counts written log applied fits =
     let rs = replay conf log in
-    let made : records ≡ out_of conf log e e.entry rs = out log rs applied.cells_stand fits in
+    let suit : AllSuit conf (e ∷ log) = fits_suit conf (e ∷ log) fits in
+    let made : records ≡ out_of conf log e e.entry rs = out log applied.cells_hold suit in
     let all : rs ++ records ≡ replay conf (e ∷ log) = ap (λ l. rs ++ l) made in (
       record {
-        cells_stand = subst (StandFor conf cells' (e ∷ log)) all (after log rs applied.cells_stand fits);
+        cells_hold = after log applied.cells_hold suit;
         tally_is = counts ∙ ap (λ t. tally_with t records) applied.tally_is ∙ tally_more rs records ∙ ap tally_of all;
       },
       (lines_of records, written, lines_next conf log e ∙ ap (λ l. log_lines conf log ++ lines_of l) (sym made)),
     )
 
--- cells that stand for nothing stand for the configuration's entry
-pub applied_start : (conf : Conf) (cells : CellsView) (text : List ℕ) → StandFor conf cells [] [] → Applied conf cells (tally_of []) (log_of (start text).entries)
-unfolding out_of stored_of
-applied_start conf cells text s = record {
-  cells_stand = record { items = s.items; triggers = s.triggers; latest = s.latest; problems = s.problems };
-  tally_is = refl;
-}
+-- cells that hold nothing hold the configuration's entry
+pub applied_start : (conf : Conf) (cells : CellsView) (text : List ℕ) → Holds conf cells [] → Applied conf cells (tally_of []) (log_of (start text).entries)
+unfolding out_of
+applied_start conf cells text h = record { cells_hold = config_holds conf cells (record { number = 1; entry = Config 0 text }) 0 text refl h; tally_is = refl }

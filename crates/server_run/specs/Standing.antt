@@ -4,7 +4,7 @@ use Rattle.zbx_types.specs.declared.conf.Conf.{Conf}
 use Rattle.zbx_types.specs.declared.entries.Numbered.{Numbered}
 use Rattle.event_text.specs.Lines.{lines_of}
 use Rattle.entry_step.specs.Records.{replay}
-use Rattle.entry_step.specs.Cells.{CellsView, StandFor}
+use Rattle.entry_step.specs.Represents.{CellsView, Holds}
 use Rattle.server_run.specs.declared.tally.Tally.{Tally}
 use Rattle.server_run.specs.Tally.{tally_of}
 
@@ -13,9 +13,9 @@ abbrev pub onto : List Numbered → List Numbered → List Numbered
 onto log [] = log
 onto log (e ∷ es) = onto (e ∷ log) es
 
--- cells and tally stand for a log
+-- cells hold a log, and the tally is that of its records
 pub record Applied (conf : Conf) (cells : CellsView) (tally : Tally) (log : List Numbered) : Type 0 where
-  pub cells_stand : StandFor conf cells log (replay conf log)
+  pub cells_hold : Holds conf cells log
   pub tally_is : tally ≡ tally_of (replay conf log)
 
 -- the lines of a log

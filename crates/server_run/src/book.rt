@@ -11,16 +11,37 @@ ghost use Rattle.server_run.specs.Outbox.{Settles};
 
 use crate::tally::Tally;
 use crate::writing::write_all;
-use entry_step::{Cells, Ready, step};
+use entry_step::{Cells, Ready, Steps, step};
 use outside::{Sink, Trouble};
 use std::alloc::Global;
-use zbx_types::{Bytes, Numbered, OutOfMemory, Rec};
+use std::marker::Brand;
+use std::sync::ledger;
+use std::sync::ledger::Blank;
+use zbx_types::{Bytes, Many, Numbered, OutOfMemory, Rec};
 
 /// The cells of the entries so far, and the counts of their records.
 #[derive(Drop)]
 pub(crate) struct Ledger {
     pub cells: Cells,
     pub tally: Tally,
+}
+
+/// Takes an entry, and counts no steps: they go to a ledger of their own.
+fn uncounted<L: ledger::Ledger>(
+    alloc: Global,
+    ready: &Ready,
+    cells: &mut Cells,
+    entry: &Numbered,
+    blank: Blank,
+) -> Result<Many<Rec>, OutOfMemory>
+    requires name { blank.name ≡ L.name }
+    requires parts { blank.parts ≡ L.parts }
+    requires some { 0 < L.parts }
+    ensures out { IfOk result (λ made. (log : List Numbered) → Holds ready.now cells.old log → AllSuit ready.now (entry.now ∷ log) → made ≡ out_of ready.now log entry.now entry.now.entry (replay ready.now log)) }
+    ensures holds { OnOk result ((log : List Numbered) → Holds ready.now cells.old log → AllSuit ready.now (entry.now ∷ log) → Holds ready.now cells.new (entry.now ∷ log)) }
+{
+    let mut steps = Steps::<L>::new(blank);
+    step(alloc, ready, cells, entry, &mut steps)
 }
 
 /// Applies an entry, and adds its lines.
@@ -34,7 +55,7 @@ fn apply(
     ensures { OnOk result ((log : List Numbered) → Applied ready.now ledger.old.cells ledger.old.tally log → Fits ready.now (entry.now ∷ log)
         → Applied ready.now ledger.new.cells ledger.new.tally (entry.now ∷ log) × ((more : List ℕ) × (lines.new ≡ lines.old ++ more) × (log_lines ready.now (entry.now ∷ log) ≡ log_lines ready.now log ++ more))) }
 {
-    let records = step(alloc, ready, &mut ledger.cells, entry)?;
+    let records = uncounted::<Brand>(alloc, ready, &mut ledger.cells, entry, Blank::new(1))?;
     add_lines(alloc, records.as_slice(), &mut ledger.tally, lines)?;
     Ok(())
 }

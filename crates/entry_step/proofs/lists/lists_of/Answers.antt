@@ -1,18 +1,13 @@
-use Rattle.std.proofs.Common.{◌≡◌, ◌<◌, length, get_or, ◌∙◌, ap, subst}
+use Rattle.std.proofs.Common.{◌≡◌, ◌<◌, length, get_or, ap, subst, ◌∙◌}
+use Rattle.zbx_types.specs.Ids.{at_id}
+use Rattle.entry_step.specs.Order.{order}
+use Rattle.entry_step.specs.Records.{is_over}
 use Rattle.entry_step.specs.Index.{listed}
-use Rattle.entry_step.proofs.Listing.{not_yet, over_more}
+use Rattle.entry_step.proofs.Listing.{over_more}
 use Rattle.entry_step.proofs.lists.lists_of.Goals as goal
 
-pub enter_all-requires : goal.enter_all-requires
-enter_all-requires c = λ item.
-    let triggers : c.as_slice-trigger-items.result.now ≡ c.args.conf.now.triggers = c.as_slice-trigger-items.ensures in
-    let within : c.loop-place.place < length c.args.conf.now.triggers = subst (λ ts. c.loop-place.place < length ts) triggers c.loop-place-test.true in
-    not_yet c.args.conf.now item c.loop-place.place (listed c.loop-place.over item) c.in_ok-id_of.field-0 within c.in_ok-id_of.ensures (c.loop-place.invariant item)
-
-pub loop-place-preserved : goal.loop-place-preserved
-loop-place-preserved c = λ item.
-    let triggers : c.as_slice-trigger-items.result.now ≡ c.args.conf.now.triggers = c.as_slice-trigger-items.ensures in
-    let within : c.loop-place.place < length c.args.conf.now.triggers = subst (λ ts. c.loop-place.place < length ts) triggers c.loop-place-test.true in
-    let trigger : c.trigger-item.result ≡ get_or c.args.conf.now.triggers c.loop-place.place c.trigger-item.result = c.trigger-item.is ∙ ap (λ ts. get_or ts c.loop-place.place c.trigger-item.result) triggers in
-    over_more c.args.conf.now item c.loop-place.place c.trigger-item.result c.in_ok-id_of.field-0 (listed c.loop-place.over item) (listed c.enter_all.new.over item)
-    within trigger c.in_ok-id_of.ensures (c.loop-place.invariant item) (c.in_ok-enter_all.ensures item)
+pub loop-id-preserved : goal.loop-id-preserved
+loop-id-preserved c = λ q.
+    let ids : c.as_slice-id-items.result.now ≡ order c.args.conf.now = c.as_slice-id-items.ensures ∙ c.in_ok-ids.ensures in
+    over_more (λ id. is_over q (at_id c.args.conf.now.triggers id)) (order c.args.conf.now) (listed c.loop-id.over q) (listed c.enter_by_id.new.over q) c.loop-id.id-index (get_or c.as_slice-id-items.result.now c.loop-id.id-index 0)
+    (subst (λ is. c.loop-id.id-index < length is) ids c.loop-id-test.true) (ap (λ is. get_or is c.loop-id.id-index 0) ids) (c.loop-id.invariant q) (c.in_ok-enter_by_id.ensures q)

@@ -1,7 +1,9 @@
-use Rattle.std.proofs.Common.{◌≡◌, ℕ}
+use Rattle.std.proofs.Common.{◌≡◌, ℕ, take, filter}
+use Rattle.zbx_types.specs.Ids.{at_id}
+use Rattle.entry_step.specs.Order.{order}
+use Rattle.entry_step.specs.Records.{is_over}
 use Rattle.entry_step.specs.Index.{listed}
-use Rattle.entry_step.proofs.Listing.{first_over}
 use Rattle.entry_step.proofs.lists.lists_of.Given as goal
 
-abbrev pub invariant-loop-place : goal.invariant-loop-place
-invariant-loop-place l = (q : ℕ) → listed l.over q ≡ first_over l.conf q l.place
+abbrev pub invariant-loop-id : goal.invariant-loop-id
+invariant-loop-id l = (q : ℕ) → listed l.over q ≡ filter (λ id. is_over q (at_id l.conf.triggers id)) (take l.id-index (order l.conf))

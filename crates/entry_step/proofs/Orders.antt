@@ -1,0 +1,339 @@
+-- The laws of order.
+use Rattle.std.proofs.Common.{◌≡◌, ◌≢◌, ℕ, ◌==◌, Bool, true, false, cond, not, ◌&&◌, ◌||◌, ◌⊎◌, inl, inr, Option, Some, None, is_some, List, [], ◌∷◌, ◌++◌, filter, refl, sym, ◌∙◌, ap, ap₂, subst, eqb-true, eq-eqb}
+use mathlib.Core.Path.{fun_ext}
+use Rattle.std.specs.List.{list_any}
+use Rattle.zbx_types.specs.Ids.{at_id}
+use Rattle.zbx_types.specs.declared.conf.Conf.{Conf}
+use Rattle.zbx_types.specs.declared.triggers.Trigger.{Trigger}
+use Rattle.zbx_types.specs.declared.entries.Entry.{Entry}
+use Rattle.zbx_types.specs.declared.entries.Entry.TheVariants.{Config, Value, Tick}
+use Rattle.zbx_types.specs.declared.entries.Numbered.{Numbered}
+use Rattle.zbx_types.specs.declared.entries.Rec.{Rec}
+use Rattle.zbx_types.specs.declared.entries.Stored.{Stored}
+use Rattle.entry_step.specs.Each.{Each, In, EachPair}
+use Rattle.entry_step.specs.Log.{moment_of, first_tick}
+use Rattle.entry_step.specs.History.{stored_of, with_stored}
+use Rattle.entry_step.specs.Evaluation.{up_to}
+use Rattle.entry_step.specs.Order.{order}
+use Rattle.entry_step.specs.Problems.{absorbed_all, open_of}
+use Rattle.entry_step.specs.Records.{evaluated, phase, has_call, is_over, stores, triggers_at, triggers_over, failures_at, out_of, replay}
+use Rattle.entry_step.specs.Cells.{Key, ItemKey, TriggerKey, TickKey, CellOf, ItemCell, Cells, opens_in, touches, item_after, histories_after, records_at, records, after, look, StandFor}
+use Rattle.entry_step.specs.Represents.{first_of, AllAtHome, IsTidy}
+use Rattle.entry_step.specs.Laws.{Agree, IsLocal, IsConfined, Apart, AreTidyCells, Locality, SameOut, InPlace, Insertion, cells_done, records_done, any_touches, put_over, Copies, BatchOnACopy, PassedApart, AppliedPart}
+use Rattle.entry_step.specs.declared.opens.Open.{Open}
+use Rattle.entry_step.proofs.Members.{or_left, or_right, or_false_left, or_false_right, each_from, each_at, each_filter, any_intro, any_elim, true_or_false}
+use Rattle.entry_step.proofs.Problems.{home_all}
+use Rattle.entry_step.proofs.Landing.{LandIn, land_append, land_sub, land_off, AllIn, phase_lands}
+use Rattle.entry_step.proofs.Histories.{stored_other, Calls, SameTo, phase_same}
+use Rattle.entry_step.proofs.Represented.{stores_none, triggers_stored, triggers_none, each_over, calls_touched, failures_land, records_are, after_is, one_entry}
+
+-- Each trigger that an entry evaluates is over its item
+each_triggered : (conf : Conf) (number now item time : ℕ) (value : List ℕ) (P : ℕ → Type 0) → ((id : ℕ) → In id (order conf) → is_over item (at_id conf.triggers id) ≡ true → P id) → Each P (triggers_at conf number (Value now item time value))
+each_triggered conf number now item time value P h = go (stored_of conf number (Value now item time value) item) refl
+  where
+    go : (o : Option Stored) → stored_of conf number (Value now item time value) item ≡ o → Each P (triggers_at conf number (Value now item time value))
+    go None e = subst (Each P) (sym (triggers_none conf number (Value now item time value) (stores_none conf number now item time value e))) tt
+    go (Some s) e = subst (Each P) (sym (triggers_stored conf number now item time value s e)) (each_over conf item P h)
+
+all_in : (K : ℕ → Bool) (ids : List ℕ) → Each (λ id. K id ≡ true) ids → AllIn K ids
+all_in K [] h = tt
+all_in K (id ∷ ids) h = (h.0, all_in K ids h.1)
+
+trigger_touched : (conf : Conf) (now item time : ℕ) (value : List ℕ) (id : ℕ) → is_over item (at_id conf.triggers id) ≡ true → touches conf (Value now item time value) (TriggerKey id) ≡ true
+unfolding touches
+trigger_touched conf now item time value id o = o
+
+own_touched : (conf : Conf) (now item time : ℕ) (value : List ℕ) → touches conf (Value now item time value) (ItemKey item) ≡ true
+unfolding touches
+own_touched conf now item time value = or_left (item == item) (list_any (λ id. is_over item (at_id conf.triggers id) && is_over item (at_id conf.triggers id)) (order conf)) (eq-eqb item item refl)
+
+-- what an entry doesn't touch has nothing stored
+stored_untouched : (conf : Conf) (number : ℕ) (entry : Entry) (i : ℕ) → touches conf entry (ItemKey i) ≡ false → stored_of conf number entry i ≡ None
+stored_untouched conf number (Config now text) i e = unfold stored_of in refl
+stored_untouched conf number (Tick now) i e = unfold stored_of in refl
+stored_untouched conf number (Value now item time value) i e =
+    stored_other conf number now item time value i (λ q. let t : touches conf (Value now item time value) (ItemKey i) ≡ true = subst (λ j. touches conf (Value now item time value) (ItemKey j) ≡ true) q (own_touched conf now item time value) in cc)
+
+-- The records of an entry land in its foot
+records_land : (conf : Conf) (c : Cells) (number : ℕ) (entry : Entry) → IsTidy conf c → LandIn conf (λ id. touches conf entry (TriggerKey id)) (records_at conf c number entry)
+unfolding records_at
+records_land conf c number (Config now text) tidy = tt
+records_land conf c number (Tick now) tidy = tt
+records_land conf c number (Value now item time value) tidy =
+    land_append conf (λ id. touches conf entry (TriggerKey id)) (failures_at conf number entry) (phase conf (evaluated conf number now (histories_after conf c number entry)) (opens_in c) (triggers_at conf number entry))
+    (land_sub conf (λ id. false) (λ id. touches conf entry (TriggerKey id)) (failures_at conf number entry) (λ id e. refl) (failures_land conf number entry))
+    (phase_lands conf number now (histories_after conf c number entry) (λ id. touches conf entry (TriggerKey id)) (opens_in c) (triggers_at conf number entry) tidy
+    (all_in (λ id. touches conf entry (TriggerKey id)) (triggers_at conf number entry) (each_triggered conf number now item time value (λ id. touches conf entry (TriggerKey id) ≡ true) (λ id j o. trigger_touched conf now item time value id o))))
+  where
+    entry : Entry
+    entry = Value now item time value
+
+pub confined : (conf : Conf) (e : Numbered) (c : Cells) → IsTidy conf c → IsConfined conf e c
+confined conf e c tidy (ItemKey i) f = unfold after item_after in
+    ap₂ (λ o b. (let cell : ItemCell = record { history = with_stored o (c (ItemKey i)).history; seen = cond b (moment_of e.entry) (c (ItemKey i)).seen } in cell)) (stored_untouched conf e.number e.entry i f) f
+confined conf e c tidy (TriggerKey id) f = unfold after in land_off conf (λ u. touches conf e.entry (TriggerKey u)) id (c (TriggerKey id)) (records conf c e) (records_land conf c e.number e.entry tidy) f
+confined conf e c tidy TickKey f = unfold after in go e.entry f
+  where
+    none : (o : Option ℕ) → Rattle.std.specs.Option.option_or o None ≡ o
+    none None = refl
+    none (Some t) = refl
+
+    go : (entry : Entry) → touches conf entry TickKey ≡ false → Rattle.entry_step.specs.Log.tick_with (c TickKey) entry ≡ c TickKey
+    go (Config now text) f = none (c TickKey)
+    go (Value now item time value) f = none (c TickKey)
+    go (Tick now) f = unfold touches in cc
+
+-- everything is in the foot of an entry that is no value
+agree_all : (conf : Conf) (e : Numbered) (c d : Cells) → ((k : Key) → touches conf e.entry k ≡ true) → Agree conf e c d → IsLocal conf e c d
+agree_all conf e c d all agree =
+    let same : c ≡ d = fun_ext (λ k. agree.at k (all k)) in
+    record { same_records = ap (λ x. records conf x e) same; same_changes = λ k t. ap (λ x. after conf x e k) same }
+
+value_local : (conf : Conf) (number now item time : ℕ) (value : List ℕ) (c d : Cells) → Agree conf (record { number = number; entry = Value now item time value }) c d
+    → records_at conf c number (Value now item time value) ≡ records_at conf d number (Value now item time value)
+unfolding records_at
+value_local conf number now item time value c d agree =
+    ap (λ xs. failures_at conf number entry ++ xs)
+    (phase_same conf number now (λ id. touches conf entry (TriggerKey id)) (histories_after conf c number entry) (histories_after conf d number entry) (opens_in c) (opens_in d) (triggers_at conf number entry) (λ id t. agree.at (TriggerKey id) t)
+    (each_triggered conf number now item time value (λ id. (touches conf entry (TriggerKey id) ≡ true) × SameTo conf now (histories_after conf c number entry) (histories_after conf d number entry) id)
+    (λ id j o. (trigger_touched conf now item time value id o, λ i calls. ap (λ cell. first_of (up_to now (item_after conf number entry i cell).history)) (agree.at (ItemKey i) (calls_touched conf now item time value id i j o calls))))))
+  where
+    entry : Entry
+    entry = Value now item time value
+
+pub local : (conf : Conf) (e : Numbered) (c d : Cells) → Agree conf e c d → IsLocal conf e c d
+local conf e c d agree = subst (λ x. Agree conf (at x) c d → IsLocal conf (at x) c d) refl (go e.entry) agree
+  where
+    at : Entry → Numbered
+    at x = record { number = e.number; entry = x }
+
+    changes : (x : Entry) → records conf c (at x) ≡ records conf d (at x) → Agree conf (at x) c d → touches conf x TickKey ≡ false → (k : Key) → touches conf x k ≡ true → after conf c (at x) k ≡ after conf d (at x) k
+    changes x rs a f (ItemKey i) t = unfold after in ap (item_after conf e.number x i) (a.at (ItemKey i) t)
+    changes x rs a f (TriggerKey id) t = unfold after in ap₂ (absorbed_all conf id) (a.at (TriggerKey id) t) rs
+    changes x rs a f TickKey t = let z : true ≡ false = sym t ∙ f in cc
+
+    go : (x : Entry) → Agree conf (at x) c d → IsLocal conf (at x) c d
+    go (Config now text) a = agree_all conf (at (Config now text)) c d (λ k. unfold touches in refl) a
+    go (Tick now) a = agree_all conf (at (Tick now)) c d (λ k. unfold touches in refl) a
+    go (Value now item time value) a =
+        let rs = value_local conf e.number now item time value c d a in
+        record { same_records = rs; same_changes = changes (Value now item time value) rs a (unfold touches in refl) }
+
+pub locality : Locality
+locality conf e c d tidy_c tidy_d agree = (local conf e c d agree, confined conf e c tidy_c)
+
+-- Insertion, from locality alone
+pub stays_tidy : (conf : Conf) (c : Cells) (e : Numbered) → IsTidy conf c → IsTidy conf (after conf c e)
+stays_tidy conf c e tidy id = unfold after in home_all conf id (c (TriggerKey id)) (records conf c e) (tidy id)
+
+abbrev pub cells_of : Conf → List Numbered → Cells
+cells_of conf [] = look conf [] []
+cells_of conf (e ∷ log) = after conf (cells_of conf log) e
+
+pub cells_are : (conf : Conf) (log : List Numbered) → cells_of conf log ≡ look conf log (replay conf log)
+cells_are conf [] = refl
+cells_are conf (e ∷ log) = ap (λ c. after conf c e) (cells_are conf log) ∙ after_is conf log (replay conf log) e
+
+pub tidy_cells : (conf : Conf) (log : List Numbered) → IsTidy conf (cells_of conf log)
+tidy_cells conf [] id = unfold look in tt
+tidy_cells conf (e ∷ log) id = stays_tidy conf (cells_of conf log) e (tidy_cells conf log) id
+
+pub records_of : (conf : Conf) (log : List Numbered) (e : Numbered) → records conf (cells_of conf log) e ≡ out_of conf log e e.entry (replay conf log)
+records_of conf log e = ap (λ c. records conf c e) (cells_are conf log) ∙ records_are conf log (replay conf log) e
+
+-- each entry touches something
+touches_some : (conf : Conf) (entry : Entry) → (k : Key) × (touches conf entry k ≡ true)
+touches_some conf (Config now text) = (TickKey, unfold touches in refl)
+touches_some conf (Tick now) = (TickKey, unfold touches in refl)
+touches_some conf (Value now item time value) = (ItemKey item, own_touched conf now item time value)
+
+apart_sym : (conf : Conf) (a b : Numbered) → Apart conf a b → Apart conf b a
+apart_sym conf a b h k p q = h k q p
+
+quiet_tick : (conf : Conf) (a b : Numbered) → Apart conf a b → touches conf a.entry TickKey ≡ false
+quiet_tick conf a b h = go a.entry h
+  where
+    go : (x : Entry) → ((k : Key) → touches conf x k ≡ true → touches conf b.entry k ≡ true → ⊥) → touches conf x TickKey ≡ false
+    go (Value now item time value) h = unfold touches in refl
+    go (Config now text) h = let s = touches_some conf b.entry in absurd (h s.0 (unfold touches in refl) s.1)
+    go (Tick now) h = let s = touches_some conf b.entry in absurd (h s.0 (unfold touches in refl) s.1)
+
+module _ (conf : Conf) (a b : Numbered) (apart : Apart conf a b) (c : Cells) (tidy : IsTidy conf c) where
+  off_other : (k : Key) → touches conf b.entry k ≡ true → touches conf a.entry k ≡ false
+  off_other k e = go (true_or_false (touches conf a.entry k))
+    where
+      go : (touches conf a.entry k ≡ true) ⊎ (touches conf a.entry k ≡ false) → touches conf a.entry k ≡ false
+      go (inl t) = absurd (apart k t e)
+      go (inr f) = f
+
+  agree_after : Agree conf b (after conf c a) c
+  agree_after = record { at = λ k e. confined conf a c tidy k (off_other k e); tick = confined conf a c tidy TickKey (quiet_tick conf a b apart) }
+
+  records_apart : records conf (after conf c a) b ≡ records conf c b
+  records_apart = (local conf b (after conf c a) c agree_after).same_records
+
+  changes_apart : (k : Key) → touches conf b.entry k ≡ true → after conf (after conf c a) b k ≡ after conf c b k
+  changes_apart = (local conf b (after conf c a) c agree_after).same_changes
+
+diamond : (conf : Conf) (a b : Numbered) → Apart conf a b → (c : Cells) → IsTidy conf c → after conf (after conf c a) b ≡ after conf (after conf c b) a
+diamond conf a b apart c tidy = fun_ext (λ k. go k (true_or_false (touches conf a.entry k)) (true_or_false (touches conf b.entry k)))
+  where
+    go : (k : Key) → (touches conf a.entry k ≡ true) ⊎ (touches conf a.entry k ≡ false) → (touches conf b.entry k ≡ true) ⊎ (touches conf b.entry k ≡ false) → after conf (after conf c a) b k ≡ after conf (after conf c b) a k
+    go k (inl p) (inl q) = absurd (apart k p q)
+    go k (inl p) (inr q) = confined conf b (after conf c a) (stays_tidy conf c a tidy) k q ∙ sym (changes_apart conf b a (apart_sym conf a b apart) c tidy k p)
+    go k (inr p) (inl q) = changes_apart conf a b apart c tidy k q ∙ sym (confined conf a (after conf c b) (stays_tidy conf c b tidy) k p)
+    go k (inr p) (inr q) = confined conf b (after conf c a) (stays_tidy conf c a tidy) k q ∙ confined conf a c tidy k p ∙ sym (confined conf a (after conf c b) (stays_tidy conf c b tidy) k p ∙ confined conf b c tidy k q)
+
+-- each of the newer entries has the same records with e in its place and without
+abbrev SameRecords : Conf → Numbered → List Numbered → List Numbered → Type 0
+SameRecords conf e [] older = Unit {0}
+SameRecords conf e (a ∷ newer) older = (records conf (cells_of conf (newer ++ older)) a ≡ records conf (cells_of conf (newer ++ e ∷ older)) a) × SameRecords conf e newer older
+
+record Inserts (conf : Conf) (newer : List Numbered) (e : Numbered) (older : List Numbered) : Type 0 where
+  others : SameRecords conf e newer older
+  own : records conf (cells_of conf (newer ++ older)) e ≡ records conf (cells_of conf older) e
+  cells : after conf (cells_of conf (newer ++ older)) e ≡ cells_of conf (newer ++ e ∷ older)
+
+inserts : (conf : Conf) (newer : List Numbered) (e : Numbered) (older : List Numbered) → Each (λ a. Apart conf e a) newer → Inserts conf newer e older
+inserts conf [] e older apart = record { others = tt; own = refl; cells = refl }
+inserts conf (a ∷ newer) e older apart =
+    let ih = inserts conf newer e older apart.1 in
+    let c = cells_of conf (newer ++ older) in
+    let tidy = tidy_cells conf (newer ++ older) in
+    let ae = apart_sym conf e a apart.0 in
+    record {
+      others = (sym (records_apart conf e a apart.0 c tidy) ∙ ap (λ x. records conf x a) ih.cells, ih.others);
+      own = records_apart conf a e ae c tidy ∙ ih.own;
+      cells = diamond conf a e ae c tidy ∙ ap (λ x. after conf x a) ih.cells;
+    }
+
+stand_is : (conf : Conf) (c : Cells) (log : List Numbered) → StandFor conf c log → c ≡ cells_of conf log
+unfolding StandFor
+stand_is conf c log h = h ∙ sym (cells_are conf log)
+
+is_stand : (conf : Conf) (c : Cells) (log : List Numbered) → c ≡ cells_of conf log → StandFor conf c log
+unfolding StandFor
+is_stand conf c log h = h ∙ cells_are conf log
+
+pub are_tidy : AreTidyCells
+are_tidy conf c log h = let P : Cells → Type 0 = IsTidy conf in subst P (sym (stand_is conf c log h)) (tidy_cells conf log)
+
+same_out : (conf : Conf) (e : Numbered) (newer older : List Numbered) → SameRecords conf e newer older → SameOut conf e newer older
+same_out conf e [] older h = tt
+same_out conf e (a ∷ newer) older h = (sym (records_of conf (newer ++ older) a) ∙ h.0 ∙ records_of conf (newer ++ e ∷ older) a, same_out conf e newer older h.1)
+
+-- the changes of e behind the newer entries are those in its place
+changes_in_place : (conf : Conf) (newer : List Numbered) (e : Numbered) (older : List Numbered) → Each (λ a. Apart conf e a) newer → (k : Key) → touches conf e.entry k ≡ true
+    → after conf (cells_of conf (newer ++ older)) e k ≡ after conf (cells_of conf older) e k
+changes_in_place conf [] e older apart k t = refl
+changes_in_place conf (a ∷ newer) e older apart k t =
+    changes_apart conf a e (apart_sym conf e a apart.0) (cells_of conf (newer ++ older)) (tidy_cells conf (newer ++ older)) k t ∙ changes_in_place conf newer e older apart.1 k t
+
+pub insertion : Insertion
+insertion conf newer e older apart =
+    let r = inserts conf newer e older apart in (
+      same_out conf e newer older r.others,
+      λ c h.
+          let s = stand_is conf c (newer ++ older) h in
+          record {
+            its_records = ap (λ x. records conf x e) s ∙ r.own ∙ records_of conf older e;
+            its_changes = λ d g k t. ap (λ x. after conf x e k) s ∙ changes_in_place conf newer e older apart k t ∙ ap (λ x. after conf x e k) (sym (stand_is conf d older g));
+            stand = is_stand conf (after conf c e) (newer ++ e ∷ older) (ap (λ x. after conf x e) s ∙ r.cells);
+          },
+    )
+
+-- A batch on a copy
+module _ (conf : Conf) (K : Key → Type 0) (ticks : K TickKey) where
+  step_agrees : (e : Numbered) (c d : Cells) → IsTidy conf c → IsTidy conf d → ((k : Key) → touches conf e.entry k ≡ true → K k) → ((k : Key) → K k → c k ≡ d k) → (k : Key) → K k → after conf c e k ≡ after conf d e k
+  step_agrees e c d tidy_c tidy_d inside same k m = go (true_or_false (touches conf e.entry k))
+    where
+      law : IsLocal conf e c d
+      law = local conf e c d (record { at = λ j t. same j (inside j t); tick = same TickKey ticks })
+
+      go : (touches conf e.entry k ≡ true) ⊎ (touches conf e.entry k ≡ false) → after conf c e k ≡ after conf d e k
+      go (inl t) = law.same_changes k t
+      go (inr f) = confined conf e c tidy_c k f ∙ same k m ∙ sym (confined conf e d tidy_d k f)
+
+  batch_agrees : (es : List Numbered) (c d : Cells) → IsTidy conf c → IsTidy conf d → ((e : Numbered) → In e es → (k : Key) → touches conf e.entry k ≡ true → K k) → ((k : Key) → K k → c k ≡ d k)
+      → (records_done conf d es ≡ records_done conf c es) × ((k : Key) → K k → cells_done conf c es k ≡ cells_done conf d es k)
+  batch_agrees [] c d tidy_c tidy_d inside same = (refl, same)
+  batch_agrees (e ∷ es) c d tidy_c tidy_d inside same =
+      let law : IsLocal conf e c d = local conf e c d (record { at = λ j t. same j (inside e (inl refl) j t); tick = same TickKey ticks }) in
+      let r = batch_agrees es (after conf c e) (after conf d e) (stays_tidy conf c e tidy_c) (stays_tidy conf d e tidy_d) (λ x i. inside x (inr i)) (step_agrees e c d tidy_c tidy_d (inside e (inl refl)) same) in
+      (ap₂ (λ rs rss. rs ∷ rss) (sym law.same_records) r.0, r.1)
+
+batch_off : (conf : Conf) (es : List Numbered) (c : Cells) → IsTidy conf c → (k : Key) → any_touches conf es k ≡ false → cells_done conf c es k ≡ c k
+batch_off conf [] c tidy k f = refl
+batch_off conf (e ∷ es) c tidy k f =
+    batch_off conf es (after conf c e) (stays_tidy conf c e tidy) k (or_false_right (touches conf e.entry k) (any_touches conf es k) f) ∙ confined conf e c tidy k (or_false_left (touches conf e.entry k) (any_touches conf es k) f)
+
+pub batch_on_a_copy : BatchOnACopy
+batch_on_a_copy conf es c d tidy_c tidy_d copies = (r.0, fun_ext (λ k. go k (any_touches conf es k) refl))
+  where
+    K : Key → Type 0
+    K k = (any_touches conf es k ≡ true) ⊎ (k ≡ TickKey)
+
+    same : (k : Key) → K k → c k ≡ d k
+    same k (inl t) = copies.at k t
+    same k (inr q) = subst (λ j. c j ≡ d j) (sym q) copies.tick
+
+    r : (records_done conf d es ≡ records_done conf c es) × ((k : Key) → K k → cells_done conf c es k ≡ cells_done conf d es k)
+    r = batch_agrees conf K (inr refl) es c d tidy_c tidy_d (λ e i k t. inl (any_intro (λ x. touches conf x.entry k) e es i t)) same
+
+    go : (k : Key) (b : Bool) → any_touches conf es k ≡ b → cond {A = CellOf k} b (cells_done conf d es k) (c k) ≡ cells_done conf c es k
+    go k true e = sym (r.1 k (inl e))
+    go k false e = sym (batch_off conf es c tidy_c k e)
+
+-- The applied part of a log
+abbrev Reads : Conf → Numbered → Key → Type 0
+Reads conf e k = (touches conf e.entry k ≡ true) ⊎ (k ≡ TickKey)
+
+apart_reads : (conf : Conf) (y x : Numbered) → Apart conf y x → (k : Key) → Reads conf x k → touches conf y.entry k ≡ true → ⊥
+apart_reads conf y x h k (inl t) e = h k e t
+apart_reads conf y x h k (inr q) e = let f = quiet_tick conf y x h in let g : touches conf y.entry TickKey ≡ true = subst (λ z. touches conf y.entry z ≡ true) q e in cc
+
+-- without the entries that aren't applied, and touch nothing in K, the cells in K are the same
+part_agree : (conf : Conf) (applied : Numbered → Bool) (log : List Numbered) (K : Key → Type 0) → EachPair (PassedApart conf applied) log
+    → ((y : Numbered) → In y log → applied y ≡ false → (k : Key) → K k → touches conf y.entry k ≡ true → ⊥)
+    → (k : Key) → K k → cells_of conf (filter applied log) k ≡ cells_of conf log k
+part_agree conf applied [] K order h k m = refl
+part_agree conf applied (x ∷ older) K order h k m = go (applied x) refl (part_agree conf applied older)
+  where
+    wider : Key → Type 0
+    wider j = K j ⊎ Reads conf x j
+
+    untouched : applied x ≡ false → touches conf x.entry k ≡ false
+    untouched e = at (true_or_false (touches conf x.entry k))
+      where
+        at : (touches conf x.entry k ≡ true) ⊎ (touches conf x.entry k ≡ false) → touches conf x.entry k ≡ false
+        at (inl t) = absurd (h x (inl refl) e k m t)
+        at (inr f) = f
+
+    still : applied x ≡ true → (y : Numbered) → In y older → applied y ≡ false → (j : Key) → wider j → touches conf y.entry j ≡ true → ⊥
+    still a y i f j (inl n) t = h y (inr i) f j n t
+    still a y i f j (inr r) t = apart_reads conf y x (each_at (PassedApart conf applied x) older order.0 y i a f) j r t
+
+    go : (b : Bool) → applied x ≡ b
+        → ((L : Key → Type 0) → EachPair (PassedApart conf applied) older → ((y : Numbered) → In y older → applied y ≡ false → (j : Key) → L j → touches conf y.entry j ≡ true → ⊥) → (j : Key) → L j → cells_of conf (filter applied older) j ≡ cells_of conf older j)
+        → cells_of conf (cond b (x ∷ filter applied older) (filter applied older)) k ≡ after conf (cells_of conf older) x k
+    go false e ih = ih K order.1 (λ y i. h y (inr i)) k m ∙ sym (confined conf x (cells_of conf older) (tidy_cells conf older) k (untouched e))
+    go true e ih = at (true_or_false (touches conf x.entry k))
+      where
+        agree : (j : Key) → wider j → cells_of conf (filter applied older) j ≡ cells_of conf older j
+        agree = ih wider order.1 (still e)
+
+        same : Agree conf x (cells_of conf (filter applied older)) (cells_of conf older)
+        same = record { at = λ j t. agree j (inr (inl t)); tick = agree TickKey (inr (inr refl)) }
+
+        at : (touches conf x.entry k ≡ true) ⊎ (touches conf x.entry k ≡ false) → after conf (cells_of conf (filter applied older)) x k ≡ after conf (cells_of conf older) x k
+        at (inl t) = (local conf x (cells_of conf (filter applied older)) (cells_of conf older) same).same_changes k t
+        at (inr f) = confined conf x (cells_of conf (filter applied older)) (tidy_cells conf (filter applied older)) k f ∙ agree k (inl m) ∙ sym (confined conf x (cells_of conf older) (tidy_cells conf older) k f)
+
+pub applied_part : AppliedPart
+applied_part conf applied older e order free c h =
+    ap (λ x. records conf x e) (stand_is conf c (filter applied older) h)
+    ∙ (local conf e (cells_of conf (filter applied older)) (cells_of conf older) (record { at = λ k t. agree k (inl t); tick = agree TickKey (inr refl) })).same_records
+    ∙ records_of conf older e
+  where
+    agree : (k : Key) → Reads conf e k → cells_of conf (filter applied older) k ≡ cells_of conf older k
+    agree = part_agree conf applied older (Reads conf e) order (λ y i f k r t. apart_reads conf y e (each_at (λ y. applied y ≡ false → Apart conf y e) older free y i f) k r t)

@@ -1,0 +1,17 @@
+-- Lists whose items all have a property, by recursion.
+use Rattle.std.specs.Prelude.{◌≡◌, ◌⊎◌, List, [], ◌∷◌}
+
+-- each item of a list has the property
+abbrev pub Each : {A : Type 0} → (A → Type 0) → List A → Type 0
+Each P [] = Unit {0}
+Each P (x ∷ xs) = P x × Each P xs
+
+-- an item is in a list
+abbrev pub In : {A : Type 0} → A → List A → Type 0
+In x [] = ⊥
+In x (y ∷ ys) = (x ≡ y) ⊎ In x ys
+
+-- each two items of a list, the one before the other, have the property
+abbrev pub EachPair : {A : Type 0} → (A → A → Type 0) → List A → Type 0
+EachPair P [] = Unit {0}
+EachPair P (x ∷ xs) = Each (P x) xs × EachPair P xs

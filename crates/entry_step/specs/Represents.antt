@@ -1,0 +1,62 @@
+-- What the cells of a run stand for.
+use Rattle.std.specs.Prelude.{◌≡◌, ◌≤◌, ℕ, ◌-◌, ◌==◌, true, List, [], ◌∷◌, length, reverse, Option, Some, None, if◌then◌else◌, slice_set}
+use Rattle.std.specs.Option.{unwrap_or}
+use Rattle.zbx_types.specs.Ids.{at_id}
+use Rattle.zbx_types.specs.declared.conf.Conf.{Conf}
+use Rattle.zbx_types.specs.declared.entries.Numbered.{Numbered}
+use Rattle.zbx_types.specs.declared.entries.Rec.{Rec}
+use Rattle.zbx_types.specs.declared.entries.Stored.{Stored}
+use Rattle.entry_step.specs.Log.{moment_of, IsFitting}
+use Rattle.entry_step.specs.Evaluation.{up_to}
+use Rattle.entry_step.specs.Problems.{home, event_in}
+use Rattle.entry_step.specs.Kept.{latest_at}
+use Rattle.entry_step.specs.Cells.{Cells, ItemKey, TriggerKey, TickKey, opens_in, touches, records, after, StandFor}
+use Rattle.entry_step.specs.declared.opens.Open.{Open}
+
+-- the latest stored value of each item and the open problems of each trigger, in the order of ids, and the first Tick
+pub record CellsView : Type 0 where
+  pub latest : List (Option Stored)
+  pub problems : List (List Open)
+  pub tick : Option ℕ
+
+abbrev pub first_of : List Stored → Option Stored
+first_of [] = None
+first_of (s ∷ rest) = Some s
+
+-- the open problems of the trigger with this id
+unfoldable pub problems_at : List (List Open) → ℕ → List Open
+problems_at rows id = unwrap_or (at_id rows id) []
+
+-- each open problem is of the trigger with this id
+abbrev pub AllAtHome : Conf → ℕ → List Open → Type 0
+AllAtHome conf id [] = Unit {0}
+AllAtHome conf id (o ∷ os) = (home conf (event_in o) ≡ id) × AllAtHome conf id os
+
+-- each open problem is in the cell of its own trigger
+abbrev pub IsTidy : Conf → Cells → Type 0
+IsTidy conf c = (id : ℕ) → AllAtHome conf id (opens_in c id)
+
+-- What a run keeps represents cells: the same open problems and first Tick, and of each item the value that is the latest
+-- at every moment from the last one on that its cell has seen. The cells are tidy.
+pub record Represents (conf : Conf) (held : CellsView) (c : Cells) : Type 0 where
+  pub items : length held.latest ≡ length conf.items
+  pub triggers : length held.problems ≡ length conf.triggers
+  pub latest : (id now : ℕ) → (c (ItemKey id)).seen ≤ now → first_of (up_to now (c (ItemKey id)).history) ≡ latest_at held.latest id
+  pub problems : (id : ℕ) → problems_at held.problems id ≡ c (TriggerKey id)
+  pub tick : held.tick ≡ c TickKey
+  pub tidy : IsTidy conf c
+
+-- what a run keeps represents the cells that stand for a log
+pub record Holds (conf : Conf) (held : CellsView) (log : List Numbered) : Type 0 where
+  pub cells : Cells
+  pub stand : StandFor conf cells log
+  pub represented : Represents conf held cells
+
+-- an entry isn't before the last moment that each item of its foot has seen
+abbrev pub ComesAfter : Conf → Cells → Numbered → Type 0
+ComesAfter conf c e = (id : ℕ) → touches conf e.entry (ItemKey id) ≡ true → (c (ItemKey id)).seen ≤ moment_of e.entry
+
+-- what a step makes and leaves, whatever cells it is that the kept ones represent: the records of the entry over them, and
+-- what represents the cells behind it
+abbrev pub StepsTo : Conf → CellsView → Numbered → List Rec → CellsView → Type 0
+StepsTo conf held e made next = (c : Cells) → Represents conf held c → ComesAfter conf c e → IsFitting conf e.entry → (made ≡ records conf c e) × Represents conf next (after conf c e)
