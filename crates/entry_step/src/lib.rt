@@ -2,26 +2,30 @@
 //!
 //! `Ready` is a configuration with indexes that are made once: hosts by their names, items by their keys, triggers by the
 //! items that they have calls over. So what is done for a value takes no walk over the configuration. `Cells` keep what a
-//! run needs between entries: the latest stored value of each item, and for each trigger the events of its open problems.
+//! run needs between entries: the latest stored value of each item, the open problems of each trigger, and the first Tick.
 //! `step` takes one numbered entry and answers the records that it makes.
 //!
-//! The contract: over cells that stand for a log and its records, and with an entry that may follow the log, `step`
-//! answers the records that the definitions find by searching the log and those records, and leaves cells that stand
-//! for the log with the entry and all records. At `Err` the cells are as before.
+//! The contract: whatever cells it is that the kept ones represent (`specs/Represents.antt`), `step` answers the records
+//! of the entry over them, and leaves what represents the cells behind the entry (`specs/Cells.antt`). Over a log that is
+//! held, these are the records that a search of the log and of its records finds. At `Err` all is as before.
 //!
 //! A log has its newest entry first (`specs/Log.antt`), records stand in the order in which they were made. A value
 //! goes into the history of its item by its time (`specs/History.antt`). Where an item stored a value, the enabled
-//! triggers with a call over it are evaluated (`specs/Evaluation.antt`, `specs/Records.antt`): a value other than 0
-//! makes a problem where none is open, 0 closes the open ones, an unknown value does nothing. A number item reads a value
-//! without the blanks around it. A value that its item can't keep makes a Failure. Entries of other
-//! kinds make no records.
+//! triggers with a call over it are evaluated one after another, by depth and then by id (`specs/Order.antt`,
+//! `specs/Evaluation.antt`, `specs/Records.antt`): a value other than 0 makes a problem where none is open, 0 closes the
+//! open ones, an unknown value does nothing. A number item reads a value without the blanks around it. A value that its
+//! item can't keep makes a Failure. Entries of other kinds make no records.
+//!
+//! The module `laws` has the laws of order as clauses: an entry's records and changes depend on its foot alone, and an entry
+//! that conflicts with no later one joins in its place.
 //!
 //! Built so far are the function `last(#1)`, constants and the operator `>`. Everything else is unknown.
 //!
 //! ```text
 //! let ready = Ready::build(alloc, conf)?;
 //! let mut cells = Cells::new(alloc, ready.conf())?;
-//! let made = step(alloc, &ready, &mut cells, &entry)?;
+//! let mut steps = Steps::new(blank);
+//! let made = step(alloc, &ready, &mut cells, &entry, &mut steps)?;
 //! ```
 #![tactic(auto)]
 
@@ -35,7 +39,6 @@ mod lists;
 mod names;
 mod opens;
 mod order;
-
 mod records;
 mod stepping;
 mod steps;

@@ -86,7 +86,17 @@ fn evaluate_all<L: Ledger>(
 {
     let conf = ready.conf();
     for id in ready.over(item) {
-        let outcome = outcome_of(alloc, conf, latest, problems.as_slice(), number, now, item, stored, *id)?;
+        let outcome = outcome_of(
+            alloc,
+            conf,
+            latest,
+            problems.as_slice(),
+            number,
+            now,
+            item,
+            stored,
+            *id,
+        )?;
         draft.take(problems, *id, outcome)?;
         steps.tick();
     }
@@ -171,7 +181,17 @@ fn advance<L: Ledger>(
             item,
             time,
             value,
-        } => take_value(alloc, ready, cells, entry.number, *now, *item, *time, value, steps),
+        } => take_value(
+            alloc,
+            ready,
+            cells,
+            entry.number,
+            *now,
+            *item,
+            *time,
+            value,
+            steps,
+        ),
     }
 }
 

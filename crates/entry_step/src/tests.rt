@@ -1,7 +1,6 @@
-use super::*;
-
 ghost use Rattle.std.specs.Prelude.{◌≡◌, ◌<◌};
 
+use super::*;
 use std::alloc::Global;
 use std::convert::AsStr;
 use std::marker::Brand;
@@ -307,7 +306,9 @@ fn large_counted<L: Ledger>(
     for round in 0..rounds {
         for place in 0..count {
             let text = if round % 2 == 0 { "9" } else { "1" };
-            let number = (round as u64).saturating_mul(100_000).saturating_add(place as u64);
+            let number = (round as u64)
+                .saturating_mul(100_000)
+                .saturating_add(place as u64);
             let entry = value_of(alloc, number, place.saturating_add(1), text)?;
             let made = step(alloc, &ready, &mut cells, &entry, &mut steps)?;
             counts = counted_with(counts, made.as_slice());

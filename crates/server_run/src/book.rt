@@ -1,9 +1,11 @@
 //! Entries are applied, and their lines go out.
 
-ghost use Rattle.std.specs.Prelude.{◌≡◌, ◌++◌, ◌∷◌, ℕ, List, OnOk, IfOk};
+ghost use Rattle.std.specs.Prelude.{◌≡◌, ◌<◌, ◌++◌, ◌∷◌, ℕ, List, OnOk, IfOk};
 ghost use Rattle.zbx_types.specs.declared.entries.Numbered.{Numbered};
 ghost use Rattle.outside.specs.Events.{HasNextCause};
-ghost use Rattle.entry_step.specs.Log.{Fits};
+ghost use Rattle.entry_step.specs.Log.{AllSuit, Fits};
+ghost use Rattle.entry_step.specs.Records.{out_of, replay};
+ghost use Rattle.entry_step.specs.Represents.{Holds};
 ghost use Rattle.event_text.specs.Lines.{lines_of};
 ghost use Rattle.server_run.specs.Tally.{tally_with};
 ghost use Rattle.server_run.specs.Standing.{onto, Applied, log_lines};
@@ -15,7 +17,6 @@ use entry_step::{Cells, Ready, Steps, step};
 use outside::{Sink, Trouble};
 use std::alloc::Global;
 use std::marker::Brand;
-use std::sync::ledger;
 use std::sync::ledger::Blank;
 use zbx_types::{Bytes, Many, Numbered, OutOfMemory, Rec};
 
@@ -27,7 +28,7 @@ pub(crate) struct Ledger {
 }
 
 /// Takes an entry, and counts no steps: they go to a ledger of their own.
-fn uncounted<L: ledger::Ledger>(
+fn uncounted<L: std::sync::ledger::Ledger>(
     alloc: Global,
     ready: &Ready,
     cells: &mut Cells,

@@ -21,7 +21,7 @@ pub returns-in-Ok-clause-counted : goal.returns-in-Ok-clause-counted
 returns-in-Ok-clause-counted g c =
     let stored = sym (sym c.in-Some.is ∙ c.in_ok-stored.ensures c.args.now ∙ ap (λ conf. stored_of conf c.args.number (Value c.args.now c.args.item c.args.time c.args.value.now) c.args.item) c.conf.ensures) in
     let same : length (triggers_at c.args.ready.now c.args.number (Value c.args.now c.args.item c.args.time c.args.value.now)) ≡ length (triggers_over c.args.ready.now c.args.item) =
-        ap length (triggers_stored c.args.ready.now c.args.number c.args.now c.args.item c.args.time c.args.value.now c.in-Some.stored stored) in
+    ap length (triggers_stored c.args.ready.now c.args.number c.args.now c.args.item c.args.time c.args.value.now c.in-Some.stored stored) in
     let counted = c.in-Ok.ensures.counted in omega arith
 
 pub returns-in-Err-clause-err : goal.returns-in-Err-clause-err
