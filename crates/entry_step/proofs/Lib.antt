@@ -6,6 +6,7 @@ pub mod Histories
 pub mod Phases
 pub mod Represented
 pub mod Orders
+pub mod Replays
 pub mod Items
 pub mod Naming
 pub mod Listing

@@ -8,6 +8,7 @@ pub mod Records
 pub mod Cells
 pub mod Represents
 pub mod Laws
+pub mod Named
 pub mod Kept
 pub mod Calls
 pub mod Changes

@@ -1,6 +1,7 @@
 //! The laws of order, over the definitions of what entries make. The functions do nothing: each stands for its clause.
 
 ghost use Rattle.entry_step.specs.Laws.{AreTidyCells, Locality, Insertion, BatchOnACopy, AppliedPart};
+ghost use Rattle.entry_step.specs.Named.{OpenByNames};
 
 /// Cells that stand for a log hold each open problem in the cell of its own trigger.
 pub fn are_tidy()
@@ -30,4 +31,10 @@ pub fn batch_on_a_copy()
 /// the records that it makes over the whole log.
 pub fn applied_part()
     ensures { AppliedPart }
+{}
+
+/// On the replay of a log whose numbers rise, under a configuration whose triggers have different names, the open problems
+/// of a trigger are the Problem records with its host's name and its own that no Recovery names at all.
+pub fn open_by_names()
+    ensures { OpenByNames }
 {}

@@ -1,0 +1,431 @@
+-- On replays no Recovery stands before its Problem, so open problems are those that no Recovery names at all.
+use Rattle.std.proofs.Common.{◌≡◌, ◌≢◌, ℕ, zero, suc, ◌+◌, ◌-◌, ◌<◌, ◌≤◌, ◌==◌, nat_eq, Bool, true, false, cond, not, ◌&&◌, ◌||◌, ◌⊎◌, inl, inr, Option, Some, None, List, [], ◌∷◌, ◌++◌, map, filter, slice_get, refl, sym, ◌∙◌, ap, ap₂, subst, append_assoc, append-nil, eqb-true, eq-eqb, ne_eqb, ℤ, pos, max, arith}
+use Rattle.std.proofs.lemmas.List.Folds.{list_any-append}
+use Rattle.std.specs.List.{list_any}
+use Rattle.std.specs.Ordering.{int_eq}
+use Rattle.std.specs.Cmp.Lexicographic.{pointwise}
+use Rattle.zbx_types.specs.Ids.{at_id}
+use Rattle.zbx_types.specs.Trees.{tree_of}
+use Rattle.zbx_types.specs.declared.conf.Conf.{Conf}
+use Rattle.zbx_types.specs.declared.triggers.Trigger.{Trigger}
+use Rattle.zbx_types.specs.declared.items.Item.{Item}
+use Rattle.zbx_types.specs.declared.entries.Entry.{Entry}
+use Rattle.zbx_types.specs.declared.entries.Entry.TheVariants.{Config, Value, Tick}
+use Rattle.zbx_types.specs.declared.entries.EventId.{EventId}
+use Rattle.zbx_types.specs.declared.entries.Numbered.{Numbered}
+use Rattle.zbx_types.specs.declared.entries.Rec.{Rec}
+use Rattle.zbx_types.specs.declared.entries.Rec.TheVariants.{Failure, Problem, Recovery, Step, Message}
+use Rattle.zbx_types.specs.declared.entries.Stored.{Stored}
+use Rattle.entry_step.specs.Each.{Each, In}
+use Rattle.entry_step.specs.Names.{same_text}
+use Rattle.entry_step.specs.History.{history_of}
+use Rattle.entry_step.specs.Evaluation.{call_value, expression_value}
+use Rattle.entry_step.specs.Order.{level, by_depth, above_depths, order}
+use Rattle.entry_step.specs.Problems.{same_event, event_of, event_in, opens, recovers, opened, open_of}
+use Rattle.entry_step.specs.Records.{problem_of, recovery_of, begun, verdict_records, judged, judged_by, evaluated, phase_over, has_call, stores, triggers_at, failure_by, failure_of, failures_at, out_of, replay}
+use Rattle.entry_step.specs.Named.{is_named, open_problems, host_of, AreDistinct, last_number, IsRising, OpenByNames}
+use Rattle.entry_step.specs.declared.opens.Open.{Open}
+use Rattle.entry_step.proofs.Members.{each_at, each_append, each_sub, and_left, and_right, and_both}
+use Rattle.entry_step.proofs.Items.{at_suc}
+
+-- Each trigger stands once in the order
+abbrev Once : List ℕ → Type 0
+Once [] = Unit {0}
+Once (x ∷ xs) = (In x xs → ⊥) × Once xs
+
+in_cases : (xs ys : List ℕ) (x : ℕ) → In x (xs ++ ys) → In x xs ⊎ In x ys
+in_cases [] ys x i = inr i
+in_cases (y ∷ xs) ys x (inl q) = inl (inl q)
+in_cases (y ∷ xs) ys x (inr i) = go (in_cases xs ys x i)
+  where
+    go : In x xs ⊎ In x ys → In x (y ∷ xs) ⊎ In x ys
+    go (inl j) = inl (inr j)
+    go (inr j) = inr j
+
+once_append : (xs ys : List ℕ) → Once xs → Once ys → ((x : ℕ) → In x xs → In x ys → ⊥) → Once (xs ++ ys)
+once_append [] ys a b h = b
+once_append (x ∷ xs) ys a b h = (λ i. out (in_cases xs ys x i), once_append xs ys a.1 b (λ y i j. h y (inr i) j))
+  where
+    out : In x xs ⊎ In x ys → ⊥
+    out (inl i) = a.0 i
+    out (inr j) = h x (inl refl) j
+
+in_filter : (p : ℕ → Bool) (xs : List ℕ) (x : ℕ) → In x (filter p xs) → In x xs
+in_filter p [] x i = i
+in_filter p (y ∷ ys) x i = go (p y) (in_filter p ys x) i
+  where
+    go : (b : Bool) → (In x (filter p ys) → In x ys) → In x (cond b (y ∷ filter p ys) (filter p ys)) → In x (y ∷ ys)
+    go true ih (inl q) = inl q
+    go true ih (inr j) = inr (ih j)
+    go false ih j = inr (ih j)
+
+once_filter : (p : ℕ → Bool) (xs : List ℕ) → Once xs → Once (filter p xs)
+once_filter p [] o = tt
+once_filter p (x ∷ xs) o = go (p x) (once_filter p xs o.1)
+  where
+    go : (b : Bool) → Once (filter p xs) → Once (cond b (x ∷ filter p xs) (filter p xs))
+    go true k = (λ i. o.0 (in_filter p xs x i), k)
+    go false k = k
+
+-- an id of a level is that of a trigger with its depth
+abbrev AtDepth : List Trigger → ℕ → ℕ → Type 0
+AtDepth ts place depth = (t : Trigger) × (slice_get ts place ≡ Some t) × (t.depth ≡ depth)
+
+level_in : (depth id : ℕ) (ts : List Trigger) (x : ℕ) → In x (level depth id ts) → (id ≤ x) × AtDepth ts (x - id) depth
+level_in depth id [] x i = absurd i
+level_in depth id (t ∷ ts) x i = go (level_in depth (id + 1) ts x) (t.depth == depth) refl i
+  where
+    later : (In x (level depth (id + 1) ts) → (id + 1 ≤ x) × AtDepth ts (x - (id + 1)) depth) → In x (level depth (id + 1) ts) → (id ≤ x) × AtDepth (t ∷ ts) (x - id) depth
+    later ih j =
+        let r = ih j in
+        let l = r.0 in
+        let at : AtDepth ts (x - (id + 1)) depth = r.1 in
+        let next : x - id ≡ suc (x - (id + 1)) = omega arith in
+        let bound : id ≤ x = omega arith in
+        (bound, (at.0, ap (slice_get (t ∷ ts)) next ∙ at.1, at.2))
+
+    go : (In x (level depth (id + 1) ts) → (id + 1 ≤ x) × AtDepth ts (x - (id + 1)) depth) → (b : Bool) → (t.depth == depth) ≡ b → In x (cond b (id ∷ level depth (id + 1) ts) (level depth (id + 1) ts)) → (id ≤ x) × AtDepth (t ∷ ts) (x - id) depth
+    go ih true e (inl q) =
+        let bound : id ≤ x = omega arith in
+        let here : x - id ≡ zero = omega arith in
+        (bound, (t, ap (slice_get (t ∷ ts)) here, eqb-true t.depth depth e))
+    go ih true e (inr j) = later ih j
+    go ih false e j = later ih j
+
+once_level : (depth id : ℕ) (ts : List Trigger) → Once (level depth id ts)
+once_level depth id [] = tt
+once_level depth id (t ∷ ts) = go (t.depth == depth) (once_level depth (id + 1) ts)
+  where
+    go : (b : Bool) → Once (level depth (id + 1) ts) → Once (cond b (id ∷ level depth (id + 1) ts) (level depth (id + 1) ts))
+    go true k = (λ i. (let r = level_in depth (id + 1) ts id i in let l = r.0 in absurd (omega arith)), k)
+    go false k = k
+
+below_in : (ts : List Trigger) (n x : ℕ) → In x (by_depth ts n) → (depth : ℕ) × (depth < n) × In x (level depth 1 ts)
+below_in ts zero x i = absurd i
+below_in ts (suc n) x i = go (below_in ts n x) (in_cases (by_depth ts n) (level n 1 ts) x i)
+  where
+    go : (In x (by_depth ts n) → (depth : ℕ) × (depth < n) × In x (level depth 1 ts)) → In x (by_depth ts n) ⊎ In x (level n 1 ts) → (depth : ℕ) × (depth < suc n) × In x (level depth 1 ts)
+    go ih (inl j) = let r = ih j in let l : r.0 < n = r.1 in let m : r.0 < suc n = omega arith in (r.0, m, r.2)
+    go ih (inr j) = let m : n < suc n = omega arith in (n, m, j)
+
+same_depth : (ts : List Trigger) (place a b : ℕ) → AtDepth ts place a → AtDepth ts place b → a ≡ b
+same_depth ts place a b x y = let q : Some x.0 ≡ Some y.0 = sym x.1 ∙ y.1 in let r : x.0 ≡ y.0 = cc in sym x.2 ∙ ap (λ t. t.depth) r ∙ y.2
+
+once_below : (ts : List Trigger) (n : ℕ) → Once (by_depth ts n)
+once_below ts zero = tt
+once_below ts (suc n) = once_append (by_depth ts n) (level n 1 ts) (once_below ts n) (once_level n 1 ts) apart
+  where
+    apart : (x : ℕ) → In x (by_depth ts n) → In x (level n 1 ts) → ⊥
+    apart x i j =
+        let r = below_in ts n x i in
+        let l : r.0 < n = r.1 in
+        let a = level_in r.0 1 ts x r.2 in
+        let b = level_in n 1 ts x j in
+        let e : r.0 ≡ n = same_depth ts (x - 1) r.0 n a.1 b.1 in absurd (omega arith)
+
+once_order : (conf : Conf) → Once (order conf)
+unfolding order
+once_order conf = once_below conf.triggers (above_depths 0 conf.triggers)
+
+-- Events of earlier entries, or of triggers that are done
+abbrev Done : ℕ → List ℕ → EventId → Type 0
+Done n done event = (event.number < n) ⊎ ((event.number ≡ n) × In event.trigger done)
+
+abbrev IsDone : ℕ → List ℕ → Rec → Type 0
+IsDone n done (Problem event now severity suppressed host trigger name tags) = Done n done event
+IsDone n done (Recovery event by now cause) = Done n done event
+IsDone n done (Failure number host key why) = Unit {0}
+IsDone n done (Step event action step now) = Unit {0}
+IsDone n done (Message event action step recipient subject body) = Unit {0}
+
+-- a record isn't the recovery of a problem that comes behind it
+abbrev NotAgain : Rec → Rec → Type 0
+NotAgain r (Problem event now severity suppressed host trigger name tags) = recovers event r ≡ false
+NotAgain r (Recovery event by now cause) = Unit {0}
+NotAgain r (Failure number host key why) = Unit {0}
+NotAgain r (Step event action step now) = Unit {0}
+NotAgain r (Message event action step recipient subject body) = Unit {0}
+
+abbrev NoEarly : List Rec → Type 0
+NoEarly [] = Unit {0}
+NoEarly (r ∷ rs) = Each (NotAgain r) rs × NoEarly rs
+
+-- a Problem has the names of its trigger
+abbrev IsOf : Conf → Rec → Type 0
+IsOf conf (Problem event now severity suppressed host trigger name tags) = (t : Trigger) × (at_id conf.triggers event.trigger ≡ Some t) × (host ≡ host_of conf t) × (trigger ≡ t.name)
+IsOf conf (Recovery event by now cause) = Unit {0}
+IsOf conf (Failure number host key why) = Unit {0}
+IsOf conf (Step event action step now) = Unit {0}
+IsOf conf (Message event action step recipient subject body) = Unit {0}
+
+record Right (conf : Conf) (n : ℕ) (done : List ℕ) (rs : List Rec) : Type 0 where
+  early : NoEarly rs
+  ids : Each (IsDone n done) rs
+  named : Each (IsOf conf) rs
+
+early_append : (xs ys : List Rec) → NoEarly xs → NoEarly ys → Each (λ x. Each (NotAgain x) ys) xs → NoEarly (xs ++ ys)
+early_append [] ys a b c = b
+early_append (x ∷ xs) ys a b c = (each_append (NotAgain x) xs ys a.0 c.0, early_append xs ys a.1 b c.1)
+
+right_append : (conf : Conf) (n : ℕ) (done : List ℕ) (xs ys : List Rec) → Right conf n done xs → Right conf n done ys → Each (λ x. Each (NotAgain x) ys) xs → Right conf n done (xs ++ ys)
+right_append conf n done xs ys a b c = record { early = early_append xs ys a.early b.early c; ids = each_append (IsDone n done) xs ys a.ids b.ids; named = each_append (IsOf conf) xs ys a.named b.named }
+
+done_more : (n : ℕ) (done : List ℕ) (id : ℕ) (event : EventId) → Done n done event → Done n (id ∷ done) event
+done_more n done id event (inl l) = inl l
+done_more n done id event (inr d) = inr (d.0, inr d.1)
+
+is_done_sub : (n m : ℕ) (a b : List ℕ) → ((event : EventId) → Done n a event → Done m b event) → (r : Rec) → IsDone n a r → IsDone m b r
+is_done_sub n m a b h (Problem event now severity suppressed host trigger name tags) d = h event d
+is_done_sub n m a b h (Recovery event by now cause) d = h event d
+is_done_sub n m a b h (Failure number host key why) d = tt
+is_done_sub n m a b h (Step event action step now) d = tt
+is_done_sub n m a b h (Message event action step recipient subject body) d = tt
+
+right_sub : (conf : Conf) (n m : ℕ) (a b : List ℕ) (rs : List Rec) → ((event : EventId) → Done n a event → Done m b event) → Right conf n a rs → Right conf m b rs
+right_sub conf n m a b rs h r = record { early = r.early; ids = each_sub (IsDone n a) (IsDone m b) rs (is_done_sub n m a b h) r.ids; named = r.named }
+
+-- records that are no Problems
+abbrev IsQuiet : Rec → Type 0
+IsQuiet (Problem event now severity suppressed host trigger name tags) = ⊥
+IsQuiet (Recovery event by now cause) = Unit {0}
+IsQuiet (Failure number host key why) = Unit {0}
+IsQuiet (Step event action step now) = Unit {0}
+IsQuiet (Message event action step recipient subject body) = Unit {0}
+
+quiet_again : (r : Rec) (qs : List Rec) → Each IsQuiet qs → Each (NotAgain r) qs
+quiet_again r qs e = each_sub IsQuiet (NotAgain r) qs go e
+  where
+    go : (x : Rec) → IsQuiet x → NotAgain r x
+    go (Problem event now severity suppressed host trigger name tags) q = absurd q
+    go (Recovery event by now cause) q = tt
+    go (Failure number host key why) q = tt
+    go (Step event action step now) q = tt
+    go (Message event action step recipient subject body) q = tt
+
+quiet_all : (xs qs : List Rec) → Each IsQuiet qs → Each (λ x. Each (NotAgain x) qs) xs
+quiet_all [] qs e = tt
+quiet_all (x ∷ xs) qs e = (quiet_again x qs e, quiet_all xs qs e)
+
+quiet_early : (qs : List Rec) → Each IsQuiet qs → NoEarly qs
+quiet_early [] e = tt
+quiet_early (q ∷ qs) e = (quiet_again q qs e.1, quiet_early qs e.1)
+
+quiet_named : (conf : Conf) (qs : List Rec) → Each IsQuiet qs → Each (IsOf conf) qs
+quiet_named conf qs e = each_sub IsQuiet (IsOf conf) qs go e
+  where
+    go : (x : Rec) → IsQuiet x → IsOf conf x
+    go (Problem event now severity suppressed host trigger name tags) q = absurd q
+    go (Recovery event by now cause) q = tt
+    go (Failure number host key why) q = tt
+    go (Step event action step now) q = tt
+    go (Message event action step recipient subject body) q = tt
+
+-- the events of open problems are done
+open_done : (conf : Conf) (n : ℕ) (done : List ℕ) (rs : List Rec) (id : ℕ) → Each (IsDone n done) rs → Each (λ o. Done n done (event_in o)) (open_of conf rs id)
+open_done conf n done [] id e = tt
+open_done conf n done (r ∷ rs) id e = go (opens conf id r) refl (not (list_any (recovers (event_of r)) rs)) (open_done conf n done rs id e.1)
+  where
+    own : (r : Rec) → IsDone n done r → opens conf id r ≡ true → Done n done (event_of r)
+    own (Problem event now severity suppressed host trigger name tags) d q = d
+    own (Recovery event by now cause) d q = cc
+    own (Failure number host key why) d q = cc
+    own (Step event action step now) d q = cc
+    own (Message event action step recipient subject body) d q = cc
+
+    go : (a : Bool) → opens conf id r ≡ a → (b : Bool) → Each (λ o. Done n done (event_in o)) (open_of conf rs id) → Each (λ o. Done n done (event_in o)) (cond (a && b) (opened conf r ∷ open_of conf rs id) (open_of conf rs id))
+    go true q true ih = (own r e.0 q, ih)
+    go true q false ih = ih
+    go false q b ih = ih
+
+recoveries_right : (conf : Conf) (n now : ℕ) (done : List ℕ) (os : List Open) → Each (λ o. Done n done (event_in o)) os → Each IsQuiet (map (recovery_of n now) os) × Each (IsDone n done) (map (recovery_of n now) os)
+recoveries_right conf n now done [] e = (tt, tt)
+recoveries_right conf n now done (o ∷ os) e = let r = recoveries_right conf n now done os e.1 in ((tt, r.0), (e.0, r.1))
+
+quiet_right : (conf : Conf) (n : ℕ) (done : List ℕ) (qs : List Rec) → Each IsQuiet qs → Each (IsDone n done) qs → Right conf n done qs
+quiet_right conf n done qs q d = record { early = quiet_early qs q; ids = d; named = quiet_named conf qs q }
+
+-- a new problem behind what is done
+fresh : (n id : ℕ) (done : List ℕ) → (In id done → ⊥) → (r : Rec) → IsDone n done r → recovers (record { number = n; trigger = id }) r ≡ false
+fresh n id done out (Problem event now severity suppressed host trigger name tags) d = refl
+fresh n id done out (Failure number host key why) d = refl
+fresh n id done out (Step event action step now) d = refl
+fresh n id done out (Message event action step recipient subject body) d = refl
+fresh n id done out (Recovery event by now cause) (inl l) = ap (λ b. b && (id == event.trigger)) (ne_eqb n event.number (λ q. absurd (omega arith)))
+fresh n id done out (Recovery event by now cause) (inr d) = ap (λ b. (n == event.number) && b) (ne_eqb id event.trigger (λ q. out (subst (λ t. In t done) (sym q) d.1))) ∙ off (n == event.number)
+  where
+    off : (b : Bool) → (b && false) ≡ false
+    off true = refl
+    off false = refl
+
+module _ (conf : Conf) (n now : ℕ) (items : ℕ → List Stored) (done : List ℕ) (id : ℕ) (rs : List Rec) (right : Right conf n done rs) (out : In id done → ⊥) where
+  abbrev Next : List Rec → Type 0
+  Next new = Right conf n (id ∷ done) (rs ++ new)
+
+  weaker : Right conf n (id ∷ done) rs
+  weaker = right_sub conf n n done (id ∷ done) rs (λ event d. done_more n done id event d) right
+
+  none_next : Next []
+  none_next = subst (Right conf n (id ∷ done)) (sym (append-nil rs)) weaker
+
+  close_next : Next (map (recovery_of n now) (open_of conf rs id))
+  close_next =
+      let r = recoveries_right conf n now (id ∷ done) (open_of conf rs id) (open_done conf n (id ∷ done) rs id weaker.ids) in
+      right_append conf n (id ∷ done) rs (map (recovery_of n now) (open_of conf rs id)) weaker (quiet_right conf n (id ∷ done) (map (recovery_of n now) (open_of conf rs id)) r.0 r.1) (quiet_all rs (map (recovery_of n now) (open_of conf rs id)) r.0)
+
+  begin_next : (t : Trigger) → at_id conf.triggers id ≡ Some t → Next (problem_of conf n now id t ∷ [])
+  unfolding problem_of
+  begin_next t is =
+      right_append conf n (id ∷ done) rs (problem_of conf n now id t ∷ []) weaker
+      (record { early = (tt, tt); ids = (inr (refl, inl refl), tt); named = ((t, is, refl, refl), tt) })
+      (each_sub (IsDone n done) (λ x. Each (NotAgain x) (problem_of conf n now id t ∷ [])) rs (λ x d. (fresh n id done out x d, tt)) right.ids)
+
+  begun_next : (t : Trigger) → at_id conf.triggers id ≡ Some t → (os : List Open) → Next (begun conf n now id t os)
+  begun_next t is [] = begin_next t is
+  begun_next t is (o ∷ os) = none_next
+
+  verdict_next : (t : Trigger) → at_id conf.triggers id ≡ Some t → (value : Option ℤ) → Next (verdict_records conf n now id t (open_of conf rs id) value)
+  unfolding verdict_records
+  verdict_next t is None = none_next
+  verdict_next t is (Some p) = go (int_eq p (pos 0))
+    where
+      go : (b : Bool) → Next (cond b (map (recovery_of n now) (open_of conf rs id)) (begun conf n now id t (open_of conf rs id)))
+      go true = close_next
+      go false = begun_next t is (open_of conf rs id)
+
+  one_next : Next (evaluated conf n now items (open_of conf rs) id)
+  unfolding evaluated judged
+  one_next = go (at_id conf.triggers id) refl
+    where
+      go : (t : Option Trigger) → at_id conf.triggers id ≡ t → Next (judged_by conf items n now id t (open_of conf rs id))
+      go None e = none_next
+      go (Some t) e = verdict_next t e (expression_value (call_value items now t) (tree_of t.expr))
+
+phase_next : (conf : Conf) (n now : ℕ) (items : ℕ → List Stored) (done ids : List ℕ) (rs : List Rec) → Right conf n done rs → Once ids → ((x : ℕ) → In x ids → In x done → ⊥)
+    → (all : List ℕ) × Right conf n all (rs ++ phase_over conf (evaluated conf n now items) rs ids)
+phase_next conf n now items done [] rs right once apart = (done, subst (Right conf n done) (sym (append-nil rs)) right)
+phase_next conf n now items done (id ∷ ids) rs right once apart =
+    let new = evaluated conf n now items (open_of conf rs) id in
+    let r = phase_next conf n now items (id ∷ done) ids (rs ++ new) (one_next conf n now items done id rs right (apart id (inl refl))) once.1 still in
+    (r.0, subst (Right conf n r.0) (append_assoc rs new (phase_over conf (evaluated conf n now items) (rs ++ new) ids)) r.1)
+  where
+    still : (x : ℕ) → In x ids → In x (id ∷ done) → ⊥
+    still x i (inl q) = once.0 (subst (λ y. In y ids) q i)
+    still x i (inr j) = apart x (inr i) j
+
+failure_quiet : (conf : Conf) (number item : ℕ) → Each IsQuiet (failure_of conf number item) × Each (IsDone number []) (failure_of conf number item)
+unfolding failure_of
+failure_quiet conf number item = go (at_id conf.items item)
+  where
+    go : (o : Option Item) → Each IsQuiet (failure_by conf number o) × Each (IsDone number []) (failure_by conf number o)
+    go None = (tt, tt)
+    go (Some i) = ((tt, tt), (tt, tt))
+
+failures_quiet : (conf : Conf) (number : ℕ) (entry : Entry) → Each IsQuiet (failures_at conf number entry) × Each (IsDone number []) (failures_at conf number entry)
+unfolding failures_at
+failures_quiet conf number (Config now text) = (tt, tt)
+failures_quiet conf number (Tick now) = (tt, tt)
+failures_quiet conf number (Value now item time value) = go (stores conf number (Value now item time value) item)
+  where
+    go : (b : Bool) → Each IsQuiet (cond b [] (failure_of conf number item)) × Each (IsDone number []) (cond b [] (failure_of conf number item))
+    go true = (tt, tt)
+    go false = failure_quiet conf number item
+
+out_next : (conf : Conf) (log : List Numbered) (e : Numbered) (entry : Entry) (rs : List Rec) → Right conf e.number [] rs → (all : List ℕ) × Right conf e.number all (rs ++ out_of conf log e entry rs)
+unfolding out_of triggers_at
+out_next conf log e (Config now text) rs right = ([], subst (Right conf e.number []) (sym (append-nil rs)) right)
+out_next conf log e (Tick now) rs right = ([], subst (Right conf e.number []) (sym (append-nil rs)) right)
+out_next conf log e (Value now item time value) rs right =
+    let f = failures_at conf e.number e.entry in
+    let q = failures_quiet conf e.number e.entry in
+    let ids = triggers_at conf e.number e.entry in
+    let r = phase_next conf e.number now (history_of conf (e ∷ log)) [] ids (rs ++ f) (right_append conf e.number [] rs f right (quiet_right conf e.number [] f q.0 q.1) (quiet_all rs f q.0))
+    (once_filter (λ id. has_call (stores conf e.number e.entry) (at_id conf.triggers id)) (order conf) (once_order conf)) (λ x i j. j) in
+    (r.0, subst (Right conf e.number r.0) (append_assoc rs f (phase_over conf (evaluated conf e.number now (history_of conf (e ∷ log))) (rs ++ f) ids)) r.1)
+
+replay_right : (conf : Conf) (log : List Numbered) → IsRising log → (m : ℕ) → last_number log < m → Right conf m [] (replay conf log)
+replay_right conf [] r m l = record { early = tt; ids = tt; named = tt }
+replay_right conf (e ∷ log) r m l =
+    let here = out_next conf log e e.entry (replay conf log) (replay_right conf log r.1 e.number r.0) in
+    right_sub conf e.number m here.0 [] (replay conf (e ∷ log)) (later here.0) here.1
+  where
+    later : (all : List ℕ) (event : EventId) → Done e.number all event → Done m [] event
+    later all event (inl k) = inl (omega arith)
+    later all event (inr d) = let q : event.number ≡ e.number = d.0 in inl (omega arith)
+
+-- The public definition
+same_refl : (a : List ℕ) → same_text a a ≡ true
+same_refl [] = refl
+same_refl (x ∷ xs) = ap (λ b. b && same_text xs xs) (eq-eqb x x refl) ∙ same_refl xs
+
+any_early : (event : EventId) (before : List Rec) → Each (λ r. recovers event r ≡ false) before → list_any (recovers event) before ≡ false
+any_early event [] e = refl
+any_early event (r ∷ rs) e = ap (λ b. b || list_any (recovers event) rs) e.0 ∙ any_early event rs e.1
+
+before_all : (event : EventId) (before rs : List Rec) → Each (λ r. recovers event r ≡ false) before → list_any (recovers event) (before ++ rs) ≡ list_any (recovers event) rs
+before_all event before rs e = list_any-append (recovers event) before rs ∙ ap (λ b. b || list_any (recovers event) rs) (any_early event before e)
+
+free_more : (before : List Rec) (r : Rec) (rs : List Rec) → Each (λ p. Each (λ b. NotAgain b p) before) rs → Each (NotAgain r) rs → Each (λ p. Each (λ b. NotAgain b p) (before ++ r ∷ [])) rs
+free_more before r [] f e = tt
+free_more before r (p ∷ rs) f e = (each_append (λ b. NotAgain b p) before (r ∷ []) f.0 (e.0, tt), free_more before r rs f.1 e.1)
+
+free_none : (rs : List Rec) → Each (λ p. Each (λ b. NotAgain b p) []) rs
+free_none [] = tt
+free_none (r ∷ rs) = (tt, free_none rs)
+
+module _ (conf : Conf) (id : ℕ) (trigger : Trigger) (distinct : AreDistinct conf) (is : at_id conf.triggers id ≡ Some trigger) where
+  -- a Problem is the trigger's where it has its names
+  named_is : (event : EventId) (host name : List ℕ) → (t : Trigger) × (at_id conf.triggers event.trigger ≡ Some t) × (host ≡ host_of conf t) × (name ≡ t.name)
+      → (event.trigger == id) ≡ (same_text host (host_of conf trigger) && same_text name trigger.name)
+  named_is event host name of = go (event.trigger == id) refl
+    where
+      t : Trigger
+      t = of.0
+
+      go : (b : Bool) → (event.trigger == id) ≡ b → b ≡ (same_text host (host_of conf trigger) && same_text name trigger.name)
+      go true q =
+          let w : event.trigger ≡ id = eqb-true event.trigger id q in
+          let both : Some t ≡ Some trigger = sym of.1 ∙ ap (at_id conf.triggers) w ∙ is in
+          let u : t ≡ trigger = cc in
+          let h : same_text host (host_of conf trigger) ≡ true = ap (λ x. same_text x (host_of conf trigger)) (of.2 ∙ ap (host_of conf) u) ∙ same_refl (host_of conf trigger) in
+          let k : same_text name trigger.name ≡ true = ap (λ x. same_text x trigger.name) (of.3 ∙ ap (λ x. x.name) u) ∙ same_refl trigger.name in
+          sym (and_both (same_text host (host_of conf trigger)) (same_text name trigger.name) h k)
+      go false q = at (same_text host (host_of conf trigger)) (same_text name trigger.name) refl refl
+        where
+          at : (a b : Bool) → same_text host (host_of conf trigger) ≡ a → same_text name trigger.name ≡ b → false ≡ (a && b)
+          at true true ea eb =
+              let w : event.trigger ≡ id = distinct event.trigger id t trigger of.1 is (ap (λ x. same_text x (host_of conf trigger)) (sym of.2) ∙ ea) (ap (λ x. same_text x trigger.name) (sym of.3) ∙ eb) in
+              let n : (event.trigger == id) ≡ true = eq-eqb event.trigger id w in cc
+          at true false ea eb = refl
+          at false b ea eb = refl
+
+  keep_named : (a b : Bool) (x : Rec) (os : List Open) (rs : List Rec) → map (λ o. o.problem) os ≡ rs → map (λ o. o.problem) (cond (a && not b) (opened conf x ∷ os) os) ≡ cond (a && not b) (x ∷ rs) rs
+  keep_named true true x os rs e = e
+  keep_named true false x os rs e = ap (λ ys. x ∷ ys) e
+  keep_named false b x os rs e = e
+
+  literal : (all before rest : List Rec) → before ++ rest ≡ all → Each (λ p. Each (λ b. NotAgain b p) before) rest → NoEarly rest → Each (IsOf conf) rest
+      → map (λ o. o.problem) (open_of conf rest id) ≡ filter (λ r. is_named (host_of conf trigger) trigger.name r && not (list_any (recovers (event_of r)) all)) rest
+  literal all before [] split free early named = refl
+  literal all before (r ∷ rs) split free early named =
+      go r free.0 named.0 split (literal all (before ++ r ∷ []) rs (append_assoc before (r ∷ []) rs ∙ split) (free_more before r rs free.1 early.0) early.1 named.1)
+    where
+      test : Rec → Bool
+      test x = is_named (host_of conf trigger) trigger.name x && not (list_any (recovers (event_of x)) all)
+
+      go : (r : Rec) → Each (λ b. NotAgain b r) before → IsOf conf r → before ++ r ∷ rs ≡ all → map (λ o. o.problem) (open_of conf rs id) ≡ filter test rs
+          → map (λ o. o.problem) (open_of conf (r ∷ rs) id) ≡ cond (test r) (r ∷ filter test rs) (filter test rs)
+      go (Problem event now severity suppressed host t name tags) f n s ih =
+          let r : Rec = Problem event now severity suppressed host t name tags in
+          let g : list_any (recovers event) all ≡ list_any (recovers event) rs = ap (list_any (recovers event)) (sym s) ∙ before_all event before (r ∷ rs) f in
+          keep_named (event.trigger == id) (list_any (recovers event) rs) r (open_of conf rs id) (filter test rs) ih
+          ∙ ap₂ (λ a b. cond (a && not b) (r ∷ filter test rs) (filter test rs)) (named_is event host t n) (sym g)
+      go (Recovery event by now cause) f n s ih = ih
+      go (Failure number host key why) f n s ih = ih
+      go (Step event action step now) f n s ih = ih
+      go (Message event action step recipient subject body) f n s ih = ih
+
+pub open_by_names : OpenByNames
+open_by_names conf log rising distinct id trigger is =
+    let bound : last_number log < last_number log + 1 = omega arith in
+    let right = replay_right conf log rising (last_number log + 1) bound in
+    literal conf id trigger distinct is (replay conf log) [] (replay conf log) refl (free_none (replay conf log)) right.early right.named
