@@ -10,6 +10,7 @@ use std::{env, io};
 use zbx_types::{Many, OutOfMemory, Text};
 
 /// An environment without the program's path: its first argument is the one behind that.
+#[derive(Drop)]
 struct AfterPath<'a, R> {
     env: &'a R,
 }

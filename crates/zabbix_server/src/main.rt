@@ -15,8 +15,8 @@
 //! [`StdSink`](standard::StdSink) writes to standard output. Each tells its bytes where the reader or the writer behind
 //! it does, and an error comes only where its count of faults rose.
 //!
-//! The one contract: the program exits with the number of the status of a run over its words, and all clauses of
-//! [`server_run::run_single`] hold of that run.
+//! The one contract: the program exits with the number of its status, which is Usage exactly where its words have no plan,
+//! unless memory was refused.
 #![tactic(auto)]
 
 mod arguments;
