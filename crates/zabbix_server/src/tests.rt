@@ -124,6 +124,7 @@ fn a_file_that_cannot_be_opened_fails_at_its_first_call(rt: HostRuntime) -> Resu
 }
 
 /// A program's arguments, its path among them.
+#[derive(Drop)]
 struct Given {
     arguments: &'static [&'static [u8]],
 }
