@@ -276,14 +276,14 @@ pub fn run_single<S: Source, W: Wire, O: Sink, P: Sink>(
     ensures unbuilt { result.status ≡ Status.Unbuilt → IfSome (S.left config.old) (λ text. flat_of text ≡ Err unbuilt) }
     ensures not_built { (text : List ℕ) → S.left config.old ≡ Some text → flat_of text ≡ Err unbuilt
         → (result.status ≡ Status.Unbuilt) ⊎ ((result.status ≡ Status.SourceFault)
-            ⊎ ((result.status ≡ Status.Usage) ⊎ (result.status ≡ Status.OutOfMemory))) }
+        ⊎ ((result.status ≡ Status.Usage) ⊎ (result.status ≡ Status.OutOfMemory))) }
 
     // ConfigRefused comes exactly where the configuration is refused, with its path and cause.
     ensures config_refused { (path : List ℕ) (cause : Cause) → result.status ≡ Status.ConfigRefused path cause
         → IfSome (S.left config.old) (λ text. flat_of text ≡ refuse path cause) }
     ensures refused_text { (text path : List ℕ) (cause : Cause) → S.left config.old ≡ Some text → flat_of text ≡ refuse path cause
         → (result.status ≡ Status.ConfigRefused path cause) ⊎ ((result.status ≡ Status.SourceFault)
-            ⊎ ((result.status ≡ Status.Usage) ⊎ (result.status ≡ Status.OutOfMemory))) }
+        ⊎ ((result.status ≡ Status.Usage) ⊎ (result.status ≡ Status.OutOfMemory))) }
 
     // A fault comes only where the count of its object rose.
     ensures source { result.status ≡ Status.SourceFault → Rose (S.faults config.old) (S.faults config.new) }

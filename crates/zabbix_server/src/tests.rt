@@ -151,10 +151,7 @@ impl Env for Given {
 }
 
 /// The words of these arguments, each in brackets.
-fn told_words(
-    alloc: Global,
-    arguments: &'static [&'static [u8]],
-) -> Result<String, OutOfMemory> {
+fn told_words(alloc: Global, arguments: &'static [&'static [u8]]) -> Result<String, OutOfMemory> {
     let mut told = String::new(alloc);
     for word in words(&Given { arguments }, alloc)?.as_slice() {
         told.push('[')?;
@@ -167,7 +164,10 @@ fn told_words(
 #[test]
 fn all_words_behind_the_path_are_taken(rt: HostRuntime) -> Result<(), Fail> {
     let alloc = rt.alloc();
-    let seven = told_words(alloc, &[b"server", b"a", b"b", b"", b"c", b"d", b"e", b"\xc3\xa4"])?;
+    let seven = told_words(
+        alloc,
+        &[b"server", b"a", b"b", b"", b"c", b"d", b"e", b"\xc3\xa4"],
+    )?;
     assert_eq!(rt; seven.as_str(), "[a][b][][c][d][e][\u{e4}]");
     let behind_bytes = told_words(alloc, &[b"/bin/\xff", b"a", b"b"])?;
     assert_eq!(rt; behind_bytes.as_str(), "[a][b]");
@@ -231,7 +231,10 @@ fn exit_in_memory(
     fails: Fails,
 ) -> Result<u8, OutOfMemory> {
     let words = words_of(alloc, words)?;
-    let config = MemSource::new(Bytes::of(alloc, config.as_bytes())?, only(alloc, fails.source)?);
+    let config = MemSource::new(
+        Bytes::of(alloc, config.as_bytes())?,
+        only(alloc, fails.source)?,
+    );
     let script = MemSource::new(Bytes::of(alloc, script.as_bytes())?, Many::new(alloc));
     let wire = ScriptWire::new(alloc, script, Many::new(alloc));
     let outbox = MemSink::new(Bytes::new(alloc), only(alloc, fails.outbox)?);
@@ -250,7 +253,13 @@ fn each_status_has_its_number(rt: HostRuntime) -> Result<(), Fail> {
     for (words, config, script, fails, exit) in [
         (good, plain_config(), one_frame(), none, 0),
         ("--mode feed", plain_config(), one_frame(), none, 2),
-        ("--mode feed --config c --script s t", plain_config(), one_frame(), none, 2),
+        (
+            "--mode feed --config c --script s t",
+            plain_config(),
+            one_frame(),
+            none,
+            2,
+        ),
         (good, "{", one_frame(), none, 3),
         (good, plain_config(), one_frame(), source, 5),
         (good, plain_config(), one_frame(), outbox, 11),
