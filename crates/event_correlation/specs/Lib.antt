@@ -1,0 +1,4 @@
+pub mod Conditions
+pub mod Closings
+pub mod Due
+pub mod Laws
