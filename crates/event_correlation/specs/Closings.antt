@@ -14,7 +14,8 @@ closes_old does_match old rule = rule.close_old && does_match rule old
 
 -- a rule closes an old problem that none of the earlier rules closes
 abbrev pub closes_first : (Rule → Rec → Bool) → List Rule → Rule → Rec → Bool
-closes_first does_match earlier rule old = not (list_any (closes_old does_match old) earlier) && closes_old does_match old rule
+closes_first does_match earlier rule old =
+    not (list_any (closes_old does_match old) earlier) && closes_old does_match old rule
 
 -- the old problems that close: rule by rule, each problem at the first rule that closes it
 abbrev pub closed_from : (Rule → Rec → Bool) → List Rec → List Rule → List Rule → List Rec

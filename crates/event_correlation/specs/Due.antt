@@ -15,7 +15,8 @@ due_at old (Some place) = Some (record { place = place; event = event_of old })
 
 -- the old problems that close, each with the place of the first rule that closes it
 abbrev pub due_of : (Rule → Rec → Bool) → List Rule → List Rec → List Due
-due_of does_match rules old = filter_map (λ problem. due_at problem (position_from (closes_old does_match problem) 0 rules)) old
+due_of does_match rules old =
+    filter_map (λ problem. due_at problem (position_from (closes_old does_match problem) 0 rules)) old
 
 -- the events of those that close at the rule at a place
 abbrev pub events_at : ℕ → List Due → List EventId

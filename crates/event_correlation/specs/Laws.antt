@@ -17,9 +17,10 @@ HasTagsOf trigger problem = map (λ tag. tag.tag) (tags_of problem) ≡ map (λ 
 abbrev pub share_reach : List Rule → Trigger → Trigger → Bool
 share_reach rules one other = list_any (λ rule. in_reach rule one && in_reach rule other) rules
 
--- Where problems have the tag names of their triggers, the same closes over those old problems alone whose trigger shares
--- a reach with the new one's.
+-- Where problems have the tag names of their triggers, the same closes over those old problems alone whose trigger
+-- shares a reach with the new one's.
 abbrev pub WithinReach : Type 0
 WithinReach = (conf : Conf) (new : Rec) (trigger : Trigger) (old : List Rec) (trigger_of : Rec → Trigger)
     → HasTagsOf trigger new → All (λ problem. HasTagsOf (trigger_of problem) problem) old
-    → closes_of conf new old ≡ closes_of conf new (filter (λ problem. share_reach conf.correlations trigger (trigger_of problem)) old)
+    → closes_of conf new old
+    ≡ closes_of conf new (filter (λ problem. share_reach conf.correlations trigger (trigger_of problem)) old)

@@ -21,11 +21,11 @@ fn references(alloc: Global, records: &[Rec]) -> Result<Vec<&Rec>, OutOfMemory>
     Ok(made)
 }
 
-/// Which problems close as a new one opens, where these problems were open when it was made, in the order of making (the
-/// Zabbix 6.0 manual, "Global event correlation"; the order is this project's own). The rules are taken in file order. One
-/// that closes old problems closes those that it matches and that no rule before it closed, in their order. One that closes
-/// the new problem does so where it matches at least one old problem, closed or not. A record that is no problem has no
-/// tags, and no host. [`OutOfMemory`] where there is no room for the answer.
+/// Which problems close as a new one opens, where these problems were open when it was made, in the order of making
+/// (the Zabbix 6.0 manual, "Global event correlation"; the order is this project's own). The rules are taken in file
+/// order. One that closes old problems closes those that it matches and that no rule before it closed, in their order.
+/// One that closes the new problem does so where it matches at least one old problem, closed or not. A record that is
+/// no problem has no tags, and no host. [`OutOfMemory`] where there is no room for the answer.
 pub fn closes(alloc: Global, conf: &Conf, new: &Rec, old: &[Rec]) -> Result<Closes, OutOfMemory>
     ensures { IfOk result (λ made. made ≡ closes_of conf.now new.now old.now) }
 {

@@ -1,11 +1,11 @@
 //! Global correlation of events: which problems the rules of the configuration close when a new problem opens.
 //!
-//! The one contract: [`closes`] gives exactly what its definition says (`specs/Closings.antt`) of the configuration, the new
-//! problem and the problems that were open when it was made. [`closes_among`] is the same over references, so that no
-//! problem is copied.
+//! The one contract: [`closes`] gives exactly what its definition says (`specs/Closings.antt`) of the configuration, the
+//! new problem and the problems that were open when it was made. [`closes_among`] is the same over references, so that
+//! no problem is copied.
 //!
-//! A rule has one or more conditions, of which all must hold (`and`) or at least one (`or`), on an old and the new problem
-//! (`specs/Conditions.antt`):
+//! A rule has one or more conditions, of which all must hold (`and`) or at least one (`or`), on an old and the new
+//! problem (`specs/Conditions.antt`):
 //!
 //! ```text
 //! old_tag, new_tag                the old one, the new one has the tag
@@ -14,9 +14,9 @@
 //! new_group                       the new one's host is in the host group
 //! ```
 //!
-//! The rules are taken in file order. A rule that closes old problems closes, in their order, those that it matches and that no
-//! rule before it closed. A rule that closes the new problem does so where it matches at least one old problem, closed
-//! already or not.
+//! The rules are taken in file order. A rule that closes old problems closes, in their order, those that it matches and
+//! that no rule before it closed. A rule that closes the new problem does so where it matches at least one old problem,
+//! closed already or not.
 //!
 //! It takes time linear in rules times old problems times conditions, and memory for what closes.
 //!

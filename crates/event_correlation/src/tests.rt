@@ -6,9 +6,6 @@ use zbx_types::{
     TagTest, Text,
 };
 
-/// Tags, each with its value.
-type Pairs<'a> = &'a [(&'a str, &'a str)];
-
 /// A condition of a rule.
 #[derive(Clone, Copy)]
 enum Given<'a> {
@@ -23,22 +20,25 @@ enum Given<'a> {
 /// A rule: how its conditions are joined, the conditions, and whether it closes old problems and the new one.
 type Ruling<'a> = (Matching, &'a [Given<'a>], bool, bool);
 
-/// A new problem's host and tags, the old problems' tags, the numbers of the old ones that close, counted from 1, and whether
-/// the new one closes.
-type Decision<'a> = (&'a str, Pairs<'a>, &'a [Pairs<'a>], &'a [u64], bool);
+/// A new problem's host and tags, written as `tag=value`, the old problems' tags, the numbers of the old ones that close,
+/// counted from 1, and whether the new one closes.
+type Decision<'a> = (&'a str, &'a str, &'a [&'a str], &'a [u64], bool);
 
-fn tags_of(alloc: Global, pairs: Pairs) -> Result<Many<Tag>, OutOfMemory> {
+/// Tags, each written as `tag=value`.
+fn tags_of(alloc: Global, text: &str) -> Result<Many<Tag>, OutOfMemory> {
     let mut tags = Many::new(alloc);
-    for (tag, value) in pairs {
-        tags.push(Tag {
-            tag: Text::of(alloc, tag)?,
-            value: Text::of(alloc, value)?,
-        })?;
+    for word in text.split_whitespace() {
+        if let Some((tag, value)) = word.split_once('=') {
+            tags.push(Tag {
+                tag: Text::of(alloc, tag)?,
+                value: Text::of(alloc, value)?,
+            })?;
+        }
     }
     Ok(tags)
 }
 
-fn problem(alloc: Global, number: u64, host: &str, pairs: Pairs) -> Result<Rec, OutOfMemory> {
+fn problem(alloc: Global, number: u64, host: &str, tags: &str) -> Result<Rec, OutOfMemory> {
     Ok(Rec::Problem {
         event: EventId { number, trigger: 7 },
         now: Moment { sec: 100, ns: 0 },
@@ -47,16 +47,16 @@ fn problem(alloc: Global, number: u64, host: &str, pairs: Pairs) -> Result<Rec, 
         host: Text::of(alloc, host)?,
         trigger: Text::new(alloc),
         name: Text::new(alloc),
-        tags: tags_of(alloc, pairs)?,
+        tags: tags_of(alloc, tags)?,
     })
 }
 
-fn problems(alloc: Global, old: &[Pairs]) -> Result<Many<Rec>, OutOfMemory> {
+fn problems(alloc: Global, old: &[&str]) -> Result<Many<Rec>, OutOfMemory> {
     let mut made = Many::new(alloc);
     let mut number: u64 = 0;
-    for pairs in old {
+    for tags in old {
         number = number.wrapping_add(1);
-        made.push(problem(alloc, number, "h", pairs)?)?;
+        made.push(problem(alloc, number, "h", tags)?)?;
     }
     Ok(made)
 }
@@ -173,98 +173,145 @@ fn is_decided(alloc: Global, rulings: &[Ruling], decision: Decision) -> Result<b
     Ok(are(made.old.as_slice(), closed) && made.new == itself)
 }
 
-/// B opens with the tag of A, which is open, and both close. A opened before and C opens later, each while none is open. C,
-/// which has no tag, would close nothing.
+/// One rule: problems with one value of the tag close each other.
+fn by_service() -> &'static [Ruling<'static>] {
+    &[(Matching::And, &[Given::Pair("svc", "svc")], true, true)]
+}
+
+/// What that rule decides for a problem of host `h`.
+fn of_services(
+    alloc: Global,
+    new: &str,
+    old: &[&str],
+    closed: &[u64],
+) -> Result<bool, OutOfMemory> {
+    is_decided(
+        alloc,
+        by_service(),
+        ("h", new, old, closed, !closed.is_empty()),
+    )
+}
+
+/// A opens while none is open, then B with the tag of A, and both close. C, which has no tag, opens while none is open;
+/// it would close nothing.
 #[test]
 fn problems_with_one_service_close_each_other(rt: HostRuntime) -> Result<(), Fail> {
-    let by_service: &[Ruling] = &[(Matching::And, &[Given::Pair("svc", "svc")], true, true)];
-    let decisions: &[Decision] = &[
-        ("h", &[("svc", "x")], &[], &[], false),
-        ("h", &[("svc", "x")], &[&[("svc", "x")]], &[1], true),
-        ("h", &[], &[], &[], false),
-        ("h", &[], &[&[("svc", "x")]], &[], false),
-        (
-            "h",
-            &[("svc", "x")],
-            &[&[("svc", "y")], &[("zone", "x")], &[]],
-            &[],
-            false,
-        ),
-    ];
-    for decision in decisions {
-        assert!(rt; is_decided(rt.alloc(), by_service, *decision)?);
-    }
+    let alloc = rt.alloc();
+    assert!(rt; of_services(alloc, "svc=x", &[], &[])?);
+    assert!(rt; of_services(alloc, "svc=x", &["svc=x"], &[1])?);
+    assert!(rt; of_services(alloc, "", &[], &[])?);
+    assert!(rt; of_services(alloc, "", &["svc=x"], &[])?);
+    assert!(rt; of_services(alloc, "svc=x", &["svc=y", "zone=x", ""], &[])?);
     Ok(())
 }
 
-/// The first two decide over the same problems, by the same two rules in either order.
+/// Three old problems, the first and the last of which have the tag.
+fn three() -> [&'static str; 3] {
+    ["svc=x", "zone=eu", "svc=y"]
+}
+
+fn tagged() -> Ruling<'static> {
+    (Matching::And, &[Given::Old("svc")], true, false)
+}
+
+fn each() -> Ruling<'static> {
+    (Matching::And, &[Given::New("svc")], true, true)
+}
+
+fn itself_at(tag: &'static [Given<'static>]) -> Ruling<'static> {
+    (Matching::And, tag, false, true)
+}
+
+/// What some rules decide over the three.
+fn of_three(
+    alloc: Global,
+    rulings: &[Ruling],
+    closed: &[u64],
+    new: bool,
+) -> Result<bool, OutOfMemory> {
+    is_decided(alloc, rulings, ("h", "svc=z", &three(), closed, new))
+}
+
 #[test]
 fn rules_close_in_file_order_and_each_old_problem_once(rt: HostRuntime) -> Result<(), Fail> {
-    let old: &[Pairs] = &[&[("svc", "x")], &[("zone", "eu")], &[("svc", "y")]];
-    let some: Ruling = (Matching::And, &[Given::Old("svc")], true, false);
-    let all: Ruling = (Matching::And, &[Given::New("svc")], true, true);
-    let itself: Ruling = (Matching::And, &[Given::Old("svc")], false, true);
-    let missed: Ruling = (Matching::And, &[Given::Old("area")], false, true);
-    let cases: &[(&[Ruling], &[u64], bool)] = &[
-        (&[some, all], &[1, 3, 2], true),
-        (&[all, some], &[1, 2, 3], true),
-        (&[some, itself], &[1, 3], true),
-        (&[itself], &[], true),
-        (&[missed, some], &[1, 3], false),
-        (&[], &[], false),
-    ];
-    for (rulings, closed, new) in cases {
-        let decision: Decision = ("h", &[("svc", "z")], old, closed, *new);
-        assert!(rt; is_decided(rt.alloc(), rulings, decision)?);
-    }
+    let alloc = rt.alloc();
+    let itself = itself_at(&[Given::Old("svc")]);
+    let missed = itself_at(&[Given::Old("area")]);
+    assert!(rt; of_three(alloc, &[tagged(), each()], &[1, 3, 2], true)?);
+    assert!(rt; of_three(alloc, &[each(), tagged()], &[1, 2, 3], true)?);
+    assert!(rt; of_three(alloc, &[tagged(), itself], &[1, 3], true)?);
+    assert!(rt; of_three(alloc, &[itself], &[], true)?);
+    assert!(rt; of_three(alloc, &[missed, tagged()], &[1, 3], false)?);
+    assert!(rt; of_three(alloc, &[], &[], false)?);
+    Ok(())
+}
+
+/// Old problems for the conditions.
+fn mixed() -> [&'static str; 3] {
+    ["svc=x svc=y", "svc=y from=a", "to=a"]
+}
+
+fn is_x_or_in_g() -> &'static [Given<'static>] {
+    &[
+        Given::OldValue("svc", TagOp::Equals, "x"),
+        Given::Group("g"),
+    ]
+}
+
+fn is_not_x() -> &'static [Given<'static>] {
+    &[Given::OldValue("svc", TagOp::NotEquals, "x")]
+}
+
+fn is_web() -> &'static [Given<'static>] {
+    &[
+        Given::NewValue("app", TagOp::Contains, "eb"),
+        Given::NewValue("app", TagOp::NotContains, "mail"),
+    ]
+}
+
+fn crossed() -> &'static [Given<'static>] {
+    &[Given::Pair("from", "to")]
+}
+
+/// Whether of the mixed problems these close by a rule, as a problem of a host with these tags opens.
+fn of_mixed(
+    alloc: Global,
+    conditions: (Matching, &[Given]),
+    new: (&str, &str),
+    closed: &[u64],
+) -> Result<bool, OutOfMemory> {
+    let (matching, given) = conditions;
+    let (host, tags) = new;
+    is_decided(
+        alloc,
+        &[(matching, given, true, false)],
+        (host, tags, &mixed(), closed, false),
+    )
+}
+
+#[test]
+fn conditions_are_joined(rt: HostRuntime) -> Result<(), Fail> {
+    let alloc = rt.alloc();
+    let any = (Matching::Or, is_x_or_in_g());
+    let all = (Matching::And, is_x_or_in_g());
+    assert!(rt; of_mixed(alloc, any, ("other", ""), &[1])?);
+    assert!(rt; of_mixed(alloc, any, ("h", ""), &[1, 2, 3])?);
+    assert!(rt; of_mixed(alloc, all, ("other", ""), &[])?);
+    assert!(rt; of_mixed(alloc, all, ("h", ""), &[1])?);
+    assert!(rt; of_mixed(alloc, all, ("unknown", ""), &[])?);
     Ok(())
 }
 
 #[test]
-fn conditions_hold_as_they_are_joined(rt: HostRuntime) -> Result<(), Fail> {
-    let two: &[Given] = &[
-        Given::OldValue("svc", TagOp::Equals, "x"),
-        Given::Group("g"),
-    ];
-    let not_x: &[Given] = &[Given::OldValue("svc", TagOp::NotEquals, "x")];
-    let new_web: &[Given] = &[
-        Given::NewValue("app", TagOp::Contains, "eb"),
-        Given::NewValue("app", TagOp::NotContains, "mail"),
-    ];
-    let crossed: &[Given] = &[Given::Pair("from", "to")];
-    let old: &[Pairs] = &[
-        &[("svc", "x"), ("svc", "y")],
-        &[("svc", "y"), ("from", "a")],
-        &[("to", "a")],
-    ];
-    let cases: &[(Matching, &[Given], &str, Pairs, &[u64])] = &[
-        (Matching::Or, two, "other", &[], &[1]),
-        (Matching::Or, two, "h", &[], &[1, 2, 3]),
-        (Matching::And, two, "other", &[], &[]),
-        (Matching::And, two, "h", &[], &[1]),
-        (Matching::And, two, "unknown", &[], &[]),
-        (Matching::And, not_x, "h", &[], &[2, 3]),
-        (Matching::And, new_web, "h", &[("app", "web")], &[1, 2, 3]),
-        (
-            Matching::And,
-            new_web,
-            "h",
-            &[("app", "web"), ("app", "mail")],
-            &[],
-        ),
-        (
-            Matching::And,
-            crossed,
-            "h",
-            &[("to", "b"), ("to", "a")],
-            &[2],
-        ),
-        (Matching::And, crossed, "h", &[("from", "a")], &[]),
-    ];
-    for (matching, given, host, tags, closed) in cases {
-        let by: &[Ruling] = &[(*matching, given, true, false)];
-        assert!(rt; is_decided(rt.alloc(), by, (host, tags, old, closed, false))?);
-    }
+fn values_of_tags_are_compared(rt: HostRuntime) -> Result<(), Fail> {
+    let alloc = rt.alloc();
+    let web = (Matching::And, is_web());
+    let pair = (Matching::And, crossed());
+    assert!(rt; of_mixed(alloc, (Matching::And, is_not_x()), ("h", ""), &[2, 3])?);
+    assert!(rt; of_mixed(alloc, web, ("h", "app=web"), &[1, 2, 3])?);
+    assert!(rt; of_mixed(alloc, web, ("h", "app=web app=mail"), &[])?);
+    assert!(rt; of_mixed(alloc, pair, ("h", "to=b to=a"), &[2])?);
+    assert!(rt; of_mixed(alloc, pair, ("h", "from=a"), &[])?);
     Ok(())
 }
 
@@ -272,11 +319,10 @@ fn conditions_hold_as_they_are_joined(rt: HostRuntime) -> Result<(), Fail> {
 fn closed_of(alloc: Global, count: u64) -> Result<(usize, Option<u64>), OutOfMemory> {
     let mut old = Many::new(alloc);
     for number in 0..count {
-        old.push(problem(alloc, number, "h", &[("svc", "x")])?)?;
+        old.push(problem(alloc, number, "h", "svc=x")?)?;
     }
-    let new = problem(alloc, count, "h", &[("svc", "x")])?;
-    let by: &[Ruling] = &[(Matching::And, &[Given::Pair("svc", "svc")], true, true)];
-    let made = closed_by(alloc, by, &new, old.as_slice())?;
+    let new = problem(alloc, count, "h", "svc=x")?;
+    let made = closed_by(alloc, by_service(), &new, old.as_slice())?;
     let last = made.old.as_slice().last().map(|event| event.number);
     Ok((made.old.len(), last))
 }
