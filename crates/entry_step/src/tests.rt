@@ -140,14 +140,36 @@ fn records_counted<L: Ledger>(
     let ready = Ready::build(alloc, configuration(alloc)?)?;
     let mut cells = Cells::new(alloc, ready.conf())?;
     let mut steps = Steps::<L>::new(blank);
+    last_records(alloc, &ready, &mut cells, values, &mut steps)
+}
+
+fn last_records<L: Ledger>(
+    alloc: Global,
+    ready: &Ready,
+    cells: &mut Cells,
+    values: &[(u32, &str)],
+    steps: &mut Steps<L>,
+) -> Result<Many<Rec>, OutOfMemory> {
     let mut made = Many::new(alloc);
     let mut number: u64 = 3;
     for (sec, text) in values {
-        let entry = value(alloc, number, *sec, text)?;
-        made = step(alloc, &ready, &mut cells, &entry, &mut steps)?;
+        made = records_of(alloc, ready, cells, number, *sec, text, steps)?;
         number = number.saturating_add(1);
     }
     Ok(made)
+}
+
+fn records_of<L: Ledger>(
+    alloc: Global,
+    ready: &Ready,
+    cells: &mut Cells,
+    number: u64,
+    sec: u32,
+    text: &str,
+    steps: &mut Steps<L>,
+) -> Result<Many<Rec>, OutOfMemory> {
+    let entry = value(alloc, number, sec, text)?;
+    step(alloc, ready, cells, &entry, steps)
 }
 
 #[test]
@@ -266,106 +288,5 @@ fn an_item_is_found_by_its_host_and_its_key(rt: HostRuntime) -> Result<(), Fail>
     assert_eq!(rt; found(rt.alloc(), "h", "k")?, Some(1));
     assert_eq!(rt; found(rt.alloc(), "h", "j")?, None);
     assert_eq!(rt; found(rt.alloc(), "a", "k")?, None);
-    Ok(())
-}
-
-/// So many items, each with a trigger `last(#1) > 5` over it and one over the first item. Of the latter every second has
-/// depth 1.
-fn large_configuration(alloc: Global, count: u32) -> Result<Conf, OutOfMemory> {
-    let hosts = one(alloc, host(alloc, "h")?)?;
-    let mut items = Many::new(alloc);
-    let mut triggers = Many::new(alloc);
-    for place in 0..count {
-        items.push(item(alloc, 1, "k")?)?;
-        triggers.push(trigger(alloc, place.saturating_add(1), 0)?)?;
-        triggers.push(trigger(alloc, 1, place % 2)?)?;
-    }
-    of_these(alloc, hosts, items, triggers)
-}
-
-/// How many problems and recoveries values make that go round the items so often, each time 9 and then 1, and how many of
-/// the problems of the first value stand behind one of a trigger with a greater depth or with a greater id of this depth.
-fn large(alloc: Global, count: u32, rounds: u32) -> Result<(u32, u32, u32), OutOfMemory> {
-    large_counted::<Brand>(alloc, count, rounds, Blank::new(1))
-}
-
-fn large_counted<L: Ledger>(
-    alloc: Global,
-    count: u32,
-    rounds: u32,
-    blank: Blank,
-) -> Result<(u32, u32, u32), OutOfMemory>
-    requires name { blank.name ≡ L.name }
-    requires parts { blank.parts ≡ L.parts }
-    requires some { 0 < L.parts }
-{
-    let ready = Ready::build(alloc, large_configuration(alloc, count)?)?;
-    let mut cells = Cells::new(alloc, ready.conf())?;
-    let mut steps = Steps::<L>::new(blank);
-    let mut counts = (0, 0, 0);
-    for round in 0..rounds {
-        for place in 0..count {
-            let text = if round % 2 == 0 { "9" } else { "1" };
-            let number = (round as u64)
-                .saturating_mul(100_000)
-                .saturating_add(place as u64);
-            let entry = value_of(alloc, number, place.saturating_add(1), text)?;
-            let made = step(alloc, &ready, &mut cells, &entry, &mut steps)?;
-            counts = counted_with(counts, made.as_slice());
-        }
-    }
-    Ok(counts)
-}
-
-fn value_of(alloc: Global, number: u64, item: u32, text: &str) -> Result<Numbered, OutOfMemory> {
-    Ok(Numbered {
-        number,
-        entry: Entry::Value {
-            now: Moment { sec: 100, ns: 0 },
-            item,
-            time: Moment { sec: 100, ns: 0 },
-            value: Text::of(alloc, text)?,
-        },
-    })
-}
-
-/// The place of the trigger with an id in the order of evaluation of the large configuration: the triggers of depth 1 are
-/// those with the ids 4, 8, 12 and so on.
-fn rank(id: u32) -> u64 {
-    if id % 4 == 0 {
-        (id as u64).saturating_add(1_000_000)
-    } else {
-        id as u64
-    }
-}
-
-fn counted_with(counts: (u32, u32, u32), made: &[Rec]) -> (u32, u32, u32) {
-    let (mut problems, mut recoveries, mut wrong) = counts;
-    let mut last = 0;
-    for rec in made {
-        match rec {
-            Rec::Problem { event, .. } => {
-                problems = problems.saturating_add(1);
-                if rank(event.trigger) < last {
-                    wrong = wrong.saturating_add(1);
-                }
-                last = rank(event.trigger);
-            }
-            Rec::Recovery { .. } => recoveries = recoveries.saturating_add(1),
-            _ => wrong = wrong.saturating_add(1),
-        }
-    }
-    (problems, recoveries, wrong)
-}
-
-#[test]
-fn a_thousand_items_with_two_triggers_each(rt: HostRuntime) -> Result<(), Fail> {
-    assert_eq!(rt; large(rt.alloc(), 1_000, 2)?, (2_000, 2_000, 0));
-    Ok(())
-}
-
-#[test]
-fn an_item_with_a_thousand_values(rt: HostRuntime) -> Result<(), Fail> {
-    assert_eq!(rt; large(rt.alloc(), 1, 1_000)?, (1_000, 1_000, 0));
     Ok(())
 }
