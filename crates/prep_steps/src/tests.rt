@@ -2,7 +2,8 @@
 
 ghost use Rattle.std.specs.Prelude.{◌≡◌, IfOk, Contains, true, false};
 ghost use Rattle.prep_steps.specs.Outcomes.{parameter};
-ghost use Rattle.prep_steps.specs.Steps.{looks_into_json, has_pattern};
+ghost use Rattle.prep_steps.specs.Steps.{looks_into_json};
+ghost use Rattle.zbx_types.specs.Steps.{has_pattern};
 
 use super::*;
 use pattern_set::{BuildError, Patterns};
@@ -10,15 +11,6 @@ use std::alloc::Global;
 use std::convert::AsStr;
 use std::test::Fail;
 use zbx_types::{Many, Moment, OnFail, OutOfMemory, StepKind, StepSpec, Text};
-
-fn has_pattern(kind: StepKind) -> bool
-    ensures { result ≡ has_pattern kind }
-{
-    matches!(
-        kind,
-        StepKind::Regex | StepKind::Matches | StepKind::NotMatches | StepKind::RegexError
-    )
-}
 
 /// A step with two parameters.
 fn step_of(
@@ -46,7 +38,7 @@ fn patterns_of(alloc: Global, kind: StepKind, first: &str) -> Result<Patterns, B
     ensures { IfOk result (λ patterns. has_pattern kind ≡ true → Contains patterns first.now) }
 {
     let mut texts = Many::new(alloc);
-    if has_pattern(kind) {
+    if kind.has_pattern() {
         match Text::of(alloc, first) {
             Ok(text) => texts.push(text)?,
             Err(OutOfMemory) => return Err(BuildError::OutOfMemory),
