@@ -25,18 +25,63 @@ fn index_of(alloc: Global, texts: &Many<(Text, Text)>) -> Result<MacroIndex<'_>,
     MacroIndex::of(alloc, listed)
 }
 
-/// A text with its references replaced, `+` behind it where it is longer, and its front of whole characters.
-fn limited(alloc: Global, text: &str, most: usize) -> Result<(Text, Text), OutOfMemory> {
+/// A text with its references replaced, or how many bytes its front has and a `+` where it is longer than the limit.
+fn within(alloc: Global, text: &Text, macros: &Macros, most: usize) -> Result<Text, OutOfMemory> {
+    match expand_within(alloc, text, macros, most)? {
+        Expansion::Whole(made) => Ok(made),
+        Expansion::Longer(front) => {
+            let mut made = Text::new(alloc);
+            made.push_decimal(front.len() as u64)?;
+            made.push_str("+")?;
+            Ok(made)
+        }
+    }
+}
+
+/// The text within the limit, or its front of whole characters.
+fn shown(
+    alloc: Global,
+    text: &Text,
+    macros: &Macros,
+    most: usize,
+    is_front: bool,
+) -> Result<Text, OutOfMemory> {
+    if is_front {
+        expand_front(alloc, text, macros, most)
+    } else {
+        within(alloc, text, macros, most)
+    }
+}
+
+fn near_to(
+    alloc: Global,
+    text: &Text,
+    near: &Many<(Text, Text)>,
+    global: &MacroIndex,
+    most: usize,
+    is_front: bool,
+) -> Result<Text, OutOfMemory> {
+    let macros = Macros::new(index_of(alloc, near)?, global);
+    shown(alloc, text, &macros, most, is_front)
+}
+
+fn over(
+    alloc: Global,
+    text: &Text,
+    near: &Many<(Text, Text)>,
+    global: &Many<(Text, Text)>,
+    most: usize,
+    is_front: bool,
+) -> Result<Text, OutOfMemory> {
+    let index = index_of(alloc, global)?;
+    near_to(alloc, text, near, &index, most, is_front)
+}
+
+fn limited(alloc: Global, text: &str, most: usize, is_front: bool) -> Result<Text, OutOfMemory> {
     let near = texts(alloc, "{$A}=near {$A}=second {$M}={$A}")?;
     let global = texts(alloc, "{$A}=global {$B}=über {$M}=m")?;
-    let global = index_of(alloc, &global)?;
-    let macros = Macros::new(index_of(alloc, &near)?, &global);
     let text = Text::of(alloc, text)?;
-    let shown = match expand_within(alloc, &text, &macros, most)? {
-        Expansion::Whole(made) => made,
-        Expansion::Longer(front) => Text::from(format!(in alloc; "{n}+", n = front.len())?),
-    };
-    Ok((shown, expand_front(alloc, &text, &macros, most)?))
+    over(alloc, &text, &near, &global, most, is_front)
 }
 
 #[test]
@@ -51,9 +96,10 @@ fn an_expansion_stops_at_its_limit(rt: HostRuntime) -> Result<(), Fail> {
         ("x{$B}", 3, "3+", "xü"),
         ("", 0, "", ""),
     ] {
-        let met = limited(rt.alloc(), text, most)?;
-        assert_eq!(rt; met.0.as_str(), shown, "at {text} {most}");
-        assert_eq!(rt; met.1.as_str(), front, "at {text} {most}");
+        let met = limited(rt.alloc(), text, most, false)?;
+        assert_eq!(rt; met.as_str(), shown, "at {text} {most}");
+        let met = limited(rt.alloc(), text, most, true)?;
+        assert_eq!(rt; met.as_str(), front, "at {text} {most}");
     }
     Ok(())
 }
