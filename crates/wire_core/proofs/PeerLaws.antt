@@ -17,7 +17,7 @@ use Rattle.wire_core.specs.declared.peer.Peer.{Peer}
 use Rattle.wire_core.specs.declared.turn.Turn.{Turn}
 use Rattle.wire_core.specs.declared.turn.Turn.TheVariants.{Nothing, Shut, Whole}
 use Rattle.wire_core.specs.Peers.{Peers, is_of, is_there, peer_of, replaced, without, most_peers, fresh, may_open, opened, with_piece, turn_at, peers_at, piece_turn, after_piece}
-use Rattle.wire_core.specs.Kept.{AreApart, AreKept}
+use Rattle.wire_core.specs.Kept.{AreApart, AreKept, given}
 
 both_false : (a b : Bool) → (a || b) ≡ false → (a ≡ false) × (b ≡ false)
 both_false true b h = absurd (cc)
@@ -209,22 +209,27 @@ pub record Comes (before after : Peers) (conn : ℕ) (piece : List ℕ) (turn : 
   pub leaves : after ≡ after_piece before piece (peer_of before conn)
   pub kept : AreKept after
 
+-- a peer whose bytes aren't a frame yet keeps them
+given-short : (p : Peer) (piece : List ℕ) → found (p.bytes ++ piece) ≡ short → given p piece ≡ with_piece p piece
+given-short p piece seen = rw seen
+
 -- a peer that is forgotten may have had a piece before
 forgotten : (ps : Peers) (i conn : ℕ) (piece : List ℕ) (d : Peer) → AreKept ps → position (is_of conn) ps ≡ Some i
-    → without (slice_set ps i (with_piece (slice_index_or ps i d) piece)) conn ≡ without ps conn
+    → without (slice_set ps i (given (slice_index_or ps i d) piece)) conn ≡ without ps conn
 forgotten ps i conn piece d kept at =
     let h = place_found ps conn i d at in
-    let q : Peer = with_piece (slice_index_or ps i d) piece in
+    let q : Peer = given (slice_index_or ps i d) piece in
     let set : replaced ps q ≡ slice_set ps i q = replaced-set ps i q d kept.apart h.0 refl in
     rw (sym set) (subst (λ k. without (replaced ps q) k ≡ without ps k) h.1 (without-replaced ps q))
 
 pub comes_short : (ps : Peers) (i conn : ℕ) (piece : List ℕ) (d : Peer) → AreKept ps → position (is_of conn) ps ≡ Some i
     → found ((slice_index_or ps i d).bytes ++ piece) ≡ short
-    → Comes ps (slice_set ps i (with_piece (slice_index_or ps i d) piece)) conn piece Nothing
+    → Comes ps (slice_set ps i (given (slice_index_or ps i d) piece)) conn piece Nothing
 unfolding piece_turn after_piece turn_at peers_at
 comes_short ps i conn piece d kept at seen =
     let h = place_found ps conn i d at in
-    let q : Peer = with_piece (slice_index_or ps i d) piece in record {
+    let q : Peer = with_piece (slice_index_or ps i d) piece in
+    rw (given-short (slice_index_or ps i d) piece seen) record {
       turns = rw (h.2, seen);
       leaves = rw (h.2, seen) (sym (replaced-set ps i q d kept.apart h.0 refl));
       kept = AreKept-set ps i q d kept h.0 refl seen;
@@ -232,7 +237,7 @@ comes_short ps i conn piece d kept at seen =
 
 pub comes_whole : (ps : Peers) (i conn : ℕ) (piece : List ℕ) (d : Peer) (body behind : List ℕ) → AreKept ps → position (is_of conn) ps ≡ Some i
     → found ((slice_index_or ps i d).bytes ++ piece) ≡ whole body behind
-    → Comes ps (without (slice_set ps i (with_piece (slice_index_or ps i d) piece)) conn) conn piece (Whole conn body (slice_index_or ps i d).since)
+    → Comes ps (without (slice_set ps i (given (slice_index_or ps i d) piece)) conn) conn piece (Whole conn body (slice_index_or ps i d).since)
 unfolding piece_turn after_piece turn_at peers_at
 comes_whole ps i conn piece d body behind kept at seen =
     let h = place_found ps conn i d at in
@@ -244,7 +249,7 @@ comes_whole ps i conn piece d body behind kept at seen =
 
 pub comes_bad : (ps : Peers) (i conn : ℕ) (piece : List ℕ) (d : Peer) (fault : Fault) → AreKept ps → position (is_of conn) ps ≡ Some i
     → found ((slice_index_or ps i d).bytes ++ piece) ≡ bad fault
-    → Comes ps (without (slice_set ps i (with_piece (slice_index_or ps i d) piece)) conn) conn piece (Shut conn)
+    → Comes ps (without (slice_set ps i (given (slice_index_or ps i d) piece)) conn) conn piece (Shut conn)
 unfolding piece_turn after_piece turn_at peers_at
 comes_bad ps i conn piece d fault kept at seen =
     let h = place_found ps conn i d at in

@@ -1,8 +1,14 @@
 -- What is true of the connections that a table keeps.
-use Rattle.std.specs.Prelude.{◌≡◌, ◌≤◌, [], ◌∷◌, length, false}
+use Rattle.std.specs.Prelude.{◌≡◌, ◌≤◌, ℕ, List, [], ◌∷◌, ◌++◌, length, false}
 use Rattle.std.specs.List.{All}
 use Rattle.zbxd_frame.specs.Found.{short, found}
+use Rattle.zbxd_frame.specs.Answers.{left_of}
+use Rattle.wire_core.specs.declared.peer.Peer.{Peer}
 use Rattle.wire_core.specs.Peers.{Peers, is_there, most_peers}
+
+-- a peer that was given one more piece: a whole frame was handed over, and its bytes with it
+abbrev pub given : Peer → List ℕ → Peer
+given p piece = record { conn = p.conn; since = p.since; bytes = left_of (p.bytes ++ piece) }
 
 -- no two peers are of one connection
 abbrev pub AreApart : Peers → Type 0

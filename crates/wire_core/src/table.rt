@@ -1,7 +1,8 @@
 //! The table of the connections that are there.
 
 ghost use Rattle.std.specs.Prelude.{◌≡◌, ◌≤◌, ◌<◌, ◌++◌, length, IfOk, OnOk, OnErr, Some, position, slice_set, slice_index_or, if◌then◌else◌, ℕ};
-ghost use Rattle.wire_core.specs.Peers.{no_peers, turn_of, after_event, LeavesOthers, without, is_of, may_open, opened, peer_of, piece_turn, after_piece, most_peers, with_piece};
+ghost use Rattle.wire_core.specs.Peers.{no_peers, turn_of, after_event, LeavesOthers, without, is_of, may_open, opened, peer_of, piece_turn, after_piece, most_peers};
+ghost use Rattle.wire_core.specs.Kept.{given};
 ghost use Rattle.wire_core.specs.declared.turn.Turn.TheVariants as turns;
 ghost use Rattle.wire_core.specs.declared.peer.Peer.{Peer};
 ghost use Rattle.zbxd_frame.specs.Found.{found, short};
@@ -50,8 +51,8 @@ impl Table {
 
     /// Takes an event of the wire, and says what it comes to. `now` is the moment of the run at the
     /// event, at which a connection that opens begins; the event's own moment isn't looked at. A
-    /// piece takes time for its own bytes and a look-up, and for a copy of the body of a frame that
-    /// it ends. At `Err`, where memory was refused, nothing has changed, and the same event may be
+    /// piece takes time for its own bytes and a look-up, and one that ends a frame for moving the body
+    /// to the front of its bytes, which are handed over. At `Err`, where memory was refused, nothing has changed, and the same event may be
     /// taken again. The rules are this project's own.
     pub fn on(&mut self, alloc: Global, event: &WireEvent, now: Moment) -> Result<Turn, OutOfMemory>
         ensures turn { IfOk result (λ t. t ≡ turn_of self.old now event.now) }
@@ -151,7 +152,7 @@ fn place_of(peers: &[Peer], conn: u64) -> Option<usize>
     peers.iter().position(|peer| peer.conn == conn)
 }
 
-/// Gives a piece to the feed of the peer at a place. At `Err` nothing has changed.
+/// Gives a piece to the feed of the peer at a place, which hands a whole frame over. At `Err` nothing has changed.
 fn feed_at(
     peers: &mut Vec<Peer>,
     place: usize,
@@ -161,11 +162,11 @@ fn feed_at(
     requires place { place < length peers.old.items }
     requires waits { (d : Peer) → found (slice_index_or peers.old.items place d).bytes ≡ short }
     ensures answer { IfOk result (λ fed. (d : Peer) → Answers fed (found ((slice_index_or peers.old.items place d).bytes ++ piece.now))) }
-    ensures after { OnOk result ((d : Peer) → peers.new.items ≡ slice_set peers.old.items place (with_piece (slice_index_or peers.old.items place d) piece.now)) }
+    ensures after { OnOk result ((d : Peer) → peers.new.items ≡ slice_set peers.old.items place (given (slice_index_or peers.old.items place d) piece.now)) }
     ensures err { OnErr result (peers.new.items ≡ peers.old.items) }
 {
     let peer = &mut peers[place];
-    peer.bytes.push(alloc, piece)
+    peer.bytes.hand_over(alloc, piece)
 }
 
 /// A connection is there no more, if it was.

@@ -282,3 +282,11 @@ EndsWith-fed (Ok fed) old new piece body behind taken kept right was is =
     let all : new ≡ old ++ piece = taken ∙ ap (λ f. if is_short f then old ++ piece else old) was in
     EndsWith-behind old piece body behind (subst (λ u. IsFoundRight u) all right) was (ap found (sym all) ∙ is)
 EndsWith-fed (Err refused) old new piece body behind taken kept right was is = let same : new ≡ old = kept in cc
+
+-- the body that is found stands behind the header
+pub body_there : (bytes body behind : List ℕ) → IsFoundRight bytes → found bytes ≡ whole body behind → take (length body) (drop 13 bytes) ≡ body
+body_there bytes body behind right is =
+    let begins = right.whole_is body behind is in
+    let f = begins.2 in
+    let e : bytes ≡ headed_by (length body) (f.reserved ++ (body ++ behind)) = begins.1 ∙ ap (λ u. u ++ behind) f.bytes_are ∙ simp append_assoc in
+    rw (e, data_there (length body) f.reserved (body ++ behind) f.reserved_length) (take_at body behind (length body) refl)

@@ -1,5 +1,5 @@
 -- What a feed keeps and answers.
-use Rattle.std.specs.Prelude.{◌≡◌, ℕ, Bool, true, false, List, length, ◌++◌, if◌then◌else◌}
+use Rattle.std.specs.Prelude.{◌≡◌, ℕ, Bool, true, false, List, [], length, ◌++◌, if◌then◌else◌}
 use Rattle.zbxd_frame.specs.Found.{Found, short, whole, bad, found}
 use Rattle.zbxd_frame.specs.declared.feed.Fed.{Fed}
 use Rattle.zbxd_frame.specs.declared.feed.Fed.TheVariants.{More, Frame, Refused}
@@ -20,6 +20,15 @@ is_short (bad fault) = false
 -- the bytes of a feed after a piece: once they are a frame or no frame, further pieces count for nothing
 abbrev pub fed_with : List ℕ → List ℕ → List ℕ
 fed_with bytes piece = if is_short (found bytes) then bytes ++ piece else bytes
+
+-- what is left of a feed that hands a whole frame over
+abbrev pub left_by : Found → List ℕ → List ℕ
+left_by short bytes = bytes
+left_by (whole body behind) bytes = []
+left_by (bad fault) bytes = bytes
+
+abbrev pub left_of : List ℕ → List ℕ
+left_of bytes = left_by (found bytes) bytes
 
 -- what was found, told by the parts of the bytes
 abbrev pub found_by : Seen → Found

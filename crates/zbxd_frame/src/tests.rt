@@ -61,6 +61,18 @@ fn a_frame_comes_in_pieces_of_one_byte(rt: HostRuntime) -> Result<(), Fail> {
 }
 
 #[test]
+fn a_frame_that_is_handed_over_leaves_an_empty_feed(rt: HostRuntime) -> Result<(), Fail> {
+    let alloc = rt.alloc();
+    let mut feed = Feed::new(alloc);
+    assert!(rt; is_more(feed.hand_over(alloc, b"ZBXD\x01\x02\x00\x00\x00\x07\x00\x00\x00h")?));
+    assert!(rt; is_frame(feed.hand_over(alloc, b"i?")?, b"hi", 1));
+    assert!(rt; is_more(feed.hand_over(alloc, b"Z")?));
+    assert!(rt; refuses(feed.hand_over(alloc, b"i")?, Fault::Magic));
+    assert!(rt; refuses(feed.hand_over(alloc, b"BXD")?, Fault::Magic));
+    Ok(())
+}
+
+#[test]
 fn a_written_frame_is_read_again_with_two_bytes_behind_it(rt: HostRuntime) -> Result<(), Fail> {
     let alloc = rt.alloc();
     let mut out = Bytes::new(alloc);

@@ -7,8 +7,8 @@ use Rattle.zbxd_frame.specs.declared.feed.Fed.{Fed}
 use Rattle.zbxd_frame.specs.declared.feed.Fed.TheVariants.{More, Frame, Refused}
 use Rattle.wire_core.specs.declared.peer.Peer.{Peer}
 use Rattle.wire_core.specs.declared.turn.Turn.TheVariants.{Nothing, Shut, Whole}
-use Rattle.wire_core.specs.Peers.{Peers, is_of, with_piece, without}
-use Rattle.wire_core.specs.Kept.{AreKept}
+use Rattle.wire_core.specs.Peers.{Peers, is_of, without}
+use Rattle.wire_core.specs.Kept.{AreKept, given}
 use Rattle.wire_core.proofs.PeerLaws.{Comes, comes_short, comes_whole, comes_bad, comes_nowhere}
 use Rattle.wire_core.proofs.table.Table.bring.Goals as goal
 
@@ -18,7 +18,7 @@ record Took (ps taken : Peers) (conn i : ℕ) (piece : List ℕ) (fed : Fed) (p 
   place : position (is_of conn) ps ≡ Some i
   read : p ≡ slice_index_or ps i p
   says : Answers fed (found ((slice_index_or ps i p).bytes ++ piece))
-  after : taken ≡ slice_set ps i (with_piece (slice_index_or ps i p) piece)
+  after : taken ≡ slice_set ps i (given (slice_index_or ps i p) piece)
 
 placed : (ps looked : Peers) (conn i : ℕ) → looked ≡ ps → Some i ≡ position (is_of conn) looked → position (is_of conn) ps ≡ Some i
 placed ps looked conn i same at = rw (sym same) (sym at)
@@ -31,7 +31,7 @@ took_frame : (ps taken left : Peers) (conn i : ℕ) (piece : List ℕ) (fed : Fe
 took_frame ps taken left conn i piece fed p body rest took is gone =
     let seen = rw is at took.says in
     let comes = comes_whole ps i conn piece p body seen.0 took.kept took.place seen.1 in
-    rw (gone, took.after) (subst (λ q. Comes ps (without (slice_set ps i (with_piece (slice_index_or ps i p) piece)) conn) conn piece (Whole conn body q.since)) (sym took.read) comes)
+    rw (gone, took.after) (subst (λ q. Comes ps (without (slice_set ps i (given (slice_index_or ps i p) piece)) conn) conn piece (Whole conn body q.since)) (sym took.read) comes)
 
 took_refused : (ps taken left : Peers) (conn i : ℕ) (piece : List ℕ) (fed : Fed) (p : Peer) (fault : Fault) → Took ps taken conn i piece fed p → fed ≡ Refused fault
     → left ≡ without taken conn → Comes ps left conn piece (Shut conn)
