@@ -1,6 +1,7 @@
 -- The whole document.
 use Rattle.std.specs.Prelude.{ℕ, ℤ, pos, negsuc, List, [], Result, Ok, codes}
 use Rattle.serde_json.specs.Data.{Data}
+use Rattle.zbx_types.specs.Limits.{longest_text}
 use Rattle.zbx_types.specs.declared.rules.Rule.{Rule}
 use Rattle.zbx_types.specs.declared.maintenances.Maintenance.{Maintenance}
 use Rattle.zbx_types.specs.declared.actions.Action.{Action}
@@ -44,4 +45,4 @@ document_of d = do
 
 -- the configuration of a text of at most 16,777,216 bytes, or its first fault
 abbrev pub conf_of : List ℕ → Result RawConf Fault
-conf_of bytes = json_within 16777216 bytes >>= λ d. document_of d
+conf_of bytes = json_within longest_text bytes >>= λ d. document_of d

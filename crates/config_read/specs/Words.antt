@@ -1,7 +1,8 @@
 -- The words of the document, and the names that may stand in it.
-use Rattle.std.specs.Prelude.{ℕ, Bool, ◌&&◌, ◌||◌, ◌==◌, ◌-◌, nat_le, List, [], ◌∷◌, length, slice_index, slice_range, Option, Result, codes}
-use Rattle.std.specs.Char.{is_ascii_alphanumeric, is_ascii_uppercase, is_ascii_digit}
+use Rattle.std.specs.Prelude.{ℕ, Bool, ◌&&◌, ◌==◌, ◌-◌, nat_le, List, [], ◌∷◌, length, slice_index, slice_range, Option, Result, codes}
 use Rattle.std.specs.List.{list_all}
+use Rattle.zbx_types.specs.Limits.{longest_name}
+use Rattle.zbx_types.specs.NameBytes.{is_host_name_byte, is_macro_name_byte}
 use Rattle.zbx_types.specs.declared.items.ItemKind.{ItemKind}
 use Rattle.zbx_types.specs.declared.items.ItemKind.TheVariants as kinds
 use Rattle.zbx_types.specs.declared.items.ValueType.{ValueType}
@@ -20,21 +21,13 @@ use Rattle.json_form.specs.Faults.{Fault, ◌>>=◌}
 use Rattle.json_form.specs.Places.{Place, text_that, free}
 use Rattle.json_form.specs.Wording.{first_of_word}
 
--- letters, digits, space, `_`, `-`, `.`
-abbrev pub is_name_byte : ℕ → Bool
-is_name_byte c = is_ascii_alphanumeric c || c == 32 || c == 95 || c == 45 || c == 46
-
--- the name of a host or template: 1 to 128 of these bytes
+-- the name of a host or template: 1 to 128 of the bytes that it may have
 abbrev pub is_host_name : List ℕ → Bool
-is_host_name name = nat_le 1 (length name) && nat_le (length name) 128 && list_all is_name_byte name
+is_host_name name = nat_le 1 (length name) && nat_le (length name) longest_name && list_all is_host_name_byte name
 
--- A to Z, 0 to 9, `_`, `.`
-abbrev pub is_macro_byte : ℕ → Bool
-is_macro_byte c = is_ascii_uppercase c || is_ascii_digit c || c == 95 || c == 46
-
--- `{$NAME}` with a NAME of such bytes, at most 255 bytes in all
+-- `{$NAME}` with a NAME of the bytes that it may have, at most 255 bytes in all
 abbrev pub is_macro_name : List ℕ → Bool
-is_macro_name name = nat_le 4 (length name) && nat_le (length name) 255 && slice_index name 0 == 123 && slice_index name 1 == 36 && slice_index name (length name - 1) == 125 && list_all is_macro_byte (slice_range name 2 (length name - 1))
+is_macro_name name = nat_le 4 (length name) && nat_le (length name) 255 && slice_index name 0 == 123 && slice_index name 1 == 36 && slice_index name (length name - 1) == 125 && list_all is_macro_name_byte (slice_range name 2 (length name - 1))
 
 -- any other name: 1 to 255 bytes
 abbrev pub is_title : List ℕ → Bool

@@ -14,10 +14,7 @@ use crate::rules::correlations;
 use json_form::{At, Object, ReadError, parse};
 use serde_json::Value;
 use std::alloc::Global;
-use zbx_types::{Action, Maintenance, Many, Rule};
-
-/// The most bytes that the text of a document may have.
-pub const LONGEST_TEXT: usize = 16_777_216;
+use zbx_types::{Action, LONGEST_TEXT, Maintenance, Many, Rule};
 
 /// Local time less UTC, in seconds.
 #[tactic(auto, unfolding(crate::specs::Document::offset_of))]

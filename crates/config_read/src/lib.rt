@@ -34,7 +34,7 @@ mod steps;
 mod triggers;
 mod words;
 
-pub use document::{LONGEST_TEXT, read};
+pub use document::read;
 pub use json_form::ReadError;
 pub use raw::{RawConf, RawDepend, RawHost, RawItem, RawMacro, RawTrigger};
 

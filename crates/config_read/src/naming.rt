@@ -4,13 +4,14 @@ ghost use Rattle.std.specs.Prelude.{◌≡◌, ◌++◌, ◌∷◌, [], IfOk};
 ghost use Rattle.std.specs.List.{list_all};
 ghost use Rattle.json_form.specs.Faults.{Gives};
 ghost use Rattle.json_form.specs.Places.{place_of, text_that};
-ghost use Rattle.config_read.specs.Words.{is_name_byte, is_host_name, is_macro_byte, is_macro_name, is_title, new_name};
+ghost use Rattle.zbx_types.specs.NameBytes.{is_host_name_byte, is_macro_name_byte};
+ghost use Rattle.config_read.specs.Words.{is_host_name, is_macro_name, is_title, new_name};
 ghost use Rattle.config_read.specs.Naming.{has_form};
 
 use json_form::{At, Names, ReadError};
 use std::alloc::Global;
 use std::convert::AsStr;
-use zbx_types::{Cause, Text};
+use zbx_types::{Cause, LONGEST_NAME, Text, is_host_name_byte, is_macro_name_byte};
 
 /// What names may look like.
 #[derive(Clone, Copy, Debug, PartialEq, Eq)]
@@ -23,34 +24,22 @@ pub(crate) enum Form {
     Title,
 }
 
-fn is_name_byte(c: u8) -> bool
-    ensures { result ≡ is_name_byte c }
-{
-    c.is_ascii_alphanumeric() || c == b' ' || c == b'_' || c == b'-' || c == b'.'
-}
-
-fn is_macro_byte(c: u8) -> bool
-    ensures { result ≡ is_macro_byte c }
-{
-    c.is_ascii_uppercase() || c.is_ascii_digit() || c == b'_' || c == b'.'
-}
-
 fn all_name_bytes(bytes: &[u8]) -> bool
-    ensures { result ≡ list_all is_name_byte bytes.now }
+    ensures { result ≡ list_all is_host_name_byte bytes.now }
 {
-    bytes.iter().all(|c| is_name_byte(*c))
+    bytes.iter().all(|c| is_host_name_byte(*c))
 }
 
 fn all_macro_bytes(bytes: &[u8]) -> bool
-    ensures { result ≡ list_all is_macro_byte bytes.now }
+    ensures { result ≡ list_all is_macro_name_byte bytes.now }
 {
-    bytes.iter().all(|c| is_macro_byte(*c))
+    bytes.iter().all(|c| is_macro_name_byte(*c))
 }
 
 fn is_host_name(name: &[u8]) -> bool
     ensures { result ≡ is_host_name name.now }
 {
-    1 <= name.len() && name.len() <= 128 && all_name_bytes(name)
+    1 <= name.len() && name.len() <= LONGEST_NAME && all_name_bytes(name)
 }
 
 fn is_macro_name(name: &[u8]) -> bool

@@ -7,6 +7,7 @@ use Rattle.std.proofs.lemmas.Bool.{ne_eqb}
 use Rattle.std.proofs.lemmas.List.Elements.{All-nil, All-cons, All-head, All-tail, All-append}
 use Rattle.std.proofs.lemmas.List.Concat.{flat_map-cons}
 use Rattle.zbx_types.specs.Ids.{at_id}
+use Rattle.zbx_types.specs.Limits.{longest_value}
 use Rattle.zbx_types.specs.declared.conf.Conf.{Conf}
 use Rattle.zbx_types.specs.declared.items.Item.{Item}
 use Rattle.zbx_types.specs.declared.items.ItemKind.{ItemKind}
@@ -93,7 +94,7 @@ module _ (conf : Conf) (now : ℕ) where
   valued_fits : (item : ℕ) (c : Clock) (value : Option (List ℕ)) → is_trapper (at_id conf.items item) ≡ true → All (IsTakenAt conf now) (entry_in (valued now item c value))
   unfolding valued
   valued_fits item c None fits = All-nil (IsTakenAt conf now)
-  valued_fits item c (Some value) fits = only_where (IsTakenAt conf now) (nat_le (length value) 65535) BadValue (clocked now item value c) (clocked_fits item value c fits)
+  valued_fits item c (Some value) fits = only_where (IsTakenAt conf now) (nat_le (length value) longest_value) BadValue (clocked now item value c) (clocked_fits item value c fits)
 
 both_true : (a b : Bool) → not (a && b) ≡ false → b ≡ true
 both_true true true h = refl

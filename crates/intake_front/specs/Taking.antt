@@ -2,6 +2,7 @@
 use Rattle.std.specs.Prelude.{ℕ, nat_le, min, Bool, true, false, not, ◌&&◌, List, [], ◌∷◌, length, Option, Some, None, Result, Ok, Err, if◌then◌else◌, option_and_then}
 use Rattle.std.specs.List.{flat_map}
 use Rattle.zbx_types.specs.Ids.{at_id}
+use Rattle.zbx_types.specs.Limits.{longest_value}
 use Rattle.zbx_types.specs.declared.conf.Conf.{Conf}
 use Rattle.zbx_types.specs.declared.conf.Host.{Host}
 use Rattle.zbx_types.specs.declared.items.Item.{Item}
@@ -48,7 +49,7 @@ clocked now item value (clock.At time) = Ok (Value now item (min time now) value
 -- by its value, which has at most 65535 bytes
 unfoldable pub valued : ℕ → ℕ → Clock → Option (List ℕ) → Result Entry ValueRefusal
 valued now item c None = Err BadValue
-valued now item c (Some value) = if nat_le (length value) 65535 then clocked now item value c else Err BadValue
+valued now item c (Some value) = if nat_le (length value) longest_value then clocked now item value c else Err BadValue
 
 -- by the item that its key names
 unfoldable pub keyed : Conf → ℕ → Asked → ℕ → Option ℕ → Result Entry ValueRefusal

@@ -10,11 +10,9 @@ use entry_step::Ready;
 use sender_json::{Asked, Clock};
 use std::alloc::Global;
 use zbx_types::{
-    Conf, Entry, Host, Item, ItemKind, Many, Moment, Numbered, OutOfMemory, Text, by_id,
+    Conf, Entry, Host, Item, ItemKind, LONGEST_VALUE, Many, Moment, Numbered, OutOfMemory, Text,
+    by_id,
 };
-
-/// The longest value, in bytes.
-const LONGEST_VALUE: usize = 65_535;
 
 fn asked_host(ready: &Ready, name: &Option<Text>) -> Option<u32>
     ensures { result ≡ option_and_then (host_named ready.now) name.now }
@@ -64,16 +62,6 @@ fn is_trapper_item(item: Option<&Item>) -> bool
     }
 }
 
-fn earlier(a: Moment, b: Moment) -> Moment
-    ensures { result ≡ min a b }
-{
-    if a.sec < b.sec || (a.sec == b.sec && a.ns < b.ns) {
-        a
-    } else {
-        b
-    }
-}
-
 #[tactic(auto, unfolding(crate::specs::Taking::clocked))]
 fn clocked(now: Moment, item: u32, value: Text, clock: Clock) -> Result<Entry, ValueRefusal>
     ensures { result ≡ clocked now item value clock }
@@ -89,7 +77,7 @@ fn clocked(now: Moment, item: u32, value: Text, clock: Clock) -> Result<Entry, V
         Clock::At(time) => Ok(Entry::Value {
             now,
             item,
-            time: earlier(time, now),
+            time: time.earlier(now),
             value,
         }),
     }

@@ -4,7 +4,7 @@ use Rattle.std.specs.Char.{is_ascii_digit}
 use Rattle.std.specs.List.{position}
 use Rattle.std.specs.Option.{option_map, option_and_then}
 use Rattle.std.specs.Cmp.Lexicographic.{pointwise}
-use Rattle.zbx_types.specs.Numerals.{digits_after, all_digits}
+use Rattle.zbx_types.specs.Numerals.{number_up_to}
 
 -- what stands before and behind the first such byte
 unfoldable pub parted : ℕ → List ℕ → Option (List ℕ × List ℕ)
@@ -13,10 +13,6 @@ parted c text = option_map (λ i. (take i text, drop (i + 1) text)) (position (�
 -- the text is this word
 abbrev pub is_text : List ℕ → List ℕ → Bool
 is_text text word = pointwise nat_eq text word
-
--- a number in decimal digits, at least one, up to the greatest
-unfoldable pub number_up_to : ℕ → List ℕ → Option ℕ
-number_up_to most text = if nat_le 1 (length text) && all_digits text && nat_le (digits_after 0 text) most then Some (digits_after 0 text) else None
 
 -- the nanoseconds behind the point: nine digits
 unfoldable pub nanos_of : List ℕ → Option ℕ

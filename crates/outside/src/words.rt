@@ -3,11 +3,10 @@
 ghost use Rattle.std.specs.Prelude.{◌≡◌, ◌≤◌, ◌<◌, ◌==◌, length, nat_le, if◌then◌else◌, IfSome, IfOk};
 ghost use Rattle.std.specs.List.{position};
 ghost use Rattle.std.specs.Option.{option_map};
-ghost use Rattle.zbx_types.specs.Numerals.{digits_after, all_digits};
-ghost use Rattle.outside.specs.Words.{parted, number_up_to, nanos_of, moment_of, connection_of, nibble_of, byte_of, bytes_of_hex};
+ghost use Rattle.outside.specs.Words.{parted, nanos_of, moment_of, connection_of, nibble_of, byte_of, bytes_of_hex};
 
 use std::alloc::Global;
-use zbx_types::{Bytes, Moment, OutOfMemory};
+use zbx_types::{Bytes, Moment, OutOfMemory, number_up_to};
 
 const NANOS: u64 = 999_999_999;
 
@@ -29,43 +28,11 @@ pub(crate) fn part(text: &[u8], byte: u8) -> Option<(&[u8], &[u8])>
     Some((&text[..place], &text[place + 1..]))
 }
 
-/// What the digits write, up to the greatest.
-fn bounded(most: u64, digits: &[u8]) -> Option<u64>
-    ensures { result ≡ (if nat_le (digits_after 0 digits.now) most then Some (digits_after 0 digits.now) else None) }
-{
-    let mut number = 0u128;
-    for c in digits {
-        number = number * 10 + u128::from(c.saturating_sub(b'0'));
-        if number > u128::from(most) {
-            return None;
-        }
-    }
-    Some(number as u64)
-}
-
-fn is_digits(text: &[u8]) -> bool
-    ensures { result ≡ all_digits text.now }
-{
-    text.iter().all(|c| c.is_ascii_digit())
-}
-
-#[tactic(auto, unfolding(crate::specs::Words::number_up_to))]
-fn number(most: u64, text: &[u8]) -> Option<u64>
-    ensures value { result ≡ number_up_to most text.now }
-    ensures within { IfSome result (λ n. n ≤ most) }
-{
-    if !text.is_empty() && is_digits(text) {
-        bounded(most, text)
-    } else {
-        None
-    }
-}
-
 /// The number of a connection.
 pub(crate) fn connection(text: &[u8]) -> Option<u64>
     ensures { result ≡ connection_of text.now }
 {
-    number(u64::MAX, text)
+    number_up_to(u64::MAX, text)
 }
 
 /// A moment: seconds, a point and nine digits.
@@ -74,11 +41,11 @@ pub(crate) fn moment(text: &[u8]) -> Option<Moment>
     ensures { result ≡ moment_of text.now }
 {
     let (sec, ns) = part(text, b'.')?;
-    let sec = number(SECONDS, sec)?;
+    let sec = number_up_to(SECONDS, sec)?;
     if ns.len() != 9 {
         return None;
     }
-    let ns = number(NANOS, ns)?;
+    let ns = number_up_to(NANOS, ns)?;
     Some(Moment {
         sec: sec as u32,
         ns: ns as u32,

@@ -35,7 +35,7 @@ use outside::{Failed, Sink, Source, Wire};
 use server_words::{Counts, PlanError, Status, plan, printed};
 use std::alloc::Global;
 use std::convert::AsStr;
-use zbx_types::{Bytes, Conf, Many, Numbered, OutOfMemory, Text};
+use zbx_types::{Bytes, Conf, LONGEST_TEXT, Many, Numbered, OutOfMemory, Text};
 
 /// What a run answers.
 #[derive(Drop)]
@@ -49,9 +49,6 @@ pub struct Ended<O> {
     /// All entries, in the order of their numbers. Entry 1 holds the configuration's text.
     pub entries: Many<Numbered>,
 }
-
-/// The longest text of a configuration, in bytes.
-const LONGEST_CONFIG: u32 = 16_777_216;
 
 /// What a run has begun with.
 #[derive(Drop)]
@@ -113,7 +110,7 @@ fn open<S: Source>(alloc: Global, words: &[Text], config: &mut S) -> Result<Begu
         Err(PlanError::Usage) => return Err(Status::Usage),
         Err(PlanError::OutOfMemory) => return Err(Status::OutOfMemory),
     };
-    let bytes = match read_all(alloc, LONGEST_CONFIG, config) {
+    let bytes = match read_all(alloc, LONGEST_TEXT as u32, config) {
         Ok(bytes) => bytes,
         Err(ReadError::Failed) => return Err(Status::SourceFault),
         Err(ReadError::OutOfMemory) => return Err(Status::OutOfMemory),
