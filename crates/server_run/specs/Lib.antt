@@ -7,3 +7,4 @@ pub mod Statuses
 pub mod Events
 pub mod Outbox
 pub mod Runs
+pub mod Ran

@@ -15,8 +15,8 @@
 //! [`StdSink`](standard::StdSink) writes to standard output. Each tells its bytes where the reader or the writer behind
 //! it does, and an error comes only where its count of faults rose.
 //!
-//! The one contract: the program exits with the number of its status, which is Usage exactly where its words have no plan,
-//! unless memory was refused.
+//! The one contract: the program exits with the number of its status, which is that of a run over its words, and the
+//! clauses of the whole run are true of it. So it is Usage exactly where the words have no plan, unless memory was refused.
 #![tactic(auto)]
 
 mod arguments;
@@ -26,8 +26,9 @@ mod source;
 mod standard;
 mod writer;
 
-ghost use Rattle.std.specs.Prelude.{◌≡◌};
+ghost use Rattle.std.specs.Prelude.{◌≡◌, ℕ, List, IfOk};
 ghost use Rattle.std.specs.Process.{exit_status};
+ghost use Rattle.server_run.specs.Ran.{IsRunStatus};
 ghost use Rattle.server_words.specs.Printed.{exit_of};
 ghost use Rattle.zabbix_server.specs.Program.{status_in};
 
@@ -50,9 +51,11 @@ fn exit(ended: Result<Status, OutOfMemory>) -> ExitCode
     }
 }
 
-/// How the program ended. [`OutOfMemory`] where there is no memory for its words or what they name; nothing was printed
-/// then.
-fn status(rt: &HostRuntime) -> Result<Status, OutOfMemory> {
+/// How the program ended: with the status of a run over its words. [`OutOfMemory`] where there is no memory for its words
+/// or what they name; nothing was printed then.
+fn status(rt: &HostRuntime) -> Result<Status, OutOfMemory>
+    ensures { IfOk result (λ status. (words : List (List ℕ)) × IsRunStatus words status) }
+{
     let words = arguments::words(rt, rt.alloc())?;
     running::run(rt, rt.alloc(), words.as_slice())
 }

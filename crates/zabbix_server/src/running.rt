@@ -3,6 +3,7 @@
 ghost use Rattle.std.specs.Prelude.{◌≡◌, ◌⊎◌, None, IfOk, IsSome, OnErr};
 ghost use Rattle.server_words.specs.Words.{plan_of};
 ghost use Rattle.server_words.specs.declared.status.Status.TheVariants as Status;
+ghost use Rattle.server_run.specs.Ran.{IsStatusOf, IsRunStatus};
 
 use crate::sink::FileSink;
 use crate::source::FileSource;
@@ -19,6 +20,7 @@ use zbx_types::{Bytes, Many, OutOfMemory, Text};
 pub(crate) fn run(rt: &HostRuntime, alloc: Global, words: &[Text]) -> Result<Status, OutOfMemory>
     ensures usage { IfOk result (λ status. status ≡ Status.Usage → plan_of words.now ≡ None) }
     ensures not_command { plan_of words.now ≡ None → IfOk result (λ status. (status ≡ Status.Usage) ⊎ (status ≡ Status.OutOfMemory)) }
+    ensures ran { IfOk result (IsRunStatus words.now) }
     ensures memory { OnErr result (IsSome (plan_of words.now)) }
 {
     match plan(alloc, words) {
@@ -35,8 +37,7 @@ fn run_planned(
     words: &[Text],
     plan: &Plan,
 ) -> Result<Status, OutOfMemory>
-    ensures usage { IfOk result (λ status. status ≡ Status.Usage → plan_of words.now ≡ None) }
-    ensures not_command { plan_of words.now ≡ None → IfOk result (λ status. (status ≡ Status.Usage) ⊎ (status ≡ Status.OutOfMemory)) }
+    ensures ran { IfOk result (IsRunStatus words.now) }
 {
     let nowhere = Text::new(alloc);
     let config = FileSource::at(rt, alloc, plan.config.as_ref().unwrap_or(&nowhere))?;
@@ -54,8 +55,7 @@ fn run_planned(
 
 /// Runs the server over empty objects in memory, for words without a plan.
 fn run_nothing(rt: &HostRuntime, alloc: Global, words: &[Text]) -> Status
-    ensures usage { result ≡ Status.Usage → plan_of words.now ≡ None }
-    ensures not_command { plan_of words.now ≡ None → (result ≡ Status.Usage) ⊎ (result ≡ Status.OutOfMemory) }
+    ensures ran { IsRunStatus words.now result }
 {
     let config = MemSource::new(Bytes::new(alloc), Many::new(alloc));
     let script = MemSource::new(Bytes::new(alloc), Many::new(alloc));
@@ -74,8 +74,7 @@ pub(crate) fn status_of<S: Source + Drop, W: Wire + Drop, O: Sink + Drop, P: Sin
     outbox: O,
     printer: P,
 ) -> Status
-    ensures usage { result ≡ Status.Usage → plan_of words.now ≡ None }
-    ensures not_command { plan_of words.now ≡ None → (result ≡ Status.Usage) ⊎ (result ≡ Status.OutOfMemory) }
+    ensures { IsStatusOf words.now (record { source = S.left config; source_faults = S.faults config; wire = W.tells wire; outbox = O.tells outbox; printer = P.tells printer }) result }
 {
     let mut config = config;
     let mut wire = wire;

@@ -1,0 +1,77 @@
+-- That a status is that of a run: the clauses of the whole run, over what its objects tell before and after. Who hands a
+-- status on, without the objects, says this of it.
+use Rattle.std.specs.Prelude.{◌≡◌, ◌⊎◌, ℕ, Bool, true, false, List, [], take, Option, Some, None, Ok, Err, IfSome}
+use Rattle.std.specs.Io.KnownBytes.{IsAtEnd}
+use Rattle.zbx_types.specs.declared.causes.Cause.{Cause}
+use Rattle.zbx_types.specs.declared.conf.Conf.{Conf}
+use Rattle.zbx_types.specs.declared.entries.Numbered.{Numbered}
+use Rattle.outside.specs.Causes.{Rose}
+use Rattle.outside.specs.Tells.{SinkTells, WireTells}
+use Rattle.outside.specs.declared.event.WireEvent.{WireEvent}
+use Rattle.config_templates.specs.Flat.{flat_of}
+use Rattle.config_templates.specs.Places.{refuse}
+use Rattle.config_templates.specs.Places.Flaw.{unbuilt}
+use Rattle.intake_front.specs.Intake.{start}
+use Rattle.intake_front.specs.Served.{served}
+use Rattle.intake_front.specs.declared.answer.Stop.TheVariants as stop
+use Rattle.server_words.specs.Words.{plan_of}
+use Rattle.server_words.specs.declared.words.Plan.{Plan}
+use Rattle.server_words.specs.declared.status.Status.{Status}
+use Rattle.server_words.specs.declared.status.Status.TheVariants as status
+use Rattle.server_run.specs.Statuses.{course_of, IsRefusal, IsCourse}
+use Rattle.server_run.specs.Outbox.{LinesAre, SizeIs}
+use Rattle.server_run.specs.Ports.{ReadsUpTo}
+use Rattle.server_run.specs.Replayed.{run_lines}
+use Rattle.server_run.specs.Runs.{Followed, Prints}
+use Rattle.server_run.specs.Tally.{run_counts}
+
+-- what the objects of a run tell at one moment
+pub record Objects : Type 0 where
+  pub source : Option (List ℕ)
+  pub source_faults : ℕ
+  pub wire : WireTells
+  pub outbox : SinkTells
+  pub printer : SinkTells
+
+-- the text has a form that isn't built
+abbrev pub IsUnbuilt : List ℕ → Type 0
+IsUnbuilt text = flat_of text ≡ Err unbuilt
+
+-- no count of faults rose
+pub record NoneRose (before after : Objects) : Type 0 where
+  pub source : Rose before.source_faults after.source_faults → ⊥
+  pub wire : Rose before.wire.faults after.wire.faults → ⊥
+  pub outbox : Rose before.outbox.faults after.outbox.faults → ⊥
+  pub printer : Rose before.printer.faults after.printer.faults → ⊥
+
+-- a run over objects ended with a status: the clauses of the whole run, over what its objects told before and after
+pub record IsRun (words : List (List ℕ)) (before after : Objects) (began : Bool) (entries : List Numbered) (s : Status) : Type 0 where
+  pub usage : s ≡ status.Usage → plan_of words ≡ None
+  pub not_command : plan_of words ≡ None → (s ≡ status.Usage) ⊎ (s ≡ status.OutOfMemory)
+  pub taken : ReadsUpTo 16777216 before.source after.source
+  pub to_the_end : began ≡ true → IsAtEnd after.source
+  pub unbuilt : s ≡ status.Unbuilt → IfSome before.source IsUnbuilt
+  pub not_built : (text : List ℕ) → before.source ≡ Some text → IsUnbuilt text → (s ≡ status.Unbuilt) ⊎ ((s ≡ status.SourceFault) ⊎ ((s ≡ status.Usage) ⊎ (s ≡ status.OutOfMemory)))
+  pub config_refused : (path : List ℕ) (cause : Cause) → s ≡ status.ConfigRefused path cause → IfSome before.source (λ text. flat_of text ≡ refuse path cause)
+  pub refused_text : (text path : List ℕ) (cause : Cause) → before.source ≡ Some text → flat_of text ≡ refuse path cause → (s ≡ status.ConfigRefused path cause) ⊎ ((s ≡ status.SourceFault) ⊎ ((s ≡ status.Usage) ⊎ (s ≡ status.OutOfMemory)))
+  pub source : s ≡ status.SourceFault → Rose before.source_faults after.source_faults
+  pub wire : s ≡ status.WireFault → Rose before.wire.faults after.wire.faults
+  pub outbox : s ≡ status.OutboxFault → Rose before.outbox.faults after.outbox.faults
+  pub print : s ≡ status.PrintFault → Rose before.printer.faults after.printer.faults
+  pub not_begun : began ≡ false → IsRefusal s × (after.wire ≡ before.wire) × (after.outbox ≡ before.outbox) × (entries ≡ [])
+  pub begun : began ≡ true → IsCourse s
+  pub followed : began ≡ true → Followed words before.source before.wire after.wire s entries
+  pub lines : began ≡ true → LinesAre (course_of s).out before.outbox after.outbox (run_lines entries)
+  pub size : began ≡ true → SizeIs (course_of s).out before.outbox after.outbox (run_lines entries)
+  pub printed : Prints s (run_counts entries) before.printer after.printer
+  pub complete : (plan : Plan) (text : List ℕ) (conf : Conf) (all : List WireEvent) → plan_of words ≡ Some plan → before.source ≡ Some text → flat_of text ≡ Ok conf
+    → before.wire.left ≡ Some all → (served conf (start text) (take plan.turns all)).stop ≡ Some stop.Closed → NoneRose before after
+    → (s ≡ status.Ok) ⊎ (s ≡ status.OutOfMemory)
+
+-- a status is that of a run over these objects
+abbrev pub IsStatusOf : List (List ℕ) → Objects → Status → Type 0
+IsStatusOf words before s = (after : Objects) × (began : Bool) × (entries : List Numbered) × IsRun words before after began entries s
+
+-- a status is that of a run over some objects, which the caller made itself
+abbrev pub IsRunStatus : List (List ℕ) → Status → Type 0
+IsRunStatus words s = (before : Objects) × IsStatusOf words before s
