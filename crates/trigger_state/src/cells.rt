@@ -74,6 +74,7 @@ impl TriggerCells {
     /// kept; what is open is then as before.
     ///
     /// It looks at the open problems of the record's trigger alone.
+    #[tactic(auto, unfolding(crate::specs::Problems::absorbed))]
     pub fn absorb(&mut self, alloc: Global, conf: &Conf, record: &Rec) -> Result<(), OutOfMemory>
         ensures opens { OnOk result (HasOpen self.new (grown conf.now (opens_in self.old) (record.now ∷ []))) }
         ensures same { OnErr result (HasOpen self.new (opens_in self.old)) }

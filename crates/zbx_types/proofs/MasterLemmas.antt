@@ -1,12 +1,13 @@
 -- Masters: the search along dependencies, the chains, and the walk that finds them.
-use Rattle.std.proofs.Common.{◌≡◌, ◌<◌, ◌≤◌, ◌+◌, ◌-◌, ◌∙◌, ℕ, zero, suc, ◌==◌, ◌⊎◌, inl, inr, Bool, true, false, cond, ◌||◌, List, [], ◌∷◌, ◌++◌, length, get_or, set, filter, Option, Some, None, refl, sym, ap, subst, arith, append_assoc, append-nil, eqb-true, eq-eqb}
-use Rattle.std.specs.Prelude.{nat_le, slice_get, replicate, Result, IfOk, if◌then◌else◌}
-use Rattle.std.specs.List.{list_any}
+use Rattle.std.proofs.Common.{◌≡◌, ◌<◌, ◌≤◌, ◌+◌, ◌-◌, ◌∙◌, ℕ, zero, suc, ◌==◌, ◌⊎◌, inl, inr, Bool, true, false, cond, ◌&&◌, ◌||◌, List, [], ◌∷◌, ◌++◌, length, get_or, set, filter, Option, Some, None, refl, sym, ap, subst, arith, append_assoc, append-nil, eqb-true, eq-eqb, ne_eqb}
+use Rattle.std.specs.Prelude.{nat_le, nat_lt, slice_get, replicate, Result, IfOk, if◌then◌else◌}
+use Rattle.std.specs.List.{list_any, list_all}
+use Rattle.std.specs.Bool.{Decides}
 use Rattle.std.proofs.lemmas.List.Folds.{list_any-append}
 use Rattle.std.proofs.lemmas.Option.{slice_get_within, slice_get-get_or, get_or_from_slice_get}
-use Rattle.std.proofs.lemmas.Bool.{le-leb, lt-leb, cases_lt}
+use Rattle.std.proofs.lemmas.Bool.{le-leb, lt-leb, lt-ltb, ltb-true, cases_lt}
 use Rattle.zbx_types.specs.Ids.{at_id, ids_from}
-use Rattle.zbx_types.specs.Masters.{has_id, depends_by, depends_of, depth_by, depth_of, DepthsFall, reaches, is_master, masters_of, IsMaster, MastersByChains, noted, entered, marked, AreMarked, Finds}
+use Rattle.zbx_types.specs.Masters.{has_id, depends_by, depends_of, depth_by, depth_of, DepthsFall, are_below, depths_fall, reaches, is_master, masters_of, IsMaster, MastersByChains, noted, entered, marked, AreMarked, Finds}
 use Rattle.zbx_types.specs.Masters.IsMaster.{direct, further}
 use Rattle.zbx_types.specs.declared.conf.Conf.{Conf}
 use Rattle.zbx_types.specs.declared.triggers.Trigger.{Trigger}
@@ -401,3 +402,61 @@ none_marked marks size e = record { agree = λ k l. ap (λ xs. get_or xs k false
     none zero k = refl
     none (suc n) zero = refl
     none (suc n) (suc k) = none n k
+
+-- The test of depths
+all_below : (conf : Conf) (depth m : ℕ) (ids : List ℕ) → are_below conf depth ids ≡ true → has_id ids m ≡ true → depth_of conf m < depth
+all_below conf depth m [] e h = cc
+all_below conf depth m (x ∷ ids) e h = go (nat_lt (depth_of conf x) depth) refl e (or_cases (x == m) (has_id ids m) h) (all_below conf depth m ids)
+  where
+    go : (b : Bool) → nat_lt (depth_of conf x) depth ≡ b → (b && are_below conf depth ids) ≡ true → ((x == m) ≡ true) ⊎ (has_id ids m ≡ true) → (are_below conf depth ids ≡ true → has_id ids m ≡ true → depth_of conf m < depth) → depth_of conf m < depth
+    go true l q (inl t) ih = subst (λ y. depth_of conf y < depth) (eqb-true x m t) (ltb-true (depth_of conf x) depth l)
+    go true l q (inr t) ih = ih q t
+    go false l q s ih = cc
+
+below_all : (conf : Conf) (depth : ℕ) (ids : List ℕ) → ((m : ℕ) → has_id ids m ≡ true → depth_of conf m < depth) → are_below conf depth ids ≡ true
+below_all conf depth [] h = refl
+below_all conf depth (x ∷ ids) h =
+    let first : nat_lt (depth_of conf x) depth ≡ true = lt-ltb (depth_of conf x) depth (h x (or_left (x == x) (has_id ids x) (eq-eqb x x refl))) in
+    rw first (below_all conf depth ids (λ m i. h m (or_right (x == m) (has_id ids m) i)))
+
+all_at : (conf : Conf) (ts : List Trigger) (k : ℕ) (t : Trigger) → list_all (λ x. are_below conf x.depth x.depends) ts ≡ true → slice_get ts k ≡ Some t → are_below conf t.depth t.depends ≡ true
+all_at conf [] k t e h = let z : None ≡ Some t = h in cc
+all_at conf (x ∷ ts) k t e h = go (are_below conf x.depth x.depends) refl e k h (all_at conf ts)
+  where
+    go : (b : Bool) → are_below conf x.depth x.depends ≡ b → (b && list_all (λ y. are_below conf y.depth y.depends) ts) ≡ true → (j : ℕ) → slice_get (x ∷ ts) j ≡ Some t
+        → ((j : ℕ) (y : Trigger) → list_all (λ y. are_below conf y.depth y.depends) ts ≡ true → slice_get ts j ≡ Some y → are_below conf y.depth y.depends ≡ true) → are_below conf t.depth t.depends ≡ true
+    go true l q zero h ih = subst (λ (o : Option Trigger). unwrapped o) h l
+      where
+        unwrapped : Option Trigger → Type 0
+        unwrapped None = ⊥
+        unwrapped (Some y) = are_below conf y.depth y.depends ≡ true
+    go true l q (suc j) h ih = ih j t q h
+    go false l q j h ih = cc
+
+at_all : (conf : Conf) (ts : List Trigger) → ((k : ℕ) (t : Trigger) → slice_get ts k ≡ Some t → are_below conf t.depth t.depends ≡ true) → list_all (λ x. are_below conf x.depth x.depends) ts ≡ true
+at_all conf [] h = refl
+at_all conf (x ∷ ts) h = let first = h 0 x refl in rw first (at_all conf ts (λ k t e. h (suc k) t e))
+
+pub fall_decided : (conf : Conf) → Decides (depths_fall conf) (DepthsFall conf)
+unfolding at_id
+fall_decided conf = (λ e id m h. go id e (id == 0) (slice_get conf.triggers (id - 1)) refl refl m h, λ falls. at_all conf conf.triggers (λ k t e. below_all conf t.depth t.depends (λ m h. back falls k t e m h)))
+  where
+    Lower : Option Trigger → ℕ → Type 0
+    Lower o m = depth_of conf m < depth_by o
+
+    go : (id : ℕ) → depths_fall conf ≡ true → (b : Bool) (o : Option Trigger) → (id == 0) ≡ b → slice_get conf.triggers (id - 1) ≡ o → (m : ℕ) → has_id (depends_of conf id) m ≡ true → depth_of conf m < depth_of conf id
+    go id e b o eb eo m h = at b o eb eo (subst (λ x. has_id (depends_by x) m ≡ true) (is b o eb eo) h)
+      where
+        is : (b : Bool) (o : Option Trigger) → (id == 0) ≡ b → slice_get conf.triggers (id - 1) ≡ o → at_id conf.triggers id ≡ cond b None o
+        is b o eb eo = ap (λ c. cond c None (slice_get conf.triggers (id - 1))) eb ∙ ap (λ x. cond b None x) eo
+
+        at : (b : Bool) (o : Option Trigger) → (id == 0) ≡ b → slice_get conf.triggers (id - 1) ≡ o → has_id (depends_by (cond b None o)) m ≡ true → depth_of conf m < depth_of conf id
+        at true o eb eo i = cc
+        at false None eb eo i = cc
+        at false (Some t) eb eo i = subst (λ x. Lower x m) (sym (is false (Some t) eb eo)) (all_below conf t.depth m t.depends (all_at conf conf.triggers (id - 1) t e eo) i)
+
+    back : DepthsFall conf → (k : ℕ) (t : Trigger) → slice_get conf.triggers k ≡ Some t → (m : ℕ) → has_id t.depends m ≡ true → depth_of conf m < t.depth
+    back falls k t e m h =
+        let q : at_id conf.triggers (suc k) ≡ Some t =
+            ap (λ (b : Bool). cond b None (slice_get conf.triggers (suc k - 1))) (ne_eqb (suc k) 0 (λ z. omega arith)) ∙ ap (λ j. slice_get conf.triggers j) (let z : suc k - 1 ≡ k = omega arith in z) ∙ e in
+        subst (λ o. Lower o m) q (falls (suc k) m (subst (λ o. has_id (depends_by o) m ≡ true) (sym q) h))

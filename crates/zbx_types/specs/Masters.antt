@@ -1,7 +1,7 @@
 -- Dependencies of triggers (the Zabbix 6.0 manual, "Trigger dependencies"). The masters of a trigger are those that it
 -- depends on, directly or through others.
-use Rattle.std.specs.Prelude.{◌≡◌, ◌<◌, ◌≤◌, ◌+◌, ℕ, zero, suc, ◌==◌, nat_le, Bool, true, false, ◌||◌, List, [], ◌∷◌, ◌++◌, filter, Option, Some, None, if◌then◌else◌, get_or, length}
-use Rattle.std.specs.List.{list_any}
+use Rattle.std.specs.Prelude.{◌≡◌, ◌<◌, ◌≤◌, ◌+◌, ℕ, zero, suc, ◌==◌, nat_le, nat_lt, Bool, true, false, ◌||◌, List, [], ◌∷◌, ◌++◌, filter, Option, Some, None, if◌then◌else◌, get_or, length}
+use Rattle.std.specs.List.{list_any, list_all}
 use Rattle.zbx_types.specs.Ids.{at_id, ids_from}
 use Rattle.zbx_types.specs.declared.conf.Conf.{Conf}
 use Rattle.zbx_types.specs.declared.triggers.Trigger.{Trigger}
@@ -28,6 +28,13 @@ depth_of conf id = depth_by (at_id conf.triggers id)
 -- each trigger that one depends on has a smaller depth
 abbrev pub DepthsFall : Conf → Type 0
 DepthsFall conf = (id m : ℕ) → has_id (depends_of conf id) m ≡ true → depth_of conf m < depth_of conf id
+
+-- the same as a test: of these ids, and of each trigger's
+abbrev pub are_below : Conf → ℕ → List ℕ → Bool
+are_below conf depth ids = list_all (λ m. nat_lt (depth_of conf m) depth) ids
+
+abbrev pub depths_fall : Conf → Bool
+depths_fall conf = list_all (λ trigger. are_below conf trigger.depth trigger.depends) conf.triggers
 
 -- from a trigger another one is reached by one or more dependencies, at most so many
 unfoldable pub reaches : Conf → ℕ → ℕ → ℕ → Bool

@@ -1,7 +1,7 @@
 //! Masters of a trigger: the triggers that it depends on, directly or through others.
 
-ghost use Rattle.std.specs.Prelude.{◌≡◌, false, length, replicate, slice_get, IfOk, OnOk};
-ghost use Rattle.zbx_types.specs.Masters.{depends_of, depth_of, DepthsFall, masters_of, MastersByChains, noted, entered, marked, AreMarked, Finds};
+ghost use Rattle.std.specs.Prelude.{◌≡◌, false, length, replicate, slice_get, Decides, IfOk, OnOk};
+ghost use Rattle.zbx_types.specs.Masters.{depends_of, depth_of, DepthsFall, are_below, depths_fall, masters_of, MastersByChains, noted, entered, marked, AreMarked, Finds};
 
 use crate::conf::Conf;
 use crate::ids::{by_id, id_of};
@@ -37,6 +37,31 @@ pub fn depth_of(conf: &Conf, id: u32) -> u32
         None => 0,
         Some(trigger) => trigger.depth,
     }
+}
+
+/// Whether the depths of these triggers are below one.
+fn are_below(conf: &Conf, depth: u32, ids: &[u32]) -> bool
+    ensures { result ≡ are_below conf.now depth ids.now }
+{
+    ids.iter().all(|id| depth_of(conf, *id) < depth)
+}
+
+/// Whether each trigger is deeper than those that it depends on.
+fn all_fall(conf: &Conf) -> bool
+    ensures { result ≡ depths_fall conf.now }
+{
+    conf.triggers
+        .as_slice()
+        .iter()
+        .all(|trigger| are_below(conf, trigger.depth, trigger.depends.as_slice()))
+}
+
+/// Whether each trigger that one depends on has a smaller depth. That is so in a configuration without cycles, where the
+/// depth is the length of the longest chain; [`masters`] asks for it.
+pub fn depths_fall(conf: &Conf) -> bool
+    ensures { Decides result (DepthsFall conf.now) }
+{
+    all_fall(conf)
 }
 
 /// So many marks that aren't set.

@@ -67,7 +67,7 @@ pub use bytes::Bytes;
 pub use calls::{Call, Fun, Range};
 pub use causes::Cause;
 pub use conf::{Conf, Host};
-pub use dependencies::{depth_of, masters, masters_by_chains};
+pub use dependencies::{depth_of, depths_fall, masters, masters_by_chains};
 pub use digits::{all_digits, digit_at, last_six_digits, number_up_to, number_within};
 pub use entries::{
     Cause2, Entry, EventId, Held, Numbered, Rec, Stored, Tag, copy_records, copy_tags,
