@@ -284,7 +284,7 @@ found_all conf id is_problem earlier [] tells first = refl
 found_all conf id is_problem earlier (r ∷ rs) tells first =
     let same = All-head (λ x. is_problem x ≡ opens conf id x) r rs tells in
     let rest = found_all conf id is_problem (earlier ++ r ∷ []) rs (All-tail (λ x. is_problem x ≡ opens conf id x) r rs tells) first.1
-        ∙ ap (λ all. filter (λ x. is_problem x && not (list_any (recovers (event_of x)) all)) rs) (append_assoc earlier (r ∷ []) rs) in
+    ∙ ap (λ all. filter (λ x. is_problem x && not (list_any (recovers (event_of x)) all)) rs) (append_assoc earlier (r ∷ []) rs) in
     go (opens conf id r) (is_problem r) refl refl same rest
   where
     kept : List Rec

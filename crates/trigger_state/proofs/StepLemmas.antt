@@ -29,9 +29,19 @@ split_at s (x ∷ xs) n m e = go (same_event (event_in x) (event_of s)) refl e (
         → (position_from (λ o. same_event (event_in o) (event_of s)) (n + 1) xs ≡ Some m → (k : ℕ) × (n + 1 + k ≡ m) × Split s xs k) → (k : ℕ) × (n + k ≡ m) × Split s (x ∷ xs) k
     go true h q ih = (0, (let z : n ≡ m = cc in omega arith), record { before = []; one = x; after = xs; whole = refl; at = refl; alone = refl; hit = h })
     go false h q ih =
-        let r = ih q in
-        (suc r.0, (let z = r.1 in omega arith), record { before = x ∷ r.2.before; one = r.2.one; after = r.2.after; whole = ap (λ ys. x ∷ ys) r.2.whole; at = ap suc r.2.at;
-            alone = ap (λ y. y ∷ map (stepped s) r.2.before) (miss s x h) ∙ ap (λ ys. x ∷ ys) r.2.alone; hit = r.2.hit })
+        let r = ih q in (
+          suc r.0,
+          (let z = r.1 in omega arith),
+          record {
+            before = x ∷ r.2.before;
+            one = r.2.one;
+            after = r.2.after;
+            whole = ap (λ ys. x ∷ ys) r.2.whole;
+            at = ap suc r.2.at;
+            alone = ap (λ y. y ∷ map (stepped s) r.2.before) (miss s x h) ∙ ap (λ ys. x ∷ ys) r.2.alone;
+            hit = r.2.hit;
+          },
+        )
 
 pub step_none : (s : Rec) (xs : List Open) (n : ℕ) → position_from (λ o. same_event (event_in o) (event_of s)) n xs ≡ None → map (stepped s) xs ≡ xs
 step_none s [] n e = refl
@@ -101,7 +111,7 @@ done_seam s before o d x after rest steps alone hit at made behind =
     let same : x ≡ o = at ∙ get_seam before o x after in
     let got = get_seam before o d rest in
     let value : record { problem = (get_or (before ++ o ∷ rest) (length before) d).problem; steps = steps; depth = (get_or (before ++ o ∷ rest) (length before) d).depth } ≡ stepped s o =
-        ap (λ (y : Open). (let v : Open = record { problem = y.problem; steps = steps; depth = y.depth } in v)) got ∙ ap (λ (ss : List Rec). (let v : Open = record { problem = o.problem; steps = ss; depth = o.depth } in v)) (made ∙ ap (λ (y : Open). with_step y.steps s) same) ∙ sym (hit_is s o hit) in
+    ap (λ (y : Open). (let v : Open = record { problem = y.problem; steps = steps; depth = y.depth } in v)) got ∙ ap (λ (ss : List Rec). (let v : Open = record { problem = o.problem; steps = ss; depth = o.depth } in v)) (made ∙ ap (λ (y : Open). with_step y.steps s) same) ∙ sym (hit_is s o hit) in
     ap (λ ys. with_steps ys (length before) d steps) (put_seam before o after rest)
     ∙ ap (λ (v : Open). set (before ++ o ∷ rest) (length before) v) value
     ∙ set_seam before o (stepped s o) rest
@@ -122,7 +132,7 @@ step_done s xs rest k d x steps e at made behind =
     go before o after alone hit ek ex at behind =
         let a : x ≡ get_or (before ++ o ∷ after) (length before) x = subst (λ ys. x ≡ get_or ys (length before) x) ex (subst (λ j. x ≡ get_or xs j x) ek at) in
         let b : rest ≡ map (stepped s) (mid_of (length before + 1) (length (before ++ o ∷ after) - (length before + 1)) (before ++ o ∷ after)) =
-            subst (λ ys. rest ≡ map (stepped s) (mid_of (length before + 1) (length ys - (length before + 1)) ys)) ex (subst (λ j. rest ≡ map (stepped s) (mid_of (j + 1) (length xs - (j + 1)) xs)) ek behind) in
+        subst (λ ys. rest ≡ map (stepped s) (mid_of (length before + 1) (length ys - (length before + 1)) ys)) ex (subst (λ j. rest ≡ map (stepped s) (mid_of (j + 1) (length xs - (j + 1)) xs)) ek behind) in
         let done = done_seam s before o d x after rest steps alone hit a made b in
         subst (λ j. with_steps (put_mid (j + 1) (length xs - (j + 1)) xs rest) j d steps ≡ map (stepped s) xs) (sym ek)
         (subst (λ ys. with_steps (put_mid (length before + 1) (length ys - (length before + 1)) ys rest) (length before) d steps ≡ map (stepped s) ys) (sym ex) done)

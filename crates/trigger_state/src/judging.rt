@@ -167,5 +167,14 @@ pub fn verdict(
     };
     let masters = masters(alloc, conf, trigger)?;
     let held = held_by(masters.as_slice(), cells);
-    verdict_over(alloc, found, held, cells.open(trigger), p, r, tags, is_value)
+    verdict_over(
+        alloc,
+        found,
+        held,
+        cells.open(trigger),
+        p,
+        r,
+        tags,
+        is_value,
+    )
 }

@@ -15,10 +15,8 @@ fn action_of(record: &Rec) -> &[u8]
 {
     match record {
         Rec::Step { action, .. } => action.as_bytes(),
-        Rec::Failure { .. }
-        | Rec::Problem { .. }
-        | Rec::Recovery { .. }
-        | Rec::Message { .. } => &[],
+        Rec::Failure { .. } | Rec::Problem { .. } | Rec::Recovery { .. } | Rec::Message { .. } =>
+            &[],
     }
 }
 

@@ -458,5 +458,5 @@ fall_decided conf = (λ e id m h. go id e (id == 0) (slice_get conf.triggers (id
     back : DepthsFall conf → (k : ℕ) (t : Trigger) → slice_get conf.triggers k ≡ Some t → (m : ℕ) → has_id t.depends m ≡ true → depth_of conf m < t.depth
     back falls k t e m h =
         let q : at_id conf.triggers (suc k) ≡ Some t =
-            ap (λ (b : Bool). cond b None (slice_get conf.triggers (suc k - 1))) (ne_eqb (suc k) 0 (λ z. omega arith)) ∙ ap (λ j. slice_get conf.triggers j) (let z : suc k - 1 ≡ k = omega arith in z) ∙ e in
+        ap (λ (b : Bool). cond b None (slice_get conf.triggers (suc k - 1))) (ne_eqb (suc k) 0 (λ z. omega arith)) ∙ ap (λ j. slice_get conf.triggers j) (let z : suc k - 1 ≡ k = omega arith in z) ∙ e in
         subst (λ o. Lower o m) q (falls (suc k) m (subst (λ o. has_id (depends_by o) m ≡ true) (sym q) h))

@@ -50,10 +50,11 @@ fn are_below(conf: &Conf, depth: u32, ids: &[u32]) -> bool
 fn all_fall(conf: &Conf) -> bool
     ensures { result ≡ depths_fall conf.now }
 {
-    conf.triggers
-        .as_slice()
-        .iter()
-        .all(|trigger| are_below(conf, trigger.depth, trigger.depends.as_slice()))
+    conf.triggers.as_slice().iter().all(|trigger| are_below(
+        conf,
+        trigger.depth,
+        trigger.depends.as_slice(),
+    ))
 }
 
 /// Whether each trigger that one depends on has a smaller depth. That is so in a configuration without cycles, where the

@@ -7,10 +7,10 @@ pub loop-place-init : goal.loop-place-init
 loop-place-init c =
     let size : length c.in_ok-no_marks.field-0.items ≡ length c.args.conf.now.triggers = ap length c.in_ok-no_marks.ensures ∙ length-replicate _ _ ∙ c.len.ensures in
     record {
-  marked = c.in_ok-enter.ensures.marked;
-  size = c.in_ok-enter.ensures.size ∙ size;
-  walks = walk_begins _ _ _ _ _ _ c.requires size c.new.ensures.items c.depends_of.ensures c.in_ok-enter.ensures.found;
-}
+      marked = c.in_ok-enter.ensures.marked;
+      size = c.in_ok-enter.ensures.size ∙ size;
+      walks = walk_begins _ _ _ _ _ _ c.requires size c.new.ensures.items c.depends_of.ensures c.in_ok-enter.ensures.found;
+    }
 
 pub returns-in_default-clause-finds : goal.returns-in_default-clause-finds
 returns-in_default-clause-finds c = walk_ends _ _ c.loop-place.place _ (sym c.at.ensures ∙ c.in_default.is) c.loop-place.invariant.walks
