@@ -75,18 +75,18 @@ impl TriggerCells {
     ///
     /// It looks at the open problems of the record's trigger alone.
     #[tactic(auto, unfolding(crate::specs::Problems::absorbed))]
-    pub fn absorb(&mut self, alloc: Global, conf: &Conf, record: &Rec) -> Result<(), OutOfMemory>
-        ensures opens { OnOk result (HasOpen self.new (grown conf.now (opens_in self.old) (record.now ∷ []))) }
+    pub fn absorb(&mut self, alloc: Global, conf: &Conf, rec: &Rec) -> Result<(), OutOfMemory>
+        ensures opens { OnOk result (HasOpen self.new (grown conf.now (opens_in self.old) (rec.now ∷ []))) }
         ensures same { OnErr result (HasOpen self.new (opens_in self.old)) }
         ensures first_tick { self.new.first_tick ≡ self.old.first_tick }
     {
-        match record {
-            Rec::Problem { event, .. } => add(alloc, conf, &mut self.rows, *event, record),
+        match rec {
+            Rec::Problem { event, .. } => add(alloc, conf, &mut self.rows, *event, rec),
             Rec::Recovery { event, .. } => {
                 close(alloc, &mut self.rows, *event);
                 Ok(())
             }
-            Rec::Step { event, .. } => run(alloc, &mut self.rows, *event, record),
+            Rec::Step { event, .. } => run(alloc, &mut self.rows, *event, rec),
             Rec::Failure { .. } | Rec::Message { .. } => Ok(()),
         }
     }

@@ -10,10 +10,10 @@ use std::alloc::Global;
 use zbx_types::{EventId, Many, OutOfMemory, Rec};
 
 /// The action of a step, by name; nothing for any other record.
-fn action_of(record: &Rec) -> &[u8]
-    ensures { result.now ≡ action_of record.now }
+fn action_of(rec: &Rec) -> &[u8]
+    ensures { result.now ≡ action_of rec.now }
 {
-    match record {
+    match rec {
         Rec::Step { action, .. } => action.as_bytes(),
         Rec::Failure { .. } | Rec::Problem { .. } | Rec::Recovery { .. } | Rec::Message { .. } =>
             &[],
