@@ -6,7 +6,7 @@ use Rattle.std.proofs.lemmas.Bool.{and_parts, and_from, or_cases, or_left, or_ri
 use Rattle.std.proofs.lemmas.List.Elements.{All-nil, All-cons}
 use Rattle.zbx_types.specs.Reach.{asks_for_value, old_name, new_name, has_name, can_be_old, can_be_new, reaches, in_reach}
 use Rattle.zbx_types.specs.Records.{tags_of}
-use Rattle.zbx_types.specs.Tags.{has_value, holds_of, joined}
+use Rattle.zbx_types.specs.Tags.{has_value, share_value, holds_of, joined}
 use Rattle.zbx_types.specs.declared.conf.Conf.{Conf}
 use Rattle.zbx_types.specs.declared.entries.Rec.{Rec}
 use Rattle.zbx_types.specs.declared.entries.Tag.{Tag}
@@ -18,7 +18,7 @@ use Rattle.zbx_types.specs.declared.tag_tests.Matching.TheVariants.{And, Or}
 use Rattle.zbx_types.specs.declared.tag_tests.TagOp.{TagOp}
 use Rattle.zbx_types.specs.declared.tag_tests.TagOp.TheVariants.{Equals, Contains, NotEquals, NotContains}
 use Rattle.zbx_types.specs.declared.triggers.Trigger.{Trigger}
-use Rattle.event_correlation.specs.Conditions.{holds, groups_of, matches, share_value}
+use Rattle.event_correlation.specs.Conditions.{holds, groups_of, matches}
 use Rattle.event_correlation.specs.Laws.{HasTagsOf, share_reach}
 
 abbrev pub names : List Tag → List (List ℕ)
