@@ -26,6 +26,7 @@
 #![tactic(auto)]
 
 mod fields;
+mod page;
 mod records;
 
 pub use records::{line, lines};
