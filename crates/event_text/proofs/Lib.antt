@@ -1,1 +1,6 @@
+pub mod CutLemmas
+pub mod FormLemmas
 pub mod LineLemmas
+pub mod PieceLemmas
+pub mod QuoteLemmas
+pub mod TitleLemmas

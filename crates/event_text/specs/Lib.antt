@@ -1,2 +1,6 @@
 pub mod Lines
 pub mod Pages
+pub mod Pieces
+pub mod Forms
+pub mod Cuts
+pub mod Titles

@@ -25,11 +25,18 @@
 //! ```
 #![tactic(auto)]
 
+mod braces;
 mod fields;
+
+mod fronts;
+mod macros;
 mod page;
+mod quotes;
 mod records;
+mod titles;
 
 pub use records::{line, lines};
+pub use titles::{name, patterns_in, tags};
 
 #[cfg(test)]
 mod tests;
