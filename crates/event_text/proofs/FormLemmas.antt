@@ -13,17 +13,17 @@ use Rattle.event_text.specs.declared.macros.Macro.TheVariants.{Host, Item, Fille
 use Rattle.event_text.proofs.PieceLemmas.{begins, begins_not, ends_more, ends_drop, ends_behind, ends_shorter, macro_step, brace_step}
 
 -- what is read stands at the front of a text
-abbrev Ends : {A : Type 0} → List ℕ → Option (A × List ℕ) → Type 0
+abbrev pub Ends : {A : Type 0} → List ℕ → Option (A × List ℕ) → Type 0
 Ends text o = IfSome o (λ r. EndsWith text r.1)
 
-abbrev EndsAlone : List ℕ → Option (List ℕ) → Type 0
+abbrev pub EndsAlone : List ℕ → Option (List ℕ) → Type 0
 EndsAlone text o = IfSome o (λ rest. EndsWith text rest)
 
-test_ends : {A : Type 0} (text : List ℕ) (b : Bool) (o p : Option (A × List ℕ)) → Ends text o → Ends text p → Ends text (cond b o p)
+pub test_ends : {A : Type 0} (text : List ℕ) (b : Bool) (o p : Option (A × List ℕ)) → Ends text o → Ends text p → Ends text (cond b o p)
 test_ends text true o p first second = first
 test_ends text false o p first second = second
 
-or_ends : {A : Type 0} (text : List ℕ) (o p : Option (A × List ℕ)) → Ends text o → Ends text p → Ends text (option_or o p)
+pub or_ends : {A : Type 0} (text : List ℕ) (o p : Option (A × List ℕ)) → Ends text o → Ends text p → Ends text (option_or o p)
 or_ends text None p first second = second
 or_ends text (Some r) p first second = first
 
@@ -31,7 +31,7 @@ further : {A : Type 0} (text mid : List ℕ) (o : Option (A × List ℕ)) → En
 further text mid None ends h = tt
 further text mid (Some r) ends h = ends_more text mid r.1 ends h
 
-then_ends : {A B : Type 0} (text : List ℕ) (f : A × List ℕ → Option (B × List ℕ)) (o : Option (A × List ℕ))
+pub then_ends : {A B : Type 0} (text : List ℕ) (f : A × List ℕ → Option (B × List ℕ)) (o : Option (A × List ℕ))
     → Ends text o → ((r : A × List ℕ) → Ends r.1 (f r)) → Ends text (option_and_then f o)
 then_ends text f None ends next = tt
 then_ends text f (Some r) ends next = further text r.1 (f r) ends (next r)
@@ -41,7 +41,7 @@ alone_then : {B : Type 0} (text : List ℕ) (f : List ℕ → Option (B × List 
 alone_then text f None ends next = tt
 alone_then text f (Some rest) ends next = further text rest (f rest) ends (next rest)
 
-alone_map : {B : Type 0} (text : List ℕ) (f : List ℕ → B) (o : Option (List ℕ)) → EndsAlone text o → Ends text (option_map (λ rest. (f rest, rest)) o)
+pub alone_map : {B : Type 0} (text : List ℕ) (f : List ℕ → B) (o : Option (List ℕ)) → EndsAlone text o → Ends text (option_map (λ rest. (f rest, rest)) o)
 alone_map text f None ends = tt
 alone_map text f (Some rest) ends = ends
 
@@ -53,7 +53,7 @@ cons_ends : {A : Type 0} (c : ℕ) (text : List ℕ) (o : Option (A × List ℕ)
 cons_ends c text None ends = tt
 cons_ends c text (Some r) ends = ends_behind c text r.1 ends
 
-behind_ends : (word text : List ℕ) → EndsAlone text (behind word text)
+pub behind_ends : (word text : List ℕ) → EndsAlone text (behind word text)
 unfolding behind
 behind_ends word text = go (starts_with nat_eq text word) where
   go : (b : Bool) → EndsAlone text (cond b (Some (drop (length word) text)) None)

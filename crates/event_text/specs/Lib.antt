@@ -4,3 +4,5 @@ pub mod Pieces
 pub mod Forms
 pub mod Cuts
 pub mod Titles
+pub mod Words
+pub mod Messages

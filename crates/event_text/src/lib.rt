@@ -26,15 +26,19 @@
 #![tactic(auto)]
 
 mod braces;
+mod clocks;
 mod fields;
 
 mod fronts;
 mod macros;
+mod messages;
 mod page;
 mod quotes;
 mod records;
 mod titles;
+mod words;
 
+pub use messages::message;
 pub use records::{line, lines};
 pub use titles::{name, patterns_in, tags};
 
