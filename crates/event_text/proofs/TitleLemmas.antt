@@ -1,6 +1,6 @@
 -- Titles and values of tags, piece by piece.
-use Rattle.std.proofs.Common.{◌≡◌, ◌⊎◌, inl, inr, ℕ, ◌<◌, ◌≤◌, List, [], ◌∷◌, ◌++◌, length, map, refl, sym, ap, subst, ◌∙◌, arith, Option, Some, None, All, Contains, ◌+◌, length-append, Result, Ok, Err, IfOk}
-use Rattle.std.proofs.lemmas.List.{append-nil, get_or_append_left, get_or-append-add}
+use Rattle.std.proofs.Common.{◌≡◌, ◌⊎◌, inl, inr, ℕ, ◌<◌, ◌≤◌, List, [], ◌∷◌, ◌++◌, length, map, refl, sym, ap, subst, ◌∙◌, arith, Option, Some, None, All, Contains, ◌+◌, length-append, get_or, Result, Ok, Err, IfOk}
+use Rattle.std.proofs.lemmas.List.{append-nil, get_or_default, get_or_append_left, get_or-append-add}
 use Rattle.event_text.specs.Cuts.{IsOnTheWay, Adds, Goes}
 use Rattle.event_text.specs.declared.fronts.Front.{Front}
 use Rattle.std.specs.List.{flat_map}
@@ -90,3 +90,7 @@ expanded_empty host values (c ∷ rest) empty = absurd (omega arith)
 
 pub patterns_free : (text : List ℕ) → HasNo 123 text → patterns_of text ≡ []
 patterns_free text free = ap patterns_of (sym (append-nil text)) ∙ patterns_plain text [] free ∙ patterns_none
+
+-- each item of a list is in it
+pub all_among : (xs : List (List ℕ)) → All (λ p. Contains xs p) xs
+all_among xs = λ k d below. (k, below, get_or_default xs k (get_or xs k d) d below)
