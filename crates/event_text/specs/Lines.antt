@@ -1,5 +1,5 @@
 -- Lines of records: fields joined by `|`, and a line feed behind the last.
-use Rattle.std.specs.Prelude.{ℕ, ◌/◌, ◌%◌, ◌==◌, Bool, List, [], ◌∷◌, ◌++◌, if◌then◌else◌, codes}
+use Rattle.std.specs.Prelude.{ℕ, ◌/◌, ◌%◌, ◌==◌, Bool, not, ◌||◌, List, [], ◌∷◌, ◌++◌, if◌then◌else◌, codes}
 use Rattle.std.specs.List.{flat_map}
 use Rattle.std.specs.Fmt.{decimal}
 use Rattle.zbx_types.specs.Digits.{digit_at, last_six_digits}
@@ -29,6 +29,10 @@ event_text_of e = decimal e.number ++ codes "-" ++ decimal e.trigger
 -- a byte of a text: a backslash, a bar, a line feed and a carriage return are written as two
 abbrev pub escaped_byte : ℕ → List ℕ
 escaped_byte c = if c == 92 then codes "\\\\" else if c == 124 then codes "\\|" else if c == 10 then codes "\\n" else if c == 13 then codes "\\r" else c ∷ []
+
+-- whether a byte stays as it is
+abbrev pub is_plain : ℕ → Bool
+is_plain c = not (c == 92 || c == 124 || c == 10 || c == 13)
 
 -- a text as a line has it
 abbrev pub escaped : List ℕ → List ℕ

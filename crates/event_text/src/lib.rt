@@ -1,9 +1,20 @@
-//! The lines of records: what an outbox gets for each failure, problem, recovery, step and message.
+//! The texts of events: names, tags, messages, and the lines of records that an outbox gets.
 //!
-//! The public contract: `line` adds the line of one record to bytes, and `lines` those of several in their order.
-//! Where memory is wanting they add nothing.
+//! The one contract: each call gives exactly the text that its definition says (`specs/Titles.antt`,
+//! `specs/Messages.antt`, `specs/Lines.antt`), or [`OutOfMemory`]. [`line`] and [`lines`] then leave the bytes that they
+//! were to grow as they were.
 //!
-//! A line is fields with `|` between them and a line feed behind the last. The first field is the kind's letter:
+//! ```text
+//! name         the name of a trigger's events: its title with its macros replaced, within 2,048 bytes
+//! tags         the tags of its problems: their values with their macros replaced, within 255 characters
+//! patterns_in  the regular expressions in a title or in a tag's value, which `name` and `tags` look up
+//! message      the subject or body of a message with its macros replaced
+//! line, lines  the lines of records
+//! ```
+//!
+//! Macros of titles and tags are `{HOST.NAME}`, `{ITEM.VALUE}`, `{ITEM.LASTVALUE2}` and
+//! `{{ITEM.VALUE}.regsub(pattern,output)}`; what one stands for isn't looked through again, and whatever is no macro
+//! stays. A line is fields with `|` between them and a line feed behind the last, the kind's letter first:
 //!
 //! ```text
 //! F|entry|host|key|why
@@ -13,22 +24,38 @@
 //! M|event|action|step|recipient|subject|body
 //! ```
 //!
-//! Numbers are decimal. An event is the number of the entry that opened it, `-` and its trigger. A moment is its
-//! seconds, a point and nine digits of nanoseconds. Suppressed is `1` or `0`. The cause is `e` where the trigger's
-//! expression closed the event, and `c` where correlation did. In texts a backslash, a bar, a line feed and a
-//! carriage return are written `\\`, `\|`, `\n` and `\r`, so that no text ends a field or a line. The format is this
-//! project's own.
+//! An event is the number of the entry that opened it, `-` and its trigger. A moment is its seconds, a point and nine
+//! digits. Suppressed is `1` or `0`, and the cause `e` for the trigger's expression or `c` for correlation. In texts a
+//! backslash, a bar, a line feed and a carriage return are written `\\`, `\|`, `\n` and `\r`. A short use:
 //!
 //! ```text
-//! let mut out = Bytes::new(alloc);
+//! let name = name(alloc, &conf, trigger, &values, &patterns)?;      // "h1: 1.5" of "{HOST.NAME}: {ITEM.VALUE}"
 //! lines(alloc, records, &mut out)?;
 //! ```
+//!
+//! [`OutOfMemory`]: zbx_types::OutOfMemory
 #![tactic(auto)]
 
+mod braces;
+mod clocks;
 mod fields;
-mod records;
 
+mod fronts;
+mod macros;
+mod messages;
+mod page;
+mod quotes;
+mod records;
+mod titles;
+mod words;
+
+pub use messages::message;
 pub use records::{line, lines};
+pub use titles::{name, patterns_in, tags};
 
 #[cfg(test)]
+mod message_tests;
+#[cfg(test)]
 mod tests;
+#[cfg(test)]
+mod title_tests;

@@ -6,7 +6,9 @@ ghost use Rattle.std.specs.Fmt.{decimal};
 ghost use Rattle.event_text.specs.Lines.{escaped, suppressed_text, cause_text, tag_fields, barred, joined, fields_of, line_of, lines_of};
 
 use crate::fields::{add_event, add_moment, add_number, add_text};
+use crate::page::Page;
 use std::alloc::Global;
+use std::mem;
 use zbx_types::{Bytes, Cause2, EventId, Moment, OutOfMemory, Rec, Tag, Text};
 
 fn suppressed_text(suppressed: bool) -> &'static [u8]
@@ -25,17 +27,17 @@ fn cause_text(cause: Cause2) -> &'static [u8]
 }
 
 fn put_failure(
-    alloc: Global,
     number: u64,
     host: &Text,
     key: &Text,
     why: &Text,
-    out: &mut Bytes,
+    out: &mut Page,
 ) -> Result<(), OutOfMemory>
-    ensures { OnOk result (out.new ≡ out.old ++ joined (fields_of (Rec.Failure number host.now key.now why.now))) }
+    ensures ok { OnOk result (out.new.back ≡ out.old.back ++ joined (fields_of (Rec.Failure number host.now key.now why.now))) }
+    ensures front { out.new.front ≡ out.old.front }
 {
     out.extend(b"F")?;
-    add_number(alloc, number, out)?;
+    add_number(number, out)?;
     add_text(host, out)?;
     add_text(key, out)?;
     add_text(why, out)
@@ -43,35 +45,38 @@ fn put_failure(
 
 /// Adds how severe a problem is, and whether it is suppressed.
 fn add_kind(
-    alloc: Global,
     severity: u8,
     suppressed: bool,
-    out: &mut Bytes,
+    out: &mut Page,
 ) -> Result<(), OutOfMemory>
-    ensures { OnOk result (out.new ≡ out.old ++ flat_map barred (decimal severity ∷ suppressed_text suppressed ∷ [])) }
+    ensures ok { OnOk result (out.new.back ≡ out.old.back ++ flat_map barred (decimal severity ∷ suppressed_text suppressed ∷ [])) }
+    ensures front { out.new.front ≡ out.old.front }
 {
-    add_number(alloc, u64::from(severity), out)?;
+    add_number(u64::from(severity), out)?;
     out.extend(b"|")?;
     out.extend(suppressed_text(suppressed))
 }
 
-fn add_names(host: &Text, trigger: &Text, name: &Text, out: &mut Bytes) -> Result<(), OutOfMemory>
-    ensures { OnOk result (out.new ≡ out.old ++ flat_map barred (escaped host.now ∷ escaped trigger.now ∷ escaped name.now ∷ [])) }
+fn add_names(host: &Text, trigger: &Text, name: &Text, out: &mut Page) -> Result<(), OutOfMemory>
+    ensures ok { OnOk result (out.new.back ≡ out.old.back ++ flat_map barred (escaped host.now ∷ escaped trigger.now ∷ escaped name.now ∷ [])) }
+    ensures front { out.new.front ≡ out.old.front }
 {
     add_text(host, out)?;
     add_text(trigger, out)?;
     add_text(name, out)
 }
 
-fn add_tag(tag: &Tag, out: &mut Bytes) -> Result<(), OutOfMemory>
-    ensures { OnOk result (out.new ≡ out.old ++ flat_map barred (tag_fields tag.now)) }
+fn add_tag(tag: &Tag, out: &mut Page) -> Result<(), OutOfMemory>
+    ensures ok { OnOk result (out.new.back ≡ out.old.back ++ flat_map barred (tag_fields tag.now)) }
+    ensures front { out.new.front ≡ out.old.front }
 {
     add_text(&tag.tag, out)?;
     add_text(&tag.value, out)
 }
 
-fn add_tags(tags: &[Tag], out: &mut Bytes) -> Result<(), OutOfMemory>
-    ensures { OnOk result (out.new ≡ out.old ++ flat_map barred (flat_map tag_fields tags.now)) }
+fn add_tags(tags: &[Tag], out: &mut Page) -> Result<(), OutOfMemory>
+    ensures ok { OnOk result (out.new.back ≡ out.old.back ++ flat_map barred (flat_map tag_fields tags.now)) }
+    ensures front { out.new.front ≡ out.old.front }
 {
     for tag in tags {
         add_tag(tag, out)?;
@@ -80,42 +85,43 @@ fn add_tags(tags: &[Tag], out: &mut Bytes) -> Result<(), OutOfMemory>
 }
 
 fn put_recovery(
-    alloc: Global,
     event: EventId,
     by: u64,
     now: Moment,
     cause: Cause2,
-    out: &mut Bytes,
+    out: &mut Page,
 ) -> Result<(), OutOfMemory>
-    ensures { OnOk result (out.new ≡ out.old ++ joined (fields_of (Rec.Recovery event by now cause))) }
+    ensures ok { OnOk result (out.new.back ≡ out.old.back ++ joined (fields_of (Rec.Recovery event by now cause))) }
+    ensures front { out.new.front ≡ out.old.front }
 {
     out.extend(b"R")?;
-    add_event(alloc, event, out)?;
-    add_number(alloc, by, out)?;
-    add_moment(alloc, now, out)?;
+    add_event(event, out)?;
+    add_number(by, out)?;
+    add_moment(now, out)?;
     out.extend(b"|")?;
     out.extend(cause_text(cause))
 }
 
 fn put_step(
-    alloc: Global,
     event: EventId,
     action: &Text,
     step: u32,
     now: Moment,
-    out: &mut Bytes,
+    out: &mut Page,
 ) -> Result<(), OutOfMemory>
-    ensures { OnOk result (out.new ≡ out.old ++ joined (fields_of (Rec.Step event action.now step now))) }
+    ensures ok { OnOk result (out.new.back ≡ out.old.back ++ joined (fields_of (Rec.Step event action.now step now))) }
+    ensures front { out.new.front ≡ out.old.front }
 {
     out.extend(b"S")?;
-    add_event(alloc, event, out)?;
+    add_event(event, out)?;
     add_text(action, out)?;
-    add_number(alloc, u64::from(step), out)?;
-    add_moment(alloc, now, out)
+    add_number(u64::from(step), out)?;
+    add_moment(now, out)
 }
 
-fn put_fields(alloc: Global, rec: &Rec, out: &mut Bytes) -> Result<(), OutOfMemory>
-    ensures { OnOk result (out.new ≡ out.old ++ joined (fields_of rec.now)) }
+fn put_fields(rec: &Rec, out: &mut Page) -> Result<(), OutOfMemory>
+    ensures ok { OnOk result (out.new.back ≡ out.old.back ++ joined (fields_of rec.now)) }
+    ensures front { out.new.front ≡ out.old.front }
 {
     match rec {
         Rec::Failure {
@@ -123,7 +129,7 @@ fn put_fields(alloc: Global, rec: &Rec, out: &mut Bytes) -> Result<(), OutOfMemo
             host,
             key,
             why,
-        } => put_failure(alloc, *number, host, key, why, out),
+        } => put_failure(*number, host, key, why, out),
         Rec::Problem {
             event,
             now,
@@ -135,9 +141,9 @@ fn put_fields(alloc: Global, rec: &Rec, out: &mut Bytes) -> Result<(), OutOfMemo
             tags,
         } => {
             out.extend(b"P")?;
-            add_event(alloc, *event, out)?;
-            add_moment(alloc, *now, out)?;
-            add_kind(alloc, *severity, *suppressed, out)?;
+            add_event(*event, out)?;
+            add_moment(*now, out)?;
+            add_kind(*severity, *suppressed, out)?;
             add_names(host, trigger, name, out)?;
             add_tags(tags.as_slice(), out)
         }
@@ -146,13 +152,13 @@ fn put_fields(alloc: Global, rec: &Rec, out: &mut Bytes) -> Result<(), OutOfMemo
             by,
             now,
             cause,
-        } => put_recovery(alloc, *event, *by, *now, *cause, out),
+        } => put_recovery(*event, *by, *now, *cause, out),
         Rec::Step {
             event,
             action,
             step,
             now,
-        } => put_step(alloc, *event, action, *step, *now, out),
+        } => put_step(*event, action, *step, *now, out),
         Rec::Message {
             event,
             action,
@@ -162,28 +168,48 @@ fn put_fields(alloc: Global, rec: &Rec, out: &mut Bytes) -> Result<(), OutOfMemo
             body,
         } => {
             out.extend(b"M")?;
-            add_event(alloc, *event, out)?;
+            add_event(*event, out)?;
             add_text(action, out)?;
-            add_number(alloc, u64::from(*step), out)?;
+            add_number(u64::from(*step), out)?;
             add_names(recipient, subject, body, out)
         }
     }
 }
 
-fn put_line(alloc: Global, rec: &Rec, out: &mut Bytes) -> Result<(), OutOfMemory>
-    ensures { OnOk result (out.new ≡ out.old ++ line_of rec.now) }
+fn put_line(rec: &Rec, out: &mut Page) -> Result<(), OutOfMemory>
+    ensures ok { OnOk result (out.new.back ≡ out.old.back ++ line_of rec.now) }
+    ensures front { out.new.front ≡ out.old.front }
 {
-    put_fields(alloc, rec, out)?;
+    put_fields(rec, out)?;
     out.extend(b"\n")
 }
 
-fn put_lines(alloc: Global, records: &[Rec], out: &mut Bytes) -> Result<(), OutOfMemory>
-    ensures { OnOk result (out.new ≡ out.old ++ lines_of records.now) }
+fn put_lines(records: &[Rec], out: &mut Page) -> Result<(), OutOfMemory>
+    ensures ok { OnOk result (out.new.back ≡ out.old.back ++ lines_of records.now) }
+    ensures front { out.new.front ≡ out.old.front }
 {
     for rec in records {
-        put_line(alloc, rec, out)?;
+        put_line(rec, out)?;
     }
     Ok(())
+}
+
+/// Keeps what was added behind the front of a page, or leaves the front alone where memory was wanting.
+fn ended(page: Page, put: Result<(), OutOfMemory>, out: &mut Bytes) -> Result<(), OutOfMemory>
+    ensures same { result ≡ put }
+    ensures ok { OnOk put (out.new ≡ page.front ++ page.back) }
+    ensures err { OnErr put (out.new ≡ page.front) }
+{
+    match put {
+        Ok(()) => {
+            *out = page.whole();
+            Ok(())
+        }
+        Err(OutOfMemory) => {
+            *out = page.front();
+            Err(OutOfMemory)
+        }
+    }
 }
 
 /// Adds the line of a record at the end of `out`, in the format that the crate's comment tells (this project's own).
@@ -193,9 +219,9 @@ pub fn line(alloc: Global, rec: &Rec, out: &mut Bytes) -> Result<(), OutOfMemory
     ensures ok { OnOk result (out.new ≡ out.old ++ line_of rec.now) }
     ensures err { OnErr result (out.new ≡ out.old) }
 {
-    let mut text = Bytes::new(alloc);
-    put_line(alloc, rec, &mut text)?;
-    out.extend(text.as_slice())
+    let mut page = Page::of(mem::replace(out, Bytes::new(alloc)));
+    let put = put_line(rec, &mut page);
+    ended(page, put, out)
 }
 
 /// Adds the lines of records at the end of `out`, in their order, with nothing between them (this project's own).
@@ -205,7 +231,7 @@ pub fn lines(alloc: Global, records: &[Rec], out: &mut Bytes) -> Result<(), OutO
     ensures ok { OnOk result (out.new ≡ out.old ++ lines_of records.now) }
     ensures err { OnErr result (out.new ≡ out.old) }
 {
-    let mut text = Bytes::new(alloc);
-    put_lines(alloc, records, &mut text)?;
-    out.extend(text.as_slice())
+    let mut page = Page::of(mem::replace(out, Bytes::new(alloc)));
+    let put = put_lines(records, &mut page);
+    ended(page, put, out)
 }

@@ -1,0 +1,220 @@
+//! Names of events and tags; what is wanted of regular expressions are the answers of Python's module `re`.
+
+ghost use Rattle.std.specs.Prelude.{◌≡◌, IfOk};
+ghost use Rattle.event_text.specs.Forms.{patterns_of};
+
+use super::*;
+use pattern_set::Patterns;
+use std::alloc::Global;
+use std::convert::AsStr;
+use std::test::Fail;
+use zbx_types::{
+    Conf, Expr, Fix, Held, Host, Many, OutOfMemory, RecoveryMode, Tag, Text, Trigger, by_id,
+};
+
+/// A trigger of host 1 with a title and a tag.
+fn trigger(alloc: Global, title: &Text, tag: &Text) -> Result<Trigger, OutOfMemory> {
+    let mut tags = Many::new(alloc);
+    tags.push(Tag {
+        tag: Text::of(alloc, "{HOST.NAME}")?,
+        value: tag.copy(alloc)?,
+    })?;
+    Ok(Trigger {
+        host: 1,
+        name: Text::new(alloc),
+        title: title.copy(alloc)?,
+        expr: Expr::Call(0),
+        recovery: RecoveryMode::Expression,
+        recovery_expr: None,
+        calls: Many::new(alloc),
+        call_items: Many::new(alloc),
+        multiple: false,
+        close_tag: Text::new(alloc),
+        severity: 0,
+        tags,
+        depends: Many::new(alloc),
+        enabled: true,
+        depth: 0,
+    })
+}
+
+/// A configuration with host `h1` and such a trigger.
+fn configuration(alloc: Global, title: &Text, tag: &Text) -> Result<Conf, OutOfMemory> {
+    let mut hosts = Many::new(alloc);
+    hosts.push(Host {
+        name: Text::of(alloc, "h1")?,
+        groups: Many::new(alloc),
+        enabled: true,
+    })?;
+    let mut triggers = Many::new(alloc);
+    triggers.push(trigger(alloc, title, tag)?)?;
+    Ok(Conf {
+        text: Text::new(alloc),
+        utc_offset: 0,
+        hosts,
+        items: Many::new(alloc),
+        triggers,
+        correlations: Many::new(alloc),
+        maintenances: Many::new(alloc),
+        actions: Many::new(alloc),
+        patterns: Many::new(alloc),
+        pattern_paths: Many::new(alloc),
+    })
+}
+
+/// 1.5, nothing, words, and words that look like a macro.
+fn values(alloc: Global) -> Result<Many<Option<Held>>, OutOfMemory> {
+    let mut values = Many::new(alloc);
+    values.push(Fix::read(b"1.5").map(Held::Number))?;
+    values.push(None)?;
+    values.push(Some(Held::Words(Text::of(alloc, "ERR disk \u{e4}")?)))?;
+    values.push(Some(Held::Words(Text::of(alloc, "{HOST.NAME}")?)))?;
+    Ok(values)
+}
+
+/// The patterns of a text, built.
+fn patterns_of(alloc: Global, text: &Text) -> Result<Patterns, Fail>
+    ensures { IfOk result (λ patterns. patterns ≡ patterns_of text.now) }
+{
+    let texts = patterns_in(alloc, text)?;
+    if texts.len() as u64 >= 1 << 32 {
+        return Err(Fail::from(OutOfMemory));
+    }
+    Ok(Patterns::build(alloc, &texts)?)
+}
+
+/// The name of the events of the first trigger.
+#[tactic(auto, using(crate::proofs::TitleLemmas::all_among))]
+fn name_by(alloc: Global, conf: &Conf, values: &[Option<Held>]) -> Result<Text, Fail> {
+    match by_id(conf.triggers.as_slice(), 1) {
+        Some(trigger) => {
+            let patterns = patterns_of(alloc, &trigger.title)?;
+            Ok(name(alloc, conf, 1, values, &patterns)?)
+        }
+        None => Ok(Text::new(alloc)),
+    }
+}
+
+/// The name that a title gives.
+fn named(alloc: Global, title: &Text) -> Result<Text, Fail> {
+    let conf = configuration(alloc, title, &Text::new(alloc))?;
+    let values = values(alloc)?;
+    name_by(alloc, &conf, values.as_slice())
+}
+
+/// Titles, and the names that they give.
+fn titles() -> [[&'static str; 2]; 14] {
+    [
+        ["{HOST.NAME}: {ITEM.VALUE}", "h1: 1.5"],
+        [
+            "{ITEM.VALUE1}{ITEM.LASTVALUE}{ITEM.VALUE3}",
+            "1.51.5ERR disk \u{e4}",
+        ],
+        [
+            "{ITEM.VALUE2}{ITEM.LASTVALUE9}{ITEM.VALUE0}",
+            "*UNKNOWN**UNKNOWN*{ITEM.VALUE0}",
+        ],
+        ["{ITEM.VALUE4} {$M} {HOST.NAME", "{HOST.NAME} {$M} {HOST.NAME"],
+        ["{{HOST.NAME}}", "{h1}"],
+        [
+            "{{ITEM.VALUE3}.regsub(^(\\w+) (\\w+), \\2:\\1)}!",
+            "disk:ERR!",
+        ],
+        ["{{ITEM.VALUE3}.regsub((a)|(E),[\\1\\2\\3])}", "[E]"],
+        [
+            "{{ITEM.LASTVALUE3}.regsub( \"k (.)\",\"<\\1,)}>\")}",
+            "<\u{e4},)}>",
+        ],
+        ["{{ITEM.VALUE2}.regsub(^.(U),<\\1>)}", "<U>"],
+        ["a{{ITEM.VALUE}.regsub(z,never)}b", "ab"],
+        [
+            "{{ITEM.VALUE}.regsub(\"(5)\\\"?\",\"\\1\\\"\")}",
+            "5\"",
+        ],
+        [
+            "{{ITEM.VALUE}.regsub(\"5\"x,y)}",
+            "{1.5.regsub(\"5\"x,y)}",
+        ],
+        ["{{ITEM.VALUE}.regsub(5,\"y)}", "{1.5.regsub(5,\"y)}"],
+        ["{{ITEM.VALUE}.regsub(5", "{1.5.regsub(5"],
+    ]
+}
+
+#[test]
+fn a_title_becomes_a_name(rt: HostRuntime) -> Result<(), Fail> {
+    let alloc = rt.alloc();
+    for [title, want] in titles() {
+        let made = named(alloc, &Text::of(alloc, title)?)?;
+        assert_eq!(rt; made.as_str(), want, "{title}");
+    }
+    Ok(())
+}
+
+/// A text, and behind it another one so many times.
+fn repeated(alloc: Global, first: &str, unit: &str, times: u32) -> Result<Text, OutOfMemory> {
+    let mut made = Text::of(alloc, first)?;
+    for _ in 0..times {
+        made.push_str(unit)?;
+    }
+    Ok(made)
+}
+
+/// Texts by their parts, and how many bytes of a name and of a tag's value are left of them.
+fn cuts() -> [(&'static str, &'static str, u32, usize, usize); 7] {
+    [
+        ("", "\u{e4}", 1024, 2048, 510),
+        ("a", "\u{e4}", 1024, 2047, 509),
+        ("a", "\u{e4}", 1023, 2047, 509),
+        ("", "a", 2049, 2048, 255),
+        ("", "a", 255, 255, 255),
+        ("a", "\u{20ac}", 254, 763, 763),
+        ("{HOST.NAME}", "\u{20ac}", 255, 767, 761),
+    ]
+}
+
+/// How long a name is, and the value of a tag, that are made of a text.
+fn lengths(alloc: Global, text: &Text) -> Result<(usize, usize), Fail> {
+    let name = named(alloc, text)?;
+    let value = tagged(alloc, text)?;
+    Ok((name.len(), value.len()))
+}
+
+/// The first tag's value of the first trigger, whose values name no pattern that isn't in the first one's.
+fn tagged(alloc: Global, value: &Text) -> Result<Text, Fail> {
+    let conf = configuration(alloc, &Text::new(alloc), value)?;
+    let values = values(alloc)?;
+    tags_by(alloc, &conf, values.as_slice())
+}
+
+/// The value of the one tag of the first trigger.
+#[tactic(auto, using(crate::proofs::TitleLemmas::all_among))]
+fn tags_by(alloc: Global, conf: &Conf, values: &[Option<Held>]) -> Result<Text, Fail> {
+    let Some(trigger) = by_id(conf.triggers.as_slice(), 1) else {
+        return Ok(Text::new(alloc));
+    };
+    let [tag] = trigger.tags.as_slice() else {
+        return Ok(Text::new(alloc));
+    };
+    let patterns = patterns_of(alloc, &tag.value)?;
+    value_of(alloc, &tags(alloc, conf, 1, values, &patterns)?)
+}
+
+/// The value of the first of some tags, whose name has stayed.
+fn value_of(alloc: Global, tags: &Many<Tag>) -> Result<Text, Fail> {
+    match tags.as_slice() {
+        [Tag { tag, value }] if tag.as_str() == "{HOST.NAME}" => Ok(value.copy(alloc)?),
+        _ => Ok(Text::new(alloc)),
+    }
+}
+
+#[test]
+fn names_and_values_are_cut_between_characters(rt: HostRuntime) -> Result<(), Fail> {
+    let alloc = rt.alloc();
+    for (first, unit, times, name, value) in cuts() {
+        let text = repeated(alloc, first, unit, times)?;
+        assert_eq!(rt; lengths(alloc, &text)?, (name, value), "{first}{unit} {times}");
+    }
+    let value = tagged(alloc, &Text::of(alloc, "{{ITEM.VALUE}.regsub(\\.,point)}-{HOST.NAME}")?)?;
+    assert_eq!(rt; value.as_str(), "point-h1");
+    Ok(())
+}
