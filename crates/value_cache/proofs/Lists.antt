@@ -1,8 +1,10 @@
 -- Filters, ends of lists and facts of each element, by recursion on the list; a fact where there is a value.
-use Rattle.std.proofs.Common.{◌≡◌, ℕ, zero, suc, ◌+◌, ◌≤◌, Bool, true, false, cond, List, [], ◌∷◌, ◌++◌, length, reverse, take, drop, filter, refl, sym, ◌∙◌, ap, arith, take-take, Result, Ok, Err, is_ok, OnOk, append-nil, length-drop, take_at, drop_at, take-append-drop}
+use Rattle.std.proofs.Common.{◌≡◌, ℕ, zero, suc, ◌+◌, ◌≤◌, Bool, true, false, cond, List, [], ◌∷◌, ◌++◌, length, reverse, take, drop, filter, refl, sym, ◌∙◌, ap, arith, take-take, Result, is_ok, append-nil, length-drop, take_at, take-append-drop, ◌-◌, ◌<◌, get_or}
 use Rattle.std.proofs.lemmas.List.{reverse-append, length-reverse}
 use Rattle.std.proofs.lemmas.List.Elements.{filter-append}
-use Rattle.std.specs.List.{AllByRecursion}
+use Rattle.std.specs.List.{AllByRecursion, prefix_len, insert}
+use Rattle.std.specs.List.Sorted.{IsPartitionedBy}
+use Rattle.std.specs.Prelude.{slice_get}
 
 module _ {X : Type 0} where
   pub all_more : (P Q : X → Type 0) → ((x : X) → P x → Q x) → (xs : List X) → AllByRecursion P xs → AllByRecursion Q xs
@@ -76,9 +78,66 @@ module _ {X : Type 0} where
   pub take_reverse : (xs : List X) (i k : ℕ) → i + k ≡ length xs → take k (reverse xs) ≡ reverse (drop i xs)
   take_reverse xs i k e = ap (take k) (halves xs i) ∙ take_at (reverse (drop i xs)) (reverse (take i xs)) k (long xs i k e)
 
-  pub drop_reverse : (xs : List X) (i k : ℕ) → i + k ≡ length xs → drop k (reverse xs) ≡ reverse (take i xs)
-  drop_reverse xs i k e = ap (drop k) (halves xs i) ∙ drop_at (reverse (drop i xs)) (reverse (take i xs)) k (long xs i k e)
+  pub all_front : (P : X → Type 0) (xs : List X) (n : ℕ) (ys : List X) → AllByRecursion P (xs ++ ys) → AllByRecursion P (xs ++ take n ys)
+  all_front P [] n ys h = all_taken P n ys h
+  all_front P (x ∷ xs) n ys h = (h.0, all_front P xs n ys h.1)
 
-pub when_ok : {T E P : Type 0} (r : Result T E) → (is_ok r ≡ true → P) → OnOk r P
-when_ok (Ok x) f = f refl
-when_ok (Err e) f = tt
+  -- a test that the front passes and the rest fails
+  module _ (p : X → Bool) where
+    fails_at : (xs : List X) (j : ℕ) (d : X) → AllByRecursion (λ x. p x ≡ false) xs → j < length xs → p (get_or xs j d) ≡ false
+    fails_at [] j d h l = absurd (omega arith)
+    fails_at (x ∷ xs) zero d h l = h.0
+    fails_at (x ∷ xs) (suc j) d h l = fails_at xs j d h.1 (omega arith)
+
+    pub parted : (xs ys : List X) → AllByRecursion (λ x. p x ≡ true) xs → AllByRecursion (λ x. p x ≡ false) ys → IsPartitionedBy p (xs ++ ys)
+    parted [] ys a b i j d le lt e = let f = fails_at ys j d b lt in cc
+    parted (x ∷ xs) ys a b zero j d le lt e = a.0
+    parted (x ∷ xs) ys a b (suc i) zero d le lt e = absurd (omega arith)
+    parted (x ∷ xs) ys a b (suc i) (suc j) d le lt e = parted xs ys a.1 b i j d (omega arith) (omega arith) e
+
+    none_first : (ys : List X) (c : ℕ) → AllByRecursion (λ x. p x ≡ false) ys → prefix_len p (drop c ys) ≡ 0
+    none_first [] zero b = refl
+    none_first [] (suc c) b = refl
+    none_first (y ∷ ys) zero b = rw b.0 refl
+    none_first (y ∷ ys) (suc c) b = none_first ys c b.1
+
+    -- how many pass behind the first c
+    pub passing : (xs ys : List X) (c : ℕ) → AllByRecursion (λ x. p x ≡ true) xs → AllByRecursion (λ x. p x ≡ false) ys → prefix_len p (drop c (xs ++ ys)) ≡ length xs - c
+    passing [] ys c a b = none_first ys c b ∙ omega arith
+    passing (x ∷ xs) ys zero a b = let ih = passing xs ys zero a.1 b in rw a.0 (omega (arith, ih))
+    passing (x ∷ xs) ys (suc c) a b = let ih = passing xs ys c a.1 b in omega (arith, ih)
+
+  pub drop_within : (xs ys : List X) (k : ℕ) → k ≤ length xs → drop k (xs ++ ys) ≡ drop k xs ++ ys
+  drop_within xs ys zero l = refl
+  drop_within [] ys (suc k) l = absurd (omega arith)
+  drop_within (x ∷ xs) ys (suc k) l = drop_within xs ys k (omega arith)
+
+  pub drop_insert : (k p i : ℕ) (xs : List X) (x : X) → i ≡ k + p → k ≤ length xs → drop k (insert xs i x) ≡ insert (drop k xs) p x
+  drop_insert zero p i xs x e l = let is : i ≡ p = omega (arith, e) in ap (λ j. insert xs j x) is
+  drop_insert (suc k) p i [] x e l = absurd (omega (arith, l))
+  drop_insert (suc k) p zero (y ∷ ys) x e l = absurd (omega (arith, e))
+  drop_insert (suc k) p (suc j) (y ∷ ys) x e l = drop_insert k p j ys x (omega (arith, e)) (omega (arith, l))
+
+  -- the last one is the first one of the list turned
+  pub last_first : (xs : List X) → slice_get xs (length xs - 1) ≡ slice_get (reverse xs) 0
+  last_first [] = refl
+  last_first (x ∷ []) = refl
+  last_first (x ∷ y ∷ ys) =
+      let n : length (x ∷ y ∷ ys) - 1 ≡ suc (length (y ∷ ys) - 1) = omega arith in
+      ap (slice_get (x ∷ y ∷ ys)) n ∙ last_first (y ∷ ys) ∙ front (reverse (y ∷ ys)) (length-reverse (y ∷ ys)) ∙ ap (λ zs. slice_get zs 0) (sym (reverse-cons x (y ∷ ys)))
+    where
+      front : (zs : List X) → length zs ≡ length (y ∷ ys) → slice_get zs 0 ≡ slice_get (zs ++ x ∷ []) 0
+      front [] e = absurd (omega (arith, e))
+      front (z ∷ zs) e = refl
+
+  -- the latest n of two parts
+  pub take_parts : (n : ℕ) (xs ys : List X) → take n (xs ++ ys) ≡ take n xs ++ take (n - length (take n xs)) ys
+  take_parts zero [] ys = refl
+  take_parts zero (x ∷ xs) ys = refl
+  take_parts (suc n) [] ys = let m : suc n ≡ suc n - 0 = omega arith in ap (λ k. take k ys) m
+  take_parts (suc n) (x ∷ xs) ys =
+      let m : n - length (take n xs) ≡ suc n - length (x ∷ take n xs) = omega arith in
+      ap (λ zs. x ∷ zs) (take_parts n xs ys ∙ ap (λ k. take n xs ++ take k ys) m)
+
+pub ok_then : {T E A : Type 0} (r : Result T E) (a b : A) → is_ok r ≡ true → cond (is_ok r) a b ≡ a
+ok_then r a b e = ap (λ t. cond t a b) e

@@ -1,10 +1,12 @@
 -- The order of a history, and one more value in it.
-use Rattle.std.proofs.Common.{◌≡◌, ℕ, zero, suc, ◌+◌, ◌<◌, ◌≤◌, ◌==◌, ◌&&◌, ◌||◌, nat_lt, Bool, true, false, cond, List, [], ◌∷◌, ◌++◌, length, reverse, take, drop, filter, refl, sym, ◌∙◌, ap, ap₂, inl, inr, ◌⊎◌, eqb-true, eq-eqb, arith, ltb-true, ltb-false, le-ltb, append_assoc}
-use Rattle.std.proofs.lemmas.List.{reverse-append}
-use Rattle.std.specs.List.{AllByRecursion, insert, prefix_len}
+use Rattle.std.proofs.Common.{◌≡◌, ℕ, zero, suc, ◌+◌, ◌<◌, ◌≤◌, ◌==◌, ◌&&◌, ◌||◌, nat_lt, Bool, true, false, cond, List, [], ◌∷◌, ◌++◌, length, reverse, take, drop, filter, refl, sym, ◌∙◌, ap, ap₂, inl, inr, ◌⊎◌, eqb-true, eq-eqb, arith, ltb-true, ltb-false, le-ltb, append_assoc, not, subst}
+use Rattle.std.proofs.lemmas.List.{reverse-append, reverse-reverse}
+use Rattle.std.specs.List.{AllByRecursion}
+use Rattle.std.specs.List.Sorted.{IsPartitionedBy}
+use Rattle.std.specs.Prelude.{slice_get, Some}
 use Rattle.zbx_types.specs.declared.entries.Stored.{Stored}
 use Rattle.value_cache.specs.Histories.{is_later, placed, IsOrdered}
-use Rattle.value_cache.proofs.Lists.{all_more, all_filtered, reverse-cons, take_reverse, drop_reverse}
+use Rattle.value_cache.proofs.Lists.{all_more, all_filtered, all_taken, all_front, passes, filter_all, filter_no, filter_reverse, parted}
 
 -- a comes before b in time, or is of its time and of no greater number
 UpTo : Stored → Stored → Type 0
@@ -135,29 +137,66 @@ take_placed (suc n) s (x ∷ xs) = go (is_later x s) (take_placed n s xs)
     go true ih = ap (λ ys. x ∷ ys) ih
     go false ih = ap (λ ys. s ∷ ys) (once n x xs)
 
--- The place of one more value in a list that has the oldest first
-placed_at : (s : Stored) (xs : List Stored) (k : ℕ) → prefix_len (λ x. is_later x s) xs ≡ k → placed s xs ≡ take k xs ++ s ∷ drop k xs
-placed_at s [] zero e = refl
-placed_at s [] (suc k) e = absurd (omega arith)
-placed_at s (x ∷ xs) k e = go (is_later x s) k e (placed_at s xs)
+-- One more value stands between those that are later and the others
+pub placed_split : (s : Stored) (h : List Stored) → IsOrdered h → placed s h ≡ filter (λ x. is_later x s) h ++ s ∷ filter (λ x. not (is_later x s)) h
+placed_split s [] o = refl
+placed_split s (x ∷ xs) o = go (is_later x s) refl (placed_split s xs o.1)
   where
-    n : ℕ
-    n = prefix_len (λ x. is_later x s) xs
+    none : is_later x s ≡ false → AllByRecursion (λ y. is_later y s ≡ false) xs
+    none e = all_more (λ y. is_later y x ≡ false) (λ y. is_later y s ≡ false) (λ y l. not_later_trans y x s l e) xs o.0
 
-    go : (b : Bool) (k : ℕ) → cond b (1 + n) 0 ≡ k → ((j : ℕ) → n ≡ j → placed s xs ≡ take j xs ++ s ∷ drop j xs) → cond b (x ∷ placed s xs) (s ∷ x ∷ xs) ≡ take k (x ∷ xs) ++ s ∷ drop k (x ∷ xs)
-    go true zero e ih = absurd (omega (arith, e))
-    go true (suc j) e ih = ap (λ ys. x ∷ ys) (ih j (omega (arith, e)))
-    go false zero e ih = refl
-    go false (suc j) e ih = absurd (omega (arith, e))
+    go : (b : Bool) → is_later x s ≡ b → placed s xs ≡ filter (λ x. is_later x s) xs ++ s ∷ filter (λ x. not (is_later x s)) xs
+        → cond b (x ∷ placed s xs) (s ∷ x ∷ xs) ≡ cond b (x ∷ filter (λ x. is_later x s) xs) (filter (λ x. is_later x s) xs) ++ s ∷ cond (not b) (x ∷ filter (λ x. not (is_later x s)) xs) (filter (λ x. not (is_later x s)) xs)
+    go true e ih = ap (λ ys. x ∷ ys) ih
+    go false e ih = sym (ap₂ (λ ys zs. ys ++ s ∷ x ∷ zs) (filter_no (λ x. is_later x s) xs (none e)) (filter_all (λ x. not (is_later x s)) xs (all_more (λ y. is_later y s ≡ false) (λ y. not (is_later y s) ≡ true) (λ y l. ap not l) xs (none e))))
 
-pub inserted : (s : Stored) (xs : List Stored) (i : ℕ) → i + prefix_len (λ x. is_later x s) (reverse xs) ≡ length xs → reverse (insert xs i s) ≡ placed s (reverse xs)
-inserted s xs i e =
-    reverse-append (take i xs) (s ∷ drop i xs) ∙ ap (λ ys. ys ++ reverse (take i xs)) (reverse-cons s (drop i xs)) ∙ append_assoc (reverse (drop i xs)) (s ∷ []) (reverse (take i xs))
-    ∙ ap₂ (λ ys zs. ys ++ s ∷ zs) (sym (take_reverse xs i k e)) (sym (drop_reverse xs i k e)) ∙ sym (placed_at s (reverse xs) k refl)
+later_split : (s : Stored) (h : List Stored) → IsOrdered h → h ≡ filter (λ x. is_later x s) h ++ filter (λ x. not (is_later x s)) h
+later_split s [] o = refl
+later_split s (x ∷ xs) o = go (is_later x s) refl (later_split s xs o.1)
   where
-    k : ℕ
-    k = prefix_len (λ x. is_later x s) (reverse xs)
+    none : is_later x s ≡ false → AllByRecursion (λ y. is_later y s ≡ false) xs
+    none e = all_more (λ y. is_later y x ≡ false) (λ y. is_later y s ≡ false) (λ y l. not_later_trans y x s l e) xs o.0
 
-pub ordered_if : (b : Bool) (s : Stored) (h : List Stored) → IsOrdered h → IsOrdered (cond b (placed s h) h)
-ordered_if true s h o = ordered_placed s h o
-ordered_if false s h o = o
+    go : (b : Bool) → is_later x s ≡ b → xs ≡ filter (λ x. is_later x s) xs ++ filter (λ x. not (is_later x s)) xs
+        → x ∷ xs ≡ cond b (x ∷ filter (λ x. is_later x s) xs) (filter (λ x. is_later x s) xs) ++ cond (not b) (x ∷ filter (λ x. not (is_later x s)) xs) (filter (λ x. not (is_later x s)) xs)
+    go true e ih = ap (λ ys. x ∷ ys) ih
+    go false e ih = sym (ap₂ (λ ys zs. ys ++ x ∷ zs) (filter_no (λ x. is_later x s) xs (none e)) (filter_all (λ x. not (is_later x s)) xs (all_more (λ y. is_later y s ≡ false) (λ y. not (is_later y s) ≡ true) (λ y l. ap not l) xs (none e))))
+
+-- where the latest isn't later, none is
+pub none_later : (s : Stored) (h : List Stored) (x : Stored) → IsOrdered h → slice_get h 0 ≡ Some x → is_later x s ≡ false → filter (λ x. is_later x s) h ≡ []
+none_later s [] x o at e = refl
+none_later s (y ∷ ys) x o at e =
+    let here : is_later y s ≡ false = rw (some_is y x at) e in
+    filter_no (λ x. is_later x s) (y ∷ ys) (here, all_more (λ z. is_later z y ≡ false) (λ z. is_later z s ≡ false) (λ z l. not_later_trans z y s l here) ys o.0)
+  where
+    some_is : (a b : Stored) → Some a ≡ Some b → a ≡ b
+    some_is a b i = cc
+
+pub none_then_all : (s : Stored) (h : List Stored) → IsOrdered h → filter (λ x. is_later x s) h ≡ [] → h ≡ filter (λ x. not (is_later x s)) h
+none_then_all s h o e = later_split s h o ∙ ap (λ ys. ys ++ filter (λ x. not (is_later x s)) h) e
+
+-- in a list that has the oldest first those that aren't later stand first
+pub later_parted : (s : Stored) (xs : List Stored) → IsOrdered (reverse xs) → IsPartitionedBy (λ x. not (is_later x s)) xs
+later_parted s xs o = subst (IsPartitionedBy (λ x. not (is_later x s))) (sym parts) (parted (λ x. not (is_later x s)) others later (passes (λ x. not (is_later x s)) xs) fails)
+  where
+    others : List Stored
+    others = filter (λ x. not (is_later x s)) xs
+
+    later : List Stored
+    later = filter (λ x. is_later x s) xs
+
+    fails : AllByRecursion (λ x. not (is_later x s) ≡ false) later
+    fails = all_more (λ x. is_later x s ≡ true) (λ x. not (is_later x s) ≡ false) (λ x e. ap not e) later (passes (λ x. is_later x s) xs)
+
+    turned : reverse xs ≡ reverse (others ++ later)
+    turned = later_split s (reverse xs) o ∙ ap₂ (λ ys zs. ys ++ zs) (filter_reverse (λ x. is_later x s) xs) (filter_reverse (λ x. not (is_later x s)) xs) ∙ sym (reverse-append others later)
+
+    parts : xs ≡ others ++ later
+    parts = sym (reverse-reverse xs) ∙ ap reverse turned ∙ reverse-reverse (others ++ later)
+
+-- what stands before a cut stays in order where less follows
+pub ordered_front : (xs : List Stored) (n : ℕ) (ys : List Stored) → IsOrdered (xs ++ ys) → IsOrdered (xs ++ take n ys)
+ordered_front [] zero ys o = tt
+ordered_front [] (suc n) [] o = tt
+ordered_front [] (suc n) (y ∷ ys) o = (all_taken (λ z. is_later z y ≡ false) n ys o.0, ordered_front [] n ys o.1)
+ordered_front (x ∷ xs) n ys o = (all_front (λ z. is_later z x ≡ false) xs n ys o.0, ordered_front xs n ys o.1)
