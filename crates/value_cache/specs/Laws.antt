@@ -1,7 +1,7 @@
 -- What follows for cells from the definition of what is kept.
 use Rattle.std.specs.Prelude.{◌≡◌, ℕ, ◌≤◌, List, [], ◌∷◌, ⊤}
 use Rattle.zbx_types.specs.declared.entries.Stored.{Stored}
-use Rattle.value_cache.specs.declared.keeps.Keep.{Keep}
+use Rattle.value_cache.specs.declared.keeping.Keep.{Keep}
 use Rattle.value_cache.specs.Histories.{placed}
 use Rattle.value_cache.specs.Cells.{CellView, trim, IsExact, StandsFor}
 

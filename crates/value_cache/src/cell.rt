@@ -9,7 +9,7 @@ ghost use Rattle.value_cache.specs.Histories.{placed};
 ghost use Rattle.value_cache.specs.Beside.{shown};
 
 use crate::beside::{Window, window_with};
-use crate::keeps::{Keep, same_keep};
+use crate::keeping::{Keep, same_keep};
 use crate::placing::put;
 use crate::row::Row;
 use crate::same::same_values;

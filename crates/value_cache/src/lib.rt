@@ -28,7 +28,7 @@
 
 mod beside;
 mod cell;
-mod keeps;
+mod keeping;
 pub mod laws;
 mod placing;
 mod row;
@@ -38,4 +38,4 @@ mod windows;
 
 pub use beside::Window;
 pub use cell::ItemCell;
-pub use keeps::Keep;
+pub use keeping::{Keep, keeps};

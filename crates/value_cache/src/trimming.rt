@@ -6,7 +6,7 @@ ghost use Rattle.value_cache.specs.Histories.{IsOrdered};
 ghost use Rattle.value_cache.specs.Windows.{is_by};
 ghost use Rattle.value_cache.specs.Cells.{trim};
 
-use crate::keeps::Keep;
+use crate::keeping::Keep;
 use crate::row::Row;
 use crate::windows::is_by;
 use zbx_types::{Moment, Stored};
