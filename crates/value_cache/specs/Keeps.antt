@@ -1,9 +1,12 @@
 -- What the cells of items are to keep (this project's own).
-use Rattle.std.specs.Prelude.{ℕ, ◌+◌, ◌==◌, max, min, List, [], ◌∷◌, ◌++◌, map, if◌then◌else◌}
+use Rattle.std.specs.Prelude.{◌≡◌, ℕ, ◌+◌, ◌==◌, max, min, List, [], ◌∷◌, ◌++◌, map, if◌then◌else◌, slice_get}
+use Rattle.std.specs.Option.{option_map}
 use Rattle.zbx_types.specs.Ids.{ids_from}
 use Rattle.zbx_types.specs.declared.calls.Call.{Call}
 use Rattle.zbx_types.specs.declared.calls.Fun.{Fun}
-use Rattle.zbx_types.specs.declared.calls.Fun.TheVariants.{Last, First, Min, Max, Avg, Sum, Change, Count as CountOf, Find, NoData, Percentile, ChangeCount, MonoInc, MonoDec, Now, Time, Date, DayOfWeek, DayOfMonth}
+use Rattle.zbx_types.specs.declared.calls.Fun.TheVariants.{Last, First, Min, Max, Avg, Sum, Change, Count as CountOf}
+use Rattle.zbx_types.specs.declared.calls.Fun.TheVariants.{Find, NoData, Percentile, ChangeCount, MonoInc, MonoDec}
+use Rattle.zbx_types.specs.declared.calls.Fun.TheVariants.{Now, Time, Date, DayOfWeek, DayOfMonth}
 use Rattle.zbx_types.specs.declared.calls.Range.{Range}
 use Rattle.zbx_types.specs.declared.calls.Range.TheVariants.{Count, Period}
 use Rattle.zbx_types.specs.declared.conf.Conf.{Conf}
@@ -78,6 +81,11 @@ widened keep calls = record {
   count = max keep.count (greatest count_asked calls);
   period = max keep.period (greatest period_asked calls);
 }
+
+-- what each item is to keep, before and after calls were taken in
+abbrev pub IsWidened : List Keep → List Keep → (ℕ → List Call) → Type 0
+IsWidened before after calls =
+    (k : ℕ) → slice_get after k ≡ option_map (λ keep. widened keep (calls (k + 1))) (slice_get before k)
 
 -- what an item is to keep: the widest that the calls over it ask for
 abbrev pub keep_of : Conf → ℕ → Keep

@@ -12,7 +12,8 @@ use Rattle.value_cache.specs.Keeps.{least_count, seconds_in, most_seconds, keep_
 
 -- a cell that has exactly what is to be kept of a history stands for it
 abbrev pub ExactStands : Type 0
-ExactStands = (cell : CellView) (seen : ℕ) (history : List Stored) → IsExact cell seen history → StandsFor cell seen history
+ExactStands = (cell : CellView) (seen : ℕ) (history : List Stored)
+    → IsExact cell seen history → StandsFor cell seen history
 
 -- a value that comes in at a moment
 pub record Insert : Type 0 where

@@ -1,8 +1,8 @@
 //! What cells are to keep.
 
-ghost use Rattle.std.specs.Prelude.{◌≡◌, ◌+◌, ◌==◌, ◌↔◌, ℕ, [], ◌∷◌, map, IsTrue, IfOk, if◌then◌else◌, slice_get};
-ghost use Rattle.std.specs.Option.{option_map};
-ghost use Rattle.value_cache.specs.Keeps.{least_count, seconds_in, count_asked, period_asked, calls_over, calls_of, widest, widened, keeps_of};
+ghost use Rattle.std.specs.Prelude.{◌≡◌, ◌==◌, ◌↔◌, [], ◌∷◌, map, IsTrue, IfOk, if◌then◌else◌};
+ghost use Rattle.value_cache.specs.Keeps.{least_count, seconds_in, count_asked, period_asked, calls_over, calls_of};
+ghost use Rattle.value_cache.specs.Keeps.{widest, widened, IsWidened, keeps_of};
 
 use std::alloc::Global;
 use zbx_types::{Call, Conf, Fun, Item, Many, OutOfMemory, Range, Trigger};
@@ -74,7 +74,7 @@ fn widened(keep: Keep, call: &Call) -> Keep
 
 /// Takes a call over the item with an id into what each item is to keep.
 fn widen(keeps: &mut [Keep], item: u32, call: &Call)
-    ensures { (k : ℕ) → slice_get keeps.new k ≡ option_map (λ keep. if item == k + 1 then widened keep (call.now ∷ []) else keep) (slice_get keeps.old k) }
+    ensures { IsWidened keeps.old keeps.new (λ id. if item == id then call.now ∷ [] else []) }
 {
     let id = item as usize;
     if 0 < id && id <= keeps.len() {
@@ -84,7 +84,7 @@ fn widen(keeps: &mut [Keep], item: u32, call: &Call)
 
 /// Takes the calls of a trigger into what each item is to keep.
 fn widen_all(keeps: &mut [Keep], calls: &[Call], items: &[u32])
-    ensures { (k : ℕ) → slice_get keeps.new k ≡ option_map (λ keep. widened keep (calls_over (k + 1) calls.now items.now)) (slice_get keeps.old k) }
+    ensures { IsWidened keeps.old keeps.new (λ id. calls_over id calls.now items.now) }
 {
     for place in 0..calls.len().min(items.len()) {
         widen(keeps, items[place], &calls[place]);
@@ -107,7 +107,7 @@ fn nothing(alloc: Global, items: &[Item]) -> Result<Many<Keep>, OutOfMemory>
 
 /// Takes the calls of triggers into what each item is to keep.
 fn widen_by(keeps: &mut [Keep], triggers: &[Trigger])
-    ensures { (k : ℕ) → slice_get keeps.new k ≡ option_map (λ keep. widened keep (calls_of triggers.now (k + 1))) (slice_get keeps.old k) }
+    ensures { IsWidened keeps.old keeps.new (calls_of triggers.now) }
 {
     for trigger in triggers {
         widen_all(

@@ -17,9 +17,9 @@
 //! 5m with a shift     the same, a shift earlier
 //! ```
 //!
-//! An insert of the latest value costs the same at any length of the history; a late one, at most what is kept. The ends
-//! of a window are found by search. A window can be copied, lent as it lies, or lent beside a value that isn't inserted
-//! yet.
+//! An insert of the latest value costs the same at any length of the history, and a late one at most what is kept. The
+//! ends of a window are found by search. A window can be copied, or lent as it lies, also beside a value that isn't
+//! inserted yet.
 //!
 //! ```text
 //! let mut cell = ItemCell::new(alloc, Keep { count: 2, period: 300 });

@@ -134,7 +134,7 @@ fn a_period_holds_its_end_and_not_its_beginning(rt: HostRuntime) -> Result<(), F
     Ok(())
 }
 
-/// Values of 10, 20, 30 and 100 seconds, numbered by their seconds, of which a cell keeps those of a minute and two more.
+/// A cell that keeps the values of a minute and two more, with values of 10, 20, 30 and 100 seconds, numbered by these.
 fn narrow(alloc: Global) -> Result<ItemCell, OutOfMemory> {
     let keep = Keep {
         count: 2,
