@@ -3,16 +3,17 @@ use std::alloc::Global;
 use std::test::Fail;
 use zbx_types::{Held, Many, Moment, OutOfMemory, Range, Stored, Text};
 
-/// The greatest `Keep` that a configuration can ask for.
-fn widest() -> Keep {
-    Keep {
-        count: 10_000,
-        period: 5_356_800,
-    }
-}
-
 fn second(sec: u32) -> Moment {
     Moment { sec, ns: 0 }
+}
+
+/// A value with a number and a time.
+fn value(alloc: Global, number: u64, time: Moment) -> Result<Stored, OutOfMemory> {
+    Ok(Stored {
+        time,
+        number,
+        value: Held::Words(Text::of(alloc, "v")?),
+    })
 }
 
 /// Inserts a value with a number and a time.
@@ -23,11 +24,7 @@ fn put(
     time: Moment,
     now: Moment,
 ) -> Result<(), OutOfMemory> {
-    let stored = Stored {
-        time,
-        number,
-        value: Held::Words(Text::of(alloc, "v")?),
-    };
+    let stored = value(alloc, number, time)?;
     match cell.insert(stored, now) {
         Ok(()) => Ok(()),
         Err((_, refused)) => Err(refused),
@@ -48,6 +45,15 @@ fn cell_of(
     Ok(cell)
 }
 
+/// The numbers of values.
+fn numbers_of(alloc: Global, values: &[Stored]) -> Result<Many<u64>, OutOfMemory> {
+    let mut numbers = Many::new(alloc);
+    for stored in values {
+        numbers.push(stored.number)?;
+    }
+    Ok(numbers)
+}
+
 /// The numbers of the values in a window.
 fn numbers(
     alloc: Global,
@@ -57,11 +63,15 @@ fn numbers(
     now: Moment,
 ) -> Result<Many<u64>, OutOfMemory> {
     let window = cell.window(alloc, range, shift, now)?;
-    let mut numbers = Many::new(alloc);
-    for stored in window.as_slice() {
-        numbers.push(stored.number)?;
+    numbers_of(alloc, window.as_slice())
+}
+
+/// The greatest that a configuration can ask for.
+fn widest() -> Keep {
+    Keep {
+        count: 10_000,
+        period: 5_356_800,
     }
-    Ok(numbers)
 }
 
 /// Values of 100, 160 and 130 seconds, the last twice, as they come.
@@ -124,34 +134,7 @@ fn a_period_holds_its_end_and_not_its_beginning(rt: HostRuntime) -> Result<(), F
     Ok(())
 }
 
-/// What a trigger on `count(/h/k,5m)` sees of values whose clocks are ahead, long past and missing.
-fn counted(alloc: Global) -> Result<Many<u64>, OutOfMemory> {
-    let now = second(1_000_000);
-    let inserts = [(2, now), (3, second(827_200)), (4, now)];
-    let cell = cell_of(alloc, widest(), &inserts, now)?;
-    numbers(alloc, &cell, Range::Period(300), 0, now)
-}
-
-/// The latest two of as many values of one moment.
-fn latest_two(alloc: Global, count: u64) -> Result<Many<u64>, OutOfMemory> {
-    let now = second(1_000);
-    let mut cell = ItemCell::new(alloc, widest());
-    for number in 0..count {
-        put(alloc, &mut cell, number, now, now)?;
-    }
-    numbers(alloc, &cell, Range::Count(2), 0, now)
-}
-
-#[test]
-fn windows_of_functions(rt: HostRuntime) -> Result<(), Fail> {
-    let alloc = rt.alloc();
-    assert_eq!(rt; counted(alloc)?.as_slice(), [2, 4].as_slice());
-    assert_eq!(rt; latest_two(alloc, 1)?.as_slice(), [0].as_slice());
-    assert_eq!(rt; latest_two(alloc, 2)?.as_slice(), [0, 1].as_slice());
-    Ok(())
-}
-
-/// Values of 10, 20, 30 and 100 seconds, numbered by their seconds.
+/// A cell that keeps the values of a minute and two more, with values of 10, 20, 30 and 100 seconds, numbered by these.
 fn narrow(alloc: Global) -> Result<ItemCell, OutOfMemory> {
     let keep = Keep {
         count: 2,
@@ -167,52 +150,103 @@ fn narrow(alloc: Global) -> Result<ItemCell, OutOfMemory> {
 }
 
 #[test]
-fn a_narrow_cell_gives_each_window_within(rt: HostRuntime) -> Result<(), Fail> {
+fn a_cell_keeps_what_a_later_window_can_ask_for(rt: HostRuntime) -> Result<(), Fail> {
     let alloc = rt.alloc();
     let mut cell = narrow(alloc)?;
     assert_eq!(rt;
-        numbers(alloc, &cell, Range::Count(2), 60, second(100))?.as_slice(),
-        [20, 30].as_slice()
+        numbers_of(alloc, cell.values())?.as_slice(),
+        [20, 30, 100].as_slice()
     );
+    assert_eq!(rt; cell.held(), 3);
     put(alloc, &mut cell, 25, second(25), second(100))?;
     assert_eq!(rt;
-        numbers(alloc, &cell, Range::Count(2), 60, second(100))?.as_slice(),
-        [25, 30].as_slice()
+        numbers_of(alloc, cell.values())?.as_slice(),
+        [25, 30, 100].as_slice()
     );
+    assert_eq!(rt; cell.held(), 3);
+    let shifted = numbers(alloc, &cell, Range::Count(2), 60, second(100))?;
+    assert_eq!(rt; shifted.as_slice(), [25, 30].as_slice());
     put(alloc, &mut cell, 160, second(160), second(200))?;
-    for (range, shift, want) in [
-        (Range::Count(2), 0, [100, 160].as_slice()),
-        (Range::Count(2), 60, [30, 100].as_slice()),
-        (Range::Period(60), 0, [160].as_slice()),
-        (Range::Period(19), 41, [].as_slice()),
-        (Range::Period(20), 40, [160].as_slice()),
+    assert_eq!(rt;
+        numbers_of(alloc, cell.values())?.as_slice(),
+        [30, 100, 160].as_slice()
+    );
+    assert_eq!(rt; cell.held(), 3);
+    Ok(())
+}
+
+/// The numbers of a window with one more value, which is then inserted, and those of the window behind it.
+fn both(
+    alloc: Global,
+    number: u64,
+    time: Moment,
+    range: Range,
+) -> Result<(Many<u64>, Many<u64>), OutOfMemory> {
+    let mut cell = narrow(alloc)?;
+    let now = second(110);
+    let stored = value(alloc, number, time)?;
+    let window = cell.window_with(&stored, range, 0, now).copies(alloc)?;
+    let before = numbers_of(alloc, window.as_slice())?;
+    cell.reserve()?;
+    cell.insert_reserved(stored, now);
+    let after = numbers_of(alloc, cell.window_slice(range, 0, now))?;
+    Ok((before, after))
+}
+
+#[test]
+fn a_window_beside_a_value_is_that_behind_its_insert(rt: HostRuntime) -> Result<(), Fail> {
+    for (number, time, range, want) in [
+        (110, second(110), Range::Count(2), [100, 110].as_slice()),
+        (60, second(60), Range::Count(2), [60, 100].as_slice()),
+        (40, second(40), Range::Count(1), [100].as_slice()),
+        (60, second(60), Range::Period(60), [60, 100].as_slice()),
+        (50, second(50), Range::Period(60), [100].as_slice()),
     ] {
-        let found = numbers(alloc, &cell, range, shift, second(200))?;
-        assert_eq!(rt; found.as_slice(), want);
+        let (before, after) = both(rt.alloc(), number, time, range)?;
+        assert_eq!(rt; before.as_slice(), want);
+        assert_eq!(rt; after.as_slice(), want);
     }
     Ok(())
 }
 
-/// A full window over 1,000 values: the n-th that comes has number n, and the time 7n of a thousand.
+/// The number of the latest value.
+fn latest_number(cell: &ItemCell) -> Option<u64> {
+    cell.latest().map(|stored| stored.number)
+}
+
+#[test]
+fn a_copy_is_the_same_until_one_gains_a_value(rt: HostRuntime) -> Result<(), Fail> {
+    let alloc = rt.alloc();
+    let mut cell = late(alloc)?;
+    let copied = cell.copy(alloc)?;
+    assert!(rt; cell.same(&copied) && copied.keep() == widest());
+    put(alloc, &mut cell, 6, second(150), second(160))?;
+    assert!(rt; !cell.same(&copied) && !copied.same(&cell));
+    assert_eq!(rt; (latest_number(&cell), copied.held()), (Some(3), 4));
+    assert_eq!(rt; latest_number(&ItemCell::new(alloc, widest())), None);
+    Ok(())
+}
+
+/// A full window over the latest 1,000 of 3,000 values: the n-th that comes has number n, and the time 7n of 3,000.
 fn a_thousand(alloc: Global) -> Result<Many<u64>, OutOfMemory> {
-    let now = second(2_000);
+    let now = second(4_000);
     let keep = Keep {
         count: 1_000,
         period: 0,
     };
     let mut cell = ItemCell::new(alloc, keep);
-    for number in 0..1_000 {
-        let time = second(number * 7 % 1_000);
+    for number in 0..3_000 {
+        let time = second(number * 7 % 3_000);
         put(alloc, &mut cell, u64::from(number), time, now)?;
     }
     numbers(alloc, &cell, Range::Count(1_000), 0, now)
 }
 
-/// Their numbers by time: 7 times 143 is 1,001, so time t has the number 143t of a thousand.
+/// Their numbers by time: 7 times 2,143 is 15,001, so time t has the number 2,143t of 3,000.
 fn by_time(alloc: Global) -> Result<Many<u64>, OutOfMemory> {
     let mut numbers = Many::new(alloc);
-    for time in 0..1_000u64 {
-        numbers.push(time * 143 % 1_000)?;
+    for time in 2_000..3_000u64 {
+        numbers.push(time * 2_143 % 3_000)?;
     }
     Ok(numbers)
 }

@@ -1,16 +1,16 @@
 //! Windows as parts of a slice that has the oldest value first.
 
-ghost use Rattle.std.specs.Prelude.{◌≡◌, ◌≤◌, not, length, reverse, take, drop, IfOk};
+ghost use Rattle.std.specs.Prelude.{◌≡◌, ◌≤◌, ◌++◌, not, length, reverse, take, drop, OnOk, IfOk};
 ghost use Rattle.std.specs.List.{filter};
 ghost use Rattle.value_cache.specs.Histories.{IsOrdered};
-ghost use Rattle.value_cache.specs.Windows.{is_by, seen_of};
+ghost use Rattle.value_cache.specs.Windows.{is_by, seen_of, rest_of};
 
 use std::alloc::Global;
 use zbx_types::{Many, Moment, OutOfMemory, Range, Stored};
 
 /// Whether a value is of so many seconds before now, or of an earlier moment.
 #[tactic(auto, unfolding(crate::specs::Windows::is_by))]
-fn is_by(now: Moment, seconds: u64, stored: &Stored) -> bool
+pub(crate) fn is_by(now: Moment, seconds: u64, stored: &Stored) -> bool
     ensures { result ≡ is_by now seconds stored.now }
 {
     u128::from(stored.time.nanoseconds()) + u128::from(seconds) * 1_000_000_000
@@ -47,13 +47,35 @@ pub(crate) fn window(values: &[Stored], range: Range, shift: u32, now: Moment) -
     }
 }
 
+/// What a range asks for beside the latest values, so many of which are seen already.
+pub(crate) fn rest_of(range: Range, seen: usize) -> Range
+    ensures { result ≡ rest_of range seen }
+{
+    match range {
+        Range::Count(count) => Range::Count((count as usize).saturating_sub(seen) as u32),
+        Range::Period(period) => Range::Period(period),
+    }
+}
+
+/// Adds copies of values at the end.
+pub(crate) fn push_copies(
+    alloc: Global,
+    made: &mut Many<Stored>,
+    values: &[Stored],
+) -> Result<(), OutOfMemory>
+    ensures { OnOk result (made.new ≡ made.old ++ values.now) }
+{
+    for stored in values {
+        made.push(stored.copy(alloc)?)?;
+    }
+    Ok(())
+}
+
 /// Copies, in their order.
 pub(crate) fn copies(alloc: Global, values: &[Stored]) -> Result<Many<Stored>, OutOfMemory>
     ensures { IfOk result (λ made. made ≡ values.now) }
 {
     let mut made = Many::new(alloc);
-    for stored in values {
-        made.push(stored.copy(alloc)?)?;
-    }
+    push_copies(alloc, &mut made, values)?;
     Ok(made)
 }
