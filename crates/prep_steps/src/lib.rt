@@ -11,6 +11,7 @@
 //! Discard   it is dropped without an error
 //! Fail      the step fails, with one of these texts:
 //!           not a number, number range, out of range, bad digits, no match, match, too long, or an error's own output
+//!           of at most 65,535 bytes
 //! ```
 //!
 //! A number step (multiplier, both changes, range) drops blanks around the value, reads a number with six decimals and
