@@ -1,12 +1,10 @@
 -- Outputs are filled piece by piece, and stay UTF-8.
-use Rattle.std.proofs.Common.{◌≡◌, ℕ, ◌+◌, ◌-◌, ◌<◌, ◌≤◌, Bool, true, false, ◌&&◌, List, [], ◌∷◌, ◌++◌, length, drop, take, get_or, refl, sym, ap, ◌∙◌, subst, IsUtf8, arith, append_assoc, append-nil, Result, Ok, Err, IfOk, Option, Some, None, MatchOption, nat_le, nat_eq, true≢false}
-use Rattle.std.specs.Char.{is_ascii_digit}
+use Rattle.std.proofs.Common.{◌≡◌, ℕ, ◌+◌, ◌-◌, ◌<◌, ◌≤◌, true, false, List, [], ◌∷◌, ◌++◌, length, drop, take, get_or, refl, sym, ap, ◌∙◌, subst, IsUtf8, arith, append_assoc, append-nil, Result, Ok, Err, IfOk, Option, Some, None, MatchOption, nat_le, nat_eq, true≢false}
 use Rattle.std.proofs.lemmas.Bool.{cond-true, cond-false, ne_eqb, le-leb, lt-leb}
 use Rattle.std.proofs.lemmas.Bool.Decides.{nat_tests}
 use Rattle.std.proofs.lemmas.List.{take_at, drop_at, get_or_at, length-append}
 use Rattle.std.proofs.lemmas.Str.{encode_ascii, IsUtf8-append, IsUtf8-take, IsUtf8-drop, IsUtf8-past_char, IsCharBoundary-before_ascii}
 use Rattle.pattern_set.specs.Filling.{names_group, names_in_front, filled_by, at_most, GoesOn}
-use Rattle.pattern_set.specs.declared.output.Filled.{Filled}
 use Rattle.pattern_set.specs.declared.output.Filled.TheVariants.{Made, TooLong}
 
 -- what is made grows by what is taken off the front
