@@ -105,7 +105,9 @@ pub fn value(
     ensures { IfOk result (λ v. v ≡ value_of call.now window.now now first_tick offset) }
 {
     let place = pattern_place(alloc, call, patterns)?;
-    value_at(alloc, call, place, window, now, first_tick, offset, patterns)
+    value_at(
+        alloc, call, place, window, now, first_tick, offset, patterns,
+    )
 }
 
 /// The same as [`value`] gives, where the call's pattern stands at `place` among `patterns`, and isn't sought for: 0 where
