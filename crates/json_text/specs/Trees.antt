@@ -24,8 +24,3 @@ items_of (t ∷ ts) = item (json_of t) (items_of ts)
 abbrev pub members_of : List Member → Members
 members_of [] = no_members
 members_of (m ∷ ms) = member m.name (json_of m.value) (members_of ms)
-
--- the same of names with trees
-abbrev pub fields_of : List (String Global × Tree) → Members
-fields_of [] = no_members
-fields_of (f ∷ fs) = member (string_bytes f.0) (json_of f.1) (fields_of fs)

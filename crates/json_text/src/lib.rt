@@ -29,9 +29,11 @@
 mod frame;
 mod kinds;
 mod machine;
+mod naming;
 mod number;
 mod place;
 mod reading;
+mod spans;
 mod string;
 mod tree;
 mod writing;

@@ -39,16 +39,15 @@ pub fn read(alloc: Global, bytes: &[u8]) -> Result<Tree, ReadError>
 {
     let mut state = State::start(alloc);
     let mut count = 0;
-    for byte in bytes {
-        match state.next(alloc, *byte) {
-            Ok(Some(next)) => state = next,
-            Ok(None) => return Err(ReadError::At(count)),
+    while count < bytes.len() {
+        match state.advance(alloc, &bytes[count..]) {
+            Ok(0) => return Err(ReadError::At(count as u64)),
+            Ok(taken) => count += taken,
             Err(_) => return Err(ReadError::OutOfMemory),
         }
-        count += 1;
     }
     match state.end() {
         Some(tree) => Ok(tree),
-        None => Err(ReadError::At(count)),
+        None => Err(ReadError::At(count as u64)),
     }
 }
