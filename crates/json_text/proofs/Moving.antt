@@ -1,10 +1,13 @@
 -- Bytes that are taken at once.
-use Rattle.std.proofs.Common.{◌≡◌, ◌<◌, ◌≤◌, ◌+◌, ℕ, zero, suc, ◌==◌, List, [], ◌∷◌, ◌++◌, length, take, get_or, refl, ap, sym, ◌∙◌, Option, Some, None, Bool, true, false, cond, arith, nat_lt, append_assoc, append-nil, subst}
+use Rattle.std.proofs.Common.{◌≡◌, ◌<◌, ◌≤◌, ◌+◌, ◌-◌, ℕ, zero, suc, ◌==◌, List, [], ◌∷◌, ◌++◌, length, take, drop, get_or, refl, ap, sym, ◌∙◌, Option, Some, None, Bool, true, false, cond, arith, nat_lt, append_assoc, append-nil, subst}
 use Rattle.std.proofs.lemmas.Bool.Decides.{nat_tests}
 use Rattle.std.specs.List.{prefix_len}
+use Rattle.std.specs.Option.{MatchOption, IfSome}
+use Rattle.std.proofs.lemmas.List.{take_more, take_all, length-take-le}
 use Rattle.json_text.specs.Bytes.{is_blank, is_digit, Each}
-use Rattle.json_text.specs.Machine.{state, move, after, start, step}
-use Rattle.json_text.specs.Moves.{reach, is_plain, keeps}
+use Rattle.json_text.specs.Json.{words, no_members}
+use Rattle.json_text.specs.Machine.{state, move, after, start, step, quoted, unquoted}
+use Rattle.json_text.specs.Moves.{reach, is_plain, keeps, IsQuoted, takes_string, behind_string}
 use Rattle.json_text.specs.Tokens.{spot, number_step}
 use Rattle.json_text.specs.declared.frame.Frame.{Frame}
 use Rattle.json_text.specs.declared.number.InNumber.{InNumber}
@@ -13,6 +16,7 @@ use Rattle.json_text.specs.declared.place.InLiteral.{InLiteral}
 use Rattle.json_text.specs.declared.place.Mode.{Mode}
 use Rattle.json_text.specs.declared.place.Mode.TheVariants.{Value, FirstItem, FirstName, NextName, Named, Literal, Number, String, Done}
 use Rattle.json_text.specs.declared.place.Use.{Use}
+use Rattle.json_text.specs.declared.place.Use.TheVariants.{ForValue, ForName}
 use Rattle.json_text.specs.declared.machine.State.{State}
 use Rattle.json_text.specs.declared.string.InString.{InString}
 use Rattle.json_text.specs.declared.string.Spot.{Spot}
@@ -50,6 +54,45 @@ plain_run u s k (b ∷ bs) a =
 pub plain_front : (u : Use) (k : List Frame) (p : InString) (s t : List ℕ) (n : ℕ) (bs : List ℕ) → p ≡ Between → n ≡ prefix_len is_plain bs → t ≡ s ++ take n bs
     → after (Some (state (String u (spot p s)) k)) (take n bs) ≡ Some (state (String u (spot p t)) k)
 plain_front u k p s t n bs e f g = rw (e, g, f) (plain_run u s k (take (prefix_len is_plain bs) bs) (front_each is_plain bs))
+
+closed : (u : Use) (s : List ℕ) (k : List Frame) (m : Mode) → Each is_plain s → unquoted u s k ≡ Some (state m k) → after (Some (state (quoted u) k)) (s ++ 34 ∷ []) ≡ Some (state m k)
+closed u s k m a e =
+    joined (Some (state (quoted u) k)) (Some (state (String u (spot Between s)) k)) s (34 ∷ []) (plain_run u [] k s a)
+    ∙ stepped (String u (spot Between s)) k 34 [] (Some (state m k)) e ∙ no_step _
+
+string_run : (m : Mode) (s : List ℕ) (k : List Frame) → takes_string m ≡ true → Each is_plain s → after (Some (state m k)) (34 ∷ (s ++ 34 ∷ [])) ≡ Some (state (behind_string m s) k)
+string_run Value s k e a = stepped Value k 34 (s ++ 34 ∷ []) (Some (state (quoted ForValue) k)) refl ∙ closed ForValue s k (Done (words s)) a refl
+string_run FirstName s k e a = stepped FirstName k 34 (s ++ 34 ∷ []) (Some (state (quoted (ForName no_members)) k)) refl ∙ closed (ForName no_members) s k (Named no_members s) a refl
+string_run (NextName ms) s k e a = stepped (NextName ms) k 34 (s ++ 34 ∷ []) (Some (state (quoted (ForName ms)) k)) refl ∙ closed (ForName ms) s k (Named ms s) a refl
+string_run _ s k e a = absurd cc
+
+pub string_front : (m to : Mode) (s : List ℕ) (k : List Frame) (bs : List ℕ) (n : ℕ) → takes_string m ≡ true → IsQuoted s bs → to ≡ behind_string m s → n ≡ length s + 2
+    → after (Some (state m k)) (take n bs) ≡ Some (state to k)
+string_front m to s k bs n e q f g = rw (g, q.front, f) (string_run m s k e q.plain)
+
+pub is_quoted : (bs inner : List ℕ) (n : ℕ) → n ≡ prefix_len is_plain bs → n < length bs → get_or bs n 0 ≡ 34 → inner ≡ take n bs → IsQuoted inner (34 ∷ bs)
+is_quoted bs inner n e l h f =
+    let long : length inner ≡ n = rw f (length-take-le n bs (omega (arith, l))) in
+    record {
+      within = omega (arith, long, l);
+      front = rw long (quoted_front bs n l h ∙ ap (λ (z : List ℕ). 34 ∷ (z ++ 34 ∷ [])) (sym f));
+      plain = rw (f, e) (front_each is_plain bs);
+    }
+  where
+    quoted_front : (bs : List ℕ) (n : ℕ) → n < length bs → get_or bs n 0 ≡ 34 → take (n + 2) (34 ∷ bs) ≡ 34 ∷ (take n bs ++ 34 ∷ [])
+    quoted_front bs n l h =
+        let e : n + 2 ≡ suc (n + 1) = omega arith in
+        rw e (ap (λ (z : List ℕ). 34 ∷ z) (rw (take_more bs n 0 l, h) refl))
+
+begun_by : (bs : List ℕ) → 2 ≤ length bs → get_or bs 0 0 ≡ 34 → 34 ∷ take (length bs - 1) (drop 1 bs) ≡ bs
+begun_by [] h e = absurd (omega (arith, h))
+begun_by (b ∷ bs) h e = ap (λ (z : List ℕ). 34 ∷ z) (take_all (length (b ∷ bs) - 1) bs (omega arith)) ∙ ap (λ (x : ℕ). x ∷ bs) (sym e)
+
+pub found_in_quotes : (bs : List ℕ) (n : ℕ) (found : Option (List ℕ)) (P : Type 0) → 2 ≤ length bs → get_or bs 0 0 ≡ 34 → n ≡ prefix_len is_plain (take (length bs - 1) (drop 1 bs))
+    → n < length (take (length bs - 1) (drop 1 bs)) → get_or (take (length bs - 1) (drop 1 bs)) n 0 ≡ 34
+    → MatchOption found P (λ made. made ≡ take n (take (length bs - 1) (drop 1 bs))) → IfSome found (λ inner. IsQuoted inner bs)
+found_in_quotes bs n None P h e f l g r = tt
+found_in_quotes bs n (Some made) P h e f l g r = subst (λ (z : List ℕ). IsQuoted made z) (begun_by bs h e) (is_quoted (take (length bs - 1) (drop 1 bs)) made n f l g r)
 
 keeps_on : (p : InNumber) → keeps p ≡ true → (b : ℕ) → is_digit b ≡ true → number_step p b ≡ Some p
 keeps_on Whole e b h = rw h refl
@@ -124,3 +167,6 @@ on_step false s o e f = absurd cc
 pub off_step : (on : Bool) (s : State) (o : Option State) → on ≡ false → reach on s ≡ o → o ≡ None
 off_step true s o e f = absurd cc
 off_step false s o e f = sym f
+
+pub on_front : (s t u : State) (k n : ℕ) (bs : List ℕ) → k ≤ 0 → after (Some s) (take k bs) ≡ Some t → after (Some t) (take n bs) ≡ Some u → after (Some s) (take n bs) ≡ Some u
+on_front s t u k n bs h e f = rw (stayed s t k bs h e) f

@@ -4,7 +4,7 @@ ghost use Rattle.std.specs.Prelude.{◌≡◌, ◌∷◌, ◌++◌, [], ◌<◌,
 ghost use Rattle.std.specs.Prelude.{IfOk, IsUtf8, option_map};
 ghost use Rattle.json_text.specs.Json.{add};
 ghost use Rattle.json_text.specs.Machine as machine;
-ghost use Rattle.json_text.specs.Moves.{reach};
+ghost use Rattle.json_text.specs.Moves.{reach, takes_string as string_test, behind_string as mode_behind_string};
 ghost use Rattle.json_text.specs.Sane.{IsSane};
 ghost use Rattle.json_text.specs.Trees.{json_of};
 ghost use Rattle.json_text.specs.declared.place.Mode.TheVariants as modes;
@@ -14,7 +14,7 @@ use crate::kinds::{is_blank, is_digit};
 use crate::naming::Fields;
 use crate::number::{InNumber, may_end, next_in_number};
 use crate::place::{InLiteral, Mode, Use};
-use crate::spans::{blank_len, digits, plain};
+use crate::spans::{blank_len, digits, plain, plain_in_quotes};
 use crate::string::{InString, Spot, next_in_string};
 use crate::tree::{Members, Tree, Trees};
 use std::alloc::Global;
@@ -23,6 +23,9 @@ use zbx_types::{Bytes, OutOfMemory, Text};
 
 /// The most brackets that are open at one place (this project's own).
 const DEEPEST: usize = 64;
+
+/// The bytes of most numbers, for which there is room from the first on.
+const NUMBER_ROOM: usize = 16;
 
 /// A place in a JSON text, with the containers that are open there.
 #[derive(Drop)]
@@ -77,6 +80,28 @@ fn is_end(place: InString, byte: u8) -> bool
     }
 }
 
+/// Whether a value or a name may begin here.
+fn takes_string(mode: &Mode) -> bool
+    ensures { result ≡ string_test mode.now }
+{
+    match mode {
+        Mode::Value | Mode::FirstName | Mode::NextName(_) => true,
+        _ => false,
+    }
+}
+
+/// The place behind a string that began here.
+fn behind_string(alloc: Global, mode: Mode, text: Text) -> Mode
+    ensures { result ≡ mode_behind_string mode text }
+{
+    match mode {
+        Mode::Value => Mode::Done(Read::new(Tree::Words(text))),
+        Mode::FirstName => Mode::Named(Fields::new(alloc), text),
+        Mode::NextName(members) => Mode::Named(members, text),
+        other => other,
+    }
+}
+
 impl State {
     /// The place where no byte has come.
     pub(crate) fn start(alloc: Global) -> State
@@ -111,8 +136,9 @@ impl State {
     fn number(&mut self, alloc: Global, place: InNumber, byte: u8) -> Moved
         ensures { IfOk result (λ on. reach on self.new ≡ machine.to (modes.Number place (byte ∷ [])) self.old.stack) }
     {
-        let text = Bytes::of(alloc, &[byte])?;
-        self.to(Mode::Number(place, text))
+        let mut text = Vec::with_capacity(alloc, NUMBER_ROOM)?;
+        text.push(byte)?;
+        self.to(Mode::Number(place, Bytes::from(text)))
     }
 
     /// The first byte of a value.
@@ -350,6 +376,37 @@ impl State {
         }
     }
 
+    /// Takes the plain bytes in quotes at the front, where a value or a name may begin here, and answers how many bytes.
+    fn whole_string(&mut self, alloc: Global, rest: &[u8]) -> Result<usize, OutOfMemory>
+        ensures within { IfOk result (λ n. n ≤ length rest.now) }
+        ensures goes { IfOk result (λ n. machine.after (Some self.old) (take n rest.now) ≡ Some self.new) }
+    {
+        if !takes_string(&self.mode) {
+            return Ok(0);
+        }
+        match plain_in_quotes(alloc, rest)? {
+            None => Ok(0),
+            Some(text) => {
+                let length = text.len() + 2;
+                self.mode = behind_string(alloc, replace(&mut self.mode, Mode::Value), text);
+                Ok(length)
+            }
+        }
+    }
+
+    /// Takes a run or a string of plain bytes at the front, and answers how many bytes.
+    fn several(&mut self, alloc: Global, rest: &[u8]) -> Result<usize, OutOfMemory>
+        ensures within { IfOk result (λ n. n ≤ length rest.now) }
+        ensures goes { IfOk result (λ n. machine.after (Some self.old) (take n rest.now) ≡ Some self.new) }
+    {
+        let run = self.run(rest)?;
+        if run > 0 {
+            Ok(run)
+        } else {
+            self.whole_string(alloc, rest)
+        }
+    }
+
     /// Takes bytes from the front of what is left, and answers how many: none where no JSON text goes on with the first.
     pub(crate) fn advance(&mut self, alloc: Global, rest: &[u8]) -> Result<usize, OutOfMemory>
         requires sane { IsSane self.old.mode }
@@ -358,9 +415,9 @@ impl State {
         ensures goes { IfOk result (λ n. 0 < n → machine.after (Some self.old) (take n rest.now) ≡ Some self.new) }
         ensures stops { IfOk result (λ n. n ≡ 0 → machine.step self.old (get_or rest.now 0 0) ≡ None) }
     {
-        let run = self.run(rest)?;
-        if run > 0 {
-            Ok(run)
+        let several = self.several(alloc, rest)?;
+        if several > 0 {
+            Ok(several)
         } else if self.next(alloc, rest[0])? {
             Ok(1)
         } else {

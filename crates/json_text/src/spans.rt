@@ -1,10 +1,10 @@
 //! Runs of bytes that are taken at once.
 
-ghost use Rattle.std.specs.Prelude.{◌≡◌, ◌≤◌, List, Some, IfOk, length, take};
+ghost use Rattle.std.specs.Prelude.{◌≡◌, ◌≤◌, List, Some, IfOk, IfSome, length, take};
 ghost use Rattle.std.specs.List.{prefix_len};
 ghost use Rattle.json_text.specs.Bytes.{is_blank as blank_test, is_digit as digit_test};
 ghost use Rattle.json_text.specs.Machine as machine;
-ghost use Rattle.json_text.specs.Moves.{is_plain as plain_test, keeps as keeps_test};
+ghost use Rattle.json_text.specs.Moves.{is_plain as plain_test, keeps as keeps_test, IsQuoted};
 ghost use Rattle.json_text.specs.declared.frame.Frame.{Frame};
 ghost use Rattle.json_text.specs.declared.place.Use.{Use};
 ghost use Rattle.json_text.specs.declared.place.Mode.TheVariants as modes;
@@ -12,7 +12,8 @@ ghost use Rattle.json_text.specs.declared.place.Mode.TheVariants as modes;
 use crate::kinds::{is_blank, is_digit};
 use crate::number::InNumber;
 use crate::string::{InString, Spot};
-use zbx_types::{Bytes, OutOfMemory};
+use std::alloc::Global;
+use zbx_types::{Bytes, OutOfMemory, Text};
 
 /// Whether the byte stands in a string for itself alone: no quote, no backslash, and none of a longer character.
 fn is_plain(byte: u8) -> bool
@@ -78,5 +79,21 @@ pub(crate) fn digits(place: InNumber, text: &mut Bytes, rest: &[u8]) -> Result<u
         Ok(length)
     } else {
         Ok(0)
+    }
+}
+
+/// The plain bytes in quotes that a text begins with, if it does.
+pub(crate) fn plain_in_quotes(alloc: Global, rest: &[u8]) -> Result<Option<Text>, OutOfMemory>
+    ensures { IfOk result (λ found. IfSome found (λ inner. IsQuoted inner rest.now)) }
+{
+    if rest.len() < 2 || rest[0] != b'"' {
+        return Ok(None);
+    }
+    let behind = &rest[1..];
+    let length = plain_len(behind);
+    if length < behind.len() && behind[length] == b'"' {
+        Text::from_utf8(alloc, &behind[..length])
+    } else {
+        Ok(None)
     }
 }

@@ -7,15 +7,15 @@ use Rattle.json_text.proofs.machine.State.advance.Goals as goal
 
 pub next-requires : goal.next-requires
 next-requires c =
-    let same : c.args.self.now ≡ c.run.new.self = stayed c.args.self.now c.run.new.self c.in_ok-run.run' c.args.rest.now c.if-run-gt0.false c.in_ok-run.ensures.goes in
+    let same : c.args.self.now ≡ c.several.new.self = stayed c.args.self.now c.several.new.self c.in_ok-several.several c.args.rest.now c.if-several-gt0.false c.in_ok-several.ensures.goes in
     subst (λ (s : State). IsSane s.mode) same c.requires.sane
 
 pub returns-then-branch-clause-goes : goal.returns-then-branch-clause-goes
 returns-then-branch-clause-goes c = λ more.
-    let same : c.args.self.now ≡ c.run.new.self = stayed c.args.self.now c.run.new.self c.in_ok-run.run' c.args.rest.now c.if-run-gt0.false c.in_ok-run.ensures.goes in
+    let same : c.args.self.now ≡ c.several.new.self = stayed c.args.self.now c.several.new.self c.in_ok-several.several c.args.rest.now c.if-several-gt0.false c.in_ok-several.ensures.goes in
     one_step c.args.self.now c.next.new.self c.args.rest.now c.requires.more (rw same (on_step c.in_ok-next.field-0 c.next.new.self _ c.if-branch.true c.in_ok-next.ensures))
 
 pub returns-else-branch-clause-stops : goal.returns-else-branch-clause-stops
 returns-else-branch-clause-stops c = λ none.
-    let same : c.args.self.now ≡ c.run.new.self = stayed c.args.self.now c.run.new.self c.in_ok-run.run' c.args.rest.now c.if-run-gt0.false c.in_ok-run.ensures.goes in
+    let same : c.args.self.now ≡ c.several.new.self = stayed c.args.self.now c.several.new.self c.in_ok-several.several c.args.rest.now c.if-several-gt0.false c.in_ok-several.ensures.goes in
     rw same (off_step c.in_ok-next.field-0 c.next.new.self _ c.if-branch.false c.in_ok-next.ensures)
