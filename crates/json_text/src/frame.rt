@@ -88,6 +88,7 @@ impl Stack {
     }
 
     /// Opens a container inside the others.
+    #[inline(always)]
     pub(crate) fn push(&mut self, frame: Frame) -> Result<(), OutOfMemory>
         ensures { OnOk result (self.new ≡ frame ∷ self.old) }
     {
@@ -96,6 +97,7 @@ impl Stack {
     }
 
     /// Takes the innermost container out.
+    #[inline(always)]
     pub(crate) fn pop(&mut self) -> Option<Frame>
         ensures { IsPopped self.old result self.new }
     {

@@ -38,6 +38,7 @@ pub(crate) struct State {
 type Moved = Result<bool, OutOfMemory>;
 
 /// Behind the quote that opens a string.
+#[inline(always)]
 fn quoted(alloc: Global, string_use: Use) -> Mode
     ensures { result ≡ machine.quoted string_use }
 {
@@ -91,6 +92,7 @@ fn takes_string(mode: &Mode) -> bool
 }
 
 /// The place behind a string that began here.
+#[inline(always)]
 fn behind_string(alloc: Global, mode: Mode, text: Text) -> Mode
     ensures { result ≡ mode_behind_string mode text }
 {
@@ -114,6 +116,7 @@ impl State {
     }
 
     /// Goes on in that place.
+    #[inline(always)]
     fn to(&mut self, mode: Mode) -> Moved
         ensures { IfOk result (λ on. reach on self.new ≡ machine.to mode self.old.stack) }
     {
@@ -122,6 +125,7 @@ impl State {
     }
 
     /// Goes on in that place behind an opening bracket, where there may be one more.
+    #[inline(always)]
     fn opened(&mut self, mode: Mode) -> Moved
         ensures { IfOk result (λ on. reach on self.new ≡ machine.opened mode self.old.stack) }
     {
@@ -219,6 +223,7 @@ impl State {
     }
 
     /// Goes on in that place, where the byte is the one wanted.
+    #[inline(always)]
     fn exactly(&mut self, want: u8, mode: Mode, byte: u8) -> Moved
         ensures { IfOk result (λ on. reach on self.new ≡ machine.exactly want mode self.old.stack byte) }
     {

@@ -102,6 +102,7 @@ impl Fields {
     }
 
     /// The members with one more, in the place of the first of its name if there is one.
+    #[inline(always)]
     pub(crate) fn put(self, name: Text, value: Read) -> Result<Fields, OutOfMemory>
         ensures { IfOk result (λ fields. fields ≡ put name value self) }
     {
