@@ -1,10 +1,14 @@
 -- What a byte leads to, and bytes that lead from a place to itself.
-use Rattle.std.specs.Prelude.{◌≡◌, ◌≤◌, ◌+◌, ℕ, List, [], ◌∷◌, ◌++◌, length, take, Bool, true, false, ◌==◌, nat_le, nat_lt, if◌then◌else◌, Option, Some, None}
+use Rattle.std.specs.Prelude.{◌≡◌, ◌≤◌, ◌+◌, ℕ, List, [], ◌∷◌, ◌++◌, length, take, Bool, true, false, ◌==◌, nat_le}
+use Rattle.std.specs.Prelude.{nat_lt, if◌then◌else◌, Option, Some, None}
 use Rattle.json_text.specs.Bytes.{Each}
+use Rattle.json_text.specs.Machine.{state, after}
+use Rattle.json_text.specs.declared.frame.Frame.{Frame}
 use Rattle.json_text.specs.Json.{words, no_members}
 use Rattle.json_text.specs.declared.machine.State.{State}
 use Rattle.json_text.specs.declared.place.Mode.{Mode}
-use Rattle.json_text.specs.declared.place.Mode.TheVariants.{Value, FirstItem, FirstName, NextName, Named, Literal, Number, String, Done}
+use Rattle.json_text.specs.declared.place.Mode.TheVariants.{Value, FirstItem, FirstName, NextName, Named, Literal}
+use Rattle.json_text.specs.declared.place.Mode.TheVariants.{Number, String, Done}
 use Rattle.json_text.specs.declared.number.InNumber.{InNumber}
 use Rattle.json_text.specs.declared.number.InNumber.TheVariants.{Whole, Fraction, Digits}
 
@@ -15,7 +19,8 @@ reach false s = None
 
 -- a byte of a string that stands for itself alone: from the space to 127, but for a quote and a backslash
 abbrev pub is_plain : ℕ → Bool
-is_plain b = if nat_le 32 b then (if nat_lt b 128 then (if b == 34 then false else if b == 92 then false else true) else false) else false
+is_plain b = if nat_le 32 b then (if nat_lt b 128 then (if b == 34 then false else if b == 92 then false
+    else true) else false) else false
 
 -- a digit leads from this place in a number to itself
 abbrev pub keeps : InNumber → Bool
@@ -53,3 +58,7 @@ behind_string (Literal l) s = Literal l
 behind_string (Number n t) s = Number n t
 behind_string (String u at) s = String u at
 behind_string (Done j) s = Done j
+
+-- the bytes lead from one place to another, whichever containers are open
+abbrev pub LeadTo : Mode → List ℕ → Mode → Type 0
+LeadTo from bytes to = (k : List Frame) → after (Some (state from k)) bytes ≡ Some (state to k)

@@ -1,7 +1,8 @@
 -- The values that trees of the code stand for.
 use Rattle.std.specs.Prelude.{List, [], ◌∷◌, String, string_bytes}
 use Rattle.std.specs.declared.alloc.Global.{Global}
-use Rattle.json_text.specs.Json.{Json, null, boolean, number, words, list, object, Items, no_items, item, Members, no_members, member}
+use Rattle.json_text.specs.Json.{Json, null, boolean, number, words, list, object, Items, no_items, item, Members}
+use Rattle.json_text.specs.Json.{no_members, member}
 use Rattle.json_text.specs.declared.tree.Tree.{Tree}
 use Rattle.json_text.specs.declared.tree.Tree.TheVariants.{Null, Bool, Number, Words, List as ListOf, Object}
 use Rattle.json_text.specs.declared.tree.Member.{Member}

@@ -1,21 +1,20 @@
-//! JSON texts byte by byte, and runs of bytes at once.
+//! JSON texts from their front, by bytes and by runs of them.
 
-ghost use Rattle.std.specs.Prelude.{◌≡◌, ◌∷◌, ◌++◌, [], ◌<◌, ◌≤◌, length, take, get_or, if◌then◌else◌, None, Some};
-ghost use Rattle.std.specs.Prelude.{IfOk, IsUtf8, option_map};
-ghost use Rattle.json_text.specs.Json.{add};
+ghost use Rattle.std.specs.Prelude.{◌≡◌, ◌∷◌, [], ◌<◌, ◌≤◌, length, take, get_or, None, Some, IfOk, IsUtf8, option_map};
 ghost use Rattle.json_text.specs.Machine as machine;
-ghost use Rattle.json_text.specs.Moves.{reach, takes_string as string_test, behind_string as mode_behind_string};
+ghost use Rattle.json_text.specs.Moves.{reach};
 ghost use Rattle.json_text.specs.Sane.{IsSane};
 ghost use Rattle.json_text.specs.Trees.{json_of};
 ghost use Rattle.json_text.specs.declared.place.Mode.TheVariants as modes;
 
 use crate::frame::{Frame, Read, Stack};
 use crate::kinds::{is_blank, is_digit};
+use crate::making::{behind_string, is_end, quoted, takes_string, text_of, with_item};
 use crate::naming::Fields;
 use crate::number::{InNumber, may_end, next_in_number};
 use crate::place::{InLiteral, Mode, Use};
 use crate::spans::{blank_len, digits, plain, plain_in_quotes};
-use crate::string::{InString, Spot, next_in_string};
+use crate::string::{Spot, next_in_string};
 use crate::tree::{Members, Tree, Trees};
 use std::alloc::Global;
 use std::mem::replace;
@@ -36,73 +35,6 @@ pub(crate) struct State {
 
 /// Whether a JSON text goes on.
 type Moved = Result<bool, OutOfMemory>;
-
-/// Behind the quote that opens a string.
-#[inline(always)]
-fn quoted(alloc: Global, string_use: Use) -> Mode
-    ensures { result ≡ machine.quoted string_use }
-{
-    Mode::String(
-        string_use,
-        Spot {
-            place: InString::Between,
-            text: Bytes::new(alloc),
-        },
-    )
-}
-
-/// The items with one more.
-fn with_item(items: Trees, value: Read) -> Result<Trees, OutOfMemory>
-    ensures { IfOk result (λ r. r ≡ add items value) }
-{
-    let mut items = items;
-    items.push(value.into_tree())?;
-    Ok(items)
-}
-
-/// Bytes that are UTF-8 as a text.
-fn text_of(bytes: Bytes) -> Text
-    requires { IsUtf8 bytes }
-    ensures { result ≡ bytes }
-{
-    match String::from_utf8(bytes.into_vec()) {
-        Ok(text) => Text::from(text),
-        Err(_) => unreachable!(),
-    }
-}
-
-/// Whether the byte is the quote that ends the string.
-fn is_end(place: InString, byte: u8) -> bool
-    ensures { result ≡ machine.is_end place byte }
-{
-    match place {
-        InString::Between => byte == b'"',
-        _ => false,
-    }
-}
-
-/// Whether a value or a name may begin here.
-fn takes_string(mode: &Mode) -> bool
-    ensures { result ≡ string_test mode.now }
-{
-    match mode {
-        Mode::Value | Mode::FirstName | Mode::NextName(_) => true,
-        _ => false,
-    }
-}
-
-/// The place behind a string that began here.
-#[inline(always)]
-fn behind_string(alloc: Global, mode: Mode, text: Text) -> Mode
-    ensures { result ≡ mode_behind_string mode text }
-{
-    match mode {
-        Mode::Value => Mode::Done(Read::new(Tree::Words(text))),
-        Mode::FirstName => Mode::Named(Fields::new(alloc), text),
-        Mode::NextName(members) => Mode::Named(members, text),
-        other => other,
-    }
-}
 
 impl State {
     /// The place where no byte has come.

@@ -24,7 +24,8 @@ pub enum ReadError {
     OutOfMemory,
 }
 
-/// Reads a JSON text (RFC 8259), in a time that grows as its length does.
+/// Reads a JSON text (RFC 8259), in a time that grows as its length does, and as n log n with the names of an object,
+/// whichever they are.
 ///
 /// `Ok` is the value that the text is, and no other is. At most 64 brackets are open at one place (this project's own);
 /// the 65th has no place. Numbers keep their text, a surrogate escape stands only in a pair of a high and a low one, and a

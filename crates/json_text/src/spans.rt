@@ -1,11 +1,9 @@
 //! Runs of bytes that are taken at once.
 
-ghost use Rattle.std.specs.Prelude.{◌≡◌, ◌≤◌, List, Some, IfOk, IfSome, length, take};
+ghost use Rattle.std.specs.Prelude.{◌≡◌, ◌≤◌, IfOk, IfSome, length, take};
 ghost use Rattle.std.specs.List.{prefix_len};
 ghost use Rattle.json_text.specs.Bytes.{is_blank as blank_test, is_digit as digit_test};
-ghost use Rattle.json_text.specs.Machine as machine;
-ghost use Rattle.json_text.specs.Moves.{is_plain as plain_test, keeps as keeps_test, IsQuoted};
-ghost use Rattle.json_text.specs.declared.frame.Frame.{Frame};
+ghost use Rattle.json_text.specs.Moves.{is_plain as plain_test, keeps as keeps_test, IsQuoted, LeadTo};
 ghost use Rattle.json_text.specs.declared.place.Use.{Use};
 ghost use Rattle.json_text.specs.declared.place.Mode.TheVariants as modes;
 
@@ -56,7 +54,7 @@ fn keeps(place: InNumber) -> bool
 /// Takes the plain bytes at the front of what is left, where the place is between characters, and answers how many.
 pub(crate) fn plain(spot: &mut Spot, rest: &[u8]) -> Result<usize, OutOfMemory>
     ensures within { IfOk result (λ n. n ≤ length rest.now) }
-    ensures goes { IfOk result (λ n. (u : Use) (k : List Frame) → machine.after (Some (machine.state (modes.String u spot.old) k)) (take n rest.now) ≡ Some (machine.state (modes.String u spot.new) k)) }
+    ensures goes { IfOk result (λ n. (u : Use) → LeadTo (modes.String u spot.old) (take n rest.now) (modes.String u spot.new)) }
 {
     match spot.place {
         InString::Between => {
@@ -71,7 +69,7 @@ pub(crate) fn plain(spot: &mut Spot, rest: &[u8]) -> Result<usize, OutOfMemory>
 /// Takes the digits at the front of what is left, where they lead from the place to itself, and answers how many.
 pub(crate) fn digits(place: InNumber, text: &mut Bytes, rest: &[u8]) -> Result<usize, OutOfMemory>
     ensures within { IfOk result (λ n. n ≤ length rest.now) }
-    ensures goes { IfOk result (λ n. (k : List Frame) → machine.after (Some (machine.state (modes.Number place text.old) k)) (take n rest.now) ≡ Some (machine.state (modes.Number place text.new) k)) }
+    ensures goes { IfOk result (λ n. LeadTo (modes.Number place text.old) (take n rest.now) (modes.Number place text.new)) }
 {
     if keeps(place) {
         let length = digit_len(rest);
