@@ -53,7 +53,7 @@ abbrev pub short_escape : ℕ → Option ℕ
 short_escape b =
     if b == 34 then Some 34 else if b == 92 then Some 92 else if b == 47 then Some 47 else if b == 98 then Some 8
     else if b == 102 then Some 12 else if b == 110 then Some 10 else if b == 114 then Some 13
-        else if b == 116 then Some 9 else None
+    else if b == 116 then Some 9 else None
 
 -- each byte passes the test
 unfoldable pub Each : (ℕ → Bool) → List ℕ → Type 0

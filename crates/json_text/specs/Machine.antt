@@ -124,7 +124,7 @@ abbrev pub move : Mode → List Frame → ℕ → Option State
 move Value k b = if is_blank b then to Value k else begun k b
 move FirstItem k b =
     if is_blank b then to FirstItem k else if b == 93 then to (Done (list no_items)) k
-        else begun (Array no_items ∷ k) b
+    else begun (Array no_items ∷ k) b
 move FirstName k b =
     if is_blank b then to FirstName k else if b == 125 then to (Done (object no_members)) k
     else exactly 34 (quoted (ForName no_members)) k b

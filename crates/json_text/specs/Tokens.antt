@@ -64,7 +64,7 @@ if_hex b p s = if is_hex b then on p s else None
 abbrev pub lead : ℕ → Option Rest
 lead b =
     if nat_lt b 194 then None else if nat_lt b 224 then Some One else if b == 224 then Some AfterE0
-        else if b == 237 then Some AfterED
+    else if b == 237 then Some AfterED
     else if nat_lt b 240 then Some Two else if b == 240 then Some AfterF0 else if nat_lt b 244 then Some Three
     else if b == 244 then Some AfterF4 else None
 

@@ -159,7 +159,11 @@ impl State {
     fn exactly(&mut self, want: u8, mode: Mode, byte: u8) -> Moved
         ensures { IfOk result (λ on. reach on self.new ≡ machine.exactly want mode self.old.stack byte) }
     {
-        if byte == want { self.to(mode) } else { Ok(false) }
+        if byte == want {
+            self.to(mode)
+        } else {
+            Ok(false)
+        }
     }
 
     /// A byte of a literal.
@@ -215,7 +219,8 @@ impl State {
     /// A byte in a string or the quote behind it.
     fn in_string(&mut self, string_use: Use, spot: Spot, byte: u8) -> Moved
         requires { IsSane (modes.String string_use spot) }
-        ensures { IfOk result (λ on. reach on self.new ≡ machine.move (modes.String string_use spot) self.old.stack byte) }
+        ensures { IfOk result (λ on. reach on self.new
+            ≡ machine.move (modes.String string_use spot) self.old.stack byte) }
     {
         if is_end(spot.place, byte) {
             return self.unquoted(string_use, spot.text);
@@ -313,7 +318,7 @@ impl State {
         }
     }
 
-    /// Takes the plain bytes in quotes at the front, where a value or a name may begin here, and answers how many bytes.
+    /// Takes the plain bytes in quotes at the front, where a value or a name may begin here, and answers how many.
     fn whole_string(&mut self, alloc: Global, rest: &[u8]) -> Result<usize, OutOfMemory>
         ensures within { IfOk result (λ n. n ≤ length rest.now) }
         ensures goes { IfOk result (λ n. machine.after (Some self.old) (take n rest.now) ≡ Some self.new) }
@@ -344,7 +349,7 @@ impl State {
         }
     }
 
-    /// Takes bytes from the front of what is left, and answers how many: none where no JSON text goes on with the first.
+    /// Takes bytes from the front of what is left, and answers how many: none where no text goes on with the first.
     pub(crate) fn advance(&mut self, alloc: Global, rest: &[u8]) -> Result<usize, OutOfMemory>
         requires sane { IsSane self.old.mode }
         requires more { 0 < length rest.now }

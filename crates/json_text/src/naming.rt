@@ -66,7 +66,8 @@ fn put_member(
     pair: Member,
 ) -> Result<(), OutOfMemory>
     requires { Finds places.old members.old.items }
-    ensures puts { OnOk result (members_of members.new.items ≡ put pair.name (json_of pair.value) (members_of members.old.items)) }
+    ensures puts { OnOk result (members_of members.new.items
+        ≡ put pair.name (json_of pair.value) (members_of members.old.items)) }
     ensures finds { OnOk result (Finds places.new members.new.items) }
 {
     let found = places.get(&pair.name).copied();

@@ -54,7 +54,8 @@ fn keeps(place: InNumber) -> bool
 /// Takes the plain bytes at the front of what is left, where the place is between characters, and answers how many.
 pub(crate) fn plain(spot: &mut Spot, rest: &[u8]) -> Result<usize, OutOfMemory>
     ensures within { IfOk result (λ n. n ≤ length rest.now) }
-    ensures goes { IfOk result (λ n. (u : Use) → LeadTo (modes.String u spot.old) (take n rest.now) (modes.String u spot.new)) }
+    ensures goes { IfOk result (λ n. (u : Use) → LeadTo (modes.String u spot.old) (take n rest.now)
+        (modes.String u spot.new)) }
 {
     match spot.place {
         InString::Between => {
@@ -69,7 +70,8 @@ pub(crate) fn plain(spot: &mut Spot, rest: &[u8]) -> Result<usize, OutOfMemory>
 /// Takes the digits at the front of what is left, where they lead from the place to itself, and answers how many.
 pub(crate) fn digits(place: InNumber, text: &mut Bytes, rest: &[u8]) -> Result<usize, OutOfMemory>
     ensures within { IfOk result (λ n. n ≤ length rest.now) }
-    ensures goes { IfOk result (λ n. LeadTo (modes.Number place text.old) (take n rest.now) (modes.Number place text.new)) }
+    ensures goes { IfOk result (λ n. LeadTo (modes.Number place text.old) (take n rest.now)
+        (modes.Number place text.new)) }
 {
     if keeps(place) {
         let length = digit_len(rest);

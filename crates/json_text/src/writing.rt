@@ -123,8 +123,8 @@ fn put_members(out: &mut Bytes, members: &Members) -> Result<(), OutOfMemory>
 /// backslash get a backslash, and bytes below 32 are `\u00` with two lower-case hexadecimal digits (this project's own
 /// form of RFC 8259's texts).
 ///
-/// What is written of a tree that [`read`](crate::read) gave is a JSON text for the same value. At [`OutOfMemory`] `out`
-/// is as before.
+/// What is written of a tree that [`read`](crate::read) gave is a JSON text for the same value. At [`OutOfMemory`]
+/// `out` is as before.
 pub fn write(tree: &Tree, out: &mut Bytes) -> Result<(), OutOfMemory>
     ensures ok { OnOk result (out.new ≡ out.old ++ json_written (json_of tree.now)) }
     ensures err { OnErr result (out.new ≡ out.old) }
