@@ -6,7 +6,7 @@ use Rattle.std.specs.Option.{MatchOption, IfSome}
 use Rattle.std.proofs.lemmas.List.{take_more, take_all, length-take-le}
 use Rattle.json_text.specs.Bytes.{is_blank, is_digit, Each}
 use Rattle.json_text.specs.Json.{words, no_members}
-use Rattle.json_text.specs.Machine.{state, move, after, start, step, quoted, unquoted}
+use Rattle.json_text.specs.Machine.{state, move, after, step, quoted, unquoted}
 use Rattle.json_text.specs.Moves.{reach, is_plain, keeps, IsQuoted, takes_string, behind_string}
 use Rattle.json_text.specs.Tokens.{spot, number_step}
 use Rattle.json_text.specs.declared.frame.Frame.{Frame}

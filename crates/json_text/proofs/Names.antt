@@ -1,14 +1,14 @@
 -- Members put among others by their names.
-use Rattle.std.proofs.Common.{◌≡◌, ◌<◌, ◌≤◌, ◌+◌, ℕ, zero, suc, List, [], ◌∷◌, ◌++◌, length, take, set, get_or, refl, ap, sym, ◌∙◌, Option, Some, None, Bool, true, false, cond, ◌||◌, option_map, if◌then◌else◌, arith, subst, inl, inr, ◌⊎◌}
+use Rattle.std.proofs.Common.{◌≡◌, ◌<◌, ◌+◌, ℕ, zero, suc, List, [], ◌∷◌, ◌++◌, length, take, set, get_or, refl, ap, sym, ◌∙◌, Option, Some, None, Bool, true, false, cond, ◌||◌, option_map, if◌then◌else◌, arith, subst, inl, inr, ◌⊎◌}
 use Rattle.std.specs.List.{list_any}
 use Rattle.std.specs.Str.{bytes_eq}
-use Rattle.std.specs.BTreeMap.{BTreeMap, get, Updates}
+use Rattle.std.specs.BTreeMap.{BTreeMap, Updates}
 use Rattle.std.specs.Cmp.Lexicographic.{slice_cmp}
 use Rattle.std.specs.Ordering.{nat_cmp}
 use Rattle.std.proofs.lemmas.Cmp.{nat_list_eq_equiv}
 use Rattle.std.proofs.lemmas.List.{take_more}
 use Rattle.std.proofs.lemmas.Map.Text.{is_eq-slice_cmp}
-use Rattle.json_text.specs.Json.{Json, Members, no_members, member, put}
+use Rattle.json_text.specs.Json.{Members, no_members, member, put}
 use Rattle.json_text.specs.Naming.{put_all, place_of, Finds}
 use Rattle.json_text.specs.Trees.{json_of, members_of}
 use Rattle.json_text.specs.declared.tree.Tree.{Tree}

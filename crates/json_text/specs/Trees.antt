@@ -1,6 +1,5 @@
 -- The values that trees of the code stand for.
-use Rattle.std.specs.Prelude.{List, [], ◌∷◌, String, string_bytes}
-use Rattle.std.specs.declared.alloc.Global.{Global}
+use Rattle.std.specs.Prelude.{List, [], ◌∷◌}
 use Rattle.json_text.specs.Json.{Json, null, boolean, number, words, list, object, Items, no_items, item, Members}
 use Rattle.json_text.specs.Json.{no_members, member}
 use Rattle.json_text.specs.declared.tree.Tree.{Tree}

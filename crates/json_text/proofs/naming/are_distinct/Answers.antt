@@ -1,4 +1,4 @@
-use Rattle.std.proofs.Common.{◌≡◌, ◌∙◌, sym, arith}
+use Rattle.std.proofs.Common.{sym, arith}
 use Rattle.json_text.proofs.Names.{distinct_step}
 use Rattle.json_text.proofs.naming.are_distinct.Goals as goal
 

@@ -1,4 +1,4 @@
-use Rattle.std.proofs.Common.{arith, rules, sym, ◌≡◌, ◌<◌, ℕ, subst, length}
+use Rattle.std.proofs.Common.{arith, rules, sym, ◌≡◌, ℕ, subst, length}
 use Rattle.json_text.specs.Fault.{IsFault}
 use Rattle.json_text.specs.Grammar.{IsText}
 use Rattle.json_text.specs.Trees.{json_of}

@@ -1,6 +1,5 @@
 use Rattle.std.proofs.Common.{subst, ◌≡◌}
 use Rattle.json_text.specs.Sane.{IsSane}
-use Rattle.json_text.specs.Machine.{step}
 use Rattle.json_text.specs.declared.machine.State.{State}
 use Rattle.json_text.proofs.Moving.{stayed, one_step, on_step, off_step}
 use Rattle.json_text.proofs.machine.State.advance.Goals as goal

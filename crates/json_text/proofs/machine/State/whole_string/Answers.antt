@@ -1,4 +1,4 @@
-use Rattle.std.proofs.Common.{rules, sym, ap, ◌∙◌, ◌≡◌, ℕ, ◌+◌}
+use Rattle.std.proofs.Common.{rules, ap, ◌∙◌, ℕ, ◌+◌}
 use Rattle.json_text.specs.Moves.{IsQuoted, behind_string}
 use Rattle.json_text.specs.declared.place.Mode.{Mode}
 use Rattle.json_text.proofs.Moving.{string_front}
