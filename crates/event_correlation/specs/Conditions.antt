@@ -1,28 +1,15 @@
 -- Conditions of a rule on an old and a new problem (the Zabbix 6.0 manual, "Global event correlation").
-use Rattle.std.specs.Prelude.{ℕ, Bool, List, [], bytes_eq, Option, Some, None, find}
+use Rattle.std.specs.Prelude.{ℕ, Bool, List, bytes_eq}
 use Rattle.std.specs.List.{list_any}
-use Rattle.zbx_types.specs.Records.{tags_of, host_of}
-use Rattle.zbx_types.specs.Tags.{share_value, passes, joined}
+use Rattle.zbx_types.specs.Groups.{groups_of}
+use Rattle.zbx_types.specs.Records.{tags_of}
+use Rattle.zbx_types.specs.Tags.{has_tag, share_value, passes, joined}
 use Rattle.zbx_types.specs.declared.conf.Conf.{Conf}
-use Rattle.zbx_types.specs.declared.conf.Host.{Host}
 use Rattle.zbx_types.specs.declared.entries.Rec.{Rec}
 use Rattle.zbx_types.specs.declared.entries.Tag.{Tag}
 use Rattle.zbx_types.specs.declared.rules.Rule.{Rule}
 use Rattle.zbx_types.specs.declared.rules.RuleCond.{RuleCond}
 use Rattle.zbx_types.specs.declared.rules.RuleCond.TheVariants.{OldTag, NewTag, OldTagValue, NewTagValue, TagPair, NewGroup}
-
--- some tag has this name
-abbrev pub has_tag : List Tag → List ℕ → Bool
-has_tag tags name = list_any (λ tag. bytes_eq tag.tag name) tags
-
--- the groups of a host, where there is one
-abbrev pub groups_in : Option Host → List (List ℕ)
-groups_in None = []
-groups_in (Some host) = host.groups
-
--- the groups of a problem's host: of the first that has its name
-abbrev pub groups_of : Conf → Rec → List (List ℕ)
-groups_of conf problem = groups_in (find (λ host. bytes_eq host.name (host_of problem)) conf.hosts)
 
 -- a condition holds of the tags of an old problem, and of the tags of a new one and the groups of its host
 abbrev pub holds : List (List ℕ) → List Tag → List Tag → RuleCond → Bool

@@ -4,11 +4,10 @@ ghost use Rattle.std.specs.Prelude.{◌≡◌, map, IfOk};
 ghost use Rattle.event_correlation.specs.Closings.{closes_of};
 
 use crate::answer::Closes;
-use crate::conditions::groups_of;
 use crate::due::closed_events;
 use crate::matching::closes_new;
 use std::alloc::Global;
-use zbx_types::{Conf, OutOfMemory, Rec};
+use zbx_types::{Conf, OutOfMemory, Rec, groups_of};
 
 /// References to records, in order.
 fn references(alloc: Global, records: &[Rec]) -> Result<Vec<&Rec>, OutOfMemory>

@@ -32,3 +32,11 @@ host_of (Failure number host key why) = []
 host_of (Recovery event by now cause) = []
 host_of (Step event action step now) = []
 host_of (Message event action step recipient subject body) = []
+
+-- the trigger of a problem, by name; other records are of none
+abbrev pub trigger_name_of : Rec → List ℕ
+trigger_name_of (Problem event now severity suppressed host trigger name tags) = trigger
+trigger_name_of (Failure number host key why) = []
+trigger_name_of (Recovery event by now cause) = []
+trigger_name_of (Step event action step now) = []
+trigger_name_of (Message event action step recipient subject body) = []

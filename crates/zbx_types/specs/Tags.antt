@@ -9,6 +9,10 @@ use Rattle.zbx_types.specs.declared.tag_tests.TagOp.{TagOp}
 use Rattle.zbx_types.specs.declared.tag_tests.TagOp.TheVariants.{Equals, Contains, NotEquals, NotContains}
 use Rattle.zbx_types.specs.declared.tag_tests.TagTest.{TagTest}
 
+-- some tag has this name
+abbrev pub has_tag : List Tag → List ℕ → Bool
+has_tag tags name = list_any (λ tag. bytes_eq tag.tag name) tags
+
 -- some tag of this name has such a value
 abbrev pub has_value : (List ℕ → Bool) → List ℕ → List Tag → Bool
 has_value is_such name tags = list_any (λ tag. bytes_eq tag.tag name && is_such tag.value) tags

@@ -1,7 +1,7 @@
 //! Journal entries, the records that they make, and the values that items keep.
 
 ghost use Rattle.std.specs.Prelude.{◌≡◌, IfOk};
-ghost use Rattle.zbx_types.specs.Records.{event_of, tags_of};
+ghost use Rattle.zbx_types.specs.Records.{event_of, tags_of, host_of, trigger_name_of};
 
 use crate::fix::Fix;
 use crate::many::Many;
@@ -276,6 +276,28 @@ impl Rec {
     {
         match self {
             Rec::Problem { tags, .. } => tags.as_slice(),
+            Rec::Failure { .. } | Rec::Recovery { .. } | Rec::Step { .. } | Rec::Message { .. } =>
+                &[],
+        }
+    }
+
+    /// The name of a problem's host; nothing for any other record.
+    pub fn host(&self) -> &[u8]
+        ensures { result.now ≡ host_of self.now }
+    {
+        match self {
+            Rec::Problem { host, .. } => host.as_bytes(),
+            Rec::Failure { .. } | Rec::Recovery { .. } | Rec::Step { .. } | Rec::Message { .. } =>
+                &[],
+        }
+    }
+
+    /// The name of a problem's trigger; nothing for any other record.
+    pub fn trigger_name(&self) -> &[u8]
+        ensures { result.now ≡ trigger_name_of self.now }
+    {
+        match self {
+            Rec::Problem { trigger, .. } => trigger.as_bytes(),
             Rec::Failure { .. } | Rec::Recovery { .. } | Rec::Step { .. } | Rec::Message { .. } =>
                 &[],
         }

@@ -39,6 +39,7 @@ mod entries;
 mod expr;
 mod fix;
 mod frames;
+mod groups;
 mod ids;
 mod items;
 mod limits;
@@ -75,6 +76,7 @@ pub use entries::{
 pub use expr::{Expr, Op, Operand};
 pub use fix::Fix;
 pub use frames::{LONGEST_DATA, frame_header};
+pub use groups::groups_of;
 pub use ids::{by_id, id_of};
 pub use items::{Item, ItemKind, ValueType};
 pub use limits::{
@@ -92,7 +94,7 @@ pub use periods::seconds_up_to;
 pub use reserved::Reserved;
 pub use rules::{Rule, RuleCond};
 pub use steps::{OnFail, StepKind, StepSpec};
-pub use tag_tests::{Matching, TagOp, TagTest, share_value, tests_pass};
+pub use tag_tests::{Matching, TagOp, TagTest, has_tag, share_value, tests_pass};
 pub use text::Text;
 pub use triggers::{RecoveryMode, Trigger};
 

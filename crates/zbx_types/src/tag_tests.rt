@@ -2,7 +2,7 @@
 
 ghost use Rattle.std.specs.Prelude.{◌≡◌, bytes_eq};
 ghost use Rattle.zbx_types.specs.Texts.{contains};
-ghost use Rattle.zbx_types.specs.Tags.{has_value, share_value, passes, joined};
+ghost use Rattle.zbx_types.specs.Tags.{has_tag, has_value, share_value, passes, joined};
 
 use crate::entries::Tag;
 use crate::text::Text;
@@ -45,6 +45,18 @@ fn is_same(one: &Text, other: &Text) -> bool
     ensures { result ≡ bytes_eq one.now other.now }
 {
     one.as_bytes() == other.as_bytes()
+}
+
+/// Whether some tag has a name.
+pub fn has_tag(tags: &[Tag], name: &Text) -> bool
+    ensures { result ≡ has_tag tags.now name.now }
+{
+    for tag in tags {
+        if is_same(&tag.tag, name) {
+            return true;
+        }
+    }
+    false
 }
 
 /// Whether some tag of a name has the value.
