@@ -1,0 +1,5 @@
+pub mod Conditions
+pub mod Steps
+pub mod Triggers
+pub mod Messages
+pub mod Escalations
