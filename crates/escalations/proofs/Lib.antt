@@ -1,1 +1,2 @@
-pub mod Gathered
+mod Gathered
+mod LastSteps

@@ -3,3 +3,4 @@ pub mod Steps
 pub mod Triggers
 pub mod Messages
 pub mod Escalations
+pub mod Laws

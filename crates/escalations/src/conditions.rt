@@ -46,7 +46,8 @@ fn holds(groups: &[Text], problem: &Rec, condition: &ActionCond) -> bool
             ActionCond::Suppressed => *suppressed,
             ActionCond::NotSuppressed => !*suppressed,
         },
-        Rec::Failure { .. } | Rec::Recovery { .. } | Rec::Step { .. } | Rec::Message { .. } => false,
+        Rec::Failure { .. } | Rec::Recovery { .. } | Rec::Step { .. } | Rec::Message { .. } =>
+            false,
     }
 }
 

@@ -58,7 +58,15 @@ fn push_next(
     ensures { OnOk result (out.new ≡ out.old ++ due_in case.now.conf.now case.now.groups.now case.now.is_suppressed case.now.problem.now steps_run.now case.now.moment action.now) }
 {
     match next_step(case, steps_run, action) {
-        Some(step) => push_step(alloc, case.conf, case.problem, case.moment, action, step, out),
+        Some(step) => push_step(
+            alloc,
+            case.conf,
+            case.problem,
+            case.moment,
+            action,
+            step,
+            out,
+        ),
         None => Ok(()),
     }
 }
@@ -94,7 +102,15 @@ fn push_recovery(
     if last_step(steps_run, problem.event(), &action.name).is_none() {
         return Ok(());
     }
-    push_sendings(alloc, conf, problem, now, &action.name, action.recovery.as_slice(), out)
+    push_sendings(
+        alloc,
+        conf,
+        problem,
+        now,
+        &action.name,
+        action.recovery.as_slice(),
+        out,
+    )
 }
 
 /// What the recovery operations of actions send.
@@ -166,7 +182,14 @@ pub fn due(
 ) -> Result<Many<Rec>, OutOfMemory>
     ensures { IfOk result (λ made. AreDue conf.now problem.now steps_run.now now made) }
 {
-    due_of(alloc, conf, trigger_of(conf, problem)?, problem, steps_run, now)
+    due_of(
+        alloc,
+        conf,
+        trigger_of(conf, problem)?,
+        problem,
+        steps_run,
+        now,
+    )
 }
 
 /// The same as [`due`], where the id of the problem's trigger is known.
@@ -207,5 +230,12 @@ pub fn recovered(
 ) -> Result<Many<Rec>, OutOfMemory>
     ensures { IfOk result (λ made. made ≡ recovered_records conf.now problem.now steps_run.now now) }
 {
-    recovery_of(alloc, conf, problem, steps_run, now, conf.actions.as_slice())
+    recovery_of(
+        alloc,
+        conf,
+        problem,
+        steps_run,
+        now,
+        conf.actions.as_slice(),
+    )
 }

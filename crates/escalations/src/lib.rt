@@ -17,6 +17,8 @@
 //! order (`specs/Messages.antt`). At most one step of an action runs at a time. When the problem closes, each action that
 //! ran a step for it sends its recovery operations, suppressed or not.
 //!
+//! That the last step of each action is enough of those that ran is the law in `laws`.
+//!
 //! Each call takes time linear in actions times conditions, operations and steps that ran, and memory for its answer.
 //!
 //! ```text
@@ -28,8 +30,12 @@
 
 mod conditions;
 mod escalations;
+pub mod laws;
 mod messages;
 mod steps;
 mod triggers;
 
 pub use escalations::{due, due_of, first, first_of, recovered};
+
+#[cfg(test)]
+mod tests;

@@ -39,7 +39,13 @@ fn message_to(
         action: sender.action.copy(alloc)?,
         step: sender.step,
         recipient: recipient.copy(alloc)?,
-        subject: message(alloc, sender.conf, sender.problem, subject, sender.recovered)?,
+        subject: message(
+            alloc,
+            sender.conf,
+            sender.problem,
+            subject,
+            sender.recovered,
+        )?,
         body: message(alloc, sender.conf, sender.problem, body, sender.recovered)?,
     })
 }
@@ -83,7 +89,14 @@ fn push_operations(
     for operation in operations {
         if has_step(step, operation) {
             let recipients = operation.recipients.as_slice();
-            push_messages(alloc, &sender, &operation.subject, &operation.body, recipients, out)?;
+            push_messages(
+                alloc,
+                &sender,
+                &operation.subject,
+                &operation.body,
+                recipients,
+                out,
+            )?;
         }
     }
     Ok(())
@@ -107,7 +120,8 @@ pub(crate) fn push_step(
         step,
         now,
     })?;
-    push_operations(alloc, conf, problem, &action.name, step, action.operations.as_slice(), out)
+    let operations = action.operations.as_slice();
+    push_operations(alloc, conf, problem, &action.name, step, operations, out)
 }
 
 /// Adds what recovery operations send.
@@ -131,7 +145,14 @@ pub(crate) fn push_sendings(
     };
     for sending in sendings {
         let recipients = sending.recipients.as_slice();
-        push_messages(alloc, &sender, &sending.subject, &sending.body, recipients, out)?;
+        push_messages(
+            alloc,
+            &sender,
+            &sending.subject,
+            &sending.body,
+            recipients,
+            out,
+        )?;
     }
     Ok(())
 }

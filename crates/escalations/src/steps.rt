@@ -106,18 +106,17 @@ fn ran_of(event: EventId, action: &Text, rec: &Rec) -> Option<Ran>
             action: name,
             step,
             now,
-        } =>
-            if of.number == event.number
-                && of.trigger == event.trigger
-                && name.as_bytes() == action.as_bytes()
-            {
-                Some(Ran {
-                    step: *step,
-                    moment: *now,
-                })
-            } else {
-                None
-            },
+        } => if of.number == event.number
+            && of.trigger == event.trigger
+            && name.as_bytes() == action.as_bytes()
+        {
+            Some(Ran {
+                step: *step,
+                moment: *now,
+            })
+        } else {
+            None
+        },
         Rec::Failure { .. } | Rec::Problem { .. } | Rec::Recovery { .. } | Rec::Message { .. } =>
             None,
     }
@@ -128,12 +127,7 @@ fn later(one: Option<Ran>, other: Ran) -> Ran
     ensures { result ≡ with_first later one other }
 {
     match one {
-        Some(one) =>
-            if other.step <= one.step {
-                one
-            } else {
-                other
-            },
+        Some(one) => if other.step <= one.step { one } else { other },
         None => other,
     }
 }
