@@ -1,16 +1,16 @@
 -- The last one of rising steps decides.
 use Rattle.std.proofs.Common.{◌≡◌, ◌∙◌, ℕ, ◌+◌, ◌<◌, Bool, false, List, [], ◌∷◌, ◌++◌, length, map, Option, Some, None, suc, refl, ap, add-one, arith}
-use Rattle.std.specs.Prelude.{fold, filter_map, flat_map, option_to_list, nat_le, is_some, if◌then◌else◌}
+use Rattle.std.specs.Prelude.{fold, filter_map, flat_map, option_to_list, nat_le, is_some, not, ◌&&◌, if◌then◌else◌}
 use Rattle.std.specs.List.{reduce, last_or, slice_index}
 use Rattle.std.specs.List.Sorted.{IsStrictlyIncreasing}
 use Rattle.std.proofs.lemmas.Bool.{lt-leb}
-use Rattle.zbx_types.specs.Groups.{groups_of}
 use Rattle.zbx_types.specs.Records.{event_of}
 use Rattle.zbx_types.specs.declared.actions.Action.{Action}
 use Rattle.zbx_types.specs.declared.conf.Conf.{Conf}
 use Rattle.zbx_types.specs.declared.entries.EventId.{EventId}
 use Rattle.zbx_types.specs.declared.entries.Rec.{Rec}
-use Rattle.escalations.specs.Escalations.{takes_part, records_at, due_in, recovery_records}
+use Rattle.escalations.specs.Conditions.{is_matched}
+use Rattle.escalations.specs.Escalations.{records_at, next_step, next_records, recovery_records}
 use Rattle.escalations.specs.Laws.{KeepsLast, LastStepsSuffice}
 use Rattle.escalations.specs.Messages.{sending_records}
 use Rattle.escalations.specs.Steps.{ran_of, later, last_step, step_due}
@@ -52,10 +52,10 @@ same_flat_map : {X A : Type 0} (f g : X → List A) (xs : List X) → ((x : X) �
 same_flat_map f g [] h = refl
 same_flat_map f g (x ∷ xs) h = rw (h x, same_flat_map f g xs h) refl
 
-same_due : (conf : Conf) (is_suppressed : Bool) (problem : Rec) (steps kept : List Rec) (now : ℕ) → ((action : List ℕ) → KeepsLast (event_of problem) steps kept action) → (action : Action) → due_in conf (groups_of conf problem) is_suppressed problem kept now action ≡ due_in conf (groups_of conf problem) is_suppressed problem steps now action
-unfolding due_in
+same_due : (conf : Conf) (is_suppressed : Bool) (problem : Rec) (steps kept : List Rec) (now : ℕ) → ((action : List ℕ) → KeepsLast (event_of problem) steps kept action) → (action : Action) → next_records conf is_suppressed problem kept now action ≡ next_records conf is_suppressed problem steps now action
+unfolding next_records next_step
 same_due conf is_suppressed problem steps kept now h action =
-    ap (λ last. records_at conf problem now action (if takes_part (groups_of conf problem) is_suppressed problem action then step_due action now last else None))
+    ap (λ last. records_at conf problem now action (if is_matched conf action problem && not (action.pause_suppressed && is_suppressed) then step_due action now last else None))
     (last_kept (event_of problem) steps kept action.name (h action.name))
 
 same_recovery : (conf : Conf) (problem : Rec) (steps kept : List Rec) (now : ℕ) → ((action : List ℕ) → KeepsLast (event_of problem) steps kept action) → (action : Action) → recovery_records conf problem kept now action ≡ recovery_records conf problem steps now action

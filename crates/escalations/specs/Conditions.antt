@@ -41,11 +41,11 @@ holds groups (Recovery event by now cause) condition = false
 holds groups (Step event action step now) condition = false
 holds groups (Message event action step recipient subject body) condition = false
 
--- an action has no conditions, or they hold, as they are joined
+-- an action has no conditions, or they hold of a problem, whose host is in these groups, as they are joined
 abbrev pub fits : List (List ℕ) → Rec → Action → Bool
 fits groups problem action =
     length action.conditions == 0 || joined action.matching (holds groups problem) action.conditions
 
 -- an action matches a problem
-abbrev pub is_matched : Conf → Action → Rec → Bool
+unfoldable pub is_matched : Conf → Action → Rec → Bool
 is_matched conf action problem = fits (groups_of conf problem) problem action

@@ -1,42 +1,34 @@
 -- What actions do about a problem (the Zabbix 6.0 manual, "Escalations").
 use Rattle.std.specs.Prelude.{◌≡◌, ℕ, Bool, not, ◌&&◌, List, [], flat_map, Option, Some, None, is_some, if◌then◌else◌}
-use Rattle.zbx_types.specs.Groups.{groups_of}
 use Rattle.zbx_types.specs.Records.{event_of}
 use Rattle.zbx_types.specs.declared.actions.Action.{Action}
 use Rattle.zbx_types.specs.declared.conf.Conf.{Conf}
 use Rattle.zbx_types.specs.declared.entries.Rec.{Rec}
-use Rattle.escalations.specs.Conditions.{fits}
+use Rattle.escalations.specs.Conditions.{is_matched}
 use Rattle.escalations.specs.Messages.{step_records, sending_records}
 use Rattle.escalations.specs.Steps.{last_step, step_due}
 use Rattle.escalations.specs.Triggers.{TellsSuppression}
 
--- an action matches a problem, whose host is in these groups, and isn't paused: it pauses while the trigger is suppressed
-unfoldable pub takes_part : List (List ℕ) → Bool → Rec → Action → Bool
-takes_part groups is_suppressed problem action =
-    fits groups problem action && not (action.pause_suppressed && is_suppressed)
-
--- the step of an action that runs next for a problem, where these steps ran and its trigger is suppressed or not
-abbrev pub next_in : List (List ℕ) → Bool → List Rec → Rec → Action → ℕ → Option ℕ
-next_in groups is_suppressed steps problem action now =
-    if takes_part groups is_suppressed problem action then step_due action now (last_step steps (event_of problem) action.name) else None
-
-abbrev pub next_step : Conf → Bool → List Rec → Rec → Action → ℕ → Option ℕ
-next_step conf is_suppressed steps problem action now = next_in (groups_of conf problem) is_suppressed steps problem action now
+-- the step of an action that runs next for a problem, where these steps ran and its trigger is suppressed or not: the one
+-- behind the last, where it is due, the action matches the problem, and it isn't paused
+unfoldable pub next_step : Conf → Bool → List Rec → Rec → Action → ℕ → Option ℕ
+next_step conf is_suppressed steps problem action now =
+    if is_matched conf action problem && not (action.pause_suppressed && is_suppressed)
+    then step_due action now (last_step steps (event_of problem) action.name) else None
 
 -- what a step makes, where there is one
 abbrev pub records_at : Conf → Rec → ℕ → Action → Option ℕ → List Rec
 records_at conf problem now action None = []
 records_at conf problem now action (Some step) = step_records conf problem now action step
 
--- what the next step of an action makes for a problem, whose host is in these groups
-unfoldable pub due_in : Conf → List (List ℕ) → Bool → Rec → List Rec → ℕ → Action → List Rec
-due_in conf groups is_suppressed problem steps now action =
-    records_at conf problem now action (next_in groups is_suppressed steps problem action now)
+-- what the next step of an action makes
+unfoldable pub next_records : Conf → Bool → Rec → List Rec → ℕ → Action → List Rec
+next_records conf is_suppressed problem steps now action =
+    records_at conf problem now action (next_step conf is_suppressed steps problem action now)
 
 -- what the next steps of all actions make, in file order
 abbrev pub due_records : Conf → Bool → Rec → List Rec → ℕ → List Rec
-due_records conf is_suppressed problem steps now =
-    flat_map (due_in conf (groups_of conf problem) is_suppressed problem steps now) conf.actions
+due_records conf is_suppressed problem steps now = flat_map (next_records conf is_suppressed problem steps now) conf.actions
 
 -- what the first steps of all actions make: no step ran
 abbrev pub first_records : Conf → Bool → Rec → ℕ → List Rec

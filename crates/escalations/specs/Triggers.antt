@@ -1,7 +1,6 @@
 -- The triggers of problems, and whether they are suppressed.
 use Rattle.std.specs.Prelude.{ℕ, ◌+◌, Bool, false, ◌&&◌, ◌↔◌, List, bytes_eq, Option, Some, None, IsTrue}
 use Rattle.std.specs.List.{list_any, position_from}
-use Rattle.zbx_types.specs.Groups.{groups_of}
 use Rattle.zbx_types.specs.Ids.{at_id}
 use Rattle.zbx_types.specs.Records.{host_of, tags_of, trigger_name_of}
 use Rattle.zbx_types.specs.declared.actions.Action.{Action}
@@ -10,7 +9,7 @@ use Rattle.zbx_types.specs.declared.conf.Host.{Host}
 use Rattle.zbx_types.specs.declared.entries.Rec.{Rec}
 use Rattle.zbx_types.specs.declared.triggers.Trigger.{Trigger}
 use Rattle.maintenance.specs.Suppression.{IsSuppressed}
-use Rattle.escalations.specs.Conditions.{fits}
+use Rattle.escalations.specs.Conditions.{is_matched}
 
 -- a host is there and has this name
 abbrev pub is_named : List ℕ → Option Host → Bool
@@ -31,13 +30,13 @@ id_at (Some place) = place + 1
 abbrev pub trigger_of : Conf → Rec → ℕ
 trigger_of conf problem = id_at (position_from (is_trigger_of conf problem) 0 conf.triggers)
 
--- some of the actions matches a problem, whose host is in these groups, and pauses where it is suppressed
-abbrev pub some_pauses : List (List ℕ) → Rec → List Action → Bool
-some_pauses groups problem actions = list_any (λ action. action.pause_suppressed && fits groups problem action) actions
+-- some of the actions matches a problem, and pauses where it is suppressed
+abbrev pub some_pauses : Conf → Rec → List Action → Bool
+some_pauses conf problem actions = list_any (λ action. action.pause_suppressed && is_matched conf action problem) actions
 
 -- Whether the problem's trigger is suppressed at a moment, with the problem's tags. It tells nothing where no action that
 -- matches the problem pauses.
 abbrev pub TellsSuppression : Conf → Rec → ℕ → Bool → Type 0
 TellsSuppression conf problem now is_suppressed =
-    IsTrue (some_pauses (groups_of conf problem) problem conf.actions)
+    IsTrue (some_pauses conf problem conf.actions)
     → IsTrue is_suppressed ↔ IsSuppressed conf (trigger_of conf problem) (tags_of problem) now

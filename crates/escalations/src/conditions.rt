@@ -1,10 +1,24 @@
 //! Conditions of actions.
 
 ghost use Rattle.std.specs.Prelude.{◌≡◌, bytes_eq};
+ghost use Rattle.zbx_types.specs.Groups.{groups_of};
 ghost use Rattle.zbx_types.specs.Tags.{joined};
-ghost use Rattle.escalations.specs.Conditions.{compares, holds, fits};
+ghost use Rattle.escalations.specs.Conditions.{compares, holds, fits, is_matched};
 
-use zbx_types::{Action, ActionCond, Matching, Rec, SeverityOp, Text, has_tag};
+use zbx_types::{Action, ActionCond, Conf, Matching, Moment, Rec, SeverityOp, Text, has_tag};
+
+/// A problem at a moment.
+#[derive(Clone, Copy)]
+pub(crate) struct Case<'a> {
+    /// The configuration.
+    pub(crate) conf: &'a Conf,
+    /// The problem.
+    pub(crate) problem: &'a Rec,
+    /// The groups of its host.
+    pub(crate) groups: &'a [Text],
+    /// The moment.
+    pub(crate) moment: Moment,
+}
 
 /// Whether a severity compares so with a value.
 fn compares(op: SeverityOp, severity: u32, value: u32) -> bool
@@ -86,4 +100,13 @@ pub(crate) fn fits(groups: &[Text], problem: &Rec, action: &Action) -> bool
 {
     let conditions = action.conditions.as_slice();
     conditions.len() == 0 || hold(action.matching, conditions, groups, problem)
+}
+
+/// Whether an action matches the problem.
+#[tactic(auto, unfolding(crate::specs::Conditions::is_matched))]
+pub(crate) fn is_matched(case: &Case, action: &Action) -> bool
+    requires { case.now.groups.now ≡ groups_of case.now.conf.now case.now.problem.now }
+    ensures { result ≡ is_matched case.now.conf.now action.now case.now.problem.now }
+{
+    fits(case.groups, case.problem, action)
 }

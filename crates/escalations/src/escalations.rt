@@ -1,44 +1,24 @@
 //! What actions do about a problem.
 
 ghost use Rattle.std.specs.Prelude.{◌≡◌, ◌++◌, flat_map, IfOk, OnOk};
-ghost use Rattle.escalations.specs.Escalations.{takes_part, next_in, due_in, recovery_records, recovered_records, AreFirst, AreDue};
+ghost use Rattle.zbx_types.specs.Groups.{groups_of};
+ghost use Rattle.escalations.specs.Escalations.{next_step, next_records, recovery_records, recovered_records, AreFirst, AreDue};
 ghost use Rattle.escalations.specs.Triggers.{trigger_of};
 
-use crate::conditions::fits;
+use crate::conditions::{Case, is_matched};
 use crate::messages::{push_sendings, push_step};
 use crate::steps::{last_step, step_due};
 use crate::triggers::{is_suppressed, trigger_of};
 use std::alloc::Global;
-use zbx_types::{Action, Conf, Many, Moment, OutOfMemory, Rec, Text, groups_of};
-
-/// A problem at a moment.
-#[derive(Clone, Copy)]
-struct Case<'a> {
-    /// The configuration.
-    conf: &'a Conf,
-    /// The problem.
-    problem: &'a Rec,
-    /// The groups of its host.
-    groups: &'a [Text],
-    /// Whether its trigger is suppressed.
-    is_suppressed: bool,
-    /// The moment.
-    moment: Moment,
-}
-
-/// Whether an action matches the problem and isn't paused.
-#[tactic(auto, unfolding(crate::specs::Escalations::takes_part))]
-fn takes_part(case: &Case, action: &Action) -> bool
-    ensures { result ≡ takes_part case.now.groups.now case.now.is_suppressed case.now.problem.now action.now }
-{
-    fits(case.groups, case.problem, action) && !(action.pause_suppressed && case.is_suppressed)
-}
+use zbx_types::{Action, Conf, Many, Moment, OutOfMemory, Rec, groups_of};
 
 /// The step of an action that runs next, where these steps ran.
-fn next_step(case: &Case, steps_run: &[Rec], action: &Action) -> Option<u32>
-    ensures { result ≡ next_in case.now.groups.now case.now.is_suppressed steps_run.now case.now.problem.now action.now case.now.moment }
+#[tactic(auto, unfolding(crate::specs::Escalations::next_step))]
+fn next_step(case: &Case, is_suppressed: bool, steps_run: &[Rec], action: &Action) -> Option<u32>
+    requires { case.now.groups.now ≡ groups_of case.now.conf.now case.now.problem.now }
+    ensures { result ≡ next_step case.now.conf.now is_suppressed steps_run.now case.now.problem.now action.now case.now.moment }
 {
-    if takes_part(case, action) {
+    if is_matched(case, action) && !(action.pause_suppressed && is_suppressed) {
         let last = last_step(steps_run, case.problem.event(), &action.name);
         step_due(action, case.moment, last)
     } else {
@@ -47,26 +27,21 @@ fn next_step(case: &Case, steps_run: &[Rec], action: &Action) -> Option<u32>
 }
 
 /// Adds what the next step of an action makes.
-#[tactic(auto, unfolding(crate::specs::Escalations::due_in))]
+#[tactic(auto, unfolding(crate::specs::Escalations::next_records))]
 fn push_next(
     alloc: Global,
     case: &Case,
+    is_suppressed: bool,
     steps_run: &[Rec],
     action: &Action,
     out: &mut Many<Rec>,
 ) -> Result<(), OutOfMemory>
-    ensures { OnOk result (out.new ≡ out.old ++ due_in case.now.conf.now case.now.groups.now case.now.is_suppressed case.now.problem.now steps_run.now case.now.moment action.now) }
+    requires { case.now.groups.now ≡ groups_of case.now.conf.now case.now.problem.now }
+    ensures { OnOk result (out.new ≡ out.old ++ next_records case.now.conf.now is_suppressed case.now.problem.now steps_run.now case.now.moment action.now) }
 {
-    match next_step(case, steps_run, action) {
-        Some(step) => push_step(
-            alloc,
-            case.conf,
-            case.problem,
-            case.moment,
-            action,
-            step,
-            out,
-        ),
+    let (conf, problem) = (case.conf, case.problem);
+    match next_step(case, is_suppressed, steps_run, action) {
+        Some(step) => push_step(alloc, conf, problem, case.moment, action, step, out),
         None => Ok(()),
     }
 }
@@ -75,14 +50,16 @@ fn push_next(
 fn next_records(
     alloc: Global,
     case: &Case,
+    is_suppressed: bool,
     steps_run: &[Rec],
     actions: &[Action],
 ) -> Result<Many<Rec>, OutOfMemory>
-    ensures { IfOk result (λ made. made ≡ flat_map (due_in case.now.conf.now case.now.groups.now case.now.is_suppressed case.now.problem.now steps_run.now case.now.moment) actions.now) }
+    requires { case.now.groups.now ≡ groups_of case.now.conf.now case.now.problem.now }
+    ensures { IfOk result (λ made. made ≡ flat_map (next_records case.now.conf.now is_suppressed case.now.problem.now steps_run.now case.now.moment) actions.now) }
 {
     let mut out = Many::new(alloc);
     for action in actions {
-        push_next(alloc, case, steps_run, action, &mut out)?;
+        push_next(alloc, case, is_suppressed, steps_run, action, &mut out)?;
     }
     Ok(out)
 }
@@ -204,15 +181,20 @@ pub fn due_of(
     requires { trigger ≡ trigger_of conf.now problem.now }
     ensures { IfOk result (λ made. AreDue conf.now problem.now steps_run.now now made) }
 {
-    let groups = groups_of(conf, problem);
     let case = Case {
         conf,
         problem,
-        groups,
-        is_suppressed: is_suppressed(conf, groups, trigger, problem, now),
+        groups: groups_of(conf, problem),
         moment: now,
     };
-    next_records(alloc, &case, steps_run, conf.actions.as_slice())
+    let is_suppressed = is_suppressed(&case, trigger);
+    next_records(
+        alloc,
+        &case,
+        is_suppressed,
+        steps_run,
+        conf.actions.as_slice(),
+    )
 }
 
 /// What actions do at the moment at which a problem closes (the Zabbix 6.0 manual, "Recovery operations"): for each action

@@ -1,14 +1,13 @@
 //! The triggers of problems, and whether they are suppressed.
 
-ghost use Rattle.std.specs.Prelude.{◌≡◌, ◌↔◌, IfOk, IsTrue, option_copied};
+ghost use Rattle.std.specs.Prelude.{◌≡◌, IfOk, option_copied};
 ghost use Rattle.std.specs.List.{position_from};
-ghost use Rattle.zbx_types.specs.Records.{tags_of};
-ghost use Rattle.maintenance.specs.Suppression.{IsSuppressed};
-ghost use Rattle.escalations.specs.Triggers.{is_named, is_trigger_of, trigger_of, some_pauses};
+ghost use Rattle.zbx_types.specs.Groups.{groups_of};
+ghost use Rattle.escalations.specs.Triggers.{is_named, is_trigger_of, trigger_of, some_pauses, TellsSuppression};
 
-use crate::conditions::fits;
+use crate::conditions::{Case, is_matched};
 use maintenance::suppressed;
-use zbx_types::{Action, Conf, Host, Moment, OutOfMemory, Rec, Text, Trigger, by_id, id_of};
+use zbx_types::{Action, Conf, Host, OutOfMemory, Rec, Trigger, by_id, id_of};
 
 /// Whether a host is there and has this name.
 fn is_named(name: &[u8], host: Option<&Host>) -> bool
@@ -50,28 +49,26 @@ pub(crate) fn trigger_of(conf: &Conf, problem: &Rec) -> Result<u32, OutOfMemory>
     }
 }
 
-/// Whether some of the actions matches a problem, and pauses where it is suppressed.
-fn some_pauses(groups: &[Text], problem: &Rec, actions: &[Action]) -> bool
-    ensures { result ≡ some_pauses groups.now problem.now actions.now }
+/// Whether some of the actions matches the problem, and pauses where it is suppressed.
+fn some_pauses(case: &Case, actions: &[Action]) -> bool
+    requires { case.now.groups.now ≡ groups_of case.now.conf.now case.now.problem.now }
+    ensures { result ≡ some_pauses case.now.conf.now case.now.problem.now actions.now }
 {
     for action in actions {
-        if action.pause_suppressed && fits(groups, problem, action) {
+        if action.pause_suppressed && is_matched(case, action) {
             return true;
         }
     }
     false
 }
 
-/// Whether the problem's trigger is suppressed at a moment. It is asked only where some action pauses for this.
-pub(crate) fn is_suppressed(
-    conf: &Conf,
-    groups: &[Text],
-    trigger: u32,
-    problem: &Rec,
-    now: Moment,
-) -> bool
-    ensures { IsTrue (some_pauses groups.now problem.now conf.now.actions) → IsTrue result ↔ IsSuppressed conf.now trigger (tags_of problem.now) now }
+/// Whether the problem's trigger, which has this id, is suppressed at the moment. It is asked only where some action pauses
+/// for this.
+pub(crate) fn is_suppressed(case: &Case, trigger: u32) -> bool
+    requires trigger { trigger ≡ trigger_of case.now.conf.now case.now.problem.now }
+    requires groups { case.now.groups.now ≡ groups_of case.now.conf.now case.now.problem.now }
+    ensures { TellsSuppression case.now.conf.now case.now.problem.now case.now.moment result }
 {
-    some_pauses(groups, problem, conf.actions.as_slice())
-        && suppressed(conf, trigger, problem.tags(), now)
+    some_pauses(case, case.conf.actions.as_slice())
+        && suppressed(case.conf, trigger, case.problem.tags(), case.moment)
 }
