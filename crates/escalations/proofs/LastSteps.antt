@@ -1,5 +1,5 @@
 -- The last one of rising steps decides.
-use Rattle.std.proofs.Common.{◌≡◌, ◌∙◌, ℕ, ◌+◌, ◌<◌, Bool, false, List, [], ◌∷◌, ◌++◌, length, map, Option, Some, None, suc, refl, ap, add-one, arith}
+use Rattle.std.proofs.Common.{◌≡◌, ℕ, ◌+◌, ◌<◌, Bool, false, List, [], ◌∷◌, map, Option, Some, None, suc, refl, ap, add-one, arith}
 use Rattle.std.specs.Prelude.{fold, filter_map, flat_map, option_to_list, nat_le, is_some, not, ◌&&◌, if◌then◌else◌}
 use Rattle.std.specs.List.{reduce, last_or, slice_index}
 use Rattle.std.specs.List.Sorted.{IsStrictlyIncreasing}

@@ -1,5 +1,5 @@
 -- The records of steps and of recovery operations (the Zabbix 6.0 manual, "Escalations", "Recovery operations").
-use Rattle.std.specs.Prelude.{ℕ, List, [], ◌∷◌, map, flat_map, Option, Some, None}
+use Rattle.std.specs.Prelude.{ℕ, List, ◌∷◌, map, flat_map, Option, Some, None}
 use Rattle.zbx_types.specs.Records.{event_of}
 use Rattle.zbx_types.specs.declared.actions.Action.{Action}
 use Rattle.zbx_types.specs.declared.actions.Operation.{Operation}
