@@ -1,4 +1,4 @@
--- Which steps that ran need be kept.
+-- What follows from the definitions of escalations.
 use Rattle.std.specs.Prelude.{◌≡◌, ℕ, Bool, List, map, filter_map, option_to_list, None}
 use Rattle.std.specs.List.{last_or}
 use Rattle.std.specs.List.Sorted.{IsStrictlyIncreasing}
@@ -6,7 +6,7 @@ use Rattle.zbx_types.specs.Records.{event_of}
 use Rattle.zbx_types.specs.declared.conf.Conf.{Conf}
 use Rattle.zbx_types.specs.declared.entries.EventId.{EventId}
 use Rattle.zbx_types.specs.declared.entries.Rec.{Rec}
-use Rattle.escalations.specs.Escalations.{due_records, recovered_records}
+use Rattle.escalations.specs.Escalations.{due_records, recovered_records, AreDue}
 use Rattle.escalations.specs.Steps.{ran_of}
 
 -- the steps of an event and action that ran have rising numbers, and of these records just the last one is kept
@@ -22,3 +22,8 @@ LastStepsSuffice = (conf : Conf) (is_suppressed : Bool) (problem : Rec) (steps k
     → ((action : List ℕ) → KeepsLast (event_of problem) steps kept action)
     → (due_records conf is_suppressed problem kept now ≡ due_records conf is_suppressed problem steps now)
     × (recovered_records conf problem kept now ≡ recovered_records conf problem steps now)
+
+-- the records of due steps are determined: there is one list of them
+abbrev pub OneAnswer : Type 0
+OneAnswer = (conf : Conf) (problem : Rec) (steps : List Rec) (now : ℕ) (made other : List Rec)
+    → AreDue conf problem steps now made → AreDue conf problem steps now other → made ≡ other

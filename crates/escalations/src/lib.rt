@@ -29,13 +29,13 @@
 #![tactic(auto)]
 
 mod conditions;
-mod escalations;
 pub mod laws;
 mod messages;
+mod running;
 mod steps;
 mod triggers;
 
-pub use escalations::{due, due_of, first, first_of, recovered};
+pub use running::{due, due_of, first, first_of, recovered};
 
 #[cfg(test)]
 mod tests;

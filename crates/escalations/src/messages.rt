@@ -114,13 +114,13 @@ pub(crate) fn push_step(
 ) -> Result<(), OutOfMemory>
     ensures { OnOk result (out.new ≡ out.old ++ step_records conf.now problem.now now action.now step) }
 {
+    let operations = action.operations.as_slice();
     out.push(Rec::Step {
         event: problem.event(),
         action: action.name.copy(alloc)?,
         step,
         now,
     })?;
-    let operations = action.operations.as_slice();
     push_operations(alloc, conf, problem, &action.name, step, operations, out)
 }
 

@@ -1,0 +1,46 @@
+-- The records are determined: whether the trigger is suppressed is one, and matters only where an action pauses for it.
+use Rattle.std.proofs.Common.{◌≡◌, ◌∙◌, ◌↔◌, ℕ, Bool, true, false, not, ◌&&◌, ◌||◌, List, [], ◌∷◌, ◌++◌, Option, None, IsTrue, refl, sym, ap}
+use Rattle.std.specs.Prelude.{flat_map, if◌then◌else◌}
+use Rattle.std.proofs.lemmas.Bool.{or_parts, false≢true}
+use Rattle.zbx_types.specs.Records.{event_of}
+use Rattle.zbx_types.specs.declared.actions.Action.{Action}
+use Rattle.zbx_types.specs.declared.conf.Conf.{Conf}
+use Rattle.zbx_types.specs.declared.entries.Rec.{Rec}
+use Rattle.escalations.specs.Conditions.{is_matched}
+use Rattle.escalations.specs.Escalations.{records_at, next_step, next_records, due_records, AreDue}
+use Rattle.escalations.specs.Laws.{OneAnswer}
+use Rattle.escalations.specs.Steps.{last_step, step_due}
+use Rattle.escalations.specs.Triggers.{some_pauses}
+
+same_part : (pauses matches one other : Bool) → (pauses && matches) ≡ false → (matches && not (pauses && one)) ≡ (matches && not (pauses && other))
+same_part true true one other h = absurd (false≢true (sym h))
+same_part true false one other h = refl
+same_part false matches one other h = refl
+
+same_next : (conf : Conf) (one other : Bool) (problem : Rec) (steps : List Rec) (now : ℕ) (action : Action) → (action.pause_suppressed && is_matched conf action problem) ≡ false → next_records conf one problem steps now action ≡ next_records conf other problem steps now action
+unfolding next_records next_step
+same_next conf one other problem steps now action h =
+    ap (λ runs. records_at conf problem now action (if runs then step_due action now (last_step steps (event_of problem) action.name) else None))
+    (same_part action.pause_suppressed (is_matched conf action problem) one other h)
+
+same_records : (conf : Conf) (one other : Bool) (problem : Rec) (steps : List Rec) (now : ℕ) (actions : List Action) → some_pauses conf problem actions ≡ false → flat_map (next_records conf one problem steps now) actions ≡ flat_map (next_records conf other problem steps now) actions
+same_records conf one other problem steps now [] h = refl
+same_records conf one other problem steps now (action ∷ rest) h =
+    let here = same_next conf one other problem steps now action (or_parts _ _ h).0 in
+    let behind = same_records conf one other problem steps now rest (or_parts _ _ h).1 in
+    rw (here, behind) refl
+
+same_answer : (one other : Bool) (P : Type 0) → IsTrue one ↔ P → IsTrue other ↔ P → one ≡ other
+same_answer true true P e f = refl
+same_answer false false P e f = refl
+same_answer true false P e f = absurd (false≢true (f.1 (e.0 refl)))
+same_answer false true P e f = absurd (false≢true (e.1 (f.0 refl)))
+
+pub one_answer : OneAnswer
+one_answer conf problem steps now made other e f =
+    let by : (pauses : Bool) → some_pauses conf problem conf.actions ≡ pauses → due_records conf e.0 problem steps now ≡ due_records conf f.0 problem steps now =
+    λ pauses. elim pauses as (λ p. some_pauses conf problem conf.actions ≡ p → due_records conf e.0 problem steps now ≡ due_records conf f.0 problem steps now) [
+      | true ↦ λ h. ap (λ s. due_records conf s problem steps now) (same_answer e.0 f.0 _ (e.1 h) (f.1 h))
+      | false ↦ λ h. same_records conf e.0 f.0 problem steps now conf.actions h
+    ] in
+    e.2 ∙ by (some_pauses conf problem conf.actions) refl ∙ sym f.2
