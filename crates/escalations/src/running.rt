@@ -127,7 +127,8 @@ pub fn first(
     first_of(alloc, conf, trigger_of(conf, problem)?, problem, now)
 }
 
-/// The same as [`first`], where the id of the problem's trigger is known.
+/// The same as [`first`], where `trigger` is known to be the id of the problem's trigger: of the first one that has its name
+/// and whose host has its host's name, or 0 where there is none.
 pub fn first_of(
     alloc: Global,
     conf: &Conf,
@@ -169,7 +170,7 @@ pub fn due(
     )
 }
 
-/// The same as [`due`], where the id of the problem's trigger is known.
+/// The same as [`due`], where `trigger` is known to be the id of the problem's trigger, as in [`first_of`].
 pub fn due_of(
     alloc: Global,
     conf: &Conf,
