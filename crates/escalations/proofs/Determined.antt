@@ -1,5 +1,5 @@
 -- The records are determined: whether the trigger is suppressed is one, and matters only where an action pauses for it.
-use Rattle.std.proofs.Common.{◌≡◌, ◌∙◌, ◌↔◌, ℕ, Bool, true, false, not, ◌&&◌, ◌||◌, List, [], ◌∷◌, ◌++◌, Option, None, IsTrue, refl, sym, ap}
+use Rattle.std.proofs.Common.{◌≡◌, ◌∙◌, ◌↔◌, ℕ, Bool, true, false, not, ◌&&◌, List, [], ◌∷◌, None, IsTrue, refl, sym, ap}
 use Rattle.std.specs.Prelude.{flat_map, if◌then◌else◌}
 use Rattle.std.proofs.lemmas.Bool.{or_parts, false≢true}
 use Rattle.zbx_types.specs.Records.{event_of}
@@ -7,7 +7,7 @@ use Rattle.zbx_types.specs.declared.actions.Action.{Action}
 use Rattle.zbx_types.specs.declared.conf.Conf.{Conf}
 use Rattle.zbx_types.specs.declared.entries.Rec.{Rec}
 use Rattle.escalations.specs.Conditions.{is_matched}
-use Rattle.escalations.specs.Escalations.{records_at, next_step, next_records, due_records, AreDue}
+use Rattle.escalations.specs.Escalations.{records_at, next_step, next_records, due_records}
 use Rattle.escalations.specs.Laws.{OneAnswer}
 use Rattle.escalations.specs.Steps.{last_step, step_due}
 use Rattle.escalations.specs.Triggers.{some_pauses}
