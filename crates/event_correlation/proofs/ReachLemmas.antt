@@ -6,7 +6,7 @@ use Rattle.std.proofs.lemmas.Bool.{and_parts, and_from, or_cases, or_left, or_ri
 use Rattle.std.proofs.lemmas.List.Elements.{All-nil, All-cons}
 use Rattle.zbx_types.specs.Reach.{asks_for_value, old_name, new_name, has_name, can_be_old, can_be_new, reaches, in_reach}
 use Rattle.zbx_types.specs.Records.{tags_of}
-use Rattle.zbx_types.specs.Tags.{has_value, share_value, holds_of, joined}
+use Rattle.zbx_types.specs.Tags.{has_value, holds_of, joined}
 use Rattle.zbx_types.specs.declared.conf.Conf.{Conf}
 use Rattle.zbx_types.specs.declared.entries.Rec.{Rec}
 use Rattle.zbx_types.specs.declared.entries.Tag.{Tag}

@@ -1,6 +1,6 @@
 -- Rows of open problems by their places.
-use Rattle.std.proofs.Common.{◌≡◌, ◌<◌, ◌≤◌, ◌+◌, ◌∙◌, ℕ, zero, suc, ◌==◌, Bool, true, false, cond, List, [], ◌∷◌, ◌++◌, length, get_or, set, take, drop, map, filter, Option, Some, None, refl, sym, ap, subst, arith, eqb-true, eq-eqb, append-nil, length-append}
-use Rattle.std.specs.Prelude.{slice_get, replicate, if◌then◌else◌}
+use Rattle.std.proofs.Common.{◌≡◌, ◌<◌, ◌≤◌, ◌∙◌, ℕ, zero, suc, ◌==◌, Bool, true, false, cond, List, [], ◌∷◌, ◌++◌, length, get_or, set, refl, sym, ap, arith, eqb-true, eq-eqb}
+use Rattle.std.specs.Prelude.{replicate}
 use Rattle.zbx_types.specs.Masters.{depth_of}
 use Rattle.zbx_types.specs.Records.{event_of}
 use Rattle.zbx_types.specs.declared.conf.Conf.{Conf}

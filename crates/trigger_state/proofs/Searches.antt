@@ -10,8 +10,8 @@ use Rattle.zbx_types.specs.declared.conf.Conf.{Conf}
 use Rattle.zbx_types.specs.declared.entries.EventId.{EventId}
 use Rattle.zbx_types.specs.declared.entries.Rec.{Rec}
 use Rattle.zbx_types.specs.declared.entries.Rec.TheVariants.{Failure, Problem, Recovery, Step, Message}
-use Rattle.trigger_state.specs.Problems.{home, opens, recovers, is_step_of, action_of, same_action, last_step, steps_of, opened, event_in, open_of, lands, with_step, stepped, absorbed, absorbed_all, grown}
-use Rattle.trigger_state.specs.Laws.{SearchGrows, LandsAlone, OpenFirst, unrecovered, OpenByTest}
+use Rattle.trigger_state.specs.Problems.{home, opens, recovers, is_step_of, action_of, same_action, last_step, steps_of, opened, event_in, open_of, with_step, stepped, absorbed, absorbed_all}
+use Rattle.trigger_state.specs.Laws.{SearchGrows, LandsAlone, OpenFirst, OpenByTest}
 use Rattle.trigger_state.specs.declared.problems.Open.{Open}
 
 same_trigger : (a b : EventId) → same_event a b ≡ true → a.trigger ≡ b.trigger

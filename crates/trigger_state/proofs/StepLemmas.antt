@@ -1,8 +1,8 @@
 -- A step that goes to the first open problem of its event, and to those behind it.
-use Rattle.std.proofs.Common.{◌≡◌, ◌<◌, ◌≤◌, ◌+◌, ◌-◌, ◌∙◌, ℕ, zero, suc, Bool, true, false, cond, List, [], ◌∷◌, ◌++◌, length, get_or, set, take, drop, map, Option, Some, None, refl, sym, ap, subst, arith, append-nil, append_assoc, length-append}
+use Rattle.std.proofs.Common.{◌≡◌, ◌≤◌, ◌+◌, ◌-◌, ◌∙◌, ℕ, zero, suc, Bool, true, false, cond, List, [], ◌∷◌, ◌++◌, length, get_or, set, take, drop, map, Some, None, refl, sym, ap, subst, arith, append-nil, append_assoc, length-append}
 use Rattle.std.proofs.Math.Seq.{take-append-add, drop-append-add}
 use Rattle.std.specs.List.{position_from}
-use borrow.Rule.Slice.PartMut.{put_mid, mid_of, post_of}
+use borrow.Rule.Slice.PartMut.{put_mid, mid_of}
 use Rattle.zbx_types.specs.Records.{same_event, event_of}
 use Rattle.zbx_types.specs.declared.entries.Rec.{Rec}
 use Rattle.trigger_state.specs.Problems.{event_in, with_step, stepped}

@@ -4,7 +4,6 @@ use Rattle.std.specs.List.{list_any}
 use Rattle.zbx_types.specs.Records.{event_of}
 use Rattle.zbx_types.specs.declared.conf.Conf.{Conf}
 use Rattle.zbx_types.specs.declared.entries.Rec.{Rec}
-use Rattle.zbx_types.specs.declared.entries.Rec.TheVariants.{Problem}
 use Rattle.trigger_state.specs.Problems.{opens, recovers, open_of, lands, absorbed, grown}
 use Rattle.trigger_state.specs.declared.problems.Open.{Open}
 

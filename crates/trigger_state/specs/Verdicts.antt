@@ -1,6 +1,6 @@
 -- What a trigger does where it is evaluated (the Zabbix 6.0 manual, "Configuring a trigger" and "Trigger dependencies"). A
 -- value of an expression is None where it is unknown.
-use Rattle.std.specs.Prelude.{ℕ, ◌==◌, Bool, true, false, not, ◌&&◌, ◌||◌, List, [], ◌∷◌, map, filter, length, Option, Some, None, if◌then◌else◌, ℤ, pos}
+use Rattle.std.specs.Prelude.{ℕ, Bool, true, false, not, ◌&&◌, ◌||◌, List, [], ◌∷◌, map, filter, Option, Some, None, if◌then◌else◌, ℤ, pos}
 use Rattle.std.specs.Ordering.{int_eq}
 use Rattle.std.specs.List.{list_any}
 use Rattle.zbx_types.specs.Ids.{at_id}

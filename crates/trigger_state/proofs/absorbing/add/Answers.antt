@@ -1,9 +1,5 @@
-use Rattle.std.proofs.Common.{◌≡◌, ◌∙◌, ◌∷◌, ◌++◌, [], ap, sym, refl, List, ℕ}
-use Rattle.zbx_types.specs.Masters.{depth_of}
-use Rattle.zbx_types.specs.Records.{event_of}
-use Rattle.zbx_types.specs.declared.entries.Rec.{Rec}
-use Rattle.zbx_types.specs.declared.entries.EventId.{EventId}
-use Rattle.trigger_state.specs.Problems.{opened, home}
+use Rattle.std.proofs.Common.{◌∙◌, ◌∷◌, ◌++◌, [], List}
+use Rattle.trigger_state.specs.Problems.{opened}
 use Rattle.trigger_state.specs.declared.problems.Open.{Open}
 use Rattle.trigger_state.proofs.Rows.{row_becomes, row_over, opened_is}
 use Rattle.trigger_state.proofs.absorbing.add.Goals as goal

@@ -1,4 +1,4 @@
-use Rattle.std.proofs.Common.{◌≡◌, ◌+◌, ◌∙◌, ◌++◌, ◌∷◌, [], ap, arith, length}
+use Rattle.std.proofs.Common.{◌∙◌, ◌++◌, ◌∷◌, [], ap, arith}
 use Rattle.trigger_state.specs.Cells.{row_at}
 use Rattle.trigger_state.proofs.Rows.{row_more}
 use Rattle.trigger_state.proofs.absorbing.reach.Goals as goal

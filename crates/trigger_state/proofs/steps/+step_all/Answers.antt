@@ -1,4 +1,4 @@
-use Rattle.std.proofs.Common.{◌≡◌, ◌∙◌, sym, ap, subst, ℕ, List, Option, Some, None}
+use Rattle.std.proofs.Common.{◌≡◌, ◌∙◌, sym, ap, subst, List, Some, None}
 use Rattle.std.specs.List.{position_from}
 use Rattle.zbx_types.specs.Records.{same_event}
 use Rattle.zbx_types.specs.declared.entries.EventId.{EventId}
