@@ -57,7 +57,7 @@ closed_here (c ∷ []) rest free last =
 closed_here (c ∷ d ∷ part) rest free last =
     step c d (part ++ 34 ∷ rest) (free 0 (omega arith)) (and_right (c == 92) (d == 34) (ne_eqb d 34 (free 1 (omega arith))))
     ∙ ap (λ o. option_map (prefixed c) o)
-        (closed_here (d ∷ part) rest (later c 34 (d ∷ part) free) (λ front e. last (c ∷ front) (ap (λ t. c ∷ t) e)))
+    (closed_here (d ∷ part) rest (later c 34 (d ∷ part) free) (λ front e. last (c ∷ front) (ap (λ t. c ∷ t) e)))
 
 -- one after a backslash stands for itself
 pub escaped_here : (kept rest : List ℕ) → HasNo 34 kept → unquoted (kept ++ 92 ∷ 34 ∷ rest) ≡ option_map (λ r. (kept ++ 34 ∷ r.0, r.1)) (unquoted rest)
@@ -94,6 +94,7 @@ escaped_part part kept made new rest free whole is =
   where
     shown : (t : List ℕ) → made ++ (kept ++ 34 ∷ t) ≡ new ++ t
     shown t = ap (λ u. made ++ u) (sym (append_assoc kept (34 ∷ []) t)) ∙ sym (append_assoc made (kept ++ 34 ∷ []) t) ∙ ap (λ u. u ++ t) (sym is)
+
     as_new : (o : Option (List ℕ × List ℕ)) → option_map (λ r. joined made (kept ++ 34 ∷ r.0, r.1)) o ≡ option_map (joined new) o
     as_new None = refl
     as_new (Some r) = ap (λ t. Some (t, r.1)) (shown r.0)

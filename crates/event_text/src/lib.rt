@@ -39,7 +39,6 @@
 mod braces;
 mod clocks;
 mod fields;
-
 mod fronts;
 mod macros;
 mod messages;

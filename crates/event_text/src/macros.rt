@@ -5,7 +5,7 @@ ghost use Rattle.std.specs.Option.{option_or};
 ghost use Rattle.zbx_types.specs.Blanks.{without_front};
 ghost use Rattle.event_text.specs.Forms.{digit_place, place_with, place_of, item_name, item_at, unquoted, closed_by, argument_at, argument, with_output, with_pattern, filled_name, filled_at, value_at, host_at, macro_at};
 
-use crate::braces::{behind, ascii_first};
+use crate::braces::{ascii_first, behind};
 use crate::quotes::{unquoted, up_to};
 use std::alloc::Global;
 use std::convert::AsStr;
@@ -156,11 +156,7 @@ fn with_output(
 
 /// The form whose number is read, and what follows it.
 #[tactic(auto, unfolding(crate::specs::Forms::with_pattern))]
-fn with_pattern(
-    alloc: Global,
-    place: u8,
-    text: &str,
-) -> Result<Option<(Macro, &str)>, OutOfMemory>
+fn with_pattern(alloc: Global, place: u8, text: &str) -> Result<Option<(Macro, &str)>, OutOfMemory>
     ensures { IfOk result (λ found. option_map (λ r. (r.0, r.1.now)) found ≡ with_pattern place text.now) }
 {
     match argument(alloc, text, ",")? {

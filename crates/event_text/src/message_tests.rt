@@ -63,28 +63,41 @@ fn told(
     text: &str,
     recovered: Option<Moment>,
 ) -> Result<Text, OutOfMemory> {
+    let text = Text::of(alloc, text)?;
     let problem = problem(alloc, severity)?;
-    let conf = configuration(alloc, 19_800);
-    message(alloc, &conf, &problem, &Text::of(alloc, text)?, recovered)
+    message(
+        alloc,
+        &configuration(alloc, 19_800),
+        &problem,
+        &text,
+        recovered,
+    )
 }
 
 fn script() -> &'static str {
     "{EVENT.ID}|{EVENT.NAME}|{TRIGGER.NAME}|{EVENT.TAGS}|{HOST.NAME}|{EVENT.DATE} {EVENT.TIME}|{EVENT.RECOVERY.DATE} {EVENT.RECOVERY.TIME}|{{HOST.NAME}|{X}"
 }
 
+/// When the problem recovered, and what the script becomes then.
+fn scripts() -> [(Option<Moment>, &'static str); 2] {
+    [
+        (
+            None,
+            "3-1|hot {HOST.NAME}|hot {HOST.NAME}|svc:a, flag|h|2023.11.15 03:43:20|{EVENT.RECOVERY.DATE} {EVENT.RECOVERY.TIME}|{h|{X}",
+        ),
+        (
+            Some(at(1_700_073_400)),
+            "3-1|hot {HOST.NAME}|hot {HOST.NAME}|svc:a, flag|h|2023.11.15 03:43:20|2023.11.16 00:06:40|{h|{X}",
+        ),
+    ]
+}
+
 #[test]
 fn each_macro_of_a_message(rt: HostRuntime) -> Result<(), Fail> {
     let alloc = rt.alloc();
-    let opened = told(alloc, 4, script(), None)?;
-    assert_eq!(rt;
-        opened.as_str(),
-        "3-1|hot {HOST.NAME}|hot {HOST.NAME}|svc:a, flag|h|2023.11.15 03:43:20|{EVENT.RECOVERY.DATE} {EVENT.RECOVERY.TIME}|{h|{X}"
-    );
-    let closed = told(alloc, 4, script(), Some(at(1_700_073_400)))?;
-    assert_eq!(rt;
-        closed.as_str(),
-        "3-1|hot {HOST.NAME}|hot {HOST.NAME}|svc:a, flag|h|2023.11.15 03:43:20|2023.11.16 00:06:40|{h|{X}"
-    );
+    for (recovered, want) in scripts() {
+        assert_eq!(rt; told(alloc, 4, script(), recovered)?.as_str(), want);
+    }
     Ok(())
 }
 
@@ -103,8 +116,10 @@ fn severities() -> [(u8, &'static str); 6] {
 fn severities_by_name(rt: HostRuntime) -> Result<(), Fail> {
     let alloc = rt.alloc();
     for (severity, want) in severities() {
-        let made = told(alloc, severity, "{EVENT.SEVERITY}", None)?;
-        assert_eq!(rt; made.as_str(), want);
+        assert_eq!(rt;
+            told(alloc, severity, "{EVENT.SEVERITY}", None)?.as_str(),
+            want
+        );
     }
     Ok(())
 }

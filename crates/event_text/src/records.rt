@@ -44,11 +44,7 @@ fn put_failure(
 }
 
 /// Adds how severe a problem is, and whether it is suppressed.
-fn add_kind(
-    severity: u8,
-    suppressed: bool,
-    out: &mut Page,
-) -> Result<(), OutOfMemory>
+fn add_kind(severity: u8, suppressed: bool, out: &mut Page) -> Result<(), OutOfMemory>
     ensures ok { OnOk result (out.new.back ≡ out.old.back ++ flat_map barred (decimal severity ∷ suppressed_text suppressed ∷ [])) }
     ensures front { out.new.front ≡ out.old.front }
 {

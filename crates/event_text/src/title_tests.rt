@@ -12,17 +12,22 @@ use zbx_types::{
     Conf, Expr, Fix, Held, Host, Many, OutOfMemory, RecoveryMode, Tag, Text, Trigger, by_id,
 };
 
-/// A trigger of host 1 with a title and a tag.
-fn trigger(alloc: Global, title: &Text, tag: &Text) -> Result<Trigger, OutOfMemory> {
+/// One tag, with a value.
+fn one_tag(alloc: Global, value: &Text) -> Result<Many<Tag>, OutOfMemory> {
     let mut tags = Many::new(alloc);
     tags.push(Tag {
         tag: Text::of(alloc, "{HOST.NAME}")?,
-        value: tag.copy(alloc)?,
+        value: value.copy(alloc)?,
     })?;
-    Ok(Trigger {
+    Ok(tags)
+}
+
+/// A trigger of host 1 with a title and tags.
+fn trigger(alloc: Global, title: Text, tags: Many<Tag>) -> Trigger {
+    Trigger {
         host: 1,
         name: Text::new(alloc),
-        title: title.copy(alloc)?,
+        title,
         expr: Expr::Call(0),
         recovery: RecoveryMode::Expression,
         recovery_expr: None,
@@ -35,20 +40,29 @@ fn trigger(alloc: Global, title: &Text, tag: &Text) -> Result<Trigger, OutOfMemo
         depends: Many::new(alloc),
         enabled: true,
         depth: 0,
-    })
+    }
 }
 
-/// A configuration with host `h1` and such a trigger.
-fn configuration(alloc: Global, title: &Text, tag: &Text) -> Result<Conf, OutOfMemory> {
+/// Such a trigger alone.
+fn one_trigger(alloc: Global, title: &Text, tags: Many<Tag>) -> Result<Many<Trigger>, OutOfMemory> {
+    let mut triggers = Many::new(alloc);
+    triggers.push(trigger(alloc, title.copy(alloc)?, tags))?;
+    Ok(triggers)
+}
+
+/// Host `h1` alone.
+fn one_host(alloc: Global) -> Result<Many<Host>, OutOfMemory> {
     let mut hosts = Many::new(alloc);
     hosts.push(Host {
         name: Text::of(alloc, "h1")?,
         groups: Many::new(alloc),
         enabled: true,
     })?;
-    let mut triggers = Many::new(alloc);
-    triggers.push(trigger(alloc, title, tag)?)?;
-    Ok(Conf {
+    Ok(hosts)
+}
+
+fn conf_of(alloc: Global, hosts: Many<Host>, triggers: Many<Trigger>) -> Conf {
+    Conf {
         text: Text::new(alloc),
         utc_offset: 0,
         hosts,
@@ -59,16 +73,30 @@ fn configuration(alloc: Global, title: &Text, tag: &Text) -> Result<Conf, OutOfM
         actions: Many::new(alloc),
         patterns: Many::new(alloc),
         pattern_paths: Many::new(alloc),
-    })
+    }
+}
+
+/// A configuration with host `h1` and a trigger with a title and a tag's value.
+fn configuration(alloc: Global, title: &Text, value: &Text) -> Result<Conf, OutOfMemory> {
+    let triggers = one_trigger(alloc, title, one_tag(alloc, value)?)?;
+    Ok(conf_of(alloc, one_host(alloc)?, triggers))
+}
+
+fn number() -> Option<Held> {
+    match Fix::read(b"1.5") {
+        Some(number) => Some(Held::Number(number)),
+        None => None,
+    }
 }
 
 /// 1.5, nothing, words, and words that look like a macro.
 fn values(alloc: Global) -> Result<Many<Option<Held>>, OutOfMemory> {
     let mut values = Many::new(alloc);
-    values.push(Fix::read(b"1.5").map(Held::Number))?;
+    values.push(number())?;
     values.push(None)?;
-    values.push(Some(Held::Words(Text::of(alloc, "ERR disk \u{e4}")?)))?;
-    values.push(Some(Held::Words(Text::of(alloc, "{HOST.NAME}")?)))?;
+    for words in ["ERR disk \u{e4}", "{HOST.NAME}"] {
+        values.push(Some(Held::Words(Text::of(alloc, words)?)))?;
+    }
     Ok(values)
 }
 
@@ -97,8 +125,8 @@ fn name_by(alloc: Global, conf: &Conf, values: &[Option<Held>]) -> Result<Text, 
 
 /// The name that a title gives.
 fn named(alloc: Global, title: &Text) -> Result<Text, Fail> {
-    let conf = configuration(alloc, title, &Text::new(alloc))?;
     let values = values(alloc)?;
+    let conf = configuration(alloc, title, &Text::new(alloc))?;
     name_by(alloc, &conf, values.as_slice())
 }
 
@@ -114,7 +142,10 @@ fn titles() -> [[&'static str; 2]; 14] {
             "{ITEM.VALUE2}{ITEM.LASTVALUE9}{ITEM.VALUE0}",
             "*UNKNOWN**UNKNOWN*{ITEM.VALUE0}",
         ],
-        ["{ITEM.VALUE4} {$M} {HOST.NAME", "{HOST.NAME} {$M} {HOST.NAME"],
+        [
+            "{ITEM.VALUE4} {$M} {HOST.NAME",
+            "{HOST.NAME} {$M} {HOST.NAME",
+        ],
         ["{{HOST.NAME}}", "{h1}"],
         [
             "{{ITEM.VALUE3}.regsub(^(\\w+) (\\w+), \\2:\\1)}!",
@@ -127,14 +158,8 @@ fn titles() -> [[&'static str; 2]; 14] {
         ],
         ["{{ITEM.VALUE2}.regsub(^.(U),<\\1>)}", "<U>"],
         ["a{{ITEM.VALUE}.regsub(z,never)}b", "ab"],
-        [
-            "{{ITEM.VALUE}.regsub(\"(5)\\\"?\",\"\\1\\\"\")}",
-            "5\"",
-        ],
-        [
-            "{{ITEM.VALUE}.regsub(\"5\"x,y)}",
-            "{1.5.regsub(\"5\"x,y)}",
-        ],
+        ["{{ITEM.VALUE}.regsub(\"(5)\\\"?\",\"\\1\\\"\")}", "5\""],
+        ["{{ITEM.VALUE}.regsub(\"5\"x,y)}", "{1.5.regsub(\"5\"x,y)}"],
         ["{{ITEM.VALUE}.regsub(5,\"y)}", "{1.5.regsub(5,\"y)}"],
         ["{{ITEM.VALUE}.regsub(5", "{1.5.regsub(5"],
     ]
@@ -174,15 +199,14 @@ fn cuts() -> [(&'static str, &'static str, u32, usize, usize); 7] {
 
 /// How long a name is, and the value of a tag, that are made of a text.
 fn lengths(alloc: Global, text: &Text) -> Result<(usize, usize), Fail> {
-    let name = named(alloc, text)?;
-    let value = tagged(alloc, text)?;
-    Ok((name.len(), value.len()))
+    let name = named(alloc, text)?.len();
+    Ok((name, tagged(alloc, text)?.len()))
 }
 
-/// The first tag's value of the first trigger, whose values name no pattern that isn't in the first one's.
+/// The value that a tag's value gives.
 fn tagged(alloc: Global, value: &Text) -> Result<Text, Fail> {
-    let conf = configuration(alloc, &Text::new(alloc), value)?;
     let values = values(alloc)?;
+    let conf = configuration(alloc, &Text::new(alloc), value)?;
     tags_by(alloc, &conf, values.as_slice())
 }
 
@@ -212,9 +236,19 @@ fn names_and_values_are_cut_between_characters(rt: HostRuntime) -> Result<(), Fa
     let alloc = rt.alloc();
     for (first, unit, times, name, value) in cuts() {
         let text = repeated(alloc, first, unit, times)?;
-        assert_eq!(rt; lengths(alloc, &text)?, (name, value), "{first}{unit} {times}");
+        assert_eq!(rt;
+            lengths(alloc, &text)?,
+            (name, value),
+            "{first}{unit} {times}"
+        );
     }
-    let value = tagged(alloc, &Text::of(alloc, "{{ITEM.VALUE}.regsub(\\.,point)}-{HOST.NAME}")?)?;
-    assert_eq!(rt; value.as_str(), "point-h1");
+    Ok(())
+}
+
+#[test]
+fn a_value_of_a_tag_is_replaced(rt: HostRuntime) -> Result<(), Fail> {
+    let alloc = rt.alloc();
+    let text = Text::of(alloc, "{{ITEM.VALUE}.regsub(\\.,point)}-{HOST.NAME}")?;
+    assert_eq!(rt; tagged(alloc, &text)?.as_str(), "point-h1");
     Ok(())
 }

@@ -20,7 +20,7 @@ returns-then-is_cut c =
     let all = expanded c.args.host.now c.args.values.now in
     c.into_text.ensures
     ∙ cut_arrived c.args.limit c.loop-rest.front.left c.loop-rest.front.made (all c.loop-rest.rest.now) (all c.args.text.now)
-        (sym c.is_cut.ensures ∙ c.if-is_cut.true) c.loop-rest.invariant.way
+    (sym c.is_cut.ensures ∙ c.if-is_cut.true) c.loop-rest.invariant.way
 
 pub returns : goal.returns
 returns c =
@@ -29,4 +29,4 @@ returns c =
     let none : all c.loop-rest.rest.now ≡ [] = expanded_empty c.args.host.now c.args.values.now c.loop-rest.rest.now empty in
     c.into_text-2.ensures
     ∙ arrived c.args.limit c.loop-rest.front.left c.loop-rest.front.made (all c.args.text.now)
-        (subst (λ t. IsOnTheWay c.args.limit c.loop-rest.front t (all c.args.text.now)) none c.loop-rest.invariant.way)
+    (subst (λ t. IsOnTheWay c.args.limit c.loop-rest.front t (all c.args.text.now)) none c.loop-rest.invariant.way)

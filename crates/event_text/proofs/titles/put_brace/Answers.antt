@@ -11,7 +11,7 @@ pub put_macro-requires : goal.put_macro-requires
 put_macro-requires c =
     let e : macro_at c.args.behind.now ≡ Some (c.in-Some.found, c.in-Some.rest.now) = search rules in
     among_left c.args.patterns.now (pattern_of c.in-Some.found) (patterns_of c.in-Some.rest.now) (patterns_of (123 ∷ c.args.behind.now))
-        (patterns_macro c.args.behind.now c.in-Some.rest.now c.in-Some.found e) c.requires
+    (patterns_macro c.args.behind.now c.in-Some.rest.now c.in-Some.found e) c.requires
 
 pub returns-in_ok-put_macro-in-Some-clause-way : goal.returns-in_ok-put_macro-in-Some-clause-way
 returns-in_ok-put_macro-in-Some-clause-way c = λ limit whole arrives.
@@ -23,7 +23,7 @@ pub returns-in_ok-put_macro-in-Some-clause-patterns : goal.returns-in_ok-put_mac
 returns-in_ok-put_macro-in-Some-clause-patterns c =
     let e : macro_at c.args.behind.now ≡ Some (c.in-Some.found, c.in-Some.rest.now) = search rules in
     among_right c.args.patterns.now (pattern_of c.in-Some.found) (patterns_of c.in-Some.rest.now) (patterns_of (123 ∷ c.args.behind.now))
-        (patterns_macro c.args.behind.now c.in-Some.rest.now c.in-Some.found e) c.requires
+    (patterns_macro c.args.behind.now c.in-Some.rest.now c.in-Some.found e) c.requires
 
 pub returns-in_ok-put_macro-in-Some-clause-shorter : goal.returns-in_ok-put_macro-in-Some-clause-shorter
 returns-in_ok-put_macro-in-Some-clause-shorter c =

@@ -19,7 +19,7 @@ returns-in-Some-clause-way c =
     let split : more c.args.text.now ≡ c.split_brace.result.0.now ++ more (123 ∷ c.in-Some.behind.now) =
     ap more whole ∙ expanded_plain c.args.host.now c.args.values.now c.split_brace.result.0.now (123 ∷ c.in-Some.behind.now) c.split_brace.ensures.plain in
     goes_ok c.put_brace.result c.args.front.now c.add.new.self c.put_brace.new.front c.split_brace.result.0.now (more (123 ∷ c.in-Some.behind.now)) (more c.args.text.now)
-        (λ rest. more rest.now) split c.in_ok-add.ensures c.put_brace.ensures.way
+    (λ rest. more rest.now) split c.in_ok-add.ensures c.put_brace.ensures.way
 
 pub returns-in-None-clause-way : goal.returns-in-None-clause-way
 returns-in-None-clause-way c = λ limit whole arrives.
