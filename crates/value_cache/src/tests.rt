@@ -175,6 +175,16 @@ fn a_cell_keeps_what_a_later_window_can_ask_for(rt: HostRuntime) -> Result<(), F
     Ok(())
 }
 
+/// The numbers of the values in a window, where as many references are to be had.
+fn lent(alloc: Global, window: Window) -> Result<Many<u64>, OutOfMemory> {
+    let numbers = numbers_of(alloc, window.copies(alloc)?.as_slice())?;
+    if window.references(alloc)?.len() == numbers.len() {
+        Ok(numbers)
+    } else {
+        Err(OutOfMemory)
+    }
+}
+
 /// The numbers of a window with one more value, which is then inserted, and those of the window behind it.
 fn both(
     alloc: Global,
@@ -185,8 +195,7 @@ fn both(
     let mut cell = narrow(alloc)?;
     let now = second(110);
     let stored = value(alloc, number, time)?;
-    let window = cell.window_with(&stored, range, 0, now).copies(alloc)?;
-    let before = numbers_of(alloc, window.as_slice())?;
+    let before = lent(alloc, cell.window_with(&stored, range, 0, now))?;
     cell.reserve()?;
     cell.insert_reserved(stored, now);
     let after = numbers_of(alloc, cell.window_slice(range, 0, now))?;
