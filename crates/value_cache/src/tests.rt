@@ -134,6 +134,30 @@ fn a_period_holds_its_end_and_not_its_beginning(rt: HostRuntime) -> Result<(), F
     Ok(())
 }
 
+/// The numbers of the values in a window of a cell that such values were put into at a moment.
+fn window_of(
+    alloc: Global,
+    inserts: &[(u64, Moment)],
+    range: Range,
+    now: Moment,
+) -> Result<Many<u64>, OutOfMemory> {
+    let cell = cell_of(alloc, widest(), inserts, now)?;
+    numbers(alloc, &cell, range, 0, now)
+}
+
+#[test]
+fn windows_of_functions(rt: HostRuntime) -> Result<(), Fail> {
+    let alloc = rt.alloc();
+    let now = second(1_000_000);
+    let late = [(3, now), (4, second(827_200)), (5, now)];
+    let found = window_of(alloc, &late, Range::Period(300), now)?;
+    assert_eq!(rt; found.as_slice(), [3, 5].as_slice());
+    let twice = [(3, second(50)), (4, second(50))];
+    let found = window_of(alloc, &twice, Range::Count(2), second(100))?;
+    assert_eq!(rt; found.as_slice(), [3, 4].as_slice());
+    Ok(())
+}
+
 /// A cell that keeps the values of a minute and two more, with values of 10, 20, 30 and 100 seconds, numbered by these.
 fn narrow(alloc: Global) -> Result<ItemCell, OutOfMemory> {
     let keep = Keep {
