@@ -24,7 +24,7 @@
 //! ```text
 //! let mut cells = TriggerCells::new(alloc, &conf)?;
 //! match verdict(alloc, &conf, &cells, trigger, p, r, tags, is_value)? {
-//!     Verdict::New => cells.absorb(alloc, &problem)?,
+//!     Verdict::New => cells.absorb(alloc, &conf, &problem)?,
 //!     Verdict::Close(events) => { .. }        // a Recovery record for each, absorbed in turn
 //!     Verdict::Nothing => {}
 //! }
