@@ -12,8 +12,8 @@ use std::alloc::Global;
 use std::marker::Model;
 use zbx_types::{Conf, Many, Moment, OutOfMemory, Rec};
 
-/// What a run keeps of triggers: the open problems of each, in the order in which they were made, and the moment of the
-/// first Tick. Contracts see the rows, and read them by `opens_in`.
+/// What a run keeps of triggers: the open problems of each, in the order in which they were made, and the moment of
+/// the first Tick. Contracts see the rows, and read them by `opens_in`.
 #[derive(Drop)]
 pub struct TriggerCells {
     rows: Vec<Many<Open>>,
@@ -40,8 +40,8 @@ fn no_rows(alloc: Global, count: usize) -> Result<Vec<Many<Open>>, OutOfMemory>
 }
 
 impl TriggerCells {
-    /// The cells before the first entry of a configuration: nothing is open, and there was no Tick. [`OutOfMemory`] where
-    /// there is no room for a row per trigger.
+    /// The cells before the first entry of a configuration: nothing is open, and there was no Tick. [`OutOfMemory`]
+    /// where there is no room for a row per trigger.
     pub fn new(alloc: Global, conf: &Conf) -> Result<TriggerCells, OutOfMemory>
         ensures opens { IfOk result (λ cells. HasOpen cells none_open) }
         ensures first_tick { IfOk result (λ cells. cells.first_tick ≡ None) }
@@ -69,9 +69,9 @@ impl TriggerCells {
         }
     }
 
-    /// Takes a record: a Problem is opened, a Recovery closes its problem, and a Step stands with its problem in the place of
-    /// the last one of its action. Other records change nothing. [`OutOfMemory`] where there is no room for the copy that is
-    /// kept; what is open is then as before.
+    /// Takes a record: a Problem is opened, a Recovery closes its problem, and a Step stands with its problem in the
+    /// place of the last one of its action. Other records change nothing. [`OutOfMemory`] where there is no room for
+    /// the copy that is kept; what is open is then as before.
     ///
     /// It looks at the open problems of the record's trigger alone.
     #[tactic(auto, unfolding(crate::specs::Problems::absorbed))]

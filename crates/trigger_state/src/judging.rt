@@ -114,7 +114,8 @@ fn on_true(trigger: &Trigger, problems: &[Open], is_value: bool) -> Verdict
     }
 }
 
-/// The same as [`verdict`], for a trigger that is held or not and whose open problems are these, in the order of making.
+/// The same as [`verdict`], for a trigger that is held or not and whose open problems are these, in the order of
+/// making.
 pub fn verdict_over(
     alloc: Global,
     trigger: &Trigger,
@@ -142,13 +143,14 @@ pub fn verdict_over(
     }
 }
 
-/// What the trigger with this id does where its problem expression has the value p and its recovery expression the value r,
-/// None for unknown; `tags` are the trigger's tags as they are expanded now, and `is_value` says that a value is taken and
-/// no Tick (the Zabbix 6.0 manual, "Configuring a trigger", "Trigger dependencies"; that a Tick makes no further problem of
-/// a trigger with `multiple` is this project's own).
+/// What the trigger with this id does where its problem expression has the value p and its recovery expression the
+/// value r, None for unknown; `tags` are the trigger's tags as they are expanded now, and `is_value` says that a value
+/// is taken and no Tick (the Zabbix 6.0 manual, "Configuring a trigger", "Trigger dependencies"; that a Tick makes no
+/// further problem of a trigger with `multiple` is this project's own).
 ///
-/// Nothing where there is no such trigger. [`OutOfMemory`] where there is no room to look for the masters or for the events
-/// that close. Each trigger that one depends on must have a smaller depth, as a configuration without cycles has it.
+/// Nothing where there is no such trigger. [`OutOfMemory`] where there is no room to look for the masters or for the
+/// events that close. Each trigger that one depends on must have a smaller depth, as a configuration without cycles
+/// has it.
 pub fn verdict(
     alloc: Global,
     conf: &Conf,

@@ -11,7 +11,8 @@ use zbx_types::{EventId, Many, Rec};
 pub struct Open {
     /// Its Problem record.
     pub problem: Rec,
-    /// The last Step record of each action that ran a step for it, in the order of first steps. An action goes by name.
+    /// The last Step record of each action that ran a step for it, in the order of first steps. An action goes by
+    /// name.
     pub steps: Many<Rec>,
     /// The depth of its trigger when it opened. With the number and the trigger of its event, the depth says where the
     /// problem stands in the order of making.

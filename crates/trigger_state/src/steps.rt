@@ -60,8 +60,8 @@ fn place_of(opens: &[Open], event: EventId) -> Option<usize>
     None
 }
 
-/// Gives a step to each open problem of its event, of which there is one at most where events differ. At [`OutOfMemory`]
-/// they are as before.
+/// Gives a step to each open problem of its event, of which there is one at most where events differ. At
+/// [`OutOfMemory`] they are as before.
 pub(crate) fn step_all(alloc: Global, opens: &mut [Open], step: &Rec) -> Result<(), OutOfMemory>
     ensures ok { OnOk result (opens.new ≡ map (stepped step.now) opens.old) }
     ensures err { OnErr result (opens.new ≡ opens.old) }

@@ -26,7 +26,8 @@ enum Said<'a> {
     Close(&'a [u64]),
 }
 
-/// Where a trigger is evaluated: its id, the values of its expressions in millionths, its tags, and whether at a value.
+/// Where a trigger is evaluated: its id, the values of its expressions in millionths, its tags, and whether at a
+/// value.
 type Asked<'a> = (u32, Option<i128>, Option<i128>, &'a str, bool);
 
 fn tags_of(alloc: Global, text: &str) -> Result<Many<Tag>, OutOfMemory> {

@@ -1,11 +1,11 @@
 -- Masters: the search along dependencies, the chains, and the walk that finds them.
-use Rattle.std.proofs.Common.{◌≡◌, ◌<◌, ◌≤◌, ◌+◌, ◌-◌, ◌∙◌, ℕ, zero, suc, ◌==◌, ◌⊎◌, inl, inr, Bool, true, false, cond, ◌&&◌, ◌||◌, List, [], ◌∷◌, ◌++◌, length, get_or, set, filter, Option, Some, None, refl, sym, ap, subst, arith, append_assoc, append-nil, eqb-true, eq-eqb, ne_eqb}
-use Rattle.std.specs.Prelude.{nat_le, nat_lt, slice_get, replicate, Result, IfOk, if◌then◌else◌}
+use Rattle.std.proofs.Common.{◌≡◌, ◌<◌, ◌≤◌, ◌+◌, ◌-◌, ◌∙◌, ℕ, zero, suc, ◌==◌, ◌⊎◌, inl, inr, Bool, true, false, cond, ◌&&◌, ◌||◌, List, [], ◌∷◌, ◌++◌, length, get_or, filter, Option, Some, None, refl, sym, ap, subst, arith, eqb-true, eq-eqb, ne_eqb}
+use Rattle.std.specs.Prelude.{nat_le, nat_lt, slice_get, replicate, Result, IfOk}
 use Rattle.std.specs.List.{list_any, list_all}
 use Rattle.std.specs.Bool.{Decides}
 use Rattle.std.proofs.lemmas.List.Folds.{list_any-append}
 use Rattle.std.proofs.lemmas.Option.{slice_get_within, slice_get-get_or, get_or_from_slice_get}
-use Rattle.std.proofs.lemmas.Bool.{le-leb, lt-leb, lt-ltb, ltb-true, cases_lt}
+use Rattle.std.proofs.lemmas.Bool.{le-leb, lt-ltb, ltb-true, cases_lt}
 use Rattle.zbx_types.specs.Ids.{at_id, ids_from}
 use Rattle.zbx_types.specs.Masters.{has_id, depends_by, depends_of, depth_by, depth_of, DepthsFall, are_below, depths_fall, reaches, is_master, masters_of, IsMaster, MastersByChains, noted, entered, marked, AreMarked, Finds}
 use Rattle.zbx_types.specs.Masters.IsMaster.{direct, further}

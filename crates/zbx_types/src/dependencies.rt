@@ -28,8 +28,8 @@ fn depends_of(conf: &Conf, id: u32) -> &[u32]
     }
 }
 
-/// The depth of the trigger with this id: the length of the longest chain of triggers that it depends on. 0 where there is
-/// no such trigger.
+/// The depth of the trigger with this id: the length of the longest chain of triggers that it depends on. 0 where
+/// there is no such trigger.
 pub fn depth_of(conf: &Conf, id: u32) -> u32
     ensures { result ≡ depth_of conf.now id }
 {
@@ -57,8 +57,8 @@ fn all_fall(conf: &Conf) -> bool
     ))
 }
 
-/// Whether each trigger that one depends on has a smaller depth. That is so in a configuration without cycles, where the
-/// depth is the length of the longest chain; [`masters`] asks for it.
+/// Whether each trigger that one depends on has a smaller depth. That is so in a configuration without cycles, where
+/// the depth is the length of the longest chain; [`masters`] asks for it.
 pub fn depths_fall(conf: &Conf) -> bool
     ensures { Decides result (DepthsFall conf.now) }
 {
@@ -154,9 +154,9 @@ fn marked(alloc: Global, marks: &[bool]) -> Result<Many<u32>, OutOfMemory>
     Ok(ids)
 }
 
-/// The masters of a trigger: the ids of the triggers that it depends on, directly or through others, each once and rising
-/// (the Zabbix 6.0 manual, "Trigger dependencies"). None where there is no such trigger, or where it depends on none; that
-/// takes no memory. [`OutOfMemory`] where there is no room for the walk or the answer.
+/// The masters of a trigger: the ids of the triggers that it depends on, directly or through others, each once and
+/// rising (the Zabbix 6.0 manual, "Trigger dependencies"). None where there is no such trigger, or where it depends on
+/// none; that takes no memory. [`OutOfMemory`] where there is no room for the walk or the answer.
 ///
 /// Each trigger that one depends on must have a smaller depth, as a configuration without cycles has it.
 ///
