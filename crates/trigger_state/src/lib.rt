@@ -18,8 +18,7 @@
 //! p 0, mode none                        nothing
 //! ```
 //!
-//! With a `close_tag` only those close that share a value of that tag with the trigger's tags as they are now. A short
-//! use:
+//! With a `close_tag` only those close that share a value of it with the trigger's tags as they are now. A short use:
 //!
 //! ```text
 //! let mut cells = TriggerCells::new(alloc, &conf)?;
