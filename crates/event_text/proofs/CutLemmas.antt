@@ -1,17 +1,13 @@
 -- Texts cut at a limit.
 use Rattle.std.proofs.Common.{◌≡◌, ℕ, zero, suc, ◌+◌, ◌-◌, ◌<◌, ◌≤◌, ◌==◌, ◌⊎◌, inl, inr, Bool, true, false, cond, List, [], ◌∷◌, ◌++◌, length, take, drop, get_or, refl, sym, ap, subst, ◌∙◌, arith, append_assoc, Option, Some, None, is_none}
 use Rattle.std.specs.Fmt.{is_char_start, char_count, take_chars}
-use Rattle.std.specs.Str.{IsCharBoundary}
 use Rattle.std.proofs.lemmas.Bool.{cases_Bool, ne_eqb}
-use Rattle.std.proofs.lemmas.Grind.{common_steps}
 use Rattle.std.proofs.lemmas.List.{append-nil, length-append, drop_more, take_more, drop_all}
 use Rattle.std.proofs.Math.Seq.{take_all}
-use Rattle.macro_text.specs.Limited.{whole_front}
 use Rattle.macro_text.proofs.Wholes.{IsLastBoundary, whole_cut, whole_within}
-use Rattle.event_text.specs.Cuts.{cut, Leaves, Keeps, Arrives, IsOnTheWay}
+use Rattle.event_text.specs.Cuts.{cut, Leaves, Keeps, Arrives}
 use Rattle.event_text.specs.declared.fronts.Limit.{Limit}
 use Rattle.event_text.specs.declared.fronts.Limit.TheVariants.{Bytes, Characters}
-use Rattle.event_text.specs.declared.fronts.Front.{Front}
 
 pub count_none : char_count [] ≡ 0
 unfolding char_count

@@ -1,12 +1,12 @@
 -- Macros of titles stand where they are read.
-use Rattle.std.proofs.Common.{◌≡◌, ◌≢◌, ◌⊎◌, inl, inr, ℕ, zero, suc, ◌+◌, ◌-◌, ◌<◌, ◌≤◌, ◌==◌, ◌&&◌, Bool, true, false, cond, List, [], ◌∷◌, ◌++◌, length, take, drop, get_or, nat_eq, nat_le, nat_lt, refl, sym, ap, subst, ◌∙◌, arith, Option, Some, None, option_map, option_and_then, MatchOption, IfSome, Bor, codes}
+use Rattle.std.proofs.Common.{◌≡◌, inl, inr, ℕ, suc, ◌-◌, ◌<◌, ◌≤◌, ◌==◌, ◌&&◌, Bool, true, false, cond, List, [], ◌∷◌, ◌++◌, length, drop, nat_eq, nat_le, nat_lt, refl, sym, ap, subst, ◌∙◌, arith, Option, Some, None, option_map, option_and_then, MatchOption, IfSome, Bor, codes}
 use Rattle.std.specs.List.{starts_with}
 use Rattle.std.specs.Option.{option_or}
 use Rattle.std.specs.Str.Pattern.{FindsText, LacksTextAt, SplitsAroundMatch}
 use Rattle.std.proofs.lemmas.List.{drop_at}
 use Rattle.std.proofs.lemmas.Str.Pattern.{split_text_parts}
 use Rattle.zbx_types.specs.Blanks.{is_blank, without_front}
-use Rattle.event_text.specs.Pieces.{behind, ascii_first, pieces_in, EndsWith}
+use Rattle.event_text.specs.Pieces.{behind, ascii_first, EndsWith}
 use Rattle.event_text.specs.Forms.{digit_place, place_with, place_of, item_name, item_at, prefixed, up_to, unquoted, closed_by, argument_from, argument_at, argument, with_output, with_pattern, filled_arguments, filled_name, filled_at, value_at, host_at, macro_at, piece_from, macro_piece_at, pieces_of}
 use Rattle.event_text.specs.declared.macros.Macro.{Macro}
 use Rattle.event_text.specs.declared.macros.Macro.TheVariants.{Host, Item, Filled}

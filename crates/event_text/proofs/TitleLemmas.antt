@@ -1,5 +1,5 @@
 -- Titles and values of tags, piece by piece.
-use Rattle.std.proofs.Common.{◌≡◌, ◌⊎◌, inl, inr, ℕ, ◌<◌, ◌≤◌, List, [], ◌∷◌, ◌++◌, length, map, refl, sym, ap, subst, ◌∙◌, arith, Option, Some, None, All, Contains, ◌+◌, length-append, get_or, Result, Ok, Err, IfOk}
+use Rattle.std.proofs.Common.{◌≡◌, inl, ℕ, ◌<◌, List, [], ◌∷◌, ◌++◌, length, map, refl, sym, ap, subst, ◌∙◌, arith, Option, Some, None, All, Contains, ◌+◌, length-append, get_or, Result, Ok, Err, IfOk}
 use Rattle.std.proofs.lemmas.List.{append-nil, get_or_default, get_or_append_left, get_or-append-add}
 use Rattle.event_text.specs.Cuts.{IsOnTheWay, Adds, Goes}
 use Rattle.event_text.specs.declared.fronts.Front.{Front}
@@ -8,7 +8,7 @@ use Rattle.std.proofs.lemmas.List.Concat.{flat_map-append}
 use Rattle.zbx_types.specs.declared.entries.Held.{Held}
 use Rattle.event_text.specs.Pieces.{HasNo}
 use Rattle.event_text.specs.Forms.{macro_at, macro_piece_at, pieces_of, pattern_of, piece_patterns, patterns_of}
-use Rattle.event_text.specs.Titles.{macro_text, piece_text, expanded, HasPatterns}
+use Rattle.event_text.specs.Titles.{macro_text, piece_text, expanded}
 use Rattle.event_text.specs.declared.macros.Macro.{Macro}
 use Rattle.event_text.proofs.PieceLemmas.{plain_pieces, none_in}
 use Rattle.event_text.proofs.FormLemmas.{macro_piece, brace_piece}

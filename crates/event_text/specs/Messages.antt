@@ -1,5 +1,5 @@
 -- Messages about problems and their recovery (the Zabbix 6.0 manual, "Supported macros").
-use Rattle.std.specs.Prelude.{ℕ, ◌/◌, ◌==◌, Bool, true, false, nat_le, List, [], ◌∷◌, ◌++◌, length, Option, Some, None, option_map, if◌then◌else◌, codes, ℤ, pos, unsigned_abs}
+use Rattle.std.specs.Prelude.{ℕ, ◌/◌, ◌==◌, Bool, true, false, nat_le, List, [], ◌∷◌, ◌++◌, length, Option, option_map, if◌then◌else◌, codes, ℤ, pos, unsigned_abs}
 use Rattle.std.specs.List.{flat_map}
 use Rattle.std.specs.Option.{option_map_or}
 use Rattle.zbx_types.specs.Digits.{digit_at}

@@ -1,5 +1,5 @@
 -- Names of events and tags of problems (the Zabbix 6.0 manual, "Supported macros"; the limits are this project's own).
-use Rattle.std.specs.Prelude.{ℕ, ◌⊎◌, List, [], ◌∷◌, map, Option, Some, None, All, Contains, IfSome, option_and_then, unwrap_or, codes}
+use Rattle.std.specs.Prelude.{ℕ, ◌⊎◌, List, [], ◌∷◌, map, Option, All, Contains, IfSome, option_and_then, unwrap_or, codes}
 use Rattle.std.proofs.Common.{inl, inr}
 use Rattle.std.specs.Fmt.{take_chars}
 use Rattle.std.specs.List.{flat_map}

@@ -1,4 +1,4 @@
-use Rattle.std.proofs.Common.{◌≡◌, drop, ap, ◌∙◌, arith}
+use Rattle.std.proofs.Common.{ap, ◌∙◌, arith}
 use Rattle.std.specs.Fmt.{char_count}
 use Rattle.std.proofs.lemmas.List.{drop_all}
 use Rattle.event_text.proofs.CutLemmas.{count_drop, count_within, count_none}

@@ -1,4 +1,4 @@
-use Rattle.std.proofs.Common.{◌≡◌, ◌++◌, ◌∙◌, ap, sym, take, drop, arith}
+use Rattle.std.proofs.Common.{◌∙◌, sym}
 use Rattle.event_text.proofs.CutLemmas.{take_ended, take_kept, take_past_end}
 use Rattle.event_text.proofs.fronts.end_of_chars.Goals as goal
 

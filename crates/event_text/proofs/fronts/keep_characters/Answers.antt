@@ -1,4 +1,4 @@
-use Rattle.std.proofs.Common.{◌≡◌, ◌-◌, ◌++◌, ◌<◌, ◌∙◌, ap, sym, subst, take, Some, arith}
+use Rattle.std.proofs.Common.{◌≡◌, ◌-◌, ◌++◌, ◌∙◌, ap, sym, subst, take, Some, arith}
 use Rattle.std.specs.Fmt.{char_count, take_chars}
 use Rattle.event_text.specs.Cuts.{Keeps}
 use Rattle.event_text.specs.declared.fronts.Limit.TheVariants.{Characters}

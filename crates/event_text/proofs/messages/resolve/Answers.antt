@@ -1,4 +1,4 @@
-use Rattle.std.proofs.Common.{◌≡◌, ◌++◌, ◌∷◌, sym, ap, ◌∙◌, rules, append_assoc}
+use Rattle.std.proofs.Common.{◌++◌, ◌∷◌, sym, ap, ◌∙◌, rules, append_assoc}
 use Rattle.event_text.specs.Messages.{resolved}
 use Rattle.event_text.proofs.MessageLemmas.{resolved_plain, resolved_free}
 use Rattle.event_text.proofs.messages.resolve.Goals as goal

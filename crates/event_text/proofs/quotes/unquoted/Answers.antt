@@ -1,4 +1,4 @@
-use Rattle.std.proofs.Common.{◌≡◌, sym, ap, ◌∙◌, option_map}
+use Rattle.std.proofs.Common.{sym, ap, ◌∙◌, option_map}
 use Rattle.event_text.specs.Forms.{joined}
 use Rattle.event_text.proofs.QuoteLemmas.{never_closed}
 use Rattle.event_text.proofs.quotes.unquoted.Goals as goal

@@ -1,8 +1,7 @@
-use Rattle.std.proofs.Common.{◌≡◌, ◌++◌, ◌∷◌, sym, ap, subst, rules, Some, None, All, Contains}
-use Rattle.zbx_types.specs.declared.entries.Held.{Held}
+use Rattle.std.proofs.Common.{◌≡◌, ◌∷◌, subst, rules, Some, None, All, Contains}
 use Rattle.event_text.specs.Cuts.{IsOnTheWay}
 use Rattle.event_text.specs.Forms.{macro_at, pattern_of, patterns_of}
-use Rattle.event_text.specs.Titles.{macro_text, expanded}
+use Rattle.event_text.specs.Titles.{expanded}
 use Rattle.event_text.proofs.FormLemmas.{macro_shorter}
 use Rattle.event_text.proofs.TitleLemmas.{expanded_macro, expanded_brace, patterns_macro, patterns_brace, among_left, among_right}
 use Rattle.event_text.proofs.titles.put_brace.Goals as goal

@@ -1,6 +1,5 @@
-use Rattle.std.proofs.Common.{◌≡◌, ◌++◌, ◌∷◌, [], ℕ, List, sym, ap, subst, ◌∙◌, Some, None, All, Contains, rules, arith, Result, Ok, Err, IfOk}
-use Rattle.std.proofs.lemmas.List.{append-nil}
-use Rattle.event_text.specs.Cuts.{IsOnTheWay, Goes}
+use Rattle.std.proofs.Common.{◌≡◌, ◌++◌, ◌∷◌, [], sym, ap, subst, ◌∙◌, All, Contains, rules, arith}
+use Rattle.event_text.specs.Cuts.{IsOnTheWay}
 use Rattle.event_text.specs.Forms.{patterns_of}
 use Rattle.event_text.specs.Titles.{expanded}
 use Rattle.event_text.proofs.TitleLemmas.{expanded_plain, patterns_plain, patterns_none, goes_ok}

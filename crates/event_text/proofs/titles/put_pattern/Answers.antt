@@ -1,4 +1,4 @@
-use Rattle.std.proofs.Common.{◌≡◌, ◌++◌, ◌∷◌, [], sym, ap, ◌∙◌, Some, None, rules, append_assoc}
+use Rattle.std.proofs.Common.{◌≡◌, ◌++◌, sym, ap, ◌∙◌, Some, None, rules, append_assoc}
 use Rattle.event_text.specs.Forms.{macro_at, pattern_of, patterns_of}
 use Rattle.event_text.proofs.FormLemmas.{macro_shorter}
 use Rattle.event_text.proofs.TitleLemmas.{patterns_macro, patterns_brace}

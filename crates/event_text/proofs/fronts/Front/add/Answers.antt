@@ -1,4 +1,4 @@
-use Rattle.std.proofs.Common.{◌++◌, sym, ap, subst, Some}
+use Rattle.std.proofs.Common.{◌++◌, sym, subst}
 use Rattle.event_text.specs.Cuts.{Arrives}
 use Rattle.event_text.proofs.CutLemmas.{added}
 use Rattle.event_text.proofs.fronts.Front.add.Goals as goal
