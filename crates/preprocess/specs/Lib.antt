@@ -1,0 +1,5 @@
+pub mod Readings
+pub mod JsonSteps
+pub mod Parsing
+pub mod Ways
+pub mod Chain
