@@ -3,3 +3,5 @@ pub mod JsonSteps
 pub mod Parsing
 pub mod Ways
 pub mod Chain
+pub mod Chains
+pub mod Rows

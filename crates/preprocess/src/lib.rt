@@ -2,9 +2,11 @@
 #![tactic(auto)]
 
 mod chain;
+mod chains;
 mod ended;
 mod json;
 mod step;
 
 pub use chain::{Chained, run_chain};
+pub use chains::{Chains, paths_of};
 pub use ended::Ended;
