@@ -1,3 +1,5 @@
 pub mod Histories
 pub mod Windows
 pub mod Cells
+pub mod Beside
+pub mod Laws

@@ -1,5 +1,5 @@
 -- Windows of a history: the values that a function of an expression looks at.
-use Rattle.std.specs.Prelude.{ℕ, ◌+◌, ◌*◌, ◌&&◌, nat_le, nat_lt, Bool, List, take}
+use Rattle.std.specs.Prelude.{ℕ, ◌+◌, ◌-◌, ◌*◌, ◌&&◌, nat_le, nat_lt, Bool, List, take}
 use Rattle.std.specs.List.{filter}
 use Rattle.zbx_types.specs.declared.calls.Range.{Range}
 use Rattle.zbx_types.specs.declared.calls.Range.TheVariants.{Count, Period}
@@ -23,3 +23,8 @@ seen_of (Period p) shift now history = filter (in_period now shift p) history
 -- the window of a range: what it sees, the oldest first
 abbrev pub window_of : Range → ℕ → ℕ → List Stored → List Stored
 window_of range shift now history = oldest_first (seen_of range shift now history)
+
+-- what a range asks for beside the latest values, so many of which are seen already
+abbrev pub rest_of : Range → ℕ → Range
+rest_of (Count n) seen = Count (n - seen)
+rest_of (Period p) seen = Period p

@@ -26,11 +26,16 @@
 //! ```
 #![tactic(auto)]
 
+mod beside;
 mod cell;
+mod keeps;
+pub mod laws;
 mod placing;
+mod row;
+mod same;
+mod trimming;
 mod windows;
 
-pub use cell::{ItemCell, Keep};
-
-#[cfg(test)]
-mod tests;
+pub use beside::Window;
+pub use cell::ItemCell;
+pub use keeps::Keep;

@@ -1,10 +1,12 @@
 //! The place of one more value.
 
-ghost use Rattle.std.specs.Prelude.{◌≡◌, reverse, is_ok, if◌then◌else◌, IfErr};
-ghost use Rattle.std.specs.List.{prefix_len};
-ghost use Rattle.value_cache.specs.Histories.{is_later, placed};
+ghost use Rattle.std.specs.Prelude.{◌≡◌, ◌<◌, ◌≤◌, [], not, length, reverse, take, drop};
+ghost use Rattle.std.specs.Bool.{OnTrue};
+ghost use Rattle.std.specs.List.{filter};
+ghost use Rattle.value_cache.specs.Histories.{is_later, placed, IsOrdered};
 
-use zbx_types::{OutOfMemory, Stored};
+use crate::row::Row;
+use zbx_types::Stored;
 
 /// Whether one value is later than another: by time, and of values with one time by number.
 #[tactic(auto, unfolding(crate::specs::Histories::is_later))]
@@ -14,26 +16,48 @@ fn is_later(a: &Stored, b: &Stored) -> bool
     b.time < a.time || (a.time == b.time && b.number < a.number)
 }
 
-/// How many of the latest values are later than one more. It looks at no others, so it is short where little comes
-/// late.
-fn count_later(values: &[Stored], stored: &Stored) -> usize
-    ensures { result ≡ prefix_len (λ x. is_later x stored.now) (reverse values.now) }
+/// Whether one more value comes last: then none is later.
+fn is_last(values: &[Stored], stored: &Stored) -> bool
+    requires { IsOrdered (reverse values.now) }
+    ensures { OnTrue result (filter (λ x. is_later x stored.now) (reverse values.now) ≡ []) }
 {
-    values
-        .iter()
-        .rev()
-        .take_while(|x| is_later(x, stored))
-        .count()
+    match values.last() {
+        Some(last) => !is_later(last, stored),
+        None => true,
+    }
 }
 
-/// Puts one more value in its place among values that have the oldest first.
-pub(crate) fn place(values: &mut Vec<Stored>, stored: Stored) -> Result<(), (Stored, OutOfMemory)>
-    ensures values { reverse values.new.items ≡ (if is_ok result then placed stored (reverse values.old.items) else reverse values.old.items) }
-    ensures err { IfErr result (λ e. e.0 ≡ stored) }
+/// How many values aren't later than one more, by bisection.
+fn bisected(values: &[Stored], stored: &Stored) -> usize
+    requires { IsOrdered (reverse values.now) }
+    ensures bound { result ≤ length values.now }
+    ensures later { reverse (drop result values.now) ≡ filter (λ x. is_later x stored.now) (reverse values.now) }
+    ensures others { reverse (take result values.now) ≡ filter (λ x. not (is_later x stored.now)) (reverse values.now) }
 {
-    let place = values.len() - count_later(values.as_slice(), &stored);
-    match values.insert(place, stored) {
-        Ok(()) => Ok(()),
-        Err(failed) => Err((failed.value, OutOfMemory)),
+    values.partition_point(|x| !is_later(x, stored))
+}
+
+/// The place of one more value among values that have the oldest first: before those that are later. Mostly it is the
+/// end.
+pub(crate) fn place_of(values: &[Stored], stored: &Stored) -> usize
+    requires { IsOrdered (reverse values.now) }
+    ensures bound { result ≤ length values.now }
+    ensures later { reverse (drop result values.now) ≡ filter (λ x. is_later x stored.now) (reverse values.now) }
+    ensures others { reverse (take result values.now) ≡ filter (λ x. not (is_later x stored.now)) (reverse values.now) }
+{
+    if is_last(values, stored) {
+        values.len()
+    } else {
+        bisected(values, stored)
     }
+}
+
+/// Puts one more value in its place. Takes no memory.
+pub(crate) fn put(values: &mut Row<Stored>, stored: Stored)
+    requires ordered { IsOrdered (reverse values.old.items) }
+    requires room { 0 < values.old.room }
+    ensures { reverse values.new.items ≡ placed stored (reverse values.old.items) }
+{
+    let place = place_of(values.as_slice(), &stored);
+    values.insert(place, stored);
 }

@@ -1,16 +1,16 @@
 //! Windows as parts of a slice that has the oldest value first.
 
-ghost use Rattle.std.specs.Prelude.{◌≡◌, ◌≤◌, not, length, reverse, take, drop, IfOk};
+ghost use Rattle.std.specs.Prelude.{◌≡◌, ◌≤◌, ◌++◌, not, length, reverse, take, drop, map, IfOk};
 ghost use Rattle.std.specs.List.{filter};
-ghost use Rattle.value_cache.specs.Histories.{IsOrdered};
-ghost use Rattle.value_cache.specs.Windows.{is_by, seen_of};
+ghost use Rattle.value_cache.specs.Histories.{IsOrdered, placed};
+ghost use Rattle.value_cache.specs.Windows.{is_by, seen_of, rest_of};
 
 use std::alloc::Global;
 use zbx_types::{Many, Moment, OutOfMemory, Range, Stored};
 
 /// Whether a value is of so many seconds before now, or of an earlier moment.
 #[tactic(auto, unfolding(crate::specs::Windows::is_by))]
-fn is_by(now: Moment, seconds: u64, stored: &Stored) -> bool
+pub(crate) fn is_by(now: Moment, seconds: u64, stored: &Stored) -> bool
     ensures { result ≡ is_by now seconds stored.now }
 {
     u128::from(stored.time.nanoseconds()) + u128::from(seconds) * 1_000_000_000
@@ -44,6 +44,16 @@ pub(crate) fn window(values: &[Stored], range: Range, shift: u32, now: Moment) -
     match range {
         Range::Count(count) => latest(past, count),
         Range::Period(period) => &past[count_by(past, now, shift + u64::from(period))..],
+    }
+}
+
+/// What a range asks for beside the latest values, so many of which are seen already.
+pub(crate) fn rest_of(range: Range, seen: usize) -> Range
+    ensures { result ≡ rest_of range seen }
+{
+    match range {
+        Range::Count(count) => Range::Count((count as usize).saturating_sub(seen) as u32),
+        Range::Period(period) => Range::Period(period),
     }
 }
 

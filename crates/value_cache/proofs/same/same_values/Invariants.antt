@@ -1,0 +1,5 @@
+use Rattle.std.proofs.Common.{◌≡◌, take, length}
+use Rattle.value_cache.proofs.same.same_values.Given as goal
+
+abbrev pub invariant-loop-index : goal.invariant-loop-index
+invariant-loop-index l = take l.index l.ones ≡ take l.index l.others
