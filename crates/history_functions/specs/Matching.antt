@@ -10,6 +10,7 @@ use Rattle.zbx_types.specs.declared.entries.Stored.{Stored}
 use Rattle.zbx_types.specs.declared.entries.Held.{Held}
 use Rattle.zbx_types.specs.declared.entries.Held.TheVariants.{Number, Words}
 use Rattle.pattern_set.specs.Patterns.{leftmost}
+use Rattle.pattern_set.specs.Places.{place_of}
 use Rattle.history_functions.specs.Values.{truth, whole}
 use Rattle.zbx_types.specs.declared.operators.Operator.{Operator}
 use Rattle.zbx_types.specs.declared.operators.Operator.TheVariants.{Any, Unwritten, Eq, Ne, Gt, Ge, Lt, Le, Like, Regexp, Iregexp, Other}
@@ -89,3 +90,8 @@ count_of op arg window = whole (count_matching (operator_of op arg) arg window)
 -- `find`: whether one matches; of no value unknown
 abbrev pub find_of : List ℕ → List ℕ → List Stored → Option ℤ
 find_of op arg window = if length window == 0 then None else truth (any_matches (operator_of op arg) arg window)
+
+-- the place of a pattern among patterns, 0 where there is none
+abbrev pub pattern_place : Option (List ℕ) → List (List ℕ) → ℕ
+pattern_place None patterns = 0
+pattern_place (Some pattern) patterns = place_of pattern patterns

@@ -2,6 +2,7 @@
 
 ghost use Rattle.std.specs.Prelude.{◌≡◌, IfOk, IfSome, Contains};
 ghost use Rattle.jiff_core.specs.Calendar.{IsWithin};
+ghost use Rattle.zbx_types.specs.Ids.{at_id};
 ghost use Rattle.zbx_types.specs.Operators.{call_pattern};
 ghost use Rattle.history_functions.specs.Values.{numbers};
 ghost use Rattle.history_functions.specs.Functions.{of_numbers, of_clock, value_of};
@@ -11,6 +12,7 @@ use crate::changes::{change, changecount, monodec, monoinc};
 use crate::clock::{date, dayofmonth, dayofweek, now, time};
 use crate::matching::{count, find};
 use crate::numbers::{avg, first, last, max, min, sum};
+use crate::patterned::pattern_place;
 use crate::ranks::percentile;
 use crate::values::numbers;
 use pattern_set::Patterns;
@@ -89,7 +91,6 @@ fn of_clock(fun: Fun, moment: Moment, offset: i32) -> Option<Fix>
 ///
 /// [`OutOfMemory`] comes where there is no room for the numbers of the window or for a search, and for sums of more
 /// than 10^8 numbers.
-#[tactic(auto, unfolding(crate::specs::Functions::value_of, zbx_types::specs::Operators::call_pattern))]
 pub fn value(
     alloc: Global,
     call: &Call,
@@ -103,11 +104,32 @@ pub fn value(
     requires pattern { IfSome (call_pattern call.now) (Contains patterns.now) }
     ensures { IfOk result (λ v. v ≡ value_of call.now window.now now first_tick offset) }
 {
+    let place = pattern_place(alloc, call, patterns)?;
+    value_at(alloc, call, place, window, now, first_tick, offset, patterns)
+}
+
+/// The same as [`value`] gives, where the call's pattern stands at `place` among `patterns`, and isn't sought for: 0 where
+/// it has none. [`pattern_place`](crate::pattern_place) tells the place.
+#[tactic(auto, unfolding(crate::specs::Functions::value_of, zbx_types::specs::Operators::call_pattern))]
+pub fn value_at(
+    alloc: Global,
+    call: &Call,
+    place: u32,
+    window: &[Stored],
+    now: Moment,
+    first_tick: Option<Moment>,
+    offset: i32,
+    patterns: &Patterns,
+) -> Result<Option<Fix>, OutOfMemory>
+    requires offset { IsWithin 50400 offset }
+    requires place { at_id patterns.now place ≡ call_pattern call.now }
+    ensures { IfOk result (λ v. v ≡ value_of call.now window.now now first_tick offset) }
+{
     match call.fun {
         Fun::Change => Ok(change(window)),
         Fun::ChangeCount => Ok(changecount(call.op.as_bytes(), window)),
-        Fun::Count => count(alloc, &call.op, &call.arg, window, patterns),
-        Fun::Find => find(alloc, &call.op, &call.arg, window, patterns),
+        Fun::Count => count(alloc, &call.op, &call.arg, place, window, patterns),
+        Fun::Find => find(alloc, &call.op, &call.arg, place, window, patterns),
         Fun::NoData => Ok(nodata(call.range, window, now, first_tick)),
         Fun::Now | Fun::Time | Fun::Date | Fun::DayOfWeek | Fun::DayOfMonth => {
             Ok(of_clock(call.fun, now, offset))

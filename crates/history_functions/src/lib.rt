@@ -1,8 +1,9 @@
 //! The value of a call of a function in a trigger's expression (the Zabbix 6.0 manual, "Supported functions").
 //!
 //! The public contract: [`value`] gives what the definition of the call's function says of the window of its item,
-//! oldest first, at a moment, or None where that is unknown. A definition looks at lists alone; the code costs about as
-//! much as the window is long, and `percentile` sorts it once.
+//! oldest first, at a moment, or None where that is unknown. [`value_at`] gives the same where the place of the call's
+//! pattern is known, as [`pattern_place`] found it once. A definition looks at lists alone; the code costs about as much
+//! as the window is long, `percentile` sorts it once, and `count` and `find` make one matcher for all of it.
 //!
 //! ```text
 //! last #n, first                   the n-th latest number, the oldest; unknown where there is none
@@ -26,6 +27,8 @@
 //! ```text
 //! // avg(/host/key,#2) over 3.25 and 1.5
 //! value(alloc, &call, window, now, first_tick, offset, &patterns)?    // Some(2.375)
+//! let place = pattern_place(alloc, &call, &patterns)?;                // 0: it has none
+//! value_at(alloc, &call, place, window, now, first_tick, offset, &patterns)?
 //! ```
 #![tactic(auto)]
 
@@ -35,10 +38,12 @@ mod clock;
 mod functions;
 mod matching;
 mod numbers;
+mod patterned;
 mod ranks;
 mod values;
 
-pub use functions::value;
+pub use functions::{value, value_at};
+pub use patterned::pattern_place;
 
 #[cfg(test)]
 mod tests;

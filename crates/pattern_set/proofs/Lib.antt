@@ -1,5 +1,5 @@
 pub mod Carried
 pub mod Crossing
-pub mod Filled
+pub mod FillingLemmas
 pub mod Placing
 pub mod Placed

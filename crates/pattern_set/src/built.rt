@@ -1,18 +1,20 @@
 //! One pattern.
 
-ghost use Rattle.std.specs.Prelude.{◌≡◌, ◌≢◌, ℕ, Contains, Err, IfOk, is_some, true};
-ghost use Rattle.pattern_set.specs.Filling.{filled_of};
-ghost use Rattle.pattern_set.specs.Patterns.{IsPattern, IsNoPattern, leftmost};
+ghost use Rattle.std.specs.Prelude.{◌≡◌, ◌≢◌, ℕ, Contains, Err, IfOk, true};
+ghost use Rattle.pattern_set.specs.Filling.{filled_of, at_most};
+ghost use Rattle.pattern_set.specs.Patterns.{IsPattern, IsNoPattern};
 ghost use Rattle.pattern_set.specs.Spans.{spans_of};
 
 use crate::fault::BuildError;
 use crate::filling::filled;
+use crate::matcher::Matcher;
+use crate::output::Filled;
 use crate::spans::{Span, spans_of};
 use regex::{Error, Regex};
 use regex_syntax::{Config, parse};
 use std::alloc::Global;
 use std::marker::Model;
-use zbx_types::{Many, OutOfMemory, Text};
+use zbx_types::{Many, OutOfMemory};
 
 /// A pattern, built. Contracts see its text.
 #[derive(Drop)]
@@ -86,27 +88,31 @@ impl Built {
             None => Ok(None),
         }
     }
-    /// Whether it matches somewhere in a text.
-    pub(crate) fn matches(&self, alloc: Global, text: &str) -> Result<bool, OutOfMemory>
-        ensures { IfOk result (λ found. found ≡ is_some (leftmost self.now text.now)) }
+
+    /// What searches for it in many texts.
+    pub(crate) fn matcher(&self, alloc: Global) -> Result<Matcher<'_>, OutOfMemory>
+        ensures { IfOk result (λ matcher. matcher ≡ self.now) }
     {
-        let mut matcher = self.regex.matcher(alloc)?;
-        Ok(matcher.is_match(text))
+        Ok(Matcher {
+            regex: &self.regex,
+            search: self.regex.matcher(alloc)?,
+        })
     }
 
-    /// The output, filled from the groups of the leftmost match; None where nothing matches.
-    pub(crate) fn filled(
+    /// The output, filled from the groups of the leftmost match, where no more than so many bytes are wanted.
+    pub(crate) fn filled_within(
         &self,
         alloc: Global,
         text: &str,
         output: &str,
-    ) -> Result<Option<Text>, OutOfMemory>
-        ensures { IfOk result (λ filled. filled ≡ filled_of self.now text.now output.now) }
+        limit: usize,
+    ) -> Result<Filled, OutOfMemory>
+        ensures { IfOk result (λ filled. filled ≡ at_most limit (filled_of self.now text.now output.now)) }
     {
         let mut search = self.regex.matcher(alloc)?;
         match search.captures(text) {
-            Some(groups) => Ok(Some(filled(alloc, &groups, output)?)),
-            None => Ok(None),
+            Some(groups) => filled(alloc, &groups, output, limit),
+            None => Ok(Filled::Unmatched),
         }
     }
 }

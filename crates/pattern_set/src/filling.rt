@@ -1,9 +1,10 @@
 //! Outputs that name groups.
 
-ghost use Rattle.std.specs.Prelude.{◌≡◌, ◌++◌, ◌∷◌, [], ℕ, List, IfOk};
+ghost use Rattle.std.specs.Prelude.{◌≡◌, ◌<◌, ◌≤◌, ◌+◌, ◌++◌, ℕ, Some, IfOk, MatchOption, length};
 ghost use Rattle.regex.specs.Strings.{captures_span, captures_haystack};
-ghost use Rattle.pattern_set.specs.Filling.{text_of, texts_of, filled_by, waiting, GoesOn};
+ghost use Rattle.pattern_set.specs.Filling.{names_in_front, text_of, texts_of, filled_by, at_most, GoesOn};
 
+use crate::output::Filled;
 use regex::Captures;
 use std::alloc::Global;
 use zbx_types::{OutOfMemory, Text};
@@ -18,75 +19,73 @@ fn text_of<'h>(groups: &Captures<'_, 'h>, group: usize) -> &'h str
     }
 }
 
-/// Takes the byte of an output behind a backslash, which waits until then. Answers whether a backslash waits now.
-fn take_behind(made: &mut Vec<u8>, groups: &Captures<'_, '_>, byte: u8) -> Result<bool, OutOfMemory>
-    ensures { IfOk result (λ waits. GoesOn (texts_of groups.now) made.old.items (92 ∷ byte ∷ []) made.new.items (waiting waits)) }
+/// Whether an output begins with a backslash and a digit.
+fn names_in_front(output: &[u8]) -> bool
+    ensures { result ≡ names_in_front output.now }
 {
-    if byte.is_ascii_digit() {
-        made.extend_from_slice(text_of(groups, (byte - b'0') as usize).as_bytes())?;
-        Ok(false)
-    } else if byte == b'\\' {
-        made.push(b'\\')?;
-        Ok(true)
-    } else {
-        made.extend_from_slice(&[b'\\', byte])?;
-        Ok(false)
+    match output {
+        [byte, next, ..] => *byte == b'\\' && next.is_ascii_digit(),
+        _ => false,
     }
 }
 
-/// Takes a byte of an output with no backslash that waits. Answers whether one waits now.
-fn take_plain(made: &mut Vec<u8>, byte: u8) -> Result<bool, OutOfMemory>
-    ensures { IfOk result (λ waits. (group : ℕ → List ℕ) → GoesOn group made.old.items (byte ∷ []) made.new.items (waiting waits)) }
+/// Puts a piece, which stands for so many bytes of an output, behind what was made, and answers that count; None where
+/// it doesn't fit within the limit.
+fn put(
+    made: &mut Vec<u8>,
+    piece: &[u8],
+    count: usize,
+    limit: usize,
+) -> Result<Option<usize>, OutOfMemory>
+    requires { length made.old.items ≤ limit }
+    ensures taken { IfOk result (λ taken. MatchOption taken (limit < length made.old.items + length piece.now) (λ n. (n ≡ count) × (made.new.items ≡ made.old.items ++ piece.now))) }
+    ensures within { length made.new.items ≤ limit }
 {
-    if byte == b'\\' {
-        Ok(true)
-    } else {
-        made.push(byte)?;
-        Ok(false)
+    if limit - made.len() < piece.len() {
+        return Ok(None);
     }
+    made.extend_from_slice(piece)?;
+    Ok(Some(count))
 }
 
-/// Takes the next byte of an output. `waits` says whether a backslash before it waits, and the answer whether one waits now.
+/// Takes what stands first in an output: a backslash with the digit behind it, which gives the text of that group, or else
+/// one byte. Answers how many bytes that is; None where what comes of it doesn't fit within the limit.
 fn take(
     made: &mut Vec<u8>,
     groups: &Captures<'_, '_>,
-    waits: bool,
-    byte: u8,
-) -> Result<bool, OutOfMemory>
-    ensures { IfOk result (λ now. GoesOn (texts_of groups.now) made.old.items (waiting waits ++ byte ∷ []) made.new.items (waiting now)) }
+    output: &[u8],
+    limit: usize,
+) -> Result<Option<usize>, OutOfMemory>
+    requires some { 0 < length output.now }
+    requires fits { length made.old.items ≤ limit }
+    ensures taken { IfOk result (λ taken. MatchOption taken (limit < length (made.old.items ++ filled_by (texts_of groups.now) output.now)) (GoesOn (texts_of groups.now) made.old.items output.now made.new.items)) }
+    ensures within { length made.new.items ≤ limit }
 {
-    if waits {
-        take_behind(made, groups, byte)
+    if names_in_front(output) {
+        let named = text_of(groups, (output[1] - b'0') as usize);
+        put(made, named.as_bytes(), 2, limit)
     } else {
-        take_plain(made, byte)
+        put(made, &output[..1], 1, limit)
     }
-}
-
-/// What was made, with the backslash that waits at the end.
-fn ended(made: Vec<u8>, waits: bool) -> Result<Vec<u8>, OutOfMemory>
-    ensures { IfOk result (λ bytes. bytes.items ≡ made.items ++ waiting waits) }
-{
-    let mut made = made;
-    if waits {
-        made.push(b'\\')?;
-    }
-    Ok(made)
 }
 
 /// The output with each `\0` to `\9` replaced by the text of that group, and by nothing where the group isn't there. Every
-/// other byte stays.
+/// other byte stays. No more than the limit is made.
 pub(crate) fn filled(
     alloc: Global,
     groups: &Captures<'_, '_>,
     output: &str,
-) -> Result<Text, OutOfMemory>
-    ensures { IfOk result (λ text. text ≡ filled_by (texts_of groups.now) output.now) }
+    limit: usize,
+) -> Result<Filled, OutOfMemory>
+    ensures { IfOk result (λ filled. filled ≡ at_most limit (Some (filled_by (texts_of groups.now) output.now))) }
 {
     let mut made = Vec::new(alloc);
-    let mut waits = false;
-    for byte in output.as_bytes() {
-        waits = take(&mut made, groups, waits, *byte)?;
+    let mut rest = output.as_bytes();
+    while !rest.is_empty() {
+        let Some(count) = take(&mut made, groups, rest, limit)? else {
+            return Ok(Filled::TooLong);
+        };
+        rest = &rest[count..];
     }
-    let made = ended(made, waits)?;
-    Ok(Text::from(String::from_utf8(made).unwrap()))
+    Ok(Filled::Made(Text::from(String::from_utf8(made).unwrap())))
 }

@@ -9,8 +9,8 @@
 //! span    the part of a text that a group of the match spans, in bytes; a group that took no part isn't there
 //! ```
 //!
-//! Patterns don't change once they are built, and threads may share them. What a search writes to lives for one call. A
-//! short use:
+//! Patterns don't change once they are built, and threads may share them. What a search writes to lives for one call: a
+//! [`Matcher`] serves for all the texts that are looked at in one. A short use:
 //!
 //! ```text
 //! let patterns = Patterns::build(alloc, &texts)?;           // texts: "(ERR|OK) (.)"
@@ -20,17 +20,22 @@
 //!     None => ..,                                           // it matches nowhere
 //! }
 //! patterns.filled(alloc, place, "ERR a", "\\2: \\1")?        // Some("a: ERR")
+//! patterns.filled_within(alloc, place, "ERR a", "\\2: \\1", 5)? // TooLong
 //! ```
 #![tactic(auto)]
 
 mod built;
 mod fault;
 mod filling;
+mod matcher;
+mod output;
 mod patterns;
 mod sharing;
 mod spans;
 
 pub use fault::BuildError;
+pub use matcher::Matcher;
+pub use output::Filled;
 pub use patterns::Patterns;
 pub use spans::Span;
 

@@ -2,13 +2,15 @@
 
 ghost use Rattle.std.specs.Prelude.{◌≡◌, ◌^◌, ◌<◌, ◌≤◌, ◌-◌, ℕ, List, All, Contains, Some, Err, IfOk, length, take, is_some, bytes_eq, position, option_and_then};
 ghost use Rattle.zbx_types.specs.Ids.{at_id};
-ghost use Rattle.pattern_set.specs.Filling.{filled_of};
+ghost use Rattle.pattern_set.specs.Filling.{filled_of, at_most};
 ghost use Rattle.pattern_set.specs.Patterns.{IsPattern, IsNoPattern};
 ghost use Rattle.pattern_set.specs.Places.{place_of, match_of};
 ghost use Rattle.pattern_set.specs.Spans.{spans_of};
 
 use crate::built::Built;
 use crate::fault::BuildError;
+use crate::matcher::Matcher;
+use crate::output::Filled;
 use crate::spans::Span;
 use std::alloc::Global;
 use std::convert::AsStr;
@@ -87,13 +89,25 @@ impl Patterns {
             None => Ok(None),
         }
     }
+
+    /// What searches for a pattern in one text after another; None where there is no pattern at the place.
+    /// [`OutOfMemory`] where there is no room for it.
+    pub fn matcher(&self, alloc: Global, pattern: u32) -> Result<Option<Matcher<'_>>, OutOfMemory>
+        ensures { IfOk result (λ matcher. matcher ≡ at_id self.now pattern) }
+    {
+        match by_id(self.built.as_slice(), pattern) {
+            Some(built) => Ok(Some(built.matcher(alloc)?)),
+            None => Ok(None),
+        }
+    }
+
     /// Whether a pattern matches somewhere in a text; false where there is no pattern at the place. [`OutOfMemory`] where
     /// there is no room for the search.
     pub fn matches(&self, alloc: Global, pattern: u32, text: &str) -> Result<bool, OutOfMemory>
         ensures { IfOk result (λ found. found ≡ is_some (match_of self.now pattern text.now)) }
     {
-        match by_id(self.built.as_slice(), pattern) {
-            Some(built) => built.matches(alloc, text),
+        match self.matcher(alloc, pattern)? {
+            Some(mut matcher) => Ok(matcher.matches(text)),
             None => Ok(false),
         }
     }
@@ -111,9 +125,29 @@ impl Patterns {
     ) -> Result<Option<Text>, OutOfMemory>
         ensures { IfOk result (λ filled. filled ≡ option_and_then (λ p. filled_of p text.now output.now) (at_id self.now pattern)) }
     {
+        match self.filled_within(alloc, pattern, text, output, usize::MAX)? {
+            Filled::Unmatched => Ok(None),
+            Filled::Made(filled) => Ok(Some(filled)),
+            Filled::TooLong => Err(OutOfMemory),
+        }
+    }
+
+    /// The same output, of at most `limit` bytes: [`Filled::TooLong`] exactly where it is longer, and no more than the limit
+    /// is made of it. [`Filled::Unmatched`] where [`Patterns::filled`] gives None. [`OutOfMemory`] where there is no room for
+    /// the search or for the filled output.
+    pub fn filled_within(
+        &self,
+        alloc: Global,
+        pattern: u32,
+        text: &str,
+        output: &str,
+        limit: usize,
+    ) -> Result<Filled, OutOfMemory>
+        ensures { IfOk result (λ filled. filled ≡ at_most limit (option_and_then (λ p. filled_of p text.now output.now) (at_id self.now pattern))) }
+    {
         match by_id(self.built.as_slice(), pattern) {
-            Some(built) => built.filled(alloc, text, output),
-            None => Ok(None),
+            Some(built) => built.filled_within(alloc, text, output, limit),
+            None => Ok(Filled::Unmatched),
         }
     }
 }

@@ -175,3 +175,49 @@ fn nothing_matches_where_no_pattern_stands(rt: HostRuntime) -> Result<(), Fail> 
     }
     Ok(())
 }
+
+/// What an output comes to within a limit, filled by the second of two patterns.
+fn limited(alloc: Global, text: &str, limit: usize) -> Result<String, Fail> {
+    let patterns = built(alloc, &["b", "(é+)"])?;
+    Ok(
+        match patterns.filled_within(alloc, 2, text, "\\0-\\1", limit)? {
+            Filled::Unmatched => String::from_str(alloc, "unmatched")?,
+            Filled::Made(filled) => filled.into_string(),
+            Filled::TooLong => String::from_str(alloc, "too long")?,
+        },
+    )
+}
+
+#[test]
+fn an_output_is_made_up_to_its_limit(rt: HostRuntime) -> Result<(), Fail> {
+    for (text, limit, want) in [
+        ("xééx", 9, "éé-éé"),
+        ("xééx", 8, "too long"),
+        ("xééx", 0, "too long"),
+        ("xx", 0, "unmatched"),
+    ] {
+        assert_eq!(rt; limited(rt.alloc(), text, limit)?.as_str(), want, "{limit}");
+    }
+    Ok(())
+}
+
+/// In which texts one matcher of the second of two patterns finds it, 1 or 0 for each.
+fn found_in(alloc: Global, pattern: &str, texts: &[&str]) -> Result<String, Fail> {
+    let patterns = built(alloc, &["", pattern])?;
+    let mut out = String::new(alloc);
+    if let Some(mut matcher) = patterns.matcher(alloc, 2)? {
+        for text in texts {
+            out.push_str(if matcher.matches(text) { "1" } else { "0" })?;
+        }
+    }
+    Ok(out)
+}
+
+#[test]
+fn one_matcher_looks_at_many_texts(rt: HostRuntime) -> Result<(), Fail> {
+    assert_eq!(rt;
+        found_in(rt.alloc(), "^[0-9]+$", &["12", "1.5", "", "7"])?.as_str(),
+        "1001"
+    );
+    Ok(())
+}

@@ -12,9 +12,12 @@ use Rattle.prep_steps.specs.declared.outcome.Outcome.TheVariants.{Fail}
 unfoldable pub number_of : List ℕ → Option ℤ
 number_of value = read_number (unpadded value)
 
--- the outcome of a value that is no number
+-- the text of the failure of a value that is no number, and its outcome
+abbrev pub not_a_number : List ℕ
+not_a_number = codes "not a number"
+
 abbrev pub no_number : Outcome
-no_number = Fail (codes "not a number")
+no_number = Fail not_a_number
 
 -- the written result of a number step, which fails where the result is unknown
 abbrev pub result_of : Option ℤ → Outcome

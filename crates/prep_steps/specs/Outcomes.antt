@@ -26,6 +26,10 @@ marked time value = record { there = true; time = time; value = value }
 abbrev pub is_short : List ℕ → Bool
 is_short value = nat_le (length value) longest_value
 
+-- the text of the failure of a longer one
+abbrev pub too_long : List ℕ
+too_long = codes "too long"
+
 -- a result goes on, and a longer one fails
 abbrev pub passed : List ℕ → Outcome
-passed value = if is_short value then Value value else Fail (codes "too long")
+passed value = if is_short value then Value value else Fail too_long

@@ -1,7 +1,8 @@
 //! One preprocessing step over one value (the Zabbix 6.0 manual, "Preprocessing details").
 //!
 //! The public contract: [`apply`] gives exactly what the definition of the step's kind makes of a value that came at a
-//! moment, with what the step remembers before and after it.
+//! moment, with what the step remembers before and after it. [`apply_at`] gives the same where the place of the step's
+//! pattern is known, as [`pattern_place`] found it once.
 //!
 //! Each step sees the value as a text, and makes one of three outcomes:
 //!
@@ -41,10 +42,11 @@ mod steps;
 mod throttling;
 mod words;
 
-pub use matching::unless;
+pub use matching::{pattern_place, unless};
 pub use memory::StepMemory;
-pub use outcome::{Outcome, StepDone, fail, is_short, parameter, pass};
-pub use steps::apply;
+pub use numbering::{NOT_A_NUMBER, number_of};
+pub use outcome::{Outcome, StepDone, TOO_LONG, fail, is_short, parameter, pass};
+pub use steps::{apply, apply_at};
 
 #[cfg(test)]
 mod tests;

@@ -7,9 +7,13 @@ use crate::outcome::{Outcome, fail, pass};
 use std::alloc::Global;
 use zbx_types::{Fix, OutOfMemory, Text, unpadded};
 
-/// The number that a value writes between blanks.
+/// The text of the failure of a value that is no number.
+pub const NOT_A_NUMBER: &str = "not a number";
+
+/// The number that a value writes between blanks, with six decimals; None where it writes none, or one above 10^24 without
+/// its sign (the Zabbix 6.0 manual, "Preprocessing details"). A number step reads its value so. Takes no memory.
 #[tactic(auto, unfolding(crate::specs::Numbering::number_of))]
-pub(crate) fn number_of(value: &Text) -> Option<Fix>
+pub fn number_of(value: &Text) -> Option<Fix>
     ensures { result ≡ number_of value.now }
 {
     Fix::read(unpadded(value.as_bytes()))
@@ -19,7 +23,7 @@ pub(crate) fn number_of(value: &Text) -> Option<Fix>
 pub(crate) fn no_number(alloc: Global) -> Result<Outcome, OutOfMemory>
     ensures { IfOk result (λ outcome. outcome ≡ no_number) }
 {
-    fail(alloc, "not a number")
+    fail(alloc, NOT_A_NUMBER)
 }
 
 /// The written result of a number step, which fails where the result is unknown.

@@ -9,6 +9,9 @@ use std::alloc::Global;
 use std::convert::AsStr;
 use zbx_types::{LONGEST_VALUE, Many, OutOfMemory, Text};
 
+/// The text of the failure of a result above 65,535 bytes.
+pub const TOO_LONG: &str = "too long";
+
 /// What comes of a value at a step.
 #[derive(Debug, Drop)]
 pub enum Outcome {
@@ -48,7 +51,7 @@ pub fn pass(alloc: Global, value: Text) -> Result<Outcome, OutOfMemory>
     ensures { IfOk result (λ outcome. outcome ≡ passed value) }
 {
     if !is_short(&value) {
-        return fail(alloc, "too long");
+        return fail(alloc, TOO_LONG);
     }
     Ok(Outcome::Value(value))
 }

@@ -1,13 +1,14 @@
 //! Each step by its kind.
 
-ghost use Rattle.std.specs.Prelude.{◌≡◌, IfOk, Contains, true, false};
+ghost use Rattle.std.specs.Prelude.{◌≡◌, IfOk, Contains, Some, true, false};
+ghost use Rattle.zbx_types.specs.Ids.{at_id};
 ghost use Rattle.prep_steps.specs.Outcomes.{parameter};
 ghost use Rattle.prep_steps.specs.Steps.{looks_into_json, done_of};
 ghost use Rattle.zbx_types.specs.Steps.{has_pattern};
 
 use crate::changes::{change, rate};
 use crate::digits::{bool_to_decimal, hex_to_decimal, octal_to_decimal};
-use crate::matching::{check, extract, match_none, match_one};
+use crate::matching::{check, extract, match_none, match_one, pattern_place};
 use crate::memory::StepMemory;
 use crate::numbering::{multiply, range};
 use crate::outcome::{StepDone, keep, parameter};
@@ -26,7 +27,6 @@ use zbx_types::{Moment, OutOfMemory, StepKind, StepSpec, Text};
 /// sets is its caller's: a failure comes with the step's own text. [`OutOfMemory`] where there is no room for the result.
 ///
 /// A step that looks into JSON texts is none of this crate's, and the pattern of a step that has one is among `patterns`.
-#[tactic(auto, unfolding(crate::specs::Steps::done_of))]
 pub fn apply(
     alloc: Global,
     step: &StepSpec,
@@ -39,16 +39,31 @@ pub fn apply(
     requires pattern { has_pattern step.now.kind ≡ true → Contains patterns.now (parameter step.now.params 0) }
     ensures { IfOk result (λ done. done ≡ done_of step.now memory.now value.now time) }
 {
-    let params = &step.params;
-    let first = parameter(params, 0);
-    let second = parameter(params, 1);
+    let place = pattern_place(alloc, step, patterns);
+    apply_at(alloc, step, place, memory, value, time, patterns)
+}
+
+/// The same as [`apply`] makes, where the pattern of a step that has one stands at `place` among `patterns`, and isn't
+/// sought for. [`pattern_place`](crate::pattern_place) tells such a place.
+#[tactic(auto, unfolding(crate::specs::Steps::done_of, crate::specs::Matching::extracted, crate::specs::Matching::matched, crate::specs::Matching::not_matched, crate::specs::Matching::checked))]
+pub fn apply_at(
+    alloc: Global,
+    step: &StepSpec,
+    place: u32,
+    memory: &StepMemory,
+    value: &Text,
+    time: Moment,
+    patterns: &Patterns,
+) -> Result<StepDone, OutOfMemory>
+    requires kind { looks_into_json step.now.kind ≡ false }
+    requires place { has_pattern step.now.kind ≡ true → at_id patterns.now place ≡ Some (parameter step.now.params 0) }
+    ensures { IfOk result (λ done. done ≡ done_of step.now memory.now value.now time) }
+{
+    let first = parameter(&step.params, 0);
+    let second = parameter(&step.params, 1);
     let text = value.as_str();
     match step.kind {
-        StepKind::Regex => keep(
-            alloc,
-            memory,
-            extract(alloc, patterns, params, second, text),
-        ),
+        StepKind::Regex => keep(alloc, memory, extract(alloc, patterns, place, second, text)),
         StepKind::Replace => keep(alloc, memory, replace(alloc, first, second, text)),
         StepKind::Trim => keep(alloc, memory, trim(alloc, first, text)),
         StepKind::LTrim => keep(alloc, memory, left_trim(alloc, first, text)),
@@ -60,9 +75,9 @@ pub fn apply(
         StepKind::OctalToDecimal => keep(alloc, memory, octal_to_decimal(alloc, value)),
         StepKind::HexToDecimal => keep(alloc, memory, hex_to_decimal(alloc, value)),
         StepKind::InRange => keep(alloc, memory, range(alloc, first, second, value)),
-        StepKind::Matches => keep(alloc, memory, match_one(alloc, patterns, params, text)),
-        StepKind::NotMatches => keep(alloc, memory, match_none(alloc, patterns, params, text)),
-        StepKind::RegexError => keep(alloc, memory, check(alloc, patterns, params, second, text)),
+        StepKind::Matches => keep(alloc, memory, match_one(alloc, patterns, place, text)),
+        StepKind::NotMatches => keep(alloc, memory, match_none(alloc, patterns, place, text)),
+        StepKind::RegexError => keep(alloc, memory, check(alloc, patterns, place, second, text)),
         StepKind::Throttle => throttle(alloc, memory, value, time),
         StepKind::ThrottleHeartbeat => throttle_within(alloc, first, memory, value, time),
         StepKind::JsonPath | StepKind::JsonError => unreachable!(),

@@ -213,6 +213,21 @@ fn numbers_are_multiplied_and_kept_in_range(rt: HostRuntime) -> Result<(), Fail>
     Ok(())
 }
 
+/// The millionths of the number that a text writes, or -1.
+fn millionths(alloc: Global, text: &str) -> Result<i128, Fail> {
+    match number_of(&Text::of(alloc, text)?) {
+        Some(number) => Ok(number.raw()),
+        None => Ok(-1),
+    }
+}
+
+#[test]
+fn a_number_is_read_between_blanks(rt: HostRuntime) -> Result<(), Fail> {
+    assert_eq!(rt; millionths(rt.alloc(), " +1.5e1\t")?, 15_000_000);
+    assert_eq!(rt; millionths(rt.alloc(), "1 5")?, -1);
+    Ok(())
+}
+
 fn truths() -> [[&'static str; 4]; 8] {
     [
         ["", "", "TRUE", "=1"],
@@ -320,20 +335,35 @@ fn values_match_or_fail(rt: HostRuntime) -> Result<(), Fail> {
     Ok(())
 }
 
-/// Whether a value of so many bytes in which each byte is doubled is too long.
-fn is_too_long(alloc: Global, length: u32) -> Result<bool, Fail> {
+/// Whether a step makes a text that is too long of so many times the byte `a`.
+fn is_too_long(alloc: Global, kind: StepKind, params: [&str; 2], length: u32) -> Result<bool, Fail>
+    requires { looks_into_json kind ≡ false }
+{
     let mut value = String::new(alloc);
     for _ in 0..length {
         value.push_str("a")?;
     }
-    let outcome = made(alloc, StepKind::Replace, ["a", "bb"], value.as_str())?;
+    let outcome = made(alloc, kind, params, value.as_str())?;
     Ok(outcome.as_str() == "!too long")
 }
 
 #[test]
 fn a_result_above_65535_bytes_fails(rt: HostRuntime) -> Result<(), Fail> {
-    assert_eq!(rt; is_too_long(rt.alloc(), 32_767)?, false);
-    assert_eq!(rt; is_too_long(rt.alloc(), 32_768)?, true);
+    for (length, want) in [(32_767, false), (32_768, true)] {
+        let alloc = rt.alloc();
+        assert_eq!(rt;
+            is_too_long(alloc, StepKind::Replace, ["a", "bb"], length)?,
+            want
+        );
+        assert_eq!(rt;
+            is_too_long(alloc, StepKind::Regex, ["a*", "\\0\\0"], length)?,
+            want
+        );
+        assert_eq!(rt;
+            is_too_long(alloc, StepKind::RegexError, ["a*", "\\0\\0"], length)?,
+            want
+        );
+    }
     Ok(())
 }
 

@@ -1,14 +1,15 @@
 //! Steps on texts: characters dropped at their ends, and a text replaced in them (the Zabbix 6.0 manual, "Preprocessing
 //! details").
 
-ghost use Rattle.std.specs.Prelude.{◌≡◌, ◌<◌, ◌++◌, ℕ, zero, List, length, IfOk, IfSome, MatchOption};
+ghost use Rattle.std.specs.Prelude.{◌≡◌, ◌<◌, ◌+◌, ◌++◌, ℕ, zero, List, length, IfOk, IfSome, MatchOption, true, false};
+ghost use Rattle.zbx_types.specs.Limits.{longest_value};
 ghost use Rattle.prep_steps.specs.Outcomes.{passed};
 ghost use Rattle.prep_steps.specs.Words.{is_among, trimmed_left, trimmed_right, trimmed, replaced_behind, replaced};
 
-use crate::outcome::{Outcome, fail, is_short, pass};
+use crate::outcome::{Outcome, TOO_LONG, fail, pass};
 use std::alloc::Global;
 use std::convert::AsStr;
-use zbx_types::{OutOfMemory, Text};
+use zbx_types::{LONGEST_VALUE, OutOfMemory, Text};
 
 /// Whether a character is among those of a text.
 fn is_among(set: &str, c: char) -> bool
@@ -84,7 +85,19 @@ fn around<'a>(search: &str, text: &'a str) -> Option<(&'a str, &'a str)>
     text.split_once(search)
 }
 
-/// A text with each occurrence of another one replaced, from the left. Made no further than a result may be long.
+/// Puts a piece behind what was made, where that is no longer than a value may be then. Answers whether it is.
+fn put(made: &mut Text, piece: &str) -> Result<bool, OutOfMemory>
+    ensures made { IfOk result (λ fits. fits ≡ true → made.new ≡ made.old ++ piece.now) }
+    ensures long { IfOk result (λ fits. fits ≡ false → longest_value < length made.old + length piece.now) }
+{
+    if LONGEST_VALUE.saturating_sub(made.len()) < piece.len() {
+        return Ok(false);
+    }
+    made.push_str(piece)?;
+    Ok(true)
+}
+
+/// A text with each occurrence of another one replaced, from the left. No more is made than a result may be long.
 #[tactic(auto, unfolding(crate::specs::Words::replaced))]
 pub(crate) fn replace(
     alloc: Global,
@@ -100,13 +113,16 @@ pub(crate) fn replace(
     let mut made = Text::new(alloc);
     let mut rest = text;
     while let Some((before, behind)) = around(search, rest) {
-        made.push_str(before)?;
-        made.push_str(other)?;
-        if !is_short(&made) {
-            return fail(alloc, "too long");
+        if !put(&mut made, before)? {
+            return fail(alloc, TOO_LONG);
+        }
+        if !put(&mut made, other)? {
+            return fail(alloc, TOO_LONG);
         }
         rest = behind;
     }
-    made.push_str(rest)?;
+    if !put(&mut made, rest)? {
+        return fail(alloc, TOO_LONG);
+    }
     pass(alloc, made)
 }

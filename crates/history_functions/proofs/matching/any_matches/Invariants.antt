@@ -1,7 +1,9 @@
 use Rattle.std.proofs.Common.{◌≡◌, drop}
+use Rattle.zbx_types.specs.Operators.{pattern_of}
 use Rattle.history_functions.specs.Matching.{any_matches}
 use Rattle.history_functions.proofs.matching.any_matches.Given as goal
 
 abbrev pub invariant-loop-stored : goal.invariant-loop-stored
 invariant-loop-stored l =
-    any_matches l.test.operator l.test.arg.now (drop l.stored-index l.window) ≡ any_matches l.test.operator l.test.arg.now l.window
+    (l.matcher ≡ pattern_of l.test.operator l.test.arg.now)
+    × (any_matches l.test.operator l.test.arg.now (drop l.stored-index l.window) ≡ any_matches l.test.operator l.test.arg.now l.window)

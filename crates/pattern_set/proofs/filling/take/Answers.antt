@@ -1,17 +1,22 @@
-use Rattle.std.proofs.Common.{◌++◌, ◌∷◌, [], sym, subst, Bool, ℕ, List, IfOk}
-use Rattle.pattern_set.specs.Filling.{texts_of, waiting, GoesOn}
-use Rattle.pattern_set.proofs.Filled.{each_ok}
+use Rattle.std.proofs.Common.{◌∙◌, sym}
+use Rattle.pattern_set.specs.Filling.{texts_of}
+use Rattle.pattern_set.proofs.FillingLemmas.{each_ok, taken, group_given, byte_given}
 use Rattle.pattern_set.proofs.filling.take.Goals as goal
 
-pub returns-then-waits : goal.returns-then-waits
-returns-then-waits c =
-    subst (λ (w : Bool). IfOk c.take_behind.result (λ now. GoesOn (texts_of c.args.groups.now) c.args.made.now.items (waiting w ++ c.args.byte ∷ []) c.take_behind.new.made.items (waiting now)))
-    (sym c.if-waits.true) c.take_behind.ensures
+pub returns-then-names_in_front-clause-taken : goal.returns-then-names_in_front-clause-taken
+returns-then-names_in_front-clause-taken c =
+    let group = texts_of c.args.groups.now in
+    let piece = c.as_bytes.result.now in
+    each_ok c.put.result _ _
+    (λ r put. taken group c.args.made.now.items _ c.args.output.now piece 2 c.args.limit r
+    (group_given group c.args.output.now piece (sym c.if-names_in_front.ensures)
+    (c.as_bytes.ensures.value ∙ c.text_of-named.ensures) c.as_bytes.ensures.utf8) put)
+    c.put.ensures.taken
 
-pub returns-else-waits : goal.returns-else-waits
-returns-else-waits c =
-    subst (λ (w : Bool). IfOk c.take_plain.result (λ now. GoesOn (texts_of c.args.groups.now) c.args.made.now.items (waiting w ++ c.args.byte ∷ []) c.take_plain.new.made.items (waiting now)))
-    (sym c.if-waits.false)
-    (each_ok c.take_plain.result (λ now. (group : ℕ → List ℕ) → GoesOn group c.args.made.now.items (c.args.byte ∷ []) c.take_plain.new.made.items (waiting now))
-    (λ now. GoesOn (texts_of c.args.groups.now) c.args.made.now.items (c.args.byte ∷ []) c.take_plain.new.made.items (waiting now))
-    (λ now h. h (texts_of c.args.groups.now)) c.take_plain.ensures)
+pub returns-else-names_in_front-clause-taken : goal.returns-else-names_in_front-clause-taken
+returns-else-names_in_front-clause-taken c =
+    let group = texts_of c.args.groups.now in
+    each_ok c.put-else-names_in_front.result _ _
+    (λ r put. taken group c.args.made.now.items _ c.args.output.now _ 1 c.args.limit r
+    (byte_given group c.args.output.now c.requires.some (sym c.if-names_in_front.ensures)) put)
+    c.put-else-names_in_front.ensures.taken
