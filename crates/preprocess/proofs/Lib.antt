@@ -1,2 +1,4 @@
 mod Reading
 mod Rows
+mod Walking
+mod Visiting

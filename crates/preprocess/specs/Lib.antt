@@ -5,3 +5,5 @@ pub mod Ways
 pub mod Chain
 pub mod Chains
 pub mod Rows
+pub mod Visits
+pub mod Walks

@@ -6,6 +6,7 @@ mod chains;
 mod ended;
 mod json;
 mod step;
+mod visit;
 
 pub use chain::{Chained, run_chain};
 pub use chains::{Chains, paths_of};
