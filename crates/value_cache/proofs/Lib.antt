@@ -2,3 +2,4 @@ pub mod Lists
 pub mod Orders
 pub mod Parts
 pub mod Pruning
+pub mod KeepLemmas

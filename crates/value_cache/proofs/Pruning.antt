@@ -8,7 +8,7 @@ use Rattle.zbx_types.specs.declared.calls.Range.{Range}
 use Rattle.zbx_types.specs.declared.calls.Range.TheVariants.{Count, Period}
 use Rattle.zbx_types.specs.declared.entries.Stored.{Stored}
 use Rattle.std.specs.Prelude.{slice_get}
-use Rattle.value_cache.specs.declared.keeps.Keep.{Keep}
+use Rattle.value_cache.specs.declared.keeping.Keep.{Keep}
 use Rattle.value_cache.specs.Histories.{is_later, placed, IsOrdered}
 use Rattle.value_cache.specs.Windows.{is_by, in_period, seen_of}
 use Rattle.value_cache.specs.Cells.{CellView, is_young, trim, IsExact, StandsFor, IsWithin, Gains, StaysExact, Shows, ShowsWith, ShowsLatest}

@@ -4,7 +4,7 @@ use Rattle.std.specs.List.{filter}
 use Rattle.zbx_types.specs.declared.calls.Range.{Range}
 use Rattle.zbx_types.specs.declared.calls.Range.TheVariants.{Count, Period}
 use Rattle.zbx_types.specs.declared.entries.Stored.{Stored}
-use Rattle.value_cache.specs.declared.keeps.Keep.{Keep}
+use Rattle.value_cache.specs.declared.keeping.Keep.{Keep}
 use Rattle.value_cache.specs.Histories.{placed, IsOrdered}
 use Rattle.value_cache.specs.Windows.{window_of}
 

@@ -1,5 +1,6 @@
 pub mod Histories
 pub mod Windows
+pub mod Keeps
 pub mod Cells
 pub mod Beside
 pub mod Laws

@@ -1,12 +1,12 @@
 //! Windows beside a value that isn't in the cell yet.
 
-ghost use Rattle.std.specs.Prelude.{◌≡◌, ◌+◌, length, reverse, map, IfOk};
+ghost use Rattle.std.specs.Prelude.{◌≡◌, ◌++◌, reverse, map, OnOk, IfOk};
 ghost use Rattle.value_cache.specs.Histories.{IsOrdered, placed};
 ghost use Rattle.value_cache.specs.Windows.{seen_of};
 ghost use Rattle.value_cache.specs.Beside.{shown, seen_in};
 
 use crate::placing::place_of;
-use crate::windows::{rest_of, window};
+use crate::windows::{push_copies, rest_of, window};
 use std::alloc::Global;
 use std::slice;
 use zbx_types::{Many, Moment, OutOfMemory, Range, Stored};
@@ -44,5 +44,39 @@ pub(crate) fn window_with<'a>(
         before,
         stored,
         after,
+    }
+}
+
+/// Adds references to values at the end.
+fn push_references<'a>(made: &mut Vec<&'a Stored>, values: &'a [Stored]) -> Result<(), OutOfMemory>
+    ensures { OnOk result (map (λ stored. stored.now) made.new.items ≡ map (λ stored. stored.now) made.old.items ++ values.now) }
+{
+    for stored in values {
+        made.push(stored)?;
+    }
+    Ok(())
+}
+
+impl<'a> Window<'a> {
+    /// Copies of the values, the oldest first. [`OutOfMemory`] where there is no room for them.
+    pub fn copies(&self, alloc: Global) -> Result<Many<Stored>, OutOfMemory>
+        ensures { IfOk result (λ made. made ≡ shown self.now) }
+    {
+        let mut made = Many::new(alloc);
+        push_copies(alloc, &mut made, self.before)?;
+        push_copies(alloc, &mut made, self.stored)?;
+        push_copies(alloc, &mut made, self.after)?;
+        Ok(made)
+    }
+
+    /// References to the values, the oldest first. [`OutOfMemory`] where there is no room for them.
+    pub fn references(&self, alloc: Global) -> Result<Vec<&'a Stored>, OutOfMemory>
+        ensures { IfOk result (λ made. map (λ stored. stored.now) made.items ≡ shown self.now) }
+    {
+        let mut made = Vec::new(alloc);
+        push_references(&mut made, self.before)?;
+        push_references(&mut made, self.stored)?;
+        push_references(&mut made, self.after)?;
+        Ok(made)
     }
 }

@@ -1,15 +1,14 @@
 //! The cell of an item.
 
-ghost use Rattle.std.specs.Prelude.{◌≡◌, ◌≤◌, ◌<◌, ◌↔◌, [], length, reverse, IsTrue, OnOk, OnErr, IfOk, IfErr};
+ghost use Rattle.std.specs.Prelude.{◌≡◌, ◌<◌, ◌↔◌, [], length, IsTrue, OnOk, OnErr, IfOk, IfErr, slice_get};
 ghost use Rattle.std.specs.Option.{option_copied};
-ghost use Rattle.std.specs.Prelude.{slice_get};
-ghost use Rattle.value_cache.specs.Histories.{oldest_first};
-ghost use Rattle.value_cache.specs.Cells.{StandsFor, IsExact, Gains, StaysExact, Shows, ShowsWith, ShowsLatest, IsSame, trim};
-ghost use Rattle.value_cache.specs.Histories.{placed};
 ghost use Rattle.value_cache.specs.Beside.{shown};
+ghost use Rattle.value_cache.specs.Cells.{StandsFor, IsExact, Gains, StaysExact, Shows, ShowsWith, ShowsLatest};
+ghost use Rattle.value_cache.specs.Cells.{IsSame, trim};
+ghost use Rattle.value_cache.specs.Histories.{placed, oldest_first};
 
 use crate::beside::{Window, window_with};
-use crate::keeps::{Keep, same_keep};
+use crate::keeping::{Keep, same_keep};
 use crate::placing::put;
 use crate::row::Row;
 use crate::same::same_values;

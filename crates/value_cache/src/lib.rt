@@ -1,13 +1,14 @@
 //! The values that an item keeps for the functions of expressions.
 //!
 //! The public contract: [`ItemCell::window`] gives the window of everything that was ever inserted into the cell,
-//! whatever the order in which it came, as long as it asks for no more than the cell's [`Keep`].
+//! whatever the order in which it came, as long as it asks for no more than the cell's [`Keep`], which [`keeps`] takes
+//! from a configuration.
 //!
 //! A cell stands for a history, the list of all values that were inserted, by time, and of values with one time by the
-//! number of their entry. What it hands out has the oldest first; definitions of histories have the latest first. The
-//! cell has for each later moment what the `Keep` asks for: the values of the last `period` seconds, and the latest
-//! `count` of those before. So it may be read at any moment that isn't before that of the last insert, and a value that
-//! comes late takes its place as if it had come in time.
+//! number of their entry. What it hands out has the oldest first; definitions of histories have the latest first. After
+//! each insert it has exactly what the `Keep` asks for at that moment: the values of the last `period` seconds, and the
+//! latest `count` of those before. So it may be read at any moment that isn't before that of the last insert, and a
+//! value that comes late takes its place as if it had come in time. What follows over many inserts stands in [`laws`].
 //!
 //! ```text
 //! #2                  the latest two values
@@ -16,8 +17,9 @@
 //! 5m with a shift     the same, a shift earlier
 //! ```
 //!
-//! The ends of a window are found by search, so that its cost is that of the values in it, and not of all that the cell
-//! has.
+//! An insert of the latest value costs the same at any length of the history, and a late one at most what is kept. The
+//! ends of a window are found by search. A window can be copied, or lent as it lies, also beside a value that isn't
+//! inserted yet.
 //!
 //! ```text
 //! let mut cell = ItemCell::new(alloc, Keep { count: 2, period: 300 });
@@ -28,7 +30,7 @@
 
 mod beside;
 mod cell;
-mod keeps;
+mod keeping;
 pub mod laws;
 mod placing;
 mod row;
@@ -38,4 +40,9 @@ mod windows;
 
 pub use beside::Window;
 pub use cell::ItemCell;
-pub use keeps::Keep;
+pub use keeping::{Keep, keeps};
+
+#[cfg(test)]
+mod keep_tests;
+#[cfg(test)]
+mod tests;

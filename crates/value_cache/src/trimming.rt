@@ -6,7 +6,7 @@ ghost use Rattle.value_cache.specs.Histories.{IsOrdered};
 ghost use Rattle.value_cache.specs.Windows.{is_by};
 ghost use Rattle.value_cache.specs.Cells.{trim};
 
-use crate::keeps::Keep;
+use crate::keeping::Keep;
 use crate::row::Row;
 use crate::windows::is_by;
 use zbx_types::{Moment, Stored};
@@ -15,10 +15,7 @@ use zbx_types::{Moment, Stored};
 fn count_first(values: &[Stored], now: Moment, seconds: u64) -> usize
     ensures { result ≡ prefix_len (is_by now seconds) values.now }
 {
-    values
-        .iter()
-        .take_while(|x| is_by(now, seconds, x))
-        .count()
+    values.iter().take_while(|x| is_by(now, seconds, x)).count()
 }
 
 /// How many of the oldest values no longer are to be kept at a moment. It looks at as many, and one more.

@@ -1,8 +1,8 @@
 //! Windows as parts of a slice that has the oldest value first.
 
-ghost use Rattle.std.specs.Prelude.{◌≡◌, ◌≤◌, ◌++◌, not, length, reverse, take, drop, map, IfOk};
+ghost use Rattle.std.specs.Prelude.{◌≡◌, ◌≤◌, ◌++◌, not, length, reverse, take, drop, OnOk, IfOk};
 ghost use Rattle.std.specs.List.{filter};
-ghost use Rattle.value_cache.specs.Histories.{IsOrdered, placed};
+ghost use Rattle.value_cache.specs.Histories.{IsOrdered};
 ghost use Rattle.value_cache.specs.Windows.{is_by, seen_of, rest_of};
 
 use std::alloc::Global;
@@ -57,13 +57,25 @@ pub(crate) fn rest_of(range: Range, seen: usize) -> Range
     }
 }
 
+/// Adds copies of values at the end.
+pub(crate) fn push_copies(
+    alloc: Global,
+    made: &mut Many<Stored>,
+    values: &[Stored],
+) -> Result<(), OutOfMemory>
+    ensures { OnOk result (made.new ≡ made.old ++ values.now) }
+{
+    for stored in values {
+        made.push(stored.copy(alloc)?)?;
+    }
+    Ok(())
+}
+
 /// Copies, in their order.
 pub(crate) fn copies(alloc: Global, values: &[Stored]) -> Result<Many<Stored>, OutOfMemory>
     ensures { IfOk result (λ made. made ≡ values.now) }
 {
     let mut made = Many::new(alloc);
-    for stored in values {
-        made.push(stored.copy(alloc)?)?;
-    }
+    push_copies(alloc, &mut made, values)?;
     Ok(made)
 }

@@ -1,4 +1,4 @@
-use Rattle.std.proofs.Common.{◌≡◌, take, length}
+use Rattle.std.proofs.Common.{◌≡◌, take}
 use Rattle.value_cache.proofs.same.same_values.Given as goal
 
 abbrev pub invariant-loop-index : goal.invariant-loop-index
