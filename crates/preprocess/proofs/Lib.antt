@@ -1,4 +1,8 @@
 mod Reading
 mod Rows
+mod Chaining
 mod Walking
 mod Visiting
+mod Apart
+mod Keeping
+mod Becoming

@@ -31,14 +31,14 @@ at_suc xs k =
     let m : suc k - 1 ≡ k = omega arith in
     rw (t, m) refl
 
-with_suc : {A : Type 0} (rows : List A) (k : ℕ) (row : A) → with_row rows (suc k) row ≡ set rows k row
+pub with_suc : {A : Type 0} (rows : List A) (k : ℕ) (row : A) → with_row rows (suc k) row ≡ set rows k row
 unfolding with_row
 with_suc rows k row =
     let t : (suc k == 0) ≡ false = ne_eqb (suc k) 0 (λ q. absurd (omega arith)) in
     let m : suc k - 1 ≡ k = omega arith in
     rw (t, m) refl
 
-with_zero : {A : Type 0} (rows : List A) (row : A) → with_row rows 0 row ≡ rows
+pub with_zero : {A : Type 0} (rows : List A) (row : A) → with_row rows 0 row ≡ rows
 unfolding with_row
 with_zero rows row = refl
 
@@ -55,7 +55,7 @@ row_other rows (suc k) (suc j) row ne =
     ap (λ xs. at_id xs (suc j)) (with_suc rows k row) ∙ at_suc (set rows k row) j ∙ get_set_other rows k j row (λ e. ne (ap suc e)) ∙ sym (at_suc rows j)
 
 -- a row that is there
-there : {A : Type 0} (xs : List A) (i : ℕ) → i < length xs → (x : A) × (slice_get xs i ≡ Some x)
+pub there : {A : Type 0} (xs : List A) (i : ℕ) → i < length xs → (x : A) × (slice_get xs i ≡ Some x)
 there [] i h = absurd (omega arith)
 there (x ∷ xs) zero h = (x, refl)
 there (x ∷ xs) (suc i) h = there xs i (omega arith)

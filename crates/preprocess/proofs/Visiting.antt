@@ -14,11 +14,11 @@ use Rattle.preprocess.specs.declared.chain.Chained.{Chained}
 use Rattle.preprocess.specs.declared.visit.Visit.{Visit}
 use Rattle.preprocess.proofs.Rows.{at_zero, at_suc}
 
-abbrev Memory : Type 0
+abbrev pub Memory : Type 0
 Memory = ℕ → ℕ → StepMemory
 
 -- what the search finds at an item
-abbrev found : Conf → Memory → Arrival → ℕ → Option Visit
+abbrev pub found : Conf → Memory → Arrival → ℕ → Option Visit
 found conf memory arrival id = option_map (visit_of id) (result_of conf memory arrival id)
 
 -- ---- lists
@@ -39,7 +39,7 @@ middle (y ∷ xs) x ys = middle xs x ys
 at_middle : {A : Type 0} (xs : List A) (x : A) (ys : List A) → at_id (xs ++ x ∷ ys) (length xs + 1) ≡ Some x
 at_middle xs x ys = rw add-one (at_suc (xs ++ x ∷ ys) (length xs) ∙ middle xs x ys)
 
-both : (a b : Bool) → (a && b) ≡ true → (a ≡ true) × (b ≡ true)
+pub both : (a b : Bool) → (a && b) ≡ true → (a ≡ true) × (b ≡ true)
 both true b h = (refl, h)
 both false b h = absurd (true≢false (sym h))
 
@@ -60,7 +60,7 @@ dependents_at P all id h before (item ∷ items) e =
     (dependents_at P all id h (before ++ item ∷ []) items (append_assoc before (item ∷ []) items ∙ e)))
     (depends_on id item) refl
 
-each_dependent : (P : ℕ → Type 0) (conf : Conf) (id : ℕ) → ((c : ℕ) (item : Item) → at_id conf.items c ≡ Some item → depends_on id item ≡ true → P c)
+pub each_dependent : (P : ℕ → Type 0) (conf : Conf) (id : ℕ) → ((c : ℕ) (item : Item) → at_id conf.items c ≡ Some item → depends_on id item ≡ true → P c)
     → AllByRecursion P (dependents_of conf id)
 unfolding dependents_of
 each_dependent P conf id h = dependents_at P conf.items id h [] conf.items refl
@@ -191,3 +191,7 @@ first_taken conf memory arrival h = go (at_id conf.items arrival.item) refl h
 
 pub first_refused : (conf : Conf) (memory : Memory) (arrival : Arrival) → takes conf arrival.item ≡ false → [] ≡ visits_of conf memory arrival
 first_refused conf memory arrival h = no_visits conf memory arrival (λ t. true≢false (sym t.2 ∙ sym (ap takes_by t.1) ∙ h))
+
+pub visits_is : (conf : Conf) (memory : Memory) (arrival : Arrival) → visits_of conf memory arrival ≡ filter_map (found conf memory arrival) (visited conf (length conf.items) arrival.item)
+unfolding visits_of
+visits_is conf memory arrival = refl

@@ -58,17 +58,22 @@ comes_of [] k memory value time = Value value
 comes_of (step ∷ steps) k memory value time =
     going_on (λ v. comes_of steps (k + 1) memory v time) (settled step k (step_done step (memory k) value time).outcome)
 
-abbrev pub where_on : (List ℕ → List StepMemory) → Outcome → List StepMemory
-where_on f (Value value) = f value
-where_on f Discard = []
-where_on f (Fail why) = []
+-- what steps remember that a value doesn't reach, the first of which has this number
+abbrev pub unreached : List StepSpec → ℕ → (ℕ → StepMemory) → List StepMemory
+unreached [] k memory = []
+unreached (step ∷ steps) k memory = memory k ∷ unreached steps (k + 1) memory
 
--- what the steps to which the value comes remember from then on, in their order
+abbrev pub where_on : (List ℕ → List StepMemory) → List StepMemory → Outcome → List StepMemory
+where_on f rest (Value value) = f value
+where_on f rest Discard = rest
+where_on f rest (Fail why) = rest
+
+-- what some steps remember from then on, in their order: a step that the value doesn't reach what it did
 unfoldable pub marks_of : List StepSpec → ℕ → (ℕ → StepMemory) → List ℕ → ℕ → List StepMemory
 marks_of [] k memory value time = []
 marks_of (step ∷ steps) k memory value time =
     (step_done step (memory k) value time).memory
-    ∷ where_on (λ v. marks_of steps (k + 1) memory v time) (settled step k (step_done step (memory k) value time).outcome)
+    ∷ where_on (λ v. marks_of steps (k + 1) memory v time) (unreached steps (k + 1) memory) (settled step k (step_done step (memory k) value time).outcome)
 
 -- the last reading of a number item: its value is the number that the text writes between blanks, and its text that number
 -- written (this project's own)

@@ -7,3 +7,6 @@ pub mod Chains
 pub mod Rows
 pub mod Visits
 pub mod Walks
+pub mod Draft
+pub mod Putting
+pub mod Cells

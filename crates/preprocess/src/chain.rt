@@ -1,9 +1,9 @@
 //! One item's chain over one value.
 
-ghost use Rattle.std.specs.Prelude.{◌≡◌, IfOk, None, map, option_copied, slice_index_or};
+ghost use Rattle.std.specs.Prelude.{◌≡◌, ◌+◌, ◌++◌, IfOk, None, drop, map, option_copied, slice_index_or};
 ghost use Rattle.zbx_types.specs.Steps.{has_pattern};
 ghost use Rattle.prep_steps.specs.Outcomes.{kept};
-ghost use Rattle.preprocess.specs.Chain.{ended_as, chain_of, comes_of, marks_of};
+ghost use Rattle.preprocess.specs.Chain.{ended_as, chain_of, comes_of, marks_of, unreached};
 ghost use Rattle.preprocess.specs.Parsing.{IsParsed};
 ghost use Rattle.preprocess.specs.Ways.{path_for, memory_at, HavePatterns};
 
@@ -21,11 +21,11 @@ use zbx_types::{Item, Many, Moment, OutOfMemory, StepSpec, Text};
 pub struct Chained {
     /// What comes of the value.
     pub end: Ended,
-    /// What the steps to which the value came remember from then on, in their order.
+    /// What each step remembers from then on, in their order.
     pub marks: Many<StepMemory>,
 }
 
-/// What comes of a value at the end of its steps, and what those to which it came remember.
+/// What comes of a value at the end of its steps, and what each of them remembers.
 #[derive(Drop)]
 struct Passed {
     outcome: Outcome,
@@ -54,6 +54,23 @@ fn path_at(paths: &[Option<Path>], index: usize) -> Option<&Path>
         Some(path) => path.as_ref(),
         None => None,
     }
+}
+
+/// The memories of steps, with those from a place on, which a value doesn't reach, behind them.
+fn with_unreached(
+    alloc: Global,
+    mut marks: Many<StepMemory>,
+    steps: &[StepSpec],
+    memories: &[StepMemory],
+    from: usize,
+) -> Result<Many<StepMemory>, OutOfMemory>
+    ensures { IfOk result (λ all. all ≡ marks ++ unreached (drop from steps.now) (from + 1) (memory_at memories.now)) }
+{
+    let unmarked = StepMemory::new(alloc);
+    for index in from..steps.len() {
+        marks.push(memory_at(memories, index, &unmarked).copy(alloc)?)?;
+    }
+    Ok(marks)
 }
 
 /// A value at all steps, one after the other.
@@ -93,13 +110,13 @@ fn pass_steps(
             Outcome::Discard => {
                 return Ok(Passed {
                     outcome: Outcome::Discard,
-                    marks,
+                    marks: with_unreached(alloc, marks, steps, memories, index + 1)?,
                 });
             }
             Outcome::Fail(why) => {
                 return Ok(Passed {
                     outcome: Outcome::Fail(why),
-                    marks,
+                    marks: with_unreached(alloc, marks, steps, memories, index + 1)?,
                 });
             }
         }
