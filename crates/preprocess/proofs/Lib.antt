@@ -6,3 +6,4 @@ mod Visiting
 mod Apart
 mod Keeping
 mod Becoming
+mod Plain

@@ -1,6 +1,8 @@
 -- What the steps of a chain are given.
-use Rattle.std.specs.Prelude.{◌≡◌, ℕ, ◌-◌, Bool, true, List, Option, None, All, Contains, map, slice_index_or, if◌then◌else◌}
+use Rattle.std.specs.Prelude.{◌≡◌, ℕ, ◌-◌, Bool, true, not, List, Option, None, All, Contains, map, slice_index_or, if◌then◌else◌}
 use Rattle.zbx_types.specs.Steps.{has_pattern}
+use Rattle.std.specs.List.{list_all}
+use Rattle.zbx_types.specs.declared.items.Item.{Item}
 use Rattle.zbx_types.specs.declared.steps.StepSpec.{StepSpec}
 use Rattle.json_path.specs.declared.path.Path.{Path}
 use Rattle.prep_steps.specs.Outcomes.{parameter, unmarked}
@@ -22,3 +24,10 @@ HasPattern patterns step = has_pattern step.kind ≡ true → Contains patterns 
 
 abbrev pub HavePatterns : List (List ℕ) → List StepSpec → Type 0
 HavePatterns patterns steps = All (HasPattern patterns) steps
+
+-- a step has no pattern, and none of an item's has
+abbrev pub is_plain : StepSpec → Bool
+is_plain step = not (has_pattern step.kind)
+
+abbrev pub are_plain : Item → Bool
+are_plain item = list_all is_plain item.steps
