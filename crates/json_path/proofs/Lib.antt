@@ -13,4 +13,5 @@ mod PathPasts
 mod Finishing
 mod Endings
 mod Reaching
+pub mod Deciding
 mod SelectionLemmas

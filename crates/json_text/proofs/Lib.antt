@@ -16,3 +16,4 @@ pub mod TreeLemmas
 pub mod WrittenLemmas
 pub mod AgainStrings
 pub mod Again
+pub mod Deciding

@@ -1,0 +1,9 @@
+mod Reading
+mod Rows
+mod Chaining
+mod Walking
+mod Visiting
+mod Apart
+mod Keeping
+mod Becoming
+mod Plain

@@ -1,0 +1,96 @@
+-- A walk by its parts.
+use Rattle.std.proofs.Common.{◌≡◌, ◌≢◌, ◌<◌, ◌≤◌, ◌+◌, ◌-◌, ℕ, zero, suc, List, [], ◌∷◌, ◌++◌, flat_map, Option, Some, None, refl, ap, sym, ◌∙◌, arith, append-nil, append_assoc, map, slice_get, true≢false, length, drop}
+use Rattle.std.proofs.lemmas.List.{drop_all}
+use Rattle.zbx_types.specs.Ids.{at_id}
+use Rattle.zbx_types.specs.declared.conf.Conf.{Conf}
+use Rattle.zbx_types.specs.declared.items.Item.{Item}
+use Rattle.prep_steps.specs.declared.memory.StepMemory.{StepMemory}
+use Rattle.preprocess.specs.Chain.{chain_of}
+use Rattle.std.specs.Option.{unwrap_or}
+use Rattle.preprocess.specs.Chains.{dependents_of, listed, paths_for, AreChainsOf}
+use Rattle.preprocess.specs.Ways.{path_for}
+use Rattle.preprocess.specs.declared.chains.Chains.{Chains}
+use Rattle.preprocess.proofs.Rows.{at_zero, at_suc, row_within}
+use Rattle.preprocess.specs.Visits.{visit_of, ended_text}
+use Rattle.preprocess.specs.Walks.{walk, walk_below, own_visit, given, with_text}
+use Rattle.preprocess.specs.declared.visit.Visit.{Visit}
+use Rattle.preprocess.specs.declared.chain.Chained.{Chained}
+
+-- no item: no visit
+pub walk_none : (conf : Conf) (memory : ℕ → ℕ → StepMemory) (time down id : ℕ) (value : List ℕ) → at_id conf.items id ≡ None → walk conf memory time down id value ≡ []
+unfolding walk
+walk_none conf memory time zero id value e = rw e refl
+walk_none conf memory time (suc down) id value e = rw e refl
+
+-- a value goes down where it is stored
+pub walk_is : (conf : Conf) (memory : ℕ → ℕ → StepMemory) (time down id : ℕ) (value : List ℕ) (item : Item) → at_id conf.items id ≡ Some item
+    → walk conf memory time down id value
+    ≡ visit_of id (chain_of item (memory id) value time) ∷ with_text (λ text. walk_below conf memory time down (dependents_of conf id) text) (ended_text (chain_of item (memory id) value time).end)
+unfolding walk walk_below
+walk_is conf memory time zero id value item e = rw e (go (ended_text (chain_of item (memory id) value time).end))
+  where
+    go : (o : Option (List ℕ)) → visit_of id (chain_of item (memory id) value time) ∷ [] ≡ visit_of id (chain_of item (memory id) value time) ∷ with_text (λ text. []) o
+    go None = refl
+    go (Some t) = refl
+walk_is conf memory time (suc down) id value item e = rw e refl
+
+pub below_none : (conf : Conf) (memory : ℕ → ℕ → StepMemory) (time down : ℕ) (ids value : List ℕ) → down ≡ 0 → walk_below conf memory time down ids value ≡ []
+unfolding walk_below
+below_none conf memory time down ids value e = rw e refl
+
+pub below_some : (conf : Conf) (memory : ℕ → ℕ → StepMemory) (time down : ℕ) (ids value : List ℕ) → down ≢ 0
+    → walk_below conf memory time down ids value ≡ flat_map (λ d. walk conf memory time (down - 1) d value) ids
+unfolding walk_below
+below_some conf memory time zero ids value ne = absurd (ne refl)
+below_some conf memory time (suc down) ids value ne = let m : suc down - 1 ≡ down = omega arith in rw m refl
+
+row_map : {A B : Type 0} (f : A → B) (xs : List A) (i : ℕ) (x : A) → slice_get xs i ≡ Some x → slice_get (map f xs) i ≡ Some (f x)
+row_map f [] i x e = absurd (true≢false (cc))
+row_map f (y ∷ xs) zero x e = let s : y ≡ x = cc in ap (λ z. Some (f z)) s
+row_map f (y ∷ xs) (suc i) x e = row_map f xs i x e
+
+listed_map : {A B : Type 0} (f : A → List B) (xs : List A) (id : ℕ) (x : A) → at_id xs id ≡ Some x → listed (map f xs) id ≡ f x
+listed_map f xs zero x e = let n = at_zero xs in absurd (true≢false (cc))
+listed_map f xs (suc k) x e = ap (λ o. unwrap_or o []) (at_suc (map f xs) k ∙ row_map f xs k x (sym (at_suc xs k) ∙ e))
+
+-- what was found at the opening, at an item that is there
+pub paths_are : (conf : Conf) (chains : Chains) (id : ℕ) (item : Item) → AreChainsOf conf chains → at_id conf.items id ≡ Some item → listed chains.paths.items id ≡ map path_for item.steps
+paths_are conf chains id item are e = ap (λ rows. listed rows id) are.paths ∙ listed_map paths_for conf.items id item e
+
+pub below_are : (conf : Conf) (chains : Chains) (id : ℕ) (item : Item) → AreChainsOf conf chains → at_id conf.items id ≡ Some item → listed chains.below.items id ≡ dependents_of conf id
+below_are conf chains id item are e = let w = row_within conf.items id item e in are.below id w.0 w.1
+
+-- what the visits so far come to
+pub nothing : (before w : List Visit) → w ≡ [] → before ≡ before ++ w
+nothing before w e = sym (ap (λ x. before ++ x) e ∙ append-nil before)
+
+pub stops : (conf : Conf) (memory : ℕ → ℕ → StepMemory) (time down id : ℕ) (value : List ℕ) (item : Item) (chained : Chained) (visit : Visit) (before pushed : List Visit)
+    → at_id conf.items id ≡ Some item → chained ≡ chain_of item (memory id) value time → visit ≡ visit_of id chained → pushed ≡ before ++ visit ∷ []
+    → ended_text chained.end ≡ None → pushed ≡ before ++ walk conf memory time down id value
+stops conf memory time down id value item chained visit before pushed e made is p none =
+    p ∙ ap (λ (v : Visit). before ++ v ∷ []) is
+    ∙ sym (ap (λ w. before ++ w) (walk_is conf memory time down id value item e
+    ∙ ap (λ (c : Chained). visit_of id c ∷ with_text (λ text. walk_below conf memory time down (dependents_of conf id) text) (ended_text c.end)) (sym made)
+    ∙ ap (λ o. visit_of id chained ∷ with_text (λ text. walk_below conf memory time down (dependents_of conf id) text) o) none))
+
+pub goes : (conf : Conf) (memory : ℕ → ℕ → StepMemory) (time down id : ℕ) (value text : List ℕ) (item : Item) (chained : Chained) (visit : Visit) (below : List ℕ) (before pushed after : List Visit)
+    → at_id conf.items id ≡ Some item → chained ≡ chain_of item (memory id) value time → visit ≡ visit_of id chained → pushed ≡ before ++ visit ∷ []
+    → ended_text chained.end ≡ Some text → below ≡ dependents_of conf id → after ≡ pushed ++ walk_below conf memory time down below text
+    → after ≡ before ++ walk conf memory time down id value
+goes conf memory time down id value text item chained visit below before pushed after e made is p some b a =
+    a ∙ ap (λ x. x ++ walk_below conf memory time down below text) (p ∙ ap (λ (v : Visit). before ++ v ∷ []) is)
+    ∙ append_assoc before (visit_of id chained ∷ []) (walk_below conf memory time down below text)
+    ∙ ap (λ ids. before ++ visit_of id chained ∷ walk_below conf memory time down ids text) b
+    ∙ sym (ap (λ w. before ++ w) (walk_is conf memory time down id value item e
+    ∙ ap (λ (c : Chained). visit_of id c ∷ with_text (λ t. walk_below conf memory time down (dependents_of conf id) t) (ended_text c.end)) (sym made)
+    ∙ ap (λ o. visit_of id chained ∷ with_text (λ t. walk_below conf memory time down (dependents_of conf id) t) o) some))
+
+-- the item that a look-up found
+pub at_found : (items list : List Item) (id : ℕ) (found : Option Item) → list ≡ items → found ≡ at_id list id → at_id items id ≡ found
+at_found items list id found same e = sym (e ∙ ap (λ xs. at_id xs id) same)
+
+-- all items of a level are passed
+pub finished : (one : ℕ → List Visit) (ids : List ℕ) (index : ℕ) (before after whole : List Visit) → length ids ≤ index
+    → after ++ flat_map one (drop index ids) ≡ before ++ flat_map one ids → whole ≡ flat_map one ids → after ≡ before ++ whole
+finished one ids index before after whole past is w =
+    sym (ap (λ x. after ++ flat_map one x) (drop_all index ids past) ∙ append-nil after) ∙ is ∙ ap (λ x. before ++ x) (sym w)

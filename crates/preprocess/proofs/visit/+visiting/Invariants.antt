@@ -1,0 +1,15 @@
+use Rattle.std.proofs.Common.{◌≡◌, ◌++◌, ◌+◌, ◌-◌, ◌*◌, drop, flat_map}
+use Rattle.preprocess.specs.Visits.{memory_in}
+use Rattle.preprocess.specs.Walks.{walk}
+use Rattle.preprocess.proofs.visit.+visiting.Given as goal
+
+abbrev pub decreases-go_through : goal.decreases-go_through
+decreases-go_through l = 2 * l.down + 1
+
+abbrev pub decreases-visit_below : goal.decreases-visit_below
+decreases-visit_below l = 2 * l.down
+
+abbrev pub invariant-visit_below-loop-id : goal.invariant-visit_below-loop-id
+invariant-visit_below-loop-id l =
+    l.visits ++ flat_map (λ d. walk l.conf (memory_in l.memories) l.time (l.down - 1) d l.value) (drop l.id-index l.ids)
+    ≡ l.fn.visits ++ flat_map (λ d. walk l.conf (memory_in l.memories) l.time (l.down - 1) d l.value) l.ids

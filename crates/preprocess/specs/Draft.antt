@@ -1,0 +1,94 @@
+-- What the visits of an entry's value leave.
+use Rattle.std.specs.Prelude.{◌≢◌, ◌<◌, ℕ, ◌==◌, List, [], ◌∷◌, filter_map, Option, Some, None, IfSome, if◌then◌else◌, ⊤}
+use Rattle.std.specs.List.{AllByRecursion}
+use Rattle.zbx_types.specs.Ids.{at_id}
+use Rattle.zbx_types.specs.declared.conf.Conf.{Conf}
+use Rattle.zbx_types.specs.declared.conf.Host.{Host}
+use Rattle.zbx_types.specs.declared.entries.Rec.{Rec}
+use Rattle.zbx_types.specs.declared.entries.Rec.TheVariants.{Failure}
+use Rattle.zbx_types.specs.declared.entries.Stored.{Stored}
+use Rattle.zbx_types.specs.declared.items.Item.{Item}
+use Rattle.prep_steps.specs.declared.memory.StepMemory.{StepMemory}
+use Rattle.value_cache.specs.Cells.{CellView, trim}
+use Rattle.value_cache.specs.Histories.{placed}
+use Rattle.value_cache.specs.declared.keeping.Keep.{Keep}
+use Rattle.preprocess.specs.declared.visit.Outcome.{Outcome}
+use Rattle.preprocess.specs.declared.visit.Outcome.TheVariants as outcome
+use Rattle.preprocess.specs.declared.visit.Visit.{Visit}
+
+-- no visit is of this item
+abbrev pub IsOther : ℕ → List Visit → Type 0
+IsOther id visits = AllByRecursion (λ v. v.item ≢ id) visits
+
+-- the visits are of different items
+abbrev pub AreApart : List Visit → Type 0
+AreApart [] = ⊤
+AreApart (v ∷ visits) = IsOther v.item visits × AreApart visits
+
+-- what a cell keeps, whatever room it has
+pub record Kept : Type 0 where
+  pub keep : Keep
+  pub values : List Stored
+
+abbrev pub kept_of : CellView → Kept
+kept_of cell = record { keep = cell.keep; values = cell.values }
+
+-- what a cell keeps with one more value at a moment, if there is one
+abbrev pub kept_with : ℕ → Option Stored → Kept → Kept
+kept_with now None kept = kept
+kept_with now (Some stored) kept = record { keep = kept.keep; values = trim kept.keep now (placed stored kept.values) }
+
+-- the value that a visit stores
+abbrev pub stored_by : ℕ → ℕ → Outcome → Option Stored
+stored_by time number (outcome.Stored held) = Some (record { time = time; number = number; value = held })
+stored_by time number outcome.Discarded = None
+stored_by time number (outcome.Failed why) = None
+
+-- the visit of an item
+abbrev pub visit_at : List Visit → ℕ → Option Visit
+visit_at [] id = None
+visit_at (v ∷ visits) id = if v.item == id then Some v else visit_at visits id
+
+-- what an item's cell keeps, and what its steps remember, behind a visit, if there is one
+abbrev pub kept_after : ℕ → ℕ → ℕ → Option Visit → Kept → Kept
+kept_after now time number None kept = kept
+kept_after now time number (Some v) kept = kept_with now (stored_by time number v.outcome) kept
+
+abbrev pub marks_after : Option Visit → List StepMemory → List StepMemory
+marks_after None marks = marks
+marks_after (Some v) marks = v.marks
+
+-- the ids of the items that store a value, in the order of visiting
+abbrev pub stored_id : Visit → Outcome → Option ℕ
+stored_id v (outcome.Stored held) = Some v.item
+stored_id v outcome.Discarded = None
+stored_id v (outcome.Failed why) = None
+
+abbrev pub stored_ids : List Visit → List ℕ
+stored_ids visits = filter_map (λ v. stored_id v v.outcome) visits
+
+-- the Failure record of a visit that failed
+abbrev pub name_of : Option Host → List ℕ
+name_of None = []
+name_of (Some host) = host.name
+
+abbrev pub failure_by : Conf → ℕ → List ℕ → Option Item → Option Rec
+failure_by conf number why None = None
+failure_by conf number why (Some item) = Some (Failure number (name_of (at_id conf.hosts item.host)) item.key why)
+
+abbrev pub failure_of : Conf → ℕ → Visit → Outcome → Option Rec
+failure_of conf number v (outcome.Stored held) = None
+failure_of conf number v outcome.Discarded = None
+failure_of conf number v (outcome.Failed why) = failure_by conf number why (at_id conf.items v.item)
+
+-- the Failure records, in the order of visiting
+abbrev pub failures_of : Conf → ℕ → List Visit → List Rec
+failures_of conf number visits = filter_map (λ v. failure_of conf number v v.outcome) visits
+
+-- there is room for a value of an item, if it has a cell
+abbrev pub HasRoom : List CellView → ℕ → Type 0
+HasRoom cells id = IfSome (at_id cells id) (λ cell. 0 < cell.room)
+
+-- there is room for a value at each visit
+abbrev pub HaveRoom : List CellView → List Visit → Type 0
+HaveRoom cells visits = AllByRecursion (λ v. HasRoom cells v.item) visits

@@ -1,0 +1,12 @@
+pub mod Readings
+pub mod JsonSteps
+pub mod Parsing
+pub mod Ways
+pub mod Chain
+pub mod Chains
+pub mod Rows
+pub mod Visits
+pub mod Walks
+pub mod Draft
+pub mod Putting
+pub mod Cells

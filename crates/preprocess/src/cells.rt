@@ -1,0 +1,92 @@
+//! What a run keeps of the items.
+
+ghost use Rattle.std.specs.Prelude.{◌≡◌, IfOk, OnOk, map, option_copied, ℕ};
+ghost use Rattle.zbx_types.specs.Ids.{at_id};
+ghost use Rattle.prep_steps.specs.Outcomes.{unmarked};
+ghost use Rattle.preprocess.specs.Cells.{AreNew, empty, no_marks};
+ghost use Rattle.preprocess.specs.Draft.{kept_of, HasRoom};
+
+use prep_steps::StepMemory;
+use std::alloc::Global;
+use value_cache::{ItemCell, Keep, keeps};
+use zbx_types::{Conf, Item, Many, OutOfMemory, by_id};
+
+/// What a run keeps of the items of a configuration, in the order of their ids: the cell of each, and what its steps
+/// remember.
+#[derive(Drop)]
+pub struct Cells {
+    pub(crate) cells: Vec<ItemCell>,
+    pub(crate) memories: Vec<Many<StepMemory>>,
+}
+
+/// Cells without values.
+
+fn empty_cells(alloc: Global, keeps: &[Keep]) -> Result<Vec<ItemCell>, OutOfMemory>
+    ensures { IfOk result (λ cells. map kept_of cells.items ≡ map empty keeps.now) }
+{
+    let mut cells = Vec::new(alloc);
+    for keep in keeps {
+        cells.push(ItemCell::new(alloc, *keep))?;
+    }
+    Ok(cells)
+}
+
+/// The memories of steps that no value has marked.
+fn no_marks(alloc: Global, item: &Item) -> Result<Many<StepMemory>, OutOfMemory>
+    ensures { IfOk result (λ marks. marks ≡ no_marks item.now) }
+{
+    let mut marks = Many::new(alloc);
+    for _step in item.steps.as_slice() {
+        marks.push(StepMemory::new(alloc))?;
+    }
+    Ok(marks)
+}
+
+/// The same of each item.
+fn all_marks(alloc: Global, items: &[Item]) -> Result<Vec<Many<StepMemory>>, OutOfMemory>
+    ensures { IfOk result (λ memories. memories.items ≡ map no_marks items.now) }
+{
+    let mut memories = Vec::new(alloc);
+    for item in items {
+        memories.push(no_marks(alloc, item)?)?;
+    }
+    Ok(memories)
+}
+
+impl Cells {
+    /// The cells before the first entry of a configuration: without values, and no step has a mark. Each cell is to keep
+    /// what the calls of the configuration ask for. [`OutOfMemory`] where there is no room for them.
+    pub fn new(alloc: Global, conf: &Conf) -> Result<Cells, OutOfMemory>
+        ensures { IfOk result (λ cells. AreNew conf.now cells) }
+    {
+        let keeps = keeps(alloc, conf)?;
+        Ok(Cells {
+            cells: empty_cells(alloc, keeps.as_slice())?,
+            memories: all_marks(alloc, conf.items.as_slice())?,
+        })
+    }
+
+    /// The cell of the item with an id. Takes no memory.
+    pub fn cell(&self, id: u32) -> Option<&ItemCell>
+        ensures { option_copied result ≡ at_id self.now.cells.items id }
+    {
+        by_id(self.cells.as_slice(), id)
+    }
+}
+
+/// Makes room for one more value of an item, if it has a cell.
+#[tactic(auto, using(crate::proofs::Keeping::kept_set, crate::proofs::Keeping::room_own, crate::proofs::Keeping::room_none, crate::proofs::Keeping::room_past, crate::proofs::Keeping::room_other))]
+pub(crate) fn reserve_at(cells: &mut Vec<ItemCell>, id: u32) -> Result<(), OutOfMemory>
+    ensures same { map kept_of cells.new.items ≡ map kept_of cells.old.items }
+    ensures room { OnOk result (HasRoom cells.new.items id) }
+    ensures others { OnOk result ((other : ℕ) → HasRoom cells.old.items other → HasRoom cells.new.items other) }
+{
+    if id == 0 {
+        return Ok(());
+    }
+    let index = id as usize - 1;
+    if index >= cells.len() {
+        return Ok(());
+    }
+    cells[index].reserve()
+}

@@ -1,0 +1,178 @@
+//! What an entry's value is to leave: prepared, and then put in place.
+
+ghost use Rattle.std.specs.Prelude.{◌≡◌, ◌≢◌, IfOk, OnOk, OnErr, map, ℕ};
+ghost use Rattle.preprocess.specs.Cells.{AreSame, Becomes, draft_of};
+ghost use Rattle.preprocess.specs.Chains.{AreChainsOf};
+ghost use Rattle.preprocess.specs.Draft.{AreApart, HasRoom, HaveRoom, kept_of, name_of, failure_of, failures_of, stored_id, stored_ids};
+ghost use Rattle.preprocess.specs.Visits.{ArePatternsOf};
+ghost use Rattle.zbx_types.specs.Ids.{at_id};
+
+use crate::cells::{Cells, reserve_at};
+use crate::chains::Chains;
+use crate::putting::put;
+use crate::visit::{Outcome, Visit, visits};
+use pattern_set::Patterns;
+use std::alloc::Global;
+use std::convert::AsStr;
+use value_cache::ItemCell;
+use zbx_types::{Conf, Many, Moment, OutOfMemory, Rec, Text, by_id};
+
+/// What an entry's value did.
+#[derive(Drop)]
+pub struct Prepared {
+    /// The ids of the items that stored a value, in the order of visiting.
+    pub stored: Many<u32>,
+    /// The Failure records, in that order.
+    pub failures: Many<Rec>,
+}
+
+/// What an entry's value is to leave in the cells: it has all memory that it takes to put it in place.
+#[derive(Drop)]
+pub struct Draft {
+    visits: Many<Visit>,
+    time: Moment,
+    number: u64,
+    prepared: Prepared,
+}
+
+fn stored_id(visit: &Visit) -> Option<u32>
+    ensures { result ≡ stored_id visit.now visit.now.outcome }
+{
+    match &visit.outcome {
+        Outcome::Stored(_) => Some(visit.item),
+        Outcome::Discarded | Outcome::Failed(_) => None,
+    }
+}
+
+/// The items that store a value.
+fn stored_ids(alloc: Global, visits: &[Visit]) -> Result<Many<u32>, OutOfMemory>
+    ensures { IfOk result (λ ids. ids ≡ stored_ids visits.now) }
+{
+    let mut ids = Many::new(alloc);
+    for visit in visits {
+        if let Some(id) = stored_id(visit) {
+            ids.push(id)?;
+        }
+    }
+    Ok(ids)
+}
+
+/// The name of a host by its id.
+fn name_of(conf: &Conf, host: u32) -> &str
+    ensures { result.now ≡ name_of (at_id conf.now.hosts host) }
+{
+    match by_id(conf.hosts.as_slice(), host) {
+        Some(host) => host.name.as_str(),
+        None => "",
+    }
+}
+
+/// The Failure record of a visit that failed.
+fn failure_of(
+    alloc: Global,
+    conf: &Conf,
+    number: u64,
+    visit: &Visit,
+) -> Result<Option<Rec>, OutOfMemory>
+    ensures { IfOk result (λ failure. failure ≡ failure_of conf.now number visit.now visit.now.outcome) }
+{
+    let Outcome::Failed(why) = &visit.outcome else {
+        return Ok(None);
+    };
+    let Some(item) = by_id(conf.items.as_slice(), visit.item) else {
+        return Ok(None);
+    };
+    Ok(Some(Rec::Failure {
+        number,
+        host: Text::of(alloc, name_of(conf, item.host))?,
+        key: item.key.copy(alloc)?,
+        why: why.copy(alloc)?,
+    }))
+}
+
+/// The Failure records.
+fn failures_of(
+    alloc: Global,
+    conf: &Conf,
+    number: u64,
+    visits: &[Visit],
+) -> Result<Many<Rec>, OutOfMemory>
+    ensures { IfOk result (λ failures. failures ≡ failures_of conf.now number visits.now) }
+{
+    let mut failures = Many::new(alloc);
+    for visit in visits {
+        if let Some(failure) = failure_of(alloc, conf, number, visit)? {
+            failures.push(failure)?;
+        }
+    }
+    Ok(failures)
+}
+
+/// Makes room for a value at each visit.
+fn reserve_all(cells: &mut Vec<ItemCell>, visits: &[Visit]) -> Result<(), OutOfMemory>
+    ensures same { map kept_of cells.new.items ≡ map kept_of cells.old.items }
+    ensures room { OnOk result (HaveRoom cells.new.items visits.now) }
+{
+    for visit in visits {
+        reserve_at(cells, visit.item)?;
+    }
+    Ok(())
+}
+
+/// Finds what an entry's value is to leave, and takes all memory for it; what the cells keep stays as it is.
+///
+/// The value of the entry with a number comes to an item, and what an item stores comes to its enabled dependents, each
+/// with its own before the next one, with the same time (the Zabbix 6.0 manual, "Dependent items"). A value that an item
+/// discards, or at which it fails, gives its dependents nothing. An item that isn't a trapper item takes no value.
+/// [`OutOfMemory`] where there is no room.
+#[tactic(auto, using(crate::proofs::Apart::visits_apart))]
+pub fn prepare(
+    alloc: Global,
+    conf: &Conf,
+    patterns: &Patterns,
+    chains: &Chains,
+    cells: &mut Cells,
+    item: u32,
+    value: &Text,
+    time: Moment,
+    number: u64,
+) -> Result<Draft, OutOfMemory>
+    requires chains { AreChainsOf conf.now chains.now }
+    requires patterns { ArePatternsOf conf.now patterns.now }
+    ensures draft { IfOk result (λ draft. draft ≡ draft_of conf.now cells.old (record { item = item; time = time; value = value.now }) number) }
+    ensures apart { IfOk result (λ draft. AreApart draft.visits) }
+    ensures room { IfOk result (λ draft. HaveRoom cells.new.cells.items draft.visits) }
+    ensures same { AreSame cells.new cells.old }
+{
+    let memories = cells.memories.as_slice();
+    let visits = visits(alloc, conf, patterns, chains, memories, item, value, time)?;
+    let stored = stored_ids(alloc, visits.as_slice())?;
+    let failures = failures_of(alloc, conf, number, visits.as_slice())?;
+    reserve_all(&mut cells.cells, visits.as_slice())?;
+    Ok(Draft {
+        visits,
+        time,
+        number,
+        prepared: Prepared { stored, failures },
+    })
+}
+
+/// Puts in place what was prepared last, over cells that have its room and still keep the same, at a moment that isn't
+/// before that of an earlier value. Takes no memory.
+pub fn commit(cells: &mut Cells, draft: Draft, now: Moment) -> Prepared
+    requires apart { AreApart draft.visits }
+    requires room { HaveRoom cells.old.cells.items draft.visits }
+    ensures prepared { result ≡ draft.prepared }
+    ensures cells { Becomes now draft.time draft.number draft.visits cells.old cells.new }
+{
+    let Draft {
+        visits,
+        time,
+        number,
+        prepared,
+    } = draft;
+    for visit in visits.into_vec() {
+        put(cells, visit, time, number, now);
+    }
+    prepared
+}

@@ -1,0 +1,76 @@
+//! What a visit leaves, put in place.
+
+ghost use Rattle.std.specs.Prelude.{◌≡◌, ◌≢◌, Some, map, ℕ};
+ghost use Rattle.preprocess.specs.Draft.{HasRoom, kept_of, stored_by};
+ghost use Rattle.preprocess.specs.Putting.{kept_put};
+ghost use Rattle.preprocess.specs.Rows.{with_row};
+
+use crate::cells::Cells;
+use crate::visit::{Outcome, Visit};
+use prep_steps::StepMemory;
+use value_cache::ItemCell;
+use zbx_types::{Many, Moment, Stored};
+
+/// What the steps of an item remember from now on.
+#[tactic(auto, using(crate::proofs::Keeping::marks_none, crate::proofs::Keeping::marks_past, crate::proofs::Keeping::marks_set))]
+fn put_marks(memories: &mut Vec<Many<StepMemory>>, item: u32, marks: Many<StepMemory>)
+    ensures { memories.new.items ≡ with_row memories.old.items item marks }
+{
+    if item == 0 {
+        return;
+    }
+    let index = item as usize - 1;
+    if index < memories.len() {
+        memories[index] = marks;
+    }
+}
+
+/// One more value of an item, if it has a cell.
+#[tactic(auto, using(crate::proofs::Keeping::put_none, crate::proofs::Keeping::put_past, crate::proofs::Keeping::put_kept, crate::proofs::Keeping::room_at, crate::proofs::Keeping::room_apart))]
+fn put_value(cells: &mut Vec<ItemCell>, item: u32, stored: Stored, now: Moment)
+    requires { HasRoom cells.old.items item }
+    ensures kept { map kept_of cells.new.items ≡ kept_put now (Some stored) item (map kept_of cells.old.items) }
+    ensures others { (other : ℕ) → other ≢ item → HasRoom cells.old.items other → HasRoom cells.new.items other }
+{
+    if item == 0 {
+        return;
+    }
+    let index = item as usize - 1;
+    if index >= cells.len() {
+        return;
+    }
+    cells[index].insert_reserved(stored, now);
+}
+
+/// The value that a visit stores, if it stores one.
+fn stored_by(outcome: Outcome, time: Moment, number: u64) -> Option<Stored>
+    ensures { result ≡ stored_by time number outcome }
+{
+    match outcome {
+        Outcome::Stored(value) => Some(Stored {
+            time,
+            number,
+            value,
+        }),
+        Outcome::Discarded | Outcome::Failed(_) => None,
+    }
+}
+
+/// What a visit leaves at a moment: the value that its item stores, and what the steps of the item remember.
+pub(crate) fn put(cells: &mut Cells, visit: Visit, time: Moment, number: u64, now: Moment)
+    requires { HasRoom cells.old.cells.items visit.item }
+    ensures kept { map kept_of cells.new.cells.items ≡ kept_put now (stored_by time number visit.outcome) visit.item (map kept_of cells.old.cells.items) }
+    ensures memories { cells.new.memories.items ≡ with_row cells.old.memories.items visit.item visit.marks }
+    ensures others { (other : ℕ) → other ≢ visit.item → HasRoom cells.old.cells.items other → HasRoom cells.new.cells.items other }
+{
+    let Visit {
+        item,
+        outcome,
+        marks,
+    } = visit;
+    put_marks(&mut cells.memories, item, marks);
+    match stored_by(outcome, time, number) {
+        Some(stored) => put_value(&mut cells.cells, item, stored, now),
+        None => {}
+    }
+}

@@ -1,0 +1,41 @@
+//! An entry's value, from its coming to the cells.
+
+ghost use Rattle.std.specs.Prelude.{◌≡◌, IfOk, OnOk, OnErr};
+ghost use Rattle.preprocess.specs.Cells.{AreSame, Becomes, draft_of, visits_in};
+ghost use Rattle.preprocess.specs.Visits.{ArePatternsOf};
+
+use crate::cells::Cells;
+use crate::chains::Chains;
+use crate::draft::{Prepared, commit, prepare};
+use pattern_set::Patterns;
+use std::alloc::Global;
+use zbx_types::{Conf, Moment, OutOfMemory, Text};
+
+/// Takes the value of the entry with a number, of a time, at a moment that isn't before that of an earlier value: what
+/// [`prepare`](crate::prepare) finds is put in place by [`commit`](crate::commit). It finds anew what
+/// [`Chains`](crate::Chains) keeps, so that a caller of many values calls these two.
+///
+/// The pattern of each step is among `patterns`. At [`OutOfMemory`] the cells keep what they did.
+#[tactic(auto, using(crate::proofs::Becoming::same_becomes))]
+pub fn run(
+    alloc: Global,
+    conf: &Conf,
+    patterns: &Patterns,
+    cells: &mut Cells,
+    item: u32,
+    value: &Text,
+    time: Moment,
+    now: Moment,
+    number: u64,
+) -> Result<Prepared, OutOfMemory>
+    requires { ArePatternsOf conf.now patterns.now }
+    ensures prepared { IfOk result (λ prepared. prepared ≡ (draft_of conf.now cells.old (record { item = item; time = time; value = value.now }) number).prepared) }
+    ensures cells { OnOk result (Becomes now time number (visits_in conf.now cells.old (record { item = item; time = time; value = value.now })) cells.old cells.new) }
+    ensures err { OnErr result (AreSame cells.new cells.old) }
+{
+    let chains = Chains::build(alloc, conf)?;
+    let draft = prepare(
+        alloc, conf, patterns, &chains, cells, item, value, time, number,
+    )?;
+    Ok(commit(cells, draft, now))
+}

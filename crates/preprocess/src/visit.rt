@@ -1,0 +1,206 @@
+//! The way of a value through an item and the items that depend on it.
+
+ghost use Rattle.std.specs.Prelude.{◌≡◌, ◌++◌, OnOk, IfOk};
+ghost use Rattle.preprocess.specs.Chains.{AreChainsOf, listed};
+ghost use Rattle.preprocess.specs.Visits.{ended_text, visit_of, memory_in, visits_of, ArePatternsOf};
+ghost use Rattle.preprocess.specs.Walks.{walk, walk_below, takes};
+
+use crate::chain::{Chained, run_chain};
+use crate::chains::Chains;
+use crate::ended::Ended;
+use pattern_set::Patterns;
+use prep_steps::StepMemory;
+use std::alloc::Global;
+use zbx_types::{Conf, Held, Many, Moment, OutOfMemory, Text, by_id};
+
+/// What an entry's value left at an item.
+#[derive(Drop)]
+pub(crate) enum Outcome {
+    /// The item stores this.
+    Stored(Held),
+    /// Nothing is stored, without an error.
+    Discarded,
+    /// It failed with this text.
+    Failed(Text),
+}
+
+/// What an entry's value did at an item to which it came.
+#[derive(Drop)]
+pub(crate) struct Visit {
+    pub(crate) item: u32,
+    pub(crate) outcome: Outcome,
+    /// What the steps to which it came remember from then on.
+    pub(crate) marks: Many<StepMemory>,
+}
+
+/// A visit, and the text that goes to the dependents.
+#[derive(Drop)]
+struct Visited {
+    visit: Visit,
+    text: Option<Text>,
+}
+
+/// What a chain leaves at an item.
+fn left_by(id: u32, chained: Chained) -> Visited
+    ensures visit { result.visit ≡ visit_of id chained }
+    ensures text { result.text ≡ ended_text chained.end }
+{
+    let Chained { end, marks } = chained;
+    match end {
+        Ended::Stored { held, text } => Visited {
+            visit: Visit {
+                item: id,
+                outcome: Outcome::Stored(held),
+                marks,
+            },
+            text: Some(text),
+        },
+        Ended::Discarded => Visited {
+            visit: Visit {
+                item: id,
+                outcome: Outcome::Discarded,
+                marks,
+            },
+            text: None,
+        },
+        Ended::Failed(why) => Visited {
+            visit: Visit {
+                item: id,
+                outcome: Outcome::Failed(why),
+                marks,
+            },
+            text: None,
+        },
+    }
+}
+
+/// The memories of an item's steps.
+fn memories_of(memories: &[Many<StepMemory>], id: u32) -> &[StepMemory]
+    ensures { result.now ≡ listed memories.now id }
+{
+    match by_id(memories, id) {
+        Some(own) => own.as_slice(),
+        None => &[],
+    }
+}
+
+/// A value at an item, and at those below it, so many levels down.
+#[cycle(visiting)]
+#[tactic(auto, using(crate::proofs::Walking::walk_none, crate::proofs::Walking::walk_is))]
+pub(crate) fn go_through(
+    alloc: Global,
+    conf: &Conf,
+    patterns: &Patterns,
+    chains: &Chains,
+    memories: &[Many<StepMemory>],
+    time: Moment,
+    visits: &mut Many<Visit>,
+    id: u32,
+    value: &Text,
+    down: usize,
+) -> Result<(), OutOfMemory>
+    requires chains { AreChainsOf conf.now chains.now }
+    requires patterns { ArePatternsOf conf.now patterns.now }
+    ensures { OnOk result (visits.new ≡ visits.old ++ walk conf.now (memory_in memories.now) time down id value.now) }
+{
+    let Some(item) = by_id(conf.items.as_slice(), id) else {
+        return Ok(());
+    };
+    let own = memories_of(memories, id);
+    let chained = run_chain(alloc, item, chains.paths(id), patterns, own, value, time)?;
+    let Visited { visit, text } = left_by(id, chained);
+    visits.push(visit)?;
+    match text {
+        None => Ok(()),
+        Some(text) => {
+            let below = chains.below(id);
+            visit_below(
+                alloc, conf, patterns, chains, memories, time, visits, below, &text, down,
+            )
+        }
+    }
+}
+
+/// A value at some items, one level down.
+#[cycle(visiting)]
+#[tactic(auto, using(crate::proofs::Walking::below_none, crate::proofs::Walking::below_some))]
+fn visit_below(
+    alloc: Global,
+    conf: &Conf,
+    patterns: &Patterns,
+    chains: &Chains,
+    memories: &[Many<StepMemory>],
+    time: Moment,
+    visits: &mut Many<Visit>,
+    ids: &[u32],
+    value: &Text,
+    down: usize,
+) -> Result<(), OutOfMemory>
+    requires chains { AreChainsOf conf.now chains.now }
+    requires patterns { ArePatternsOf conf.now patterns.now }
+    ensures { OnOk result (visits.new ≡ visits.old ++ walk_below conf.now (memory_in memories.now) time down ids.now value.now) }
+{
+    if down == 0 {
+        return Ok(());
+    }
+    for id in ids {
+        go_through(
+            alloc,
+            conf,
+            patterns,
+            chains,
+            memories,
+            time,
+            visits,
+            *id,
+            value,
+            down - 1,
+        )?;
+    }
+    Ok(())
+}
+
+/// Whether an item takes the values of entries.
+fn takes(conf: &Conf, item: u32) -> bool
+    ensures { result ≡ takes conf.now item }
+{
+    match by_id(conf.items.as_slice(), item) {
+        Some(item) => item.kind.is_trapper(),
+        None => false,
+    }
+}
+
+/// The visits of an entry's value.
+#[tactic(auto, using(crate::proofs::Visiting::first_taken, crate::proofs::Visiting::first_refused))]
+pub(crate) fn visits(
+    alloc: Global,
+    conf: &Conf,
+    patterns: &Patterns,
+    chains: &Chains,
+    memories: &[Many<StepMemory>],
+    item: u32,
+    value: &Text,
+    time: Moment,
+) -> Result<Many<Visit>, OutOfMemory>
+    requires chains { AreChainsOf conf.now chains.now }
+    requires patterns { ArePatternsOf conf.now patterns.now }
+    ensures { IfOk result (λ visits. visits ≡ visits_of conf.now (memory_in memories.now) (record { item = item; time = time; value = value.now })) }
+{
+    let mut visits = Many::new(alloc);
+    if !takes(conf, item) {
+        return Ok(visits);
+    }
+    go_through(
+        alloc,
+        conf,
+        patterns,
+        chains,
+        memories,
+        time,
+        &mut visits,
+        item,
+        value,
+        conf.items.len(),
+    )?;
+    Ok(visits)
+}
