@@ -6,6 +6,7 @@ ghost use Rattle.entry_step.specs.Records.{triggers_over};
 
 use crate::lists::lists_of;
 use crate::names::{hosts_of, keys_of};
+use crate::rows::listed;
 use std::alloc::Global;
 use std::collections::HashMap;
 use std::convert::AsStr;
@@ -19,8 +20,8 @@ use zbx_types::{Conf, Many, OutOfMemory, Text};
 pub struct Ready {
     conf: Conf,
     hosts: HashMap<String, u32>,
-    keys: HashMap<u32, HashMap<String, u32>>,
-    over: HashMap<u32, Many<u32>>,
+    keys: Vec<HashMap<String, u32>>,
+    over: Vec<Many<u32>>,
 }
 
 impl Model for Ready {
@@ -35,7 +36,7 @@ impl Model for Ready {
 
     ghost view = { λ r. r.conf };
 
-    ghost invariant = { λ r. IsIndex r.conf r.hosts r.keys r.over };
+    ghost invariant = { λ r. IsIndex r.conf r.hosts r.keys.items r.over.items };
 }
 
 impl Ready {
@@ -44,7 +45,8 @@ impl Ready {
     /// # Errors
     ///
     /// `OutOfMemory` where memory was refused, which a configuration whose hosts, items or triggers can't be counted in
-    /// 32 bits stands for too.
+    /// 32 bits stands for too. There is room for each id of a host or an item that is named and for each depth, up to the
+    /// greatest of them, whether it is in the configuration or not.
     pub fn build(alloc: Global, conf: Conf) -> Result<Ready, OutOfMemory>
         ensures { IfOk result (λ ready. ready ≡ conf) }
     {
@@ -77,7 +79,7 @@ impl Ready {
     pub fn item_keyed(&self, host: u32, key: &Text) -> Option<u32>
         ensures { result ≡ item_keyed self.now host key.now }
     {
-        match self.keys.get(&host) {
+        match self.keys.get(host as usize) {
             None => None,
             Some(ids) => ids.get(key.as_str()).copied(),
         }
@@ -87,9 +89,6 @@ impl Ready {
     pub(crate) fn over(&self, item: u32) -> &[u32]
         ensures { result.now ≡ triggers_over self.now item }
     {
-        match self.over.get(&item) {
-            None => &[],
-            Some(ids) => ids.as_slice(),
-        }
+        listed(self.over.as_slice(), item as usize)
     }
 }

@@ -40,6 +40,7 @@ mod names;
 mod opens;
 mod order;
 mod records;
+mod rows;
 mod stepping;
 mod steps;
 

@@ -6,4 +6,4 @@ use Rattle.entry_step.specs.Index.{listed}
 use Rattle.entry_step.proofs.lists.lists_of.Given as goal
 
 abbrev pub invariant-loop-id : goal.invariant-loop-id
-invariant-loop-id l = (q : ℕ) → listed l.over q ≡ filter (λ id. is_over q (at_id l.conf.triggers id)) (take l.id-index (order l.conf))
+invariant-loop-id l = (q : ℕ) → listed l.over.items q ≡ filter (λ id. is_over q (at_id l.conf.triggers id)) (take l.id-index (order l.conf))
