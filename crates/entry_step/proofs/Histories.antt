@@ -18,7 +18,8 @@ use Rattle.zbx_types.specs.declared.entries.Held.{Held}
 use Rattle.zbx_types.specs.declared.entries.Stored.{Stored}
 use Rattle.entry_step.specs.Each.{Each, In}
 use Rattle.entry_step.specs.History.{kept_by, stored_of, placed}
-use Rattle.entry_step.specs.Evaluation.{last_number, up_to, function_value, call_value, expression_value}
+use Rattle.expr_eval.specs.Values.{value_over}
+use Rattle.entry_step.specs.Evaluation.{last_number, up_to, function_value, call_value}
 use Rattle.entry_step.specs.Problems.{absorbed_all, grown}
 use Rattle.entry_step.specs.Records.{verdict_records, judged, judged_by, evaluated, phase}
 use Rattle.entry_step.specs.Represents.{first_of}
@@ -150,7 +151,7 @@ evaluated_same conf number now a b p q id same e = ap (judged_by conf a number n
     go : (t : Option Trigger) → at_id conf.triggers id ≡ t → judged_by conf a number now id t (q id) ≡ judged_by conf b number now id t (q id)
     go None w = refl
     go (Some trigger) w =
-        ap (λ (calls : ℕ → Option ℤ). verdict_records conf number now id trigger (q id) (expression_value calls (tree_of trigger.expr)))
+        ap (λ (calls : ℕ → Option ℤ). verdict_records conf number now id trigger (q id) (value_over calls (tree_of trigger.expr)))
         (fun_ext (call_same now a b trigger (λ item i. same item (trigger, w, i))))
 
 -- the open problems agree at the triggers in K

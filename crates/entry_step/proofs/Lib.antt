@@ -10,3 +10,4 @@ pub mod Replays
 pub mod Items
 pub mod Naming
 pub mod Listing
+pub mod Planned

@@ -19,7 +19,8 @@ use Rattle.zbx_types.specs.declared.entries.Stored.{Stored}
 use Rattle.entry_step.specs.Each.{Each, In}
 use Rattle.entry_step.specs.Names.{same_text}
 use Rattle.entry_step.specs.History.{history_of}
-use Rattle.entry_step.specs.Evaluation.{call_value, expression_value}
+use Rattle.expr_eval.specs.Values.{value_over}
+use Rattle.entry_step.specs.Evaluation.{call_value}
 use Rattle.entry_step.specs.Order.{level, by_depth, above_depths, order}
 use Rattle.entry_step.specs.Problems.{same_event, event_of, event_in, opens, recovers, opened, open_of}
 use Rattle.entry_step.specs.Records.{problem_of, recovery_of, begun, verdict_records, judged, judged_by, evaluated, phase_over, has_call, stores, triggers_at, failure_by, failure_of, failures_at, out_of, replay}
@@ -298,7 +299,7 @@ module _ (conf : Conf) (n now : ℕ) (items : ℕ → List Stored) (done : List 
     where
       go : (t : Option Trigger) → at_id conf.triggers id ≡ t → Next (judged_by conf items n now id t (open_of conf rs id))
       go None e = none_next
-      go (Some t) e = verdict_next t e (expression_value (call_value items now t) (tree_of t.expr))
+      go (Some t) e = verdict_next t e (value_over (call_value items now t) (tree_of t.expr))
 
 phase_next : (conf : Conf) (n now : ℕ) (items : ℕ → List Stored) (done ids : List ℕ) (rs : List Rec) → Right conf n done rs → Once ids → ((x : ℕ) → In x ids → In x done → ⊥)
     → (all : List ℕ) × Right conf n all (rs ++ phase_over conf (evaluated conf n now items) rs ids)

@@ -1,11 +1,13 @@
 -- The indexes by which hosts, items and triggers are found.
-use Rattle.std.specs.Prelude.{◌≡◌, ℕ, ◌==◌, Bool, List, [], ◌∷◌, String, Option, Some, None, if◌then◌else◌, option_and_then, slice_get, slice_index_or}
+use Rattle.std.specs.Prelude.{◌≡◌, ℕ, ◌==◌, Bool, List, [], ◌∷◌, map, String, Option, Some, None, if◌then◌else◌, option_and_then, slice_get, slice_index_or}
 use Rattle.std.specs.HashMap.{HashMap, get_by_text}
 use Rattle.std.specs.List.{list_any}
 use Rattle.std.specs.Option.{option_or}
 use Rattle.zbx_types.specs.declared.conf.Conf.{Conf}
 use Rattle.entry_step.specs.Names.{host_named, item_keyed}
 use Rattle.entry_step.specs.Records.{triggers_over}
+use Rattle.entry_step.specs.Plans.{plan_of}
+use Rattle.entry_step.specs.declared.plans.Node.{Node}
 
 -- the id at a key of a host, in maps of keys by the ids of hosts
 abbrev pub id_at : {A S : Type 0} → List (HashMap (String A) ℕ S) → ℕ → List ℕ → Option ℕ
@@ -16,10 +18,11 @@ abbrev pub listed : List (List ℕ) → ℕ → List ℕ
 listed rows number = slice_index_or rows number []
 
 -- the indexes are those of the configuration
-pub record IsIndex {A S T : Type 0} (conf : Conf) (hosts : HashMap (String A) ℕ S) (keys : List (HashMap (String A) ℕ T)) (over : List (List ℕ)) : Type 0 where
+pub record IsIndex {A S T : Type 0} (conf : Conf) (hosts : HashMap (String A) ℕ S) (keys : List (HashMap (String A) ℕ T)) (over : List (List ℕ)) (plans : List (List Node)) : Type 0 where
   pub by_name : (name : List ℕ) → get_by_text hosts name ≡ host_named conf name
   pub by_key : (host : ℕ) (key : List ℕ) → id_at keys host key ≡ item_keyed conf host key
   pub by_item : (item : ℕ) → listed over item ≡ triggers_over conf item
+  pub by_trigger : plans ≡ map plan_of conf.triggers
 
 -- the id of a name with one more item, which may have the name: the first one counts
 abbrev pub noted : Option ℕ → Bool → ℕ → Option ℕ

@@ -17,7 +17,8 @@ use Rattle.zbx_types.specs.declared.entries.Rec.TheVariants.{Failure, Problem, R
 use Rattle.zbx_types.specs.declared.entries.Cause2.TheVariants as causes
 use Rattle.zbx_types.specs.declared.entries.Stored.{Stored}
 use Rattle.entry_step.specs.History.{stored_of, history_of}
-use Rattle.entry_step.specs.Evaluation.{call_value, expression_value}
+use Rattle.expr_eval.specs.Values.{value_over}
+use Rattle.entry_step.specs.Evaluation.{call_value}
 use Rattle.entry_step.specs.Order.{order}
 use Rattle.entry_step.specs.Problems.{event_in, open_of, grown}
 use Rattle.entry_step.specs.declared.opens.Open.{Open}
@@ -50,7 +51,7 @@ verdict_records conf number now id trigger os (Some p) =
 -- what a trigger adds where it is evaluated over the histories of the items
 unfoldable pub judged : Conf → (ℕ → List Stored) → ℕ → ℕ → ℕ → Trigger → List Open → List Rec
 judged conf items number now id trigger os =
-    verdict_records conf number now id trigger os (expression_value (call_value items now trigger) (tree_of trigger.expr))
+    verdict_records conf number now id trigger os (value_over (call_value items now trigger) (tree_of trigger.expr))
 
 abbrev pub judged_by : Conf → (ℕ → List Stored) → ℕ → ℕ → ℕ → Option Trigger → List Open → List Rec
 judged_by conf items number now id None os = []

@@ -1,17 +1,21 @@
 //! A configuration made ready for a run: indexes by which its hosts, items and triggers are found.
 
-ghost use Rattle.std.specs.Prelude.{◌≡◌, IfOk};
+ghost use Rattle.std.specs.Prelude.{◌≡◌, Some, IfOk};
+ghost use Rattle.zbx_types.specs.Ids.{at_id};
+ghost use Rattle.zbx_types.specs.declared.triggers.Trigger.{Trigger};
+ghost use Rattle.entry_step.specs.Plans.{plan_of};
 ghost use Rattle.entry_step.specs.Names.{host_named, item_keyed};
 ghost use Rattle.entry_step.specs.Records.{triggers_over};
 
 use crate::lists::lists_of;
 use crate::names::{hosts_of, keys_of};
+use crate::plans::{Node, plans_of};
 use crate::rows::listed;
 use std::alloc::Global;
 use std::collections::HashMap;
 use std::convert::AsStr;
 use std::marker::Model;
-use zbx_types::{Conf, Many, OutOfMemory, Text};
+use zbx_types::{Conf, Many, OutOfMemory, Text, by_id};
 
 /// A configuration with its indexes, which are made once (this project's own). Contracts see the configuration alone.
 ///
@@ -22,6 +26,7 @@ pub struct Ready {
     hosts: HashMap<String, u32>,
     keys: Vec<HashMap<String, u32>>,
     over: Vec<Many<u32>>,
+    plans: Many<Many<Node>>,
 }
 
 impl Model for Ready {
@@ -36,7 +41,7 @@ impl Model for Ready {
 
     ghost view = { λ r. r.conf };
 
-    ghost invariant = { λ r. IsIndex r.conf r.hosts r.keys.items r.over.items };
+    ghost invariant = { λ r. IsIndex r.conf r.hosts r.keys.items r.over.items r.plans };
 }
 
 impl Ready {
@@ -53,11 +58,13 @@ impl Ready {
         let hosts = hosts_of(alloc, &conf)?;
         let keys = keys_of(alloc, &conf)?;
         let over = lists_of(alloc, &conf)?;
+        let plans = plans_of(alloc, conf.triggers.as_slice())?;
         Ok(Ready {
             conf,
             hosts,
             keys,
             over,
+            plans,
         })
     }
 
@@ -90,5 +97,16 @@ impl Ready {
         ensures { result.now ≡ triggers_over self.now item }
     {
         listed(self.over.as_slice(), item as usize)
+    }
+
+    /// The nodes of the expression of the trigger with an id.
+    #[tactic(auto, using(crate::proofs::Planned::plan_at))]
+    pub(crate) fn plan(&self, id: u32) -> &[Node]
+        ensures { (trigger : Trigger) → at_id self.now.triggers id ≡ Some trigger → result.now ≡ plan_of trigger }
+    {
+        match by_id(self.plans.as_slice(), id) {
+            None => &[],
+            Some(plan) => plan.as_slice(),
+        }
     }
 }

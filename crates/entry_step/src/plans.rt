@@ -1,0 +1,95 @@
+//! Expressions of triggers that lie flat: each node stands before its operands, the left one first.
+
+ghost use Rattle.std.specs.Prelude.{◌≡◌, ◌++◌, [], ◌∷◌, List, map, OnOk, IfOk};
+ghost use Rattle.zbx_types.specs.Trees.{tree_of};
+ghost use Rattle.entry_step.specs.Plans.{node_of, call_node, flat, plan_of};
+ghost use Rattle.entry_step.specs.declared.plans.Node.{Node};
+
+use std::alloc::Global;
+use zbx_types::{Call, Expr, Fix, Fun, Many, Op, OutOfMemory, Range, Trigger};
+
+/// A node of an expression.
+#[derive(Clone, Copy)]
+pub(crate) enum Node {
+    /// A constant.
+    Const(Fix),
+    /// The latest value of the item with this id.
+    Last(u32),
+    /// A call that isn't built.
+    Unknown,
+    /// `-`, before its operand.
+    Neg,
+    /// `not`, before its operand.
+    Not,
+    /// A binary operator, before its left and its right operand.
+    Bin(Op),
+}
+
+/// The node of a history function of an item.
+fn node_of(call: &Call, item: u32) -> Node
+    ensures { result ≡ node_of call.now.fun call.now.range call.now.shift item }
+{
+    if call.fun != Fun::Last || call.range != Range::Count(1) || call.shift != 0 {
+        Node::Unknown
+    } else {
+        Node::Last(item)
+    }
+}
+
+/// The node of a call of a trigger, by its place.
+#[tactic(auto, unfolding(crate::specs::Plans::call_node))]
+fn call_node(trigger: &Trigger, place: u32) -> Node
+    ensures { result ≡ call_node trigger.now place }
+{
+    let Some(call) = trigger.calls.as_slice().get(place as usize) else {
+        return Node::Unknown;
+    };
+    match trigger.call_items.as_slice().get(place as usize) {
+        None => Node::Unknown,
+        Some(item) => node_of(call, *item),
+    }
+}
+
+/// Adds the nodes of an expression of a trigger.
+fn add(nodes: &mut Many<Node>, trigger: &Trigger, expr: &Expr) -> Result<(), OutOfMemory>
+    ensures { OnOk result ((rest : List Node) → nodes.new ++ rest ≡ nodes.old ++ flat (call_node trigger.now) (tree_of expr.now) rest) }
+{
+    match expr {
+        Expr::Const(number) => nodes.push(Node::Const(*number))?,
+        Expr::Call(place) => nodes.push(call_node(trigger, *place))?,
+        Expr::Neg(operand) => {
+            nodes.push(Node::Neg)?;
+            add(nodes, trigger, operand.expr())?;
+        }
+        Expr::Not(operand) => {
+            nodes.push(Node::Not)?;
+            add(nodes, trigger, operand.expr())?;
+        }
+        Expr::Bin(op, left, right) => {
+            nodes.push(Node::Bin(*op))?;
+            add(nodes, trigger, left.expr())?;
+            add(nodes, trigger, right.expr())?;
+        }
+    }
+    Ok(())
+}
+
+/// The nodes of a trigger's expression.
+fn plan_of(alloc: Global, trigger: &Trigger) -> Result<Many<Node>, OutOfMemory>
+    ensures { IfOk result (λ made. made ≡ plan_of trigger.now) }
+{
+    let mut nodes = Many::new(alloc);
+    add(&mut nodes, trigger, &trigger.expr)?;
+    Ok(nodes)
+}
+
+/// The nodes of each trigger's expression, in the order of ids.
+pub(crate) fn plans_of(alloc: Global, triggers: &[Trigger]) -> Result<Many<Many<Node>>, OutOfMemory>
+    ensures { IfOk result (λ made. made ≡ map plan_of triggers.now) }
+{
+    let mut plans = Many::new(alloc);
+    for trigger in triggers {
+        plans.push(plan_of(alloc, trigger)?)?;
+    }
+    Ok(plans)
+}
