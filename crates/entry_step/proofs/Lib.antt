@@ -11,3 +11,4 @@ pub mod Items
 pub mod Naming
 pub mod Listing
 pub mod Planned
+pub mod Packing

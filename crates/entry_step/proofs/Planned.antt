@@ -1,5 +1,6 @@
 -- The values of nodes.
-use Rattle.std.proofs.Common.{◌≡◌, ℕ, zero, suc, ◌-◌, ◌==◌, Bool, true, false, cond, ◌&&◌, List, [], ◌∷◌, Option, Some, None, ℤ, neg_ℤ, refl, sym, ◌∙◌, ap, subst, slice_get, option_map, length, map}
+use Rattle.std.proofs.Common.{◌≡◌, ℕ, zero, suc, ◌-◌, ◌==◌, Bool, true, false, cond, ◌&&◌, List, [], ◌∷◌, Option, Some, None, ℤ, neg_ℤ, refl, sym, ◌∙◌, ap, subst, slice_get, option_map, length, map, take, get_or, ◌+◌, ◌<◌, ◌++◌, append-nil, arith}
+use Rattle.std.proofs.lemmas.List.{length-map}
 use Rattle.std.specs.Prelude.{option_and_then}
 use Rattle.std.specs.Option.{unwrap_or}
 use Rattle.zbx_types.specs.Ids.{at_id}
@@ -14,6 +15,8 @@ use Rattle.expr_eval.specs.Values.{value_over}
 use Rattle.entry_step.specs.Evaluation.{last_number, up_to, function_value, call_value}
 use Rattle.entry_step.specs.Calls.{histories, values_of, Evaluates}
 use Rattle.entry_step.specs.Plans.{node_of, call_node, flat, plan_of}
+use Rattle.zbx_types.specs.Trees.{tree_of}
+use Rattle.entry_step.proofs.Packing.{IsPacked, packed_more}
 use Rattle.entry_step.specs.declared.evaluation.Calls.{Calls}
 use Rattle.entry_step.specs.declared.plans.Node.{Node}
 use Rattle.entry_step.specs.declared.plans.Node.TheVariants.{Const, Last, Unknown, Neg, Not, Bin}
@@ -110,16 +113,29 @@ pub no_nodes : (calls : ℕ → Node) (t : Tree) (nodes more : List Node) → le
 no_nodes calls t [] more z e = no_tree calls t more e
 no_nodes calls t (n ∷ nodes) more z e = cc
 
--- the plans of triggers, by id
-pub plan_at : (triggers : List Trigger) (plans : List (List Node)) (id : ℕ) (trigger : Trigger) → plans ≡ map plan_of triggers → at_id triggers id ≡ Some trigger → at_id plans id ≡ Some (plan_of trigger)
+-- the plan of a trigger, by id
+pub plan_at : (triggers : List Trigger) (plan : List Node) (id : ℕ) (trigger : Trigger) → plan ≡ get_or (map plan_of triggers) (id - 1) [] → at_id triggers id ≡ Some trigger → plan ≡ plan_of trigger
 unfolding at_id
-plan_at triggers plans id trigger is found = ap (λ ps. at_id ps id) is ∙ go (id == 0) found
+plan_at triggers plan id trigger is found = is ∙ go (id == 0) found
   where
-    get_map : (ts : List Trigger) (k : ℕ) → slice_get ts k ≡ Some trigger → slice_get (map plan_of ts) k ≡ Some (plan_of trigger)
+    get_map : (ts : List Trigger) (k : ℕ) → slice_get ts k ≡ Some trigger → get_or (map plan_of ts) k [] ≡ plan_of trigger
     get_map [] k e = cc
-    get_map (t ∷ ts) zero e = let q : t ≡ trigger = cc in ap (λ (x : Trigger). Some (plan_of x)) q
+    get_map (t ∷ ts) zero e = let q : t ≡ trigger = cc in ap plan_of q
     get_map (t ∷ ts) (suc k) e = get_map ts k e
 
-    go : (b : Bool) → cond b None (slice_get triggers (id - 1)) ≡ Some trigger → cond b None (slice_get (map plan_of triggers) (id - 1)) ≡ Some (plan_of trigger)
+    go : (b : Bool) → cond b None (slice_get triggers (id - 1)) ≡ Some trigger → get_or (map plan_of triggers) (id - 1) [] ≡ plan_of trigger
     go true e = cc
     go false e = get_map triggers (id - 1) e
+
+-- the plans so far, with that of one more trigger
+pub plan_more : (triggers : List Trigger) (k : ℕ) (trigger : Trigger) (starts begun : List ℕ) (items more : List Node) → k < length triggers → trigger ≡ get_or triggers k trigger
+    → begun ≡ starts ++ length items ∷ [] → ((rest : List Node) → more ++ rest ≡ items ++ flat (call_node trigger) (tree_of trigger.expr) rest)
+    → IsPacked starts items (take k (map plan_of triggers)) → IsPacked begun more (take (k + 1) (map plan_of triggers))
+plan_more triggers k trigger starts begun items more l is b m p =
+    let size : length (map plan_of triggers) ≡ length triggers = length-map triggers plan_of in
+    packed_more (map plan_of triggers) k (plan_of trigger) starts begun items more (omega arith) (ap plan_of is ∙ mapped triggers k l) b (sym (append-nil more) ∙ m []) p
+  where
+    mapped : (ts : List Trigger) (i : ℕ) → i < length ts → plan_of (get_or ts i trigger) ≡ get_or (map plan_of ts) i (plan_of trigger)
+    mapped [] i h = refl
+    mapped (t ∷ ts) zero h = refl
+    mapped (t ∷ ts) (suc i) h = mapped ts i (omega arith)

@@ -7,6 +7,8 @@ use Rattle.zbx_types.specs.declared.conf.Conf.{Conf}
 use Rattle.entry_step.specs.Names.{host_named, item_keyed}
 use Rattle.entry_step.specs.Records.{triggers_over}
 use Rattle.entry_step.specs.Plans.{plan_of}
+use Rattle.entry_step.specs.Packed.{row_at}
+use Rattle.entry_step.specs.declared.packed.Packed.{Packed}
 use Rattle.entry_step.specs.declared.plans.Node.{Node}
 
 -- the id at a key of a host, in maps of keys by the ids of hosts
@@ -18,11 +20,11 @@ abbrev pub listed : List (List ℕ) → ℕ → List ℕ
 listed rows number = slice_index_or rows number []
 
 -- the indexes are those of the configuration
-pub record IsIndex {A S T : Type 0} (conf : Conf) (hosts : HashMap (String A) ℕ S) (keys : List (HashMap (String A) ℕ T)) (over : List (List ℕ)) (plans : List (List Node)) : Type 0 where
+pub record IsIndex {A S T : Type 0} (conf : Conf) (hosts : HashMap (String A) ℕ S) (keys : List (HashMap (String A) ℕ T)) (over : Packed ℕ) (plans : Packed Node) : Type 0 where
   pub by_name : (name : List ℕ) → get_by_text hosts name ≡ host_named conf name
   pub by_key : (host : ℕ) (key : List ℕ) → id_at keys host key ≡ item_keyed conf host key
-  pub by_item : (item : ℕ) → listed over item ≡ triggers_over conf item
-  pub by_trigger : plans ≡ map plan_of conf.triggers
+  pub by_item : (item : ℕ) → row_at over.starts over.items item ≡ triggers_over conf item
+  pub by_trigger : (number : ℕ) → row_at plans.starts plans.items number ≡ slice_index_or (map plan_of conf.triggers) number []
 
 -- the id of a name with one more item, which may have the name: the first one counts
 abbrev pub noted : Option ℕ → Bool → ℕ → Option ℕ

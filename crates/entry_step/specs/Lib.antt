@@ -12,6 +12,7 @@ pub mod Named
 pub mod Kept
 pub mod Calls
 pub mod Plans
+pub mod Packed
 pub mod Changes
 pub mod Names
 pub mod Index

@@ -9,13 +9,13 @@ ghost use Rattle.entry_step.specs.Records.{triggers_over};
 
 use crate::lists::lists_of;
 use crate::names::{hosts_of, keys_of};
+use crate::packed::{Packed, row};
 use crate::plans::{Node, plans_of};
-use crate::rows::listed;
 use std::alloc::Global;
 use std::collections::HashMap;
 use std::convert::AsStr;
 use std::marker::Model;
-use zbx_types::{Conf, Many, OutOfMemory, Text, by_id};
+use zbx_types::{Conf, OutOfMemory, Text};
 
 /// A configuration with its indexes, which are made once (this project's own). Contracts see the configuration alone.
 ///
@@ -25,8 +25,8 @@ pub struct Ready {
     conf: Conf,
     hosts: HashMap<String, u32>,
     keys: Vec<HashMap<String, u32>>,
-    over: Vec<Many<u32>>,
-    plans: Many<Many<Node>>,
+    over: Packed<u32>,
+    plans: Packed<Node>,
 }
 
 impl Model for Ready {
@@ -41,7 +41,7 @@ impl Model for Ready {
 
     ghost view = { λ r. r.conf };
 
-    ghost invariant = { λ r. IsIndex r.conf r.hosts r.keys.items r.over.items r.plans };
+    ghost invariant = { λ r. IsIndex r.conf r.hosts r.keys.items r.over r.plans };
 }
 
 impl Ready {
@@ -96,17 +96,13 @@ impl Ready {
     pub(crate) fn over(&self, item: u32) -> &[u32]
         ensures { result.now ≡ triggers_over self.now item }
     {
-        listed(self.over.as_slice(), item as usize)
+        row(&self.over, item)
     }
 
     /// The nodes of the expression of the trigger with an id.
-    #[tactic(auto, using(crate::proofs::Planned::plan_at))]
     pub(crate) fn plan(&self, id: u32) -> &[Node]
         ensures { (trigger : Trigger) → at_id self.now.triggers id ≡ Some trigger → result.now ≡ plan_of trigger }
     {
-        match by_id(self.plans.as_slice(), id) {
-            None => &[],
-            Some(plan) => plan.as_slice(),
-        }
+        row(&self.plans, id.saturating_sub(1))
     }
 }

@@ -39,6 +39,7 @@ mod lists;
 mod names;
 mod opens;
 mod order;
+mod packed;
 mod plans;
 mod records;
 mod rows;

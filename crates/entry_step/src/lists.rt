@@ -4,8 +4,10 @@ ghost use Rattle.std.specs.Prelude.{◌≡◌, ◌++◌, ◌∷◌, [], ℕ, Som
 ghost use Rattle.zbx_types.specs.Ids.{at_id};
 ghost use Rattle.entry_step.specs.Records.{is_over, triggers_over};
 ghost use Rattle.entry_step.specs.Index.{listed, has_id};
+ghost use Rattle.entry_step.specs.Packed.{row_at};
 
 use crate::order::order;
+use crate::packed::{Packed, pack};
 use crate::rows::enter;
 use std::alloc::Global;
 use zbx_types::{Conf, Many, OutOfMemory, Trigger, by_id};
@@ -54,7 +56,7 @@ fn enter_by_id(
 
 /// The ids of the triggers over each item, in the order of evaluation.
 #[tactic(auto, unfolding(crate::specs::Records::triggers_over))]
-pub(crate) fn lists_of(alloc: Global, conf: &Conf) -> Result<Vec<Many<u32>>, OutOfMemory>
+fn rows_of(alloc: Global, conf: &Conf) -> Result<Vec<Many<u32>>, OutOfMemory>
     ensures { IfOk result (λ over. (item : ℕ) → listed over.items item ≡ triggers_over conf.now item) }
 {
     let mut over = Vec::new(alloc);
@@ -63,4 +65,12 @@ pub(crate) fn lists_of(alloc: Global, conf: &Conf) -> Result<Vec<Many<u32>>, Out
         enter_by_id(alloc, &mut over, conf, *id)?;
     }
     Ok(over)
+}
+
+/// The ids of the triggers over each item, in the order of evaluation, by the ids of items.
+pub(crate) fn lists_of(alloc: Global, conf: &Conf) -> Result<Packed<u32>, OutOfMemory>
+    ensures { IfOk result (λ over. (item : ℕ) → row_at over.starts over.items item ≡ triggers_over conf.now item) }
+{
+    let rows = rows_of(alloc, conf)?;
+    pack(alloc, rows.as_slice())
 }

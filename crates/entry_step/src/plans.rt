@@ -1,10 +1,12 @@
 //! Expressions of triggers that lie flat: each node stands before its operands, the left one first.
 
-ghost use Rattle.std.specs.Prelude.{◌≡◌, ◌++◌, [], ◌∷◌, List, map, OnOk, IfOk};
+ghost use Rattle.std.specs.Prelude.{◌≡◌, ◌++◌, [], ℕ, List, map, slice_index_or, OnOk, IfOk};
 ghost use Rattle.zbx_types.specs.Trees.{tree_of};
 ghost use Rattle.entry_step.specs.Plans.{node_of, call_node, flat, plan_of};
+ghost use Rattle.entry_step.specs.Packed.{row_at};
 ghost use Rattle.entry_step.specs.declared.plans.Node.{Node};
 
+use crate::packed::{Packed, begin};
 use std::alloc::Global;
 use zbx_types::{Call, Expr, Fix, Fun, Many, Op, OutOfMemory, Range, Trigger};
 
@@ -74,22 +76,17 @@ fn add(nodes: &mut Many<Node>, trigger: &Trigger, expr: &Expr) -> Result<(), Out
     Ok(())
 }
 
-/// The nodes of a trigger's expression.
-fn plan_of(alloc: Global, trigger: &Trigger) -> Result<Many<Node>, OutOfMemory>
-    ensures { IfOk result (λ made. made ≡ plan_of trigger.now) }
+/// The nodes of each trigger's expression, by the places of triggers.
+pub(crate) fn plans_of(alloc: Global, triggers: &[Trigger]) -> Result<Packed<Node>, OutOfMemory>
+    ensures { IfOk result (λ made. (number : ℕ) → row_at made.starts made.items number ≡ slice_index_or (map plan_of triggers.now) number []) }
 {
-    let mut nodes = Many::new(alloc);
-    add(&mut nodes, trigger, &trigger.expr)?;
-    Ok(nodes)
-}
-
-/// The nodes of each trigger's expression, in the order of ids.
-pub(crate) fn plans_of(alloc: Global, triggers: &[Trigger]) -> Result<Many<Many<Node>>, OutOfMemory>
-    ensures { IfOk result (λ made. made ≡ map plan_of triggers.now) }
-{
-    let mut plans = Many::new(alloc);
+    let mut made = Packed {
+        starts: Many::new(alloc),
+        items: Many::new(alloc),
+    };
     for trigger in triggers {
-        plans.push(plan_of(alloc, trigger)?)?;
+        begin(&mut made)?;
+        add(&mut made.items, trigger, &trigger.expr)?;
     }
-    Ok(plans)
+    Ok(made)
 }

@@ -4,7 +4,7 @@ use Rattle.entry_step.specs.Order.{order}
 use Rattle.entry_step.specs.Records.{is_over}
 use Rattle.entry_step.specs.Index.{listed}
 use Rattle.entry_step.proofs.Listing.{over_more}
-use Rattle.entry_step.proofs.lists.lists_of.Goals as goal
+use Rattle.entry_step.proofs.lists.rows_of.Goals as goal
 
 pub loop-id-preserved : goal.loop-id-preserved
 loop-id-preserved c = λ q.
