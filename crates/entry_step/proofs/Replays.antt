@@ -17,7 +17,7 @@ use Rattle.zbx_types.specs.declared.entries.Rec.{Rec}
 use Rattle.zbx_types.specs.declared.entries.Rec.TheVariants.{Failure, Problem, Recovery, Step, Message}
 use Rattle.zbx_types.specs.declared.entries.Stored.{Stored}
 use Rattle.entry_step.specs.Each.{Each, In}
-use Rattle.entry_step.specs.Names.{same_text}
+use Rattle.std.specs.Str.{bytes_eq}
 use Rattle.entry_step.specs.History.{history_of}
 use Rattle.expr_eval.specs.Values.{value_over}
 use Rattle.entry_step.specs.Evaluation.{call_value}
@@ -354,9 +354,9 @@ replay_right conf (e ∷ log) r m l =
     later all event (inr d) = let q : event.number ≡ e.number = d.0 in inl (omega arith)
 
 -- The public definition
-same_refl : (a : List ℕ) → same_text a a ≡ true
+same_refl : (a : List ℕ) → bytes_eq a a ≡ true
 same_refl [] = refl
-same_refl (x ∷ xs) = ap (λ b. b && same_text xs xs) (eq-eqb x x refl) ∙ same_refl xs
+same_refl (x ∷ xs) = ap (λ b. b && bytes_eq xs xs) (eq-eqb x x refl) ∙ same_refl xs
 
 any_early : (event : EventId) (before : List Rec) → Each (λ r. recovers event r ≡ false) before → list_any (recovers event) before ≡ false
 any_early event [] e = refl
@@ -376,25 +376,25 @@ free_none (r ∷ rs) = (tt, free_none rs)
 module _ (conf : Conf) (id : ℕ) (trigger : Trigger) (distinct : AreDistinct conf) (is : at_id conf.triggers id ≡ Some trigger) where
   -- a Problem is the trigger's where it has its names
   named_is : (event : EventId) (host name : List ℕ) → (t : Trigger) × (at_id conf.triggers event.trigger ≡ Some t) × (host ≡ host_of conf t) × (name ≡ t.name)
-      → (event.trigger == id) ≡ (same_text host (host_of conf trigger) && same_text name trigger.name)
+      → (event.trigger == id) ≡ (bytes_eq host (host_of conf trigger) && bytes_eq name trigger.name)
   named_is event host name of = go (event.trigger == id) refl
     where
       t : Trigger
       t = of.0
 
-      go : (b : Bool) → (event.trigger == id) ≡ b → b ≡ (same_text host (host_of conf trigger) && same_text name trigger.name)
+      go : (b : Bool) → (event.trigger == id) ≡ b → b ≡ (bytes_eq host (host_of conf trigger) && bytes_eq name trigger.name)
       go true q =
           let w : event.trigger ≡ id = eqb-true event.trigger id q in
           let both : Some t ≡ Some trigger = sym of.1 ∙ ap (at_id conf.triggers) w ∙ is in
           let u : t ≡ trigger = cc in
-          let h : same_text host (host_of conf trigger) ≡ true = ap (λ x. same_text x (host_of conf trigger)) (of.2 ∙ ap (host_of conf) u) ∙ same_refl (host_of conf trigger) in
-          let k : same_text name trigger.name ≡ true = ap (λ x. same_text x trigger.name) (of.3 ∙ ap (λ x. x.name) u) ∙ same_refl trigger.name in
-          sym (and_both (same_text host (host_of conf trigger)) (same_text name trigger.name) h k)
-      go false q = at (same_text host (host_of conf trigger)) (same_text name trigger.name) refl refl
+          let h : bytes_eq host (host_of conf trigger) ≡ true = ap (λ x. bytes_eq x (host_of conf trigger)) (of.2 ∙ ap (host_of conf) u) ∙ same_refl (host_of conf trigger) in
+          let k : bytes_eq name trigger.name ≡ true = ap (λ x. bytes_eq x trigger.name) (of.3 ∙ ap (λ x. x.name) u) ∙ same_refl trigger.name in
+          sym (and_both (bytes_eq host (host_of conf trigger)) (bytes_eq name trigger.name) h k)
+      go false q = at (bytes_eq host (host_of conf trigger)) (bytes_eq name trigger.name) refl refl
         where
-          at : (a b : Bool) → same_text host (host_of conf trigger) ≡ a → same_text name trigger.name ≡ b → false ≡ (a && b)
+          at : (a b : Bool) → bytes_eq host (host_of conf trigger) ≡ a → bytes_eq name trigger.name ≡ b → false ≡ (a && b)
           at true true ea eb =
-              let w : event.trigger ≡ id = distinct event.trigger id t trigger of.1 is (ap (λ x. same_text x (host_of conf trigger)) (sym of.2) ∙ ea) (ap (λ x. same_text x trigger.name) (sym of.3) ∙ eb) in
+              let w : event.trigger ≡ id = distinct event.trigger id t trigger of.1 is (ap (λ x. bytes_eq x (host_of conf trigger)) (sym of.2) ∙ ea) (ap (λ x. bytes_eq x trigger.name) (sym of.3) ∙ eb) in
               let n : (event.trigger == id) ≡ true = eq-eqb event.trigger id w in cc
           at true false ea eb = refl
           at false b ea eb = refl

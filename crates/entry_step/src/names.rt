@@ -2,7 +2,8 @@
 
 ghost use Rattle.std.specs.Prelude.{◌≡◌, ◌<◌, ◌&&◌, ◌==◌, ℕ, List, length, IfOk, OnOk};
 ghost use Rattle.std.specs.HashMap.{get_by_text};
-ghost use Rattle.entry_step.specs.Names.{same_text, host_named, item_keyed};
+ghost use Rattle.std.specs.Str.{bytes_eq};
+ghost use Rattle.entry_step.specs.Names.{host_named, item_keyed};
 ghost use Rattle.entry_step.specs.Index.{id_at, noted};
 
 use std::alloc::Global;
@@ -17,7 +18,7 @@ fn note(
     name: &Text,
     id: u32,
 ) -> Result<(), OutOfMemory>
-    ensures { OnOk result ((q : List ℕ) → get_by_text ids.new q ≡ noted (get_by_text ids.old q) (same_text name.now q) id) }
+    ensures { OnOk result ((q : List ℕ) → get_by_text ids.new q ≡ noted (get_by_text ids.old q) (bytes_eq name.now q) id) }
 {
     if ids.get(name.as_str()).is_none() {
         ids.insert(String::from_str(alloc, name.as_str())?, id)?;
@@ -56,7 +57,7 @@ fn note_key(
     key: &Text,
     id: u32,
 ) -> Result<(), OutOfMemory>
-    ensures { OnOk result ((h : ℕ) (q : List ℕ) → id_at keys.new.items h q ≡ noted (id_at keys.old.items h q) ((host == h) && same_text key.now q) id) }
+    ensures { OnOk result ((h : ℕ) (q : List ℕ) → id_at keys.new.items h q ≡ noted (id_at keys.old.items h q) ((host == h) && bytes_eq key.now q) id) }
 {
     reach(alloc, keys, host)?;
     note(alloc, &mut keys[host as usize], key, id)

@@ -3,7 +3,7 @@
 ghost use Rattle.std.specs.Prelude.{◌≡◌, ◌∷◌, [], ℕ, map, Some, IfOk};
 ghost use Rattle.zbx_types.specs.declared.conf.Conf.{Conf};
 ghost use Rattle.zbx_types.specs.Ids.{at_id};
-ghost use Rattle.entry_step.specs.Problems.{event_of, absorbed_all};
+ghost use Rattle.entry_step.specs.Problems.{absorbed_all};
 ghost use Rattle.entry_step.specs.Records.{host_name, problem_of, recovery_of, failure_of, begun, verdict_records, judged};
 ghost use Rattle.entry_step.specs.Represents.{AllAtHome};
 ghost use Rattle.entry_step.specs.Changes.{outcome_records, outcome_opens};
@@ -76,22 +76,6 @@ fn problem_of(
     })
 }
 
-/// The event that a record is about.
-fn event_of(rec: &Rec) -> EventId
-    ensures { result ≡ event_of rec.now }
-{
-    match rec {
-        Rec::Failure { number, .. } => EventId {
-            number: *number,
-            trigger: 0,
-        },
-        Rec::Problem { event, .. } => *event,
-        Rec::Recovery { event, .. } => *event,
-        Rec::Step { event, .. } => *event,
-        Rec::Message { event, .. } => *event,
-    }
-}
-
 /// The Recovery records of open problems at an entry.
 fn recoveries(
     alloc: Global,
@@ -104,7 +88,7 @@ fn recoveries(
     let mut made = Many::new(alloc);
     for open in opens {
         made.push(Rec::Recovery {
-            event: event_of(&open.problem),
+            event: open.problem.event(),
             by: number,
             now,
             cause: Cause2::Expression,
