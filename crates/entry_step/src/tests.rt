@@ -275,12 +275,29 @@ fn a_late_value_is_not_the_latest(rt: HostRuntime) -> Result<(), Fail> {
 /// The id of the item with a key of the host with a name.
 fn found(alloc: Global, name: &str, key: &str) -> Result<Option<u32>, OutOfMemory> {
     let ready = Ready::build(alloc, configuration(alloc)?)?;
-    let name = Text::of(alloc, name)?;
-    let key = Text::of(alloc, key)?;
-    match ready.host_named(&name) {
-        Some(host) => Ok(ready.item_keyed(host, &key)),
+    found_in(alloc, &ready, name, key)
+}
+
+fn found_in(
+    alloc: Global,
+    ready: &Ready,
+    name: &str,
+    key: &str,
+) -> Result<Option<u32>, OutOfMemory> {
+    match named(alloc, ready, name)? {
+        Some(host) => keyed(alloc, ready, host, key),
         None => Ok(None),
     }
+}
+
+fn named(alloc: Global, ready: &Ready, name: &str) -> Result<Option<u32>, OutOfMemory> {
+    let name = Text::of(alloc, name)?;
+    Ok(ready.host_named(&name))
+}
+
+fn keyed(alloc: Global, ready: &Ready, host: u32, key: &str) -> Result<Option<u32>, OutOfMemory> {
+    let key = Text::of(alloc, key)?;
+    Ok(ready.item_keyed(host, &key))
 }
 
 #[test]
@@ -386,14 +403,16 @@ fn value_for(alloc: Global, number: u64, item: u32, text: &str) -> Result<Number
 
 /// How many records a value of each of so many items makes.
 fn problems_of(alloc: Global, count: u32) -> Result<usize, OutOfMemory> {
-    let mut run = Run::<Brand>::over(alloc, many_items(alloc, count)?, Blank::new(1))?;
+    let conf = many_items(alloc, count)?;
+    let mut run = Run::<Brand>::over(alloc, conf, Blank::new(1))?;
     run.take_all(alloc, count, "10")?;
     Ok(run.made)
 }
 
 /// How many records so many high and low values of one item make.
 fn turns_of(alloc: Global, times: u32) -> Result<usize, OutOfMemory> {
-    let mut run = Run::<Brand>::over(alloc, configuration(alloc)?, Blank::new(1))?;
+    let conf = configuration(alloc)?;
+    let mut run = Run::<Brand>::over(alloc, conf, Blank::new(1))?;
     run.take_turns(alloc, times)?;
     Ok(run.made)
 }
