@@ -70,48 +70,38 @@ struct Found<'a> {
     rest: &'a [Node],
 }
 
+/// A value with the nodes behind.
+fn with_rest<'a>(value: Option<Fix>, rest: &'a [Node]) -> Found<'a>
+    ensures value { result.value ≡ value }
+    ensures rest { result.rest.now ≡ rest.now }
+{
+    Found { value, rest }
+}
+
 /// The value of the first of the expressions that the nodes are of.
 fn value_at<'a>(calls: &Calls, nodes: &'a [Node]) -> Found<'a>
     ensures value { (t : Tree) (rest : List Node) → nodes.now ≡ flat (call_node calls.entry.now.trigger.now) t rest → Evaluates calls.entry.now t rest result }
     ensures shorter { length result.rest.now ≤ length nodes.now }
 {
     let Some((node, rest)) = nodes.split_first() else {
-        return Found {
-            value: None,
-            rest: nodes,
-        };
+        return with_rest(None, nodes);
     };
     match node {
-        Node::Const(number) => Found {
-            value: Some(*number),
-            rest,
-        },
-        Node::Last(item) => Found {
-            value: last_of(calls, *item),
-            rest,
-        },
-        Node::Unknown => Found { value: None, rest },
+        Node::Const(number) => with_rest(Some(*number), rest),
+        Node::Last(item) => with_rest(last_of(calls, *item), rest),
+        Node::Unknown => with_rest(None, rest),
         Node::Neg => {
             let operand = value_at(calls, rest);
-            Found {
-                value: negative(operand.value),
-                rest: operand.rest,
-            }
+            with_rest(negative(operand.value), operand.rest)
         }
         Node::Not => {
             let operand = value_at(calls, rest);
-            Found {
-                value: negation(operand.value),
-                rest: operand.rest,
-            }
+            with_rest(negation(operand.value), operand.rest)
         }
         Node::Bin(op) => {
             let left = value_at(calls, rest);
             let right = value_at(calls, left.rest);
-            Found {
-                value: operation(*op, left.value, right.value),
-                rest: right.rest,
-            }
+            with_rest(operation(*op, left.value, right.value), right.rest)
         }
     }
 }
