@@ -3,11 +3,12 @@
 usage: bench/items.py PROGRAM.. [--values N]    N, 1,000,000 if not given, is how many values a script has.
 
 Each configuration has 10, 100 or 1,000 hosts. Values come in frames of 250, over the items in turn or at random, and none
-makes a problem. Each program is run in turn, three times, on items of which half have a trigger `last(..)>5000`, and on
-items without triggers. The time of an opening without values is taken off. The last column is what evaluating one
-trigger costs: the difference of the two, for half of the values.
+makes a problem. Each program is run in turn, five times, on items of which half have a trigger `last(..)>5000`, and on
+items without triggers. What counts is the least time, less the least time of an opening without values. The last column
+is what evaluating one trigger costs: the difference of the two, for half of the values.
 """
 
+import itertools
 import json
 import os
 import random
@@ -17,6 +18,7 @@ import tempfile
 
 SIZES = [(500, 10), (5_000, 100), (100_000, 1_000)]
 FRAME = 250
+RUNS = 5
 MOMENT = "100.000000000"
 
 
@@ -49,8 +51,9 @@ def places(order, items, values, source):
 def write(path, order, items, hosts, values):
     """A script with a connection a frame."""
     source = random.Random(7)
+    share = items // hosts
     named = [
-        f'{{"host":"host{place // (items // hosts):05}","key":"key[{place % (items // hosts)},x]","value":"{source.randrange(1000)}"}}'
+        f'{{"host":"host{place // share:05}","key":"key[{place % share},x]","value":"{source.randrange(1000)}"}}'
         for place in places(order, items, values, source)
     ]
     with open(path, "w", encoding="ascii") as file:
@@ -74,18 +77,21 @@ def seconds(program, config, script):
 
 
 def measure(programs, values, order, items, hosts):
-    """For each program the least times of a value with triggers and without, in microseconds."""
+    """For each program the times of a value with triggers and without, in microseconds, each from the least of its runs."""
     write("script", order, items, hosts, values)
     write("empty", order, items, hosts, 0)
+    configure("half", items, hosts, True)
+    configure("none", items, hosts, False)
     least = {}
-    for config, triggers in (("half", True), ("none", False)):
-        configure(config, items, hosts, triggers)
-        for _ in range(3):
-            for program in programs:
-                spent = seconds(program, config, "script") - seconds(program, config, "empty")
-                key = (program, config)
-                least[key] = min(least.get(key, spent), spent)
-    return {program: [least[program, config] / values * 1e6 for config in ("half", "none")] for program in programs}
+    for _ in range(RUNS):
+        for key in itertools.product(programs, ("half", "none"), ("script", "empty")):
+            spent = seconds(*key)
+            least[key] = min(least.get(key, spent), spent)
+    return {program: [cost(least, values, program, config) for config in ("half", "none")] for program in programs}
+
+
+def cost(least, values, program, config):
+    return (least[program, config, "script"] - least[program, config, "empty"]) / values * 1e6
 
 
 def main():
