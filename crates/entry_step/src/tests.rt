@@ -403,16 +403,32 @@ fn value_for(alloc: Global, number: u64, item: u32, text: &str) -> Result<Number
 
 /// How many records a value of each of so many items makes.
 fn problems_of(alloc: Global, count: u32) -> Result<usize, OutOfMemory> {
+    problems_counted::<Brand>(alloc, count, Blank::new(1))
+}
+
+fn problems_counted<L: Ledger>(alloc: Global, count: u32, blank: Blank) -> Result<usize, OutOfMemory>
+    requires name { blank.name ≡ L.name }
+    requires parts { blank.parts ≡ L.parts }
+    requires some { 0 < L.parts }
+{
     let conf = many_items(alloc, count)?;
-    let mut run = Run::<Brand>::over(alloc, conf, Blank::new(1))?;
+    let mut run = Run::<L>::over(alloc, conf, blank)?;
     run.take_all(alloc, count, "10")?;
     Ok(run.made)
 }
 
 /// How many records so many high and low values of one item make.
 fn turns_of(alloc: Global, times: u32) -> Result<usize, OutOfMemory> {
+    turns_counted::<Brand>(alloc, times, Blank::new(1))
+}
+
+fn turns_counted<L: Ledger>(alloc: Global, times: u32, blank: Blank) -> Result<usize, OutOfMemory>
+    requires name { blank.name ≡ L.name }
+    requires parts { blank.parts ≡ L.parts }
+    requires some { 0 < L.parts }
+{
     let conf = configuration(alloc)?;
-    let mut run = Run::<Brand>::over(alloc, conf, Blank::new(1))?;
+    let mut run = Run::<L>::over(alloc, conf, blank)?;
     run.take_turns(alloc, times)?;
     Ok(run.made)
 }
