@@ -406,7 +406,11 @@ fn problems_of(alloc: Global, count: u32) -> Result<usize, OutOfMemory> {
     problems_counted::<Brand>(alloc, count, Blank::new(1))
 }
 
-fn problems_counted<L: Ledger>(alloc: Global, count: u32, blank: Blank) -> Result<usize, OutOfMemory>
+fn problems_counted<L: Ledger>(
+    alloc: Global,
+    count: u32,
+    blank: Blank,
+) -> Result<usize, OutOfMemory>
     requires name { blank.name ≡ L.name }
     requires parts { blank.parts ≡ L.parts }
     requires some { 0 < L.parts }
