@@ -1,8 +1,7 @@
 -- What cells keep of histories is enough for the functions built so far.
-use Rattle.std.proofs.Common.{◌≡◌, ◌≢◌, ◌++◌, zero, suc, inl, inr, ℕ, ◌+◌, ◌≤◌, ◌==◌, ◌&&◌, nat_le, Bool, true, false, cond, Option, Some, None, List, [], ◌∷◌, slice_get, refl, sym, ◌∙◌, ap, option_map, option_and_then, option_to_list, ℤ, eqb-true, arith}
+use Rattle.std.proofs.Common.{◌≡◌, ◌≢◌, ◌++◌, zero, suc, inl, inr, ℕ, ◌==◌, ◌&&◌, nat_le, Bool, true, false, cond, Option, Some, None, List, [], ◌∷◌, slice_get, refl, sym, ◌∙◌, ap, option_map, option_and_then, option_to_list, ℤ, eqb-true, arith}
 use mathlib.Core.Path.{fun_ext}
 use Rattle.std.proofs.lemmas.Bool.Decides.{nat_tests}
-use Rattle.std.specs.List.{list_any}
 use Rattle.zbx_types.specs.Ids.{at_id}
 use Rattle.zbx_types.specs.Trees.{tree_of}
 use Rattle.zbx_types.specs.declared.conf.Conf.{Conf}

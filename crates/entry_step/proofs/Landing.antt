@@ -1,5 +1,5 @@
 -- Which triggers' problems an evaluation changes: its own alone.
-use Rattle.std.proofs.Common.{◌≡◌, ℕ, ◌==◌, Bool, true, false, cond, Option, Some, None, List, [], ◌∷◌, ◌++◌, map, refl, sym, ◌∙◌, ap, subst, eq-eqb, eqb-true, ℤ, pos}
+use Rattle.std.proofs.Common.{◌≡◌, ℕ, ◌==◌, Bool, true, false, cond, Option, Some, None, List, [], ◌∷◌, ◌++◌, map, refl, ◌∙◌, ap, subst, eqb-true, ℤ, pos}
 use Rattle.std.specs.Ordering.{int_eq}
 use Rattle.zbx_types.specs.Ids.{at_id}
 use Rattle.zbx_types.specs.Trees.{tree_of}

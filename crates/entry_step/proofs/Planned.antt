@@ -1,5 +1,5 @@
 -- The values of nodes.
-use Rattle.std.proofs.Common.{◌≡◌, ℕ, zero, suc, ◌-◌, ◌==◌, Bool, true, false, cond, ◌&&◌, List, [], ◌∷◌, Option, Some, None, ℤ, neg_ℤ, refl, sym, ◌∙◌, ap, subst, slice_get, option_map, length, map, take, get_or, ◌+◌, ◌<◌, ◌++◌, append-nil, arith}
+use Rattle.std.proofs.Common.{◌≡◌, ℕ, zero, suc, ◌-◌, ◌==◌, Bool, true, false, cond, ◌&&◌, List, [], ◌∷◌, Option, Some, None, ℤ, refl, sym, ◌∙◌, ap, subst, slice_get, option_map, length, map, take, get_or, ◌+◌, ◌<◌, ◌++◌, append-nil, arith}
 use Rattle.std.proofs.lemmas.List.{length-map}
 use Rattle.std.specs.Prelude.{option_and_then}
 use Rattle.std.specs.Option.{unwrap_or}
@@ -13,7 +13,7 @@ use Rattle.zbx_types.specs.declared.calls.Range.{Range}
 use Rattle.zbx_types.specs.declared.calls.Range.TheVariants.{Count, Period}
 use Rattle.expr_eval.specs.Values.{value_over}
 use Rattle.entry_step.specs.Evaluation.{last_number, up_to, function_value, call_value}
-use Rattle.entry_step.specs.Calls.{histories, values_of, Evaluates}
+use Rattle.entry_step.specs.Calls.{histories, values_of}
 use Rattle.entry_step.specs.Plans.{node_of, call_node, flat, plan_of}
 use Rattle.zbx_types.specs.Trees.{tree_of}
 use Rattle.entry_step.proofs.Packing.{IsPacked, packed_more}

@@ -1,9 +1,8 @@
 -- On replays no Recovery stands before its Problem, so open problems are those that no Recovery names at all.
-use Rattle.std.proofs.Common.{◌≡◌, ◌≢◌, ℕ, zero, suc, ◌+◌, ◌-◌, ◌<◌, ◌≤◌, ◌==◌, nat_eq, Bool, true, false, cond, not, ◌&&◌, ◌||◌, ◌⊎◌, inl, inr, Option, Some, None, List, [], ◌∷◌, ◌++◌, map, filter, slice_get, refl, sym, ◌∙◌, ap, ap₂, subst, append_assoc, append-nil, eqb-true, eq-eqb, ne_eqb, ℤ, pos, max, arith}
+use Rattle.std.proofs.Common.{◌≡◌, ℕ, zero, suc, ◌+◌, ◌-◌, ◌<◌, ◌≤◌, ◌==◌, Bool, true, false, cond, not, ◌&&◌, ◌||◌, ◌⊎◌, inl, inr, Option, Some, None, List, [], ◌∷◌, ◌++◌, map, filter, slice_get, refl, sym, ◌∙◌, ap, ap₂, subst, append_assoc, append-nil, eqb-true, eq-eqb, ne_eqb, ℤ, pos, arith}
 use Rattle.std.proofs.lemmas.List.Folds.{list_any-append}
 use Rattle.std.specs.List.{list_any}
 use Rattle.std.specs.Ordering.{int_eq}
-use Rattle.std.specs.Cmp.Lexicographic.{pointwise}
 use Rattle.zbx_types.specs.Ids.{at_id}
 use Rattle.zbx_types.specs.Trees.{tree_of}
 use Rattle.zbx_types.specs.declared.conf.Conf.{Conf}
@@ -22,12 +21,11 @@ use Rattle.entry_step.specs.History.{history_of}
 use Rattle.expr_eval.specs.Values.{value_over}
 use Rattle.entry_step.specs.Evaluation.{call_value}
 use Rattle.entry_step.specs.Order.{level, by_depth, above_depths, order}
-use Rattle.entry_step.specs.Problems.{same_event, event_of, event_in, opens, recovers, opened, open_of}
+use Rattle.entry_step.specs.Problems.{event_of, event_in, opens, recovers, opened, open_of}
 use Rattle.entry_step.specs.Records.{problem_of, recovery_of, begun, verdict_records, judged, judged_by, evaluated, phase_over, has_call, stores, triggers_at, failure_by, failure_of, failures_at, out_of, replay}
-use Rattle.entry_step.specs.Named.{is_named, open_problems, host_of, AreDistinct, last_number, IsRising, OpenByNames}
+use Rattle.entry_step.specs.Named.{is_named, host_of, AreDistinct, last_number, IsRising, OpenByNames}
 use Rattle.entry_step.specs.declared.opens.Open.{Open}
-use Rattle.entry_step.proofs.Members.{each_at, each_append, each_sub, and_left, and_right, and_both}
-use Rattle.entry_step.proofs.Items.{at_suc}
+use Rattle.entry_step.proofs.Members.{each_append, each_sub, and_both}
 
 -- Each trigger stands once in the order
 abbrev Once : List ℕ → Type 0

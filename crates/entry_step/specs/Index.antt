@@ -1,5 +1,5 @@
 -- The indexes by which hosts, items and triggers are found.
-use Rattle.std.specs.Prelude.{◌≡◌, ℕ, ◌==◌, Bool, List, [], ◌∷◌, map, String, Option, Some, None, if◌then◌else◌, option_and_then, slice_get, slice_index_or}
+use Rattle.std.specs.Prelude.{◌≡◌, ℕ, ◌==◌, Bool, List, [], map, String, Option, Some, None, if◌then◌else◌, option_and_then, slice_get, slice_index_or}
 use Rattle.std.specs.HashMap.{HashMap, get_by_text}
 use Rattle.std.specs.List.{list_any}
 use Rattle.std.specs.Option.{option_or}

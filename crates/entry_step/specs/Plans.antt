@@ -1,5 +1,5 @@
 -- Expressions of triggers that lie flat: each node stands before its operands, the left one first.
-use Rattle.std.specs.Prelude.{ℕ, ◌==◌, ◌&&◌, List, [], ◌∷◌, Option, if◌then◌else◌, slice_get, option_and_then, option_map}
+use Rattle.std.specs.Prelude.{ℕ, ◌==◌, ◌&&◌, List, [], ◌∷◌, if◌then◌else◌, slice_get, option_and_then, option_map}
 use Rattle.std.specs.Option.{unwrap_or}
 use Rattle.zbx_types.specs.Tree.{Tree, constant, call, negative, negation, binary}
 use Rattle.zbx_types.specs.Trees.{tree_of}

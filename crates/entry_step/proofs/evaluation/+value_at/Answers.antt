@@ -1,6 +1,4 @@
 use Rattle.std.proofs.Common.{◌∙◌, sym, ap, neg_ℤ, option_map, Option, ℤ}
-use Rattle.zbx_types.specs.declared.expr.Op.{Op}
-use Rattle.zbx_types.specs.Tree.{Tree}
 use Rattle.expr_eval.specs.Operations.{negation_of, operation}
 use Rattle.expr_eval.specs.Values.{value_over}
 use Rattle.entry_step.specs.Calls.{values_of}

@@ -1,4 +1,4 @@
-use Rattle.std.proofs.Common.{◌≡◌, ◌++◌, ◌∙◌, ap, take}
+use Rattle.std.proofs.Common.{◌≡◌, ◌++◌, ◌∙◌, ap}
 use Rattle.entry_step.proofs.Packing.{packed_more, packed_all}
 use Rattle.entry_step.proofs.packed.pack.Goals as goal
 

@@ -1,4 +1,4 @@
-use Rattle.std.proofs.Common.{◌≡◌, ◌++◌, ◌∙◌, ap, sym, map, take, List, arith}
+use Rattle.std.proofs.Common.{◌++◌, ◌∙◌, ap, map, List, arith}
 use Rattle.std.proofs.lemmas.List.{length-map}
 use Rattle.zbx_types.specs.Trees.{tree_of}
 use Rattle.entry_step.specs.Plans.{call_node, flat, plan_of}

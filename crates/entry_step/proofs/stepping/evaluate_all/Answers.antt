@@ -1,5 +1,4 @@
-use Rattle.std.proofs.Common.{◌≡◌, ◌<◌, ◌+◌, ℕ, List, length, get_or, ◌∙◌, sym, ap, subst, arith}
-use Rattle.zbx_types.specs.declared.entries.Rec.{Rec}
+use Rattle.std.proofs.Common.{◌≡◌, ◌<◌, ◌+◌, ℕ, List, length, get_or, ◌∙◌, ap, subst, arith}
 use Rattle.entry_step.specs.Kept.{kept, with_value}
 use Rattle.entry_step.specs.Problems.{absorbed_all}
 use Rattle.entry_step.specs.Records.{triggers_over}
