@@ -1,8 +1,7 @@
 -- What cells keep of histories is enough for the functions built so far.
-use Rattle.std.proofs.Common.{◌≡◌, ◌≢◌, ◌++◌, zero, suc, inl, inr, ℕ, ◌+◌, ◌≤◌, ◌==◌, ◌&&◌, nat_le, Bool, true, false, cond, Option, Some, None, List, [], ◌∷◌, slice_get, refl, sym, ◌∙◌, ap, option_map, option_and_then, option_to_list, ℤ, eqb-true, arith}
+use Rattle.std.proofs.Common.{◌≡◌, ◌≢◌, ◌++◌, zero, suc, inl, inr, ℕ, ◌==◌, ◌&&◌, nat_le, Bool, true, false, cond, Option, Some, None, List, [], ◌∷◌, slice_get, refl, sym, ◌∙◌, ap, option_map, option_and_then, option_to_list, ℤ, eqb-true, arith}
 use mathlib.Core.Path.{fun_ext}
 use Rattle.std.proofs.lemmas.Bool.Decides.{nat_tests}
-use Rattle.std.specs.List.{list_any}
 use Rattle.zbx_types.specs.Ids.{at_id}
 use Rattle.zbx_types.specs.Trees.{tree_of}
 use Rattle.zbx_types.specs.declared.conf.Conf.{Conf}
@@ -18,7 +17,8 @@ use Rattle.zbx_types.specs.declared.entries.Held.{Held}
 use Rattle.zbx_types.specs.declared.entries.Stored.{Stored}
 use Rattle.entry_step.specs.Each.{Each, In}
 use Rattle.entry_step.specs.History.{kept_by, stored_of, placed}
-use Rattle.entry_step.specs.Evaluation.{last_number, up_to, function_value, call_value, expression_value}
+use Rattle.expr_eval.specs.Values.{value_over}
+use Rattle.entry_step.specs.Evaluation.{last_number, up_to, function_value, call_value}
 use Rattle.entry_step.specs.Problems.{absorbed_all, grown}
 use Rattle.entry_step.specs.Records.{verdict_records, judged, judged_by, evaluated, phase}
 use Rattle.entry_step.specs.Represents.{first_of}
@@ -150,7 +150,7 @@ evaluated_same conf number now a b p q id same e = ap (judged_by conf a number n
     go : (t : Option Trigger) → at_id conf.triggers id ≡ t → judged_by conf a number now id t (q id) ≡ judged_by conf b number now id t (q id)
     go None w = refl
     go (Some trigger) w =
-        ap (λ (calls : ℕ → Option ℤ). verdict_records conf number now id trigger (q id) (expression_value calls (tree_of trigger.expr)))
+        ap (λ (calls : ℕ → Option ℤ). verdict_records conf number now id trigger (q id) (value_over calls (tree_of trigger.expr)))
         (fun_ext (call_same now a b trigger (λ item i. same item (trigger, w, i))))
 
 -- the open problems agree at the triggers in K

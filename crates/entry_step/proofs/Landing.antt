@@ -1,5 +1,5 @@
 -- Which triggers' problems an evaluation changes: its own alone.
-use Rattle.std.proofs.Common.{◌≡◌, ℕ, ◌==◌, Bool, true, false, cond, Option, Some, None, List, [], ◌∷◌, ◌++◌, map, refl, sym, ◌∙◌, ap, subst, eq-eqb, eqb-true, ℤ, pos}
+use Rattle.std.proofs.Common.{◌≡◌, ℕ, ◌==◌, Bool, true, false, cond, Option, Some, None, List, [], ◌∷◌, ◌++◌, map, refl, ◌∙◌, ap, subst, eqb-true, ℤ, pos}
 use Rattle.std.specs.Ordering.{int_eq}
 use Rattle.zbx_types.specs.Ids.{at_id}
 use Rattle.zbx_types.specs.Trees.{tree_of}
@@ -8,7 +8,8 @@ use Rattle.zbx_types.specs.declared.triggers.Trigger.{Trigger}
 use Rattle.zbx_types.specs.declared.entries.EventId.{EventId}
 use Rattle.zbx_types.specs.declared.entries.Rec.{Rec}
 use Rattle.zbx_types.specs.declared.entries.Stored.{Stored}
-use Rattle.entry_step.specs.Evaluation.{call_value, expression_value}
+use Rattle.expr_eval.specs.Values.{value_over}
+use Rattle.entry_step.specs.Evaluation.{call_value}
 use Rattle.entry_step.specs.Problems.{home, event_in, lands, absorbed_all, grown}
 use Rattle.entry_step.specs.Records.{problem_of, recovery_of, begun, verdict_records, judged, judged_by, evaluated, phase}
 use Rattle.entry_step.specs.Represents.{AllAtHome}
@@ -60,7 +61,7 @@ verdict_lands conf number now id trigger os (Some p) h = go (int_eq p (pos 0))
 judged_lands : (conf : Conf) (items : ℕ → List Stored) (number now id : ℕ) (trigger : Option Trigger) (os : List Open) → AllAtHome conf id os → LandIn conf (only id) (judged_by conf items number now id trigger os)
 unfolding judged
 judged_lands conf items number now id None os h = tt
-judged_lands conf items number now id (Some trigger) os h = verdict_lands conf number now id trigger os (expression_value (call_value items now trigger) (tree_of trigger.expr)) h
+judged_lands conf items number now id (Some trigger) os h = verdict_lands conf number now id trigger os (value_over (call_value items now trigger) (tree_of trigger.expr)) h
 
 pub evaluated_lands : (conf : Conf) (number now : ℕ) (items : ℕ → List Stored) (all : ℕ → List Open) (id : ℕ) → AllAtHome conf id (all id) → LandIn conf (only id) (evaluated conf number now items all id)
 unfolding evaluated

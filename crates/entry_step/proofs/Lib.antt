@@ -10,3 +10,5 @@ pub mod Replays
 pub mod Items
 pub mod Naming
 pub mod Listing
+pub mod Planned
+pub mod Packing

@@ -1,31 +1,28 @@
 -- The laws of order.
-use Rattle.std.proofs.Common.{◌≡◌, ◌≢◌, ℕ, ◌==◌, Bool, true, false, cond, not, ◌&&◌, ◌||◌, ◌⊎◌, inl, inr, Option, Some, None, is_some, List, [], ◌∷◌, ◌++◌, filter, refl, sym, ◌∙◌, ap, ap₂, subst, eqb-true, eq-eqb}
+use Rattle.std.proofs.Common.{◌≡◌, ℕ, ◌==◌, Bool, true, false, cond, ◌&&◌, ◌⊎◌, inl, inr, Option, Some, None, List, [], ◌∷◌, ◌++◌, filter, refl, sym, ◌∙◌, ap, ap₂, subst, eq-eqb}
 use mathlib.Core.Path.{fun_ext}
 use Rattle.std.specs.List.{list_any}
 use Rattle.zbx_types.specs.Ids.{at_id}
 use Rattle.zbx_types.specs.declared.conf.Conf.{Conf}
-use Rattle.zbx_types.specs.declared.triggers.Trigger.{Trigger}
 use Rattle.zbx_types.specs.declared.entries.Entry.{Entry}
 use Rattle.zbx_types.specs.declared.entries.Entry.TheVariants.{Config, Value, Tick}
 use Rattle.zbx_types.specs.declared.entries.Numbered.{Numbered}
-use Rattle.zbx_types.specs.declared.entries.Rec.{Rec}
 use Rattle.zbx_types.specs.declared.entries.Stored.{Stored}
 use Rattle.entry_step.specs.Each.{Each, In, EachPair}
 use Rattle.entry_step.specs.Log.{moment_of, first_tick}
 use Rattle.entry_step.specs.History.{stored_of, with_stored}
 use Rattle.entry_step.specs.Evaluation.{up_to}
 use Rattle.entry_step.specs.Order.{order}
-use Rattle.entry_step.specs.Problems.{absorbed_all, open_of}
-use Rattle.entry_step.specs.Records.{evaluated, phase, has_call, is_over, stores, triggers_at, triggers_over, failures_at, out_of, replay}
+use Rattle.entry_step.specs.Problems.{absorbed_all}
+use Rattle.entry_step.specs.Records.{evaluated, phase, is_over, triggers_at, failures_at, out_of, replay}
 use Rattle.entry_step.specs.Cells.{Key, ItemKey, TriggerKey, TickKey, CellOf, ItemCell, Cells, opens_in, touches, item_after, histories_after, records_at, records, after, look, StandFor}
-use Rattle.entry_step.specs.Represents.{first_of, AllAtHome, IsTidy}
-use Rattle.entry_step.specs.Laws.{Agree, IsLocal, IsConfined, Apart, AreTidyCells, Locality, SameOut, InPlace, Insertion, cells_done, records_done, any_touches, put_over, Copies, BatchOnACopy, PassedApart, AppliedPart}
-use Rattle.entry_step.specs.declared.opens.Open.{Open}
-use Rattle.entry_step.proofs.Members.{or_left, or_right, or_false_left, or_false_right, each_from, each_at, each_filter, any_intro, any_elim, true_or_false}
+use Rattle.entry_step.specs.Represents.{first_of, IsTidy}
+use Rattle.entry_step.specs.Laws.{Agree, IsLocal, IsConfined, Apart, AreTidyCells, Locality, SameOut, Insertion, cells_done, records_done, any_touches, BatchOnACopy, PassedApart, AppliedPart}
+use Rattle.entry_step.proofs.Members.{or_left, or_false_left, or_false_right, each_at, any_intro, true_or_false}
 use Rattle.entry_step.proofs.Problems.{home_all}
 use Rattle.entry_step.proofs.Landing.{LandIn, land_append, land_sub, land_off, AllIn, phase_lands}
-use Rattle.entry_step.proofs.Histories.{stored_other, Calls, SameTo, phase_same}
-use Rattle.entry_step.proofs.Represented.{stores_none, triggers_stored, triggers_none, each_over, calls_touched, failures_land, records_are, after_is, one_entry}
+use Rattle.entry_step.proofs.Histories.{stored_other, SameTo, phase_same}
+use Rattle.entry_step.proofs.Represented.{stores_none, triggers_stored, triggers_none, each_over, calls_touched, failures_land, records_are, after_is}
 
 -- Each trigger that an entry evaluates is over its item
 each_triggered : (conf : Conf) (number now item time : ℕ) (value : List ℕ) (P : ℕ → Type 0) → ((id : ℕ) → In id (order conf) → is_over item (at_id conf.triggers id) ≡ true → P id) → Each P (triggers_at conf number (Value now item time value))

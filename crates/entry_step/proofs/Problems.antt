@@ -1,5 +1,5 @@
 -- Open problems and more records.
-use Rattle.std.proofs.Common.{◌≡◌, ◌≢◌, ℕ, ◌==◌, Bool, true, false, cond, not, ◌&&◌, ◌||◌, List, [], ◌∷◌, ◌++◌, Option, Some, None, map, filter, refl, sym, ◌∙◌, ap, append-nil, append_assoc, eq-eqb, eqb-true}
+use Rattle.std.proofs.Common.{◌≡◌, ℕ, ◌==◌, Bool, true, false, cond, not, ◌&&◌, ◌||◌, List, [], ◌∷◌, ◌++◌, Some, map, filter, refl, sym, ◌∙◌, ap, append-nil, append_assoc, eq-eqb, eqb-true}
 use Rattle.std.proofs.lemmas.List.Folds.{list_any-append}
 use Rattle.std.specs.List.{list_any}
 use Rattle.zbx_types.specs.Ids.{at_id}
@@ -8,7 +8,7 @@ use Rattle.zbx_types.specs.declared.triggers.Trigger.{Trigger}
 use Rattle.zbx_types.specs.declared.entries.EventId.{EventId}
 use Rattle.zbx_types.specs.declared.entries.Rec.{Rec}
 use Rattle.zbx_types.specs.declared.entries.Rec.TheVariants.{Failure, Problem, Recovery, Step, Message}
-use Rattle.entry_step.specs.Problems.{home, same_event, event_of, event_in, opens, recovers, depth_by, depth_of, opened, open_of, lands, absorbed, absorbed_all}
+use Rattle.entry_step.specs.Problems.{home, same_event, event_of, event_in, opens, recovers, opened, open_of, lands, absorbed, absorbed_all}
 use Rattle.entry_step.specs.Records.{problem_of, recovery_of}
 use Rattle.entry_step.specs.Represents.{AllAtHome}
 use Rattle.entry_step.specs.declared.opens.Open.{Open}

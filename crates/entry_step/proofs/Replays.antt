@@ -1,9 +1,8 @@
 -- On replays no Recovery stands before its Problem, so open problems are those that no Recovery names at all.
-use Rattle.std.proofs.Common.{◌≡◌, ◌≢◌, ℕ, zero, suc, ◌+◌, ◌-◌, ◌<◌, ◌≤◌, ◌==◌, nat_eq, Bool, true, false, cond, not, ◌&&◌, ◌||◌, ◌⊎◌, inl, inr, Option, Some, None, List, [], ◌∷◌, ◌++◌, map, filter, slice_get, refl, sym, ◌∙◌, ap, ap₂, subst, append_assoc, append-nil, eqb-true, eq-eqb, ne_eqb, ℤ, pos, max, arith}
+use Rattle.std.proofs.Common.{◌≡◌, ℕ, zero, suc, ◌+◌, ◌-◌, ◌<◌, ◌≤◌, ◌==◌, Bool, true, false, cond, not, ◌&&◌, ◌||◌, ◌⊎◌, inl, inr, Option, Some, None, List, [], ◌∷◌, ◌++◌, map, filter, slice_get, refl, sym, ◌∙◌, ap, ap₂, subst, append_assoc, append-nil, eqb-true, eq-eqb, ne_eqb, ℤ, pos, arith}
 use Rattle.std.proofs.lemmas.List.Folds.{list_any-append}
 use Rattle.std.specs.List.{list_any}
 use Rattle.std.specs.Ordering.{int_eq}
-use Rattle.std.specs.Cmp.Lexicographic.{pointwise}
 use Rattle.zbx_types.specs.Ids.{at_id}
 use Rattle.zbx_types.specs.Trees.{tree_of}
 use Rattle.zbx_types.specs.declared.conf.Conf.{Conf}
@@ -17,16 +16,16 @@ use Rattle.zbx_types.specs.declared.entries.Rec.{Rec}
 use Rattle.zbx_types.specs.declared.entries.Rec.TheVariants.{Failure, Problem, Recovery, Step, Message}
 use Rattle.zbx_types.specs.declared.entries.Stored.{Stored}
 use Rattle.entry_step.specs.Each.{Each, In}
-use Rattle.entry_step.specs.Names.{same_text}
+use Rattle.std.specs.Str.{bytes_eq}
 use Rattle.entry_step.specs.History.{history_of}
-use Rattle.entry_step.specs.Evaluation.{call_value, expression_value}
+use Rattle.expr_eval.specs.Values.{value_over}
+use Rattle.entry_step.specs.Evaluation.{call_value}
 use Rattle.entry_step.specs.Order.{level, by_depth, above_depths, order}
-use Rattle.entry_step.specs.Problems.{same_event, event_of, event_in, opens, recovers, opened, open_of}
+use Rattle.entry_step.specs.Problems.{event_of, event_in, opens, recovers, opened, open_of}
 use Rattle.entry_step.specs.Records.{problem_of, recovery_of, begun, verdict_records, judged, judged_by, evaluated, phase_over, has_call, stores, triggers_at, failure_by, failure_of, failures_at, out_of, replay}
-use Rattle.entry_step.specs.Named.{is_named, open_problems, host_of, AreDistinct, last_number, IsRising, OpenByNames}
+use Rattle.entry_step.specs.Named.{is_named, host_of, AreDistinct, last_number, IsRising, OpenByNames}
 use Rattle.entry_step.specs.declared.opens.Open.{Open}
-use Rattle.entry_step.proofs.Members.{each_at, each_append, each_sub, and_left, and_right, and_both}
-use Rattle.entry_step.proofs.Items.{at_suc}
+use Rattle.entry_step.proofs.Members.{each_append, each_sub, and_both}
 
 -- Each trigger stands once in the order
 abbrev Once : List ℕ → Type 0
@@ -298,7 +297,7 @@ module _ (conf : Conf) (n now : ℕ) (items : ℕ → List Stored) (done : List 
     where
       go : (t : Option Trigger) → at_id conf.triggers id ≡ t → Next (judged_by conf items n now id t (open_of conf rs id))
       go None e = none_next
-      go (Some t) e = verdict_next t e (expression_value (call_value items now t) (tree_of t.expr))
+      go (Some t) e = verdict_next t e (value_over (call_value items now t) (tree_of t.expr))
 
 phase_next : (conf : Conf) (n now : ℕ) (items : ℕ → List Stored) (done ids : List ℕ) (rs : List Rec) → Right conf n done rs → Once ids → ((x : ℕ) → In x ids → In x done → ⊥)
     → (all : List ℕ) × Right conf n all (rs ++ phase_over conf (evaluated conf n now items) rs ids)
@@ -353,9 +352,9 @@ replay_right conf (e ∷ log) r m l =
     later all event (inr d) = let q : event.number ≡ e.number = d.0 in inl (omega arith)
 
 -- The public definition
-same_refl : (a : List ℕ) → same_text a a ≡ true
+same_refl : (a : List ℕ) → bytes_eq a a ≡ true
 same_refl [] = refl
-same_refl (x ∷ xs) = ap (λ b. b && same_text xs xs) (eq-eqb x x refl) ∙ same_refl xs
+same_refl (x ∷ xs) = ap (λ b. b && bytes_eq xs xs) (eq-eqb x x refl) ∙ same_refl xs
 
 any_early : (event : EventId) (before : List Rec) → Each (λ r. recovers event r ≡ false) before → list_any (recovers event) before ≡ false
 any_early event [] e = refl
@@ -375,25 +374,25 @@ free_none (r ∷ rs) = (tt, free_none rs)
 module _ (conf : Conf) (id : ℕ) (trigger : Trigger) (distinct : AreDistinct conf) (is : at_id conf.triggers id ≡ Some trigger) where
   -- a Problem is the trigger's where it has its names
   named_is : (event : EventId) (host name : List ℕ) → (t : Trigger) × (at_id conf.triggers event.trigger ≡ Some t) × (host ≡ host_of conf t) × (name ≡ t.name)
-      → (event.trigger == id) ≡ (same_text host (host_of conf trigger) && same_text name trigger.name)
+      → (event.trigger == id) ≡ (bytes_eq host (host_of conf trigger) && bytes_eq name trigger.name)
   named_is event host name of = go (event.trigger == id) refl
     where
       t : Trigger
       t = of.0
 
-      go : (b : Bool) → (event.trigger == id) ≡ b → b ≡ (same_text host (host_of conf trigger) && same_text name trigger.name)
+      go : (b : Bool) → (event.trigger == id) ≡ b → b ≡ (bytes_eq host (host_of conf trigger) && bytes_eq name trigger.name)
       go true q =
           let w : event.trigger ≡ id = eqb-true event.trigger id q in
           let both : Some t ≡ Some trigger = sym of.1 ∙ ap (at_id conf.triggers) w ∙ is in
           let u : t ≡ trigger = cc in
-          let h : same_text host (host_of conf trigger) ≡ true = ap (λ x. same_text x (host_of conf trigger)) (of.2 ∙ ap (host_of conf) u) ∙ same_refl (host_of conf trigger) in
-          let k : same_text name trigger.name ≡ true = ap (λ x. same_text x trigger.name) (of.3 ∙ ap (λ x. x.name) u) ∙ same_refl trigger.name in
-          sym (and_both (same_text host (host_of conf trigger)) (same_text name trigger.name) h k)
-      go false q = at (same_text host (host_of conf trigger)) (same_text name trigger.name) refl refl
+          let h : bytes_eq host (host_of conf trigger) ≡ true = ap (λ x. bytes_eq x (host_of conf trigger)) (of.2 ∙ ap (host_of conf) u) ∙ same_refl (host_of conf trigger) in
+          let k : bytes_eq name trigger.name ≡ true = ap (λ x. bytes_eq x trigger.name) (of.3 ∙ ap (λ x. x.name) u) ∙ same_refl trigger.name in
+          sym (and_both (bytes_eq host (host_of conf trigger)) (bytes_eq name trigger.name) h k)
+      go false q = at (bytes_eq host (host_of conf trigger)) (bytes_eq name trigger.name) refl refl
         where
-          at : (a b : Bool) → same_text host (host_of conf trigger) ≡ a → same_text name trigger.name ≡ b → false ≡ (a && b)
+          at : (a b : Bool) → bytes_eq host (host_of conf trigger) ≡ a → bytes_eq name trigger.name ≡ b → false ≡ (a && b)
           at true true ea eb =
-              let w : event.trigger ≡ id = distinct event.trigger id t trigger of.1 is (ap (λ x. same_text x (host_of conf trigger)) (sym of.2) ∙ ea) (ap (λ x. same_text x trigger.name) (sym of.3) ∙ eb) in
+              let w : event.trigger ≡ id = distinct event.trigger id t trigger of.1 is (ap (λ x. bytes_eq x (host_of conf trigger)) (sym of.2) ∙ ea) (ap (λ x. bytes_eq x trigger.name) (sym of.3) ∙ eb) in
               let n : (event.trigger == id) ≡ true = eq-eqb event.trigger id w in cc
           at true false ea eb = refl
           at false b ea eb = refl

@@ -1,5 +1,5 @@
 -- What is kept goes on representing cells.
-use Rattle.std.proofs.Common.{◌≡◌, ◌≢◌, ◌≤◌, ◌-◌, ℕ, zero, suc, slice_get, set, ◌==◌, Bool, true, false, cond, not, ◌&&◌, ◌||◌, ◌⊎◌, inl, inr, Option, Some, None, List, [], ◌∷◌, ◌++◌, length, filter, map, replicate, option_map, option_to_list, is_some, refl, sym, ◌∙◌, ap, ap₂, subst, eqb-true, eq-eqb, arith, nat_le, append-nil, Result, Ok, Err, IfOk, OnOk, reverse, ◌+◌}
+use Rattle.std.proofs.Common.{◌≡◌, ◌≢◌, ◌≤◌, ℕ, zero, suc, slice_get, ◌==◌, Bool, true, false, cond, ◌&&◌, Option, Some, None, List, [], ◌∷◌, ◌++◌, length, filter, replicate, option_map, option_to_list, is_some, refl, sym, ◌∙◌, ap, subst, eqb-true, eq-eqb, arith, nat_le, append-nil, Result, Ok, Err, IfOk, OnOk, reverse, ◌+◌}
 use mathlib.Core.Path.{fun_ext}
 use Rattle.std.proofs.lemmas.Bool.{le-leb}
 use Rattle.std.specs.List.{list_any}
@@ -14,23 +14,23 @@ use Rattle.zbx_types.specs.declared.entries.Numbered.{Numbered}
 use Rattle.zbx_types.specs.declared.entries.Rec.{Rec}
 use Rattle.zbx_types.specs.declared.entries.Stored.{Stored}
 use Rattle.entry_step.specs.Each.{Each, In}
-use Rattle.entry_step.specs.Log.{moment_of, last_moment, tick_with, IsFitting, Suits, AllSuit, Follows, Fits}
+use Rattle.entry_step.specs.Log.{moment_of, last_moment, tick_with, IsFitting, AllSuit, Fits}
 use Rattle.entry_step.specs.History.{stored_of, placed, with_stored, history_of}
 use Rattle.entry_step.specs.Evaluation.{up_to}
 use Rattle.entry_step.specs.Order.{order}
 use Rattle.entry_step.specs.Problems.{absorbed_all, open_of}
 use Rattle.entry_step.specs.Records.{evaluated, phase, phase_over, has_call, is_over, triggers_over, stores, triggers_at, failure_by, failure_of, failures_at, out_of, replay}
-use Rattle.entry_step.specs.Cells.{Key, ItemKey, TriggerKey, TickKey, ItemCell, Cells, opens_in, touches, item_after, histories_after, records_at, records, after, seen_of, look, StandFor}
-use Rattle.entry_step.specs.Represents.{CellsView, first_of, problems_at, AllAtHome, IsTidy, Represents, Holds, ComesAfter, StepsTo}
+use Rattle.entry_step.specs.Cells.{Key, ItemKey, TriggerKey, TickKey, Cells, opens_in, touches, item_after, histories_after, records_at, records, after, seen_of, look, StandFor}
+use Rattle.entry_step.specs.Represents.{CellsView, first_of, problems_at, AllAtHome, Represents, Holds, ComesAfter, StepsTo}
 use Rattle.entry_step.specs.Kept.{latest_at, kept, newer, with_value}
-use Rattle.entry_step.specs.Changes.{with_rows, put_back, one_of, AreTidy, Runs, TakesIn, Takes}
+use Rattle.entry_step.specs.Changes.{with_rows, put_back, one_of, AreTidy, TakesIn, Takes}
 use Rattle.entry_step.specs.declared.changes.Row.{Row}
 use Rattle.entry_step.specs.declared.opens.Open.{Open}
-use Rattle.entry_step.proofs.Members.{and_left, and_right, and_both, or_left, or_right, each_filter, any_elim, any_intro}
+use Rattle.entry_step.proofs.Members.{and_left, and_both, or_left, or_right, each_filter, any_intro}
 use Rattle.entry_step.proofs.Items.{at_zero, at_suc, latest_at_same, latest_at_other, length-with_value}
 use Rattle.entry_step.proofs.Problems.{open_append, home_all}
 use Rattle.entry_step.proofs.Landing.{LandIn, land_off}
-use Rattle.entry_step.proofs.Histories.{stored_none, stored_other, stored_time, first_placed, up_placed, first_up, Calls, SameTo, AgreeOn, phase_same}
+use Rattle.entry_step.proofs.Histories.{stored_none, stored_other, stored_time, first_placed, up_placed, first_up, Calls, SameTo, phase_same}
 use Rattle.entry_step.proofs.Phases.{none_same, phase_is}
 
 -- Which triggers an entry evaluates

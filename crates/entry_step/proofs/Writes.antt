@@ -1,5 +1,5 @@
 -- Rows that are taken out and put back.
-use Rattle.std.proofs.Common.{◌≡◌, ◌≢◌, ◌≤◌, ◌<◌, ◌-◌, ◌==◌, ℕ, zero, suc, List, [], ◌∷◌, ◌++◌, refl, sym, ◌∙◌, ap, set, length, get_or, reverse, true, false, ne_eqb, arith}
+use Rattle.std.proofs.Common.{◌≡◌, ◌≢◌, ◌≤◌, ◌-◌, ◌==◌, ℕ, zero, suc, List, [], ◌∷◌, ◌++◌, refl, ◌∙◌, ap, set, length, get_or, reverse, false, ne_eqb}
 use Rattle.std.proofs.lemmas.List.{set_past, reverse-append}
 use Rattle.entry_step.specs.Changes.{with_row, with_rows, put_back}
 use Rattle.entry_step.specs.declared.opens.Open.{Open}

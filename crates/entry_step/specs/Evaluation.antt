@@ -1,8 +1,5 @@
--- The values of history functions and expressions. None is Unknown.
-use Rattle.std.specs.Prelude.{ℕ, ◌==◌, nat_le, Bool, true, false, ◌&&◌, List, [], ◌∷◌, Option, Some, None, if◌then◌else◌, ℤ, pos, int_lt, filter, slice_get, option_and_then}
-use Rattle.zbx_types.specs.Tree.{Tree, constant, call, negative, negation, binary}
-use Rattle.zbx_types.specs.declared.expr.Op.{Op}
-use Rattle.zbx_types.specs.declared.expr.Op.TheVariants as op
+-- The values of the calls of triggers. None is Unknown.
+use Rattle.std.specs.Prelude.{ℕ, ◌==◌, nat_le, ◌&&◌, List, [], ◌∷◌, Option, Some, None, if◌then◌else◌, ℤ, filter, slice_get, option_and_then}
 use Rattle.zbx_types.specs.declared.calls.Fun.{Fun}
 use Rattle.zbx_types.specs.declared.calls.Fun.TheVariants as function
 use Rattle.zbx_types.specs.declared.calls.Range.{Range}
@@ -35,27 +32,3 @@ function_value other range shift history now = None
 unfoldable pub call_value : (ℕ → List Stored) → ℕ → Trigger → ℕ → Option ℤ
 call_value items now trigger place =
     option_and_then (λ c. option_and_then (λ item. function_value c.fun c.range c.shift (items item) now) (slice_get trigger.call_items place)) (slice_get trigger.calls place)
-
--- 1 and 0 in millionths
-abbrev pub truth : Bool → ℤ
-truth true = pos 1000000
-truth false = pos 0
-
--- whether the first number is greater, where both are known
-abbrev pub greater : Option ℤ → Option ℤ → Option ℤ
-greater None b = None
-greater (Some x) None = None
-greater (Some x) (Some y) = Some (truth (int_lt y x))
-
--- a binary operator over the values of its operands
-abbrev pub operated : Op → Option ℤ → Option ℤ → Option ℤ
-operated op.Gt x y = greater x y
-operated other x y = None
-
--- an expression over the values of its calls, by their places. Built so far are constants, calls and `>`.
-abbrev pub expression_value : (ℕ → Option ℤ) → Tree → Option ℤ
-expression_value calls (constant z) = Some z
-expression_value calls (call place) = calls place
-expression_value calls (negative a) = None
-expression_value calls (negation a) = None
-expression_value calls (binary o a b) = operated o (expression_value calls a) (expression_value calls b)

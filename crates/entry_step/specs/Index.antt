@@ -1,25 +1,30 @@
 -- The indexes by which hosts, items and triggers are found.
-use Rattle.std.specs.Prelude.{◌≡◌, ℕ, nat_eq, ◌==◌, Bool, List, [], ◌∷◌, String, Option, Some, None, if◌then◌else◌, option_and_then}
-use Rattle.std.specs.HashMap.{HashMap, get, get_by_text}
+use Rattle.std.specs.Prelude.{◌≡◌, ℕ, ◌==◌, Bool, List, [], map, String, Option, Some, None, if◌then◌else◌, option_and_then, slice_get, slice_index_or}
+use Rattle.std.specs.HashMap.{HashMap, get_by_text}
 use Rattle.std.specs.List.{list_any}
-use Rattle.std.specs.Option.{unwrap_or, option_or}
+use Rattle.std.specs.Option.{option_or}
 use Rattle.zbx_types.specs.declared.conf.Conf.{Conf}
 use Rattle.entry_step.specs.Names.{host_named, item_keyed}
 use Rattle.entry_step.specs.Records.{triggers_over}
+use Rattle.entry_step.specs.Plans.{plan_of}
+use Rattle.entry_step.specs.Packed.{row_at}
+use Rattle.entry_step.specs.declared.packed.Packed.{Packed}
+use Rattle.entry_step.specs.declared.plans.Node.{Node}
 
--- the id at a key of a host, in maps of keys by hosts
-abbrev pub id_at : {A S T : Type 0} → HashMap ℕ (HashMap (String A) ℕ S) T → ℕ → List ℕ → Option ℕ
-id_at keys host key = option_and_then (λ ids. get_by_text ids key) (get nat_eq keys host)
+-- the id at a key of a host, in maps of keys by the ids of hosts
+abbrev pub id_at : {A S : Type 0} → List (HashMap (String A) ℕ S) → ℕ → List ℕ → Option ℕ
+id_at keys host key = option_and_then (λ ids. get_by_text ids key) (slice_get keys host)
 
--- the ids that are listed for an item. Where it has no list, there are none.
-abbrev pub listed : {T : Type 0} → HashMap ℕ (List ℕ) T → ℕ → List ℕ
-listed over item = unwrap_or (get nat_eq over item) []
+-- the ids that are listed for a number, such as an item's id. Where it has no list, there are none.
+abbrev pub listed : List (List ℕ) → ℕ → List ℕ
+listed rows number = slice_index_or rows number []
 
 -- the indexes are those of the configuration
-pub record IsIndex {A S T U : Type 0} (conf : Conf) (hosts : HashMap (String A) ℕ S) (keys : HashMap ℕ (HashMap (String A) ℕ T) U) (over : HashMap ℕ (List ℕ) U) : Type 0 where
+pub record IsIndex {A S T : Type 0} (conf : Conf) (hosts : HashMap (String A) ℕ S) (keys : List (HashMap (String A) ℕ T)) (over : Packed ℕ) (plans : Packed Node) : Type 0 where
   pub by_name : (name : List ℕ) → get_by_text hosts name ≡ host_named conf name
   pub by_key : (host : ℕ) (key : List ℕ) → id_at keys host key ≡ item_keyed conf host key
-  pub by_item : (item : ℕ) → listed over item ≡ triggers_over conf item
+  pub by_item : (item : ℕ) → row_at over.starts over.items item ≡ triggers_over conf item
+  pub by_trigger : (number : ℕ) → row_at plans.starts plans.items number ≡ slice_index_or (map plan_of conf.triggers) number []
 
 -- the id of a name with one more item, which may have the name: the first one counts
 abbrev pub noted : Option ℕ → Bool → ℕ → Option ℕ

@@ -11,6 +11,8 @@ pub mod Laws
 pub mod Named
 pub mod Kept
 pub mod Calls
+pub mod Plans
+pub mod Packed
 pub mod Changes
 pub mod Names
 pub mod Index

@@ -1,5 +1,5 @@
 -- Open problems by the names of their trigger, over all records.
-use Rattle.std.specs.Prelude.{◌≡◌, ◌<◌, ℕ, ◌&&◌, Bool, true, false, not, List, [], ◌∷◌, map, filter, Option, Some, None}
+use Rattle.std.specs.Prelude.{◌≡◌, ◌<◌, ℕ, ◌&&◌, Bool, true, false, not, List, [], ◌∷◌, map, filter, Some}
 use Rattle.std.specs.List.{list_any}
 use Rattle.zbx_types.specs.Ids.{at_id}
 use Rattle.zbx_types.specs.declared.conf.Conf.{Conf}
@@ -7,13 +7,13 @@ use Rattle.zbx_types.specs.declared.triggers.Trigger.{Trigger}
 use Rattle.zbx_types.specs.declared.entries.Numbered.{Numbered}
 use Rattle.zbx_types.specs.declared.entries.Rec.{Rec}
 use Rattle.zbx_types.specs.declared.entries.Rec.TheVariants.{Failure, Problem, Recovery, Step, Message}
-use Rattle.entry_step.specs.Names.{same_text}
+use Rattle.std.specs.Str.{bytes_eq}
 use Rattle.entry_step.specs.Problems.{event_of, recovers, open_of}
 use Rattle.entry_step.specs.Records.{host_name, replay}
 
 -- a record is a Problem with these names of host and trigger
 abbrev pub is_named : List ℕ → List ℕ → Rec → Bool
-is_named host trigger (Problem event now severity suppressed h t name tags) = same_text h host && same_text t trigger
+is_named host trigger (Problem event now severity suppressed h t name tags) = bytes_eq h host && bytes_eq t trigger
 is_named host trigger (Failure number h key why) = false
 is_named host trigger (Recovery event by now cause) = false
 is_named host trigger (Step event action step now) = false
@@ -30,7 +30,7 @@ host_of conf trigger = host_name (at_id conf.hosts trigger.host)
 -- no two triggers have the same names
 abbrev pub AreDistinct : Conf → Type 0
 AreDistinct conf = (i j : ℕ) (a b : Trigger) → at_id conf.triggers i ≡ Some a → at_id conf.triggers j ≡ Some b
-    → same_text (host_of conf a) (host_of conf b) ≡ true → same_text a.name b.name ≡ true → i ≡ j
+    → bytes_eq (host_of conf a) (host_of conf b) ≡ true → bytes_eq a.name b.name ≡ true → i ≡ j
 
 -- the number of a log's newest entry, or 0
 abbrev pub last_number : List Numbered → ℕ

@@ -2,6 +2,7 @@
 use Rattle.std.specs.Prelude.{ℕ, ◌==◌, Bool, false, not, ◌&&◌, List, [], ◌∷◌, ◌++◌, filter, Option, Some, None, if◌then◌else◌}
 use Rattle.std.specs.List.{list_any}
 use Rattle.zbx_types.specs.Ids.{at_id}
+pub use Rattle.zbx_types.specs.Records.{same_event, event_of}
 use Rattle.zbx_types.specs.declared.conf.Conf.{Conf}
 use Rattle.zbx_types.specs.declared.triggers.Trigger.{Trigger}
 use Rattle.zbx_types.specs.declared.entries.EventId.{EventId}
@@ -12,17 +13,6 @@ use Rattle.entry_step.specs.declared.opens.Open.{Open}
 -- the id that the trigger of an event has in a configuration: its own, as long as the configuration stays
 abbrev pub home : Conf → EventId → ℕ
 home conf event = event.trigger
-
-abbrev pub same_event : EventId → EventId → Bool
-same_event a b = (a.number == b.number) && (a.trigger == b.trigger)
-
--- the event that a record is about
-abbrev pub event_of : Rec → EventId
-event_of (Failure number host key why) = record { number = number; trigger = 0 }
-event_of (Problem event now severity suppressed host trigger name tags) = event
-event_of (Recovery event by now cause) = event
-event_of (Step event action step now) = event
-event_of (Message event action step recipient subject body) = event
 
 -- a record makes a problem of the trigger with an id
 abbrev pub opens : Conf → ℕ → Rec → Bool

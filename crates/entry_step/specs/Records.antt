@@ -1,5 +1,5 @@
 -- The records that entries make.
-use Rattle.std.specs.Prelude.{ℕ, ◌==◌, Bool, true, false, ◌&&◌, List, [], ◌∷◌, ◌++◌, map, filter, Option, Some, None, is_some, if◌then◌else◌, ℤ, pos, codes}
+use Rattle.std.specs.Prelude.{ℕ, ◌==◌, Bool, false, ◌&&◌, List, [], ◌∷◌, ◌++◌, map, filter, Option, Some, None, is_some, if◌then◌else◌, ℤ, pos, codes}
 use Rattle.std.specs.Ordering.{int_eq}
 use Rattle.std.specs.List.{list_any}
 use Rattle.zbx_types.specs.Ids.{at_id}
@@ -11,13 +11,13 @@ use Rattle.zbx_types.specs.declared.triggers.Trigger.{Trigger}
 use Rattle.zbx_types.specs.declared.entries.Entry.{Entry}
 use Rattle.zbx_types.specs.declared.entries.Entry.TheVariants.{Config, Value, Tick}
 use Rattle.zbx_types.specs.declared.entries.Numbered.{Numbered}
-use Rattle.zbx_types.specs.declared.entries.EventId.{EventId}
 use Rattle.zbx_types.specs.declared.entries.Rec.{Rec}
 use Rattle.zbx_types.specs.declared.entries.Rec.TheVariants.{Failure, Problem, Recovery}
 use Rattle.zbx_types.specs.declared.entries.Cause2.TheVariants as causes
 use Rattle.zbx_types.specs.declared.entries.Stored.{Stored}
 use Rattle.entry_step.specs.History.{stored_of, history_of}
-use Rattle.entry_step.specs.Evaluation.{call_value, expression_value}
+use Rattle.expr_eval.specs.Values.{value_over}
+use Rattle.entry_step.specs.Evaluation.{call_value}
 use Rattle.entry_step.specs.Order.{order}
 use Rattle.entry_step.specs.Problems.{event_in, open_of, grown}
 use Rattle.entry_step.specs.declared.opens.Open.{Open}
@@ -50,7 +50,7 @@ verdict_records conf number now id trigger os (Some p) =
 -- what a trigger adds where it is evaluated over the histories of the items
 unfoldable pub judged : Conf → (ℕ → List Stored) → ℕ → ℕ → ℕ → Trigger → List Open → List Rec
 judged conf items number now id trigger os =
-    verdict_records conf number now id trigger os (expression_value (call_value items now trigger) (tree_of trigger.expr))
+    verdict_records conf number now id trigger os (value_over (call_value items now trigger) (tree_of trigger.expr))
 
 abbrev pub judged_by : Conf → (ℕ → List Stored) → ℕ → ℕ → ℕ → Option Trigger → List Open → List Rec
 judged_by conf items number now id None os = []

@@ -1,12 +1,18 @@
-//! The values of history functions and expressions.
+//! The values of expressions.
 
-ghost use Rattle.std.specs.Prelude.{◌≡◌, int_lt, option_copied, option_to_list};
+ghost use Rattle.std.specs.Prelude.{◌≡◌, ◌≤◌, List, length, neg_ℤ, option_map, option_copied, option_to_list};
+ghost use Rattle.zbx_types.specs.Tree.{Tree};
+ghost use Rattle.expr_eval.specs.Values.{value_over};
+ghost use Rattle.entry_step.specs.Evaluation.{number_held, last_number, up_to};
+ghost use Rattle.entry_step.specs.Calls.{histories, values_of, Evaluates};
 ghost use Rattle.zbx_types.specs.Trees.{tree_of};
-ghost use Rattle.entry_step.specs.Evaluation.{function_value, expression_value, number_held, greater, operated};
-ghost use Rattle.entry_step.specs.Calls.{values_of};
+ghost use Rattle.entry_step.specs.Plans.{call_node, flat, plan_of};
+ghost use Rattle.entry_step.specs.declared.plans.Node.{Node};
 
 use crate::history::{is_by, latest_at};
-use zbx_types::{Call, Expr, Fix, Fun, Held, Moment, Op, Range, Stored, Trigger};
+use crate::plans::Node;
+use expr_eval::{negation, operation};
+use zbx_types::{Fix, Held, Moment, Stored, Trigger};
 
 /// The number that a stored value is.
 fn number_held(held: &Held) -> Option<Fix>
@@ -18,13 +24,10 @@ fn number_held(held: &Held) -> Option<Fix>
     }
 }
 
-/// A history function at a moment, over the latest value of its item.
-fn function_value(call: &Call, latest: Option<&Stored>, now: Moment) -> Option<Fix>
-    ensures { result ≡ function_value call.now.fun call.now.range call.now.shift (option_to_list (option_copied latest.entry)) now }
+/// The number of the latest value of an item, where its time isn't after a moment.
+fn number_by(latest: Option<&Stored>, now: Moment) -> Option<Fix>
+    ensures { result ≡ last_number (up_to now (option_to_list (option_copied latest.entry))) }
 {
-    if call.fun != Fun::Last || call.range != Range::Count(1) || call.shift != 0 {
-        return None;
-    }
     let stored = latest?;
     if is_by(stored.time, now) {
         number_held(&stored.value)
@@ -43,63 +46,70 @@ pub(crate) struct Calls<'a> {
     pub(crate) trigger: &'a Trigger,
 }
 
-/// The value of a call, by its place.
-#[tactic(auto, unfolding(crate::specs::Evaluation::call_value))]
-fn call_value(calls: &Calls, place: u32) -> Option<Fix>
-    ensures { result ≡ values_of calls.entry.now place }
+/// The number of the latest value of the item with an id.
+fn last_of(calls: &Calls, id: u32) -> Option<Fix>
+    ensures { result ≡ last_number (up_to calls.entry.now.now (histories calls.entry.now id)) }
 {
-    let call = calls.trigger.calls.as_slice().get(place as usize)?;
-    let item = calls.trigger.call_items.as_slice().get(place as usize)?;
-    let latest = latest_at(calls.latest, calls.item, calls.stored, *item);
-    function_value(call, latest, calls.now)
+    number_by(
+        latest_at(calls.latest, calls.item, calls.stored, id),
+        calls.now,
+    )
 }
 
-/// 1 where the first number is greater, else 0, where both are known.
-fn greater(a: Option<Fix>, b: Option<Fix>) -> Option<Fix>
-    ensures { result ≡ greater a b }
+/// The number with the other sign.
+fn negative(operand: Option<Fix>) -> Option<Fix>
+    ensures { result ≡ option_map neg_ℤ operand }
 {
-    let x = a?;
-    let y = b?;
-    if y.raw() < x.raw() {
-        Fix::of_raw(1_000_000)
-    } else {
-        Fix::of_raw(0)
-    }
+    operand.map(|number| number.neg())
 }
 
-/// A binary operator over the values of its operands.
-fn operated(op: Op, a: Option<Fix>, b: Option<Fix>) -> Option<Fix>
-    ensures { result ≡ operated op a b }
-{
-    match op {
-        Op::Gt => greater(a, b),
-        Op::Or
-        | Op::And
-        | Op::Eq
-        | Op::Ne
-        | Op::Lt
-        | Op::Le
-        | Op::Ge
-        | Op::Add
-        | Op::Sub
-        | Op::Mul
-        | Op::Div => None,
-    }
+/// A value, and the nodes behind those that it is of.
+#[derive(Clone, Copy)]
+struct Found<'a> {
+    value: Option<Fix>,
+    rest: &'a [Node],
 }
 
-/// The value of an expression over calls.
-pub(crate) fn expression_value(calls: &Calls, expr: &Expr) -> Option<Fix>
-    ensures { result ≡ expression_value (values_of calls.entry.now) (tree_of expr.now) }
+/// A value with the nodes behind.
+fn with_rest<'a>(value: Option<Fix>, rest: &'a [Node]) -> Found<'a>
+    ensures value { result.value ≡ value }
+    ensures rest { result.rest.now ≡ rest.now }
 {
-    match expr {
-        Expr::Const(number) => Some(*number),
-        Expr::Call(place) => call_value(calls, *place),
-        Expr::Neg(_) => None,
-        Expr::Not(_) => None,
-        Expr::Bin(op, a, b) => {
-            let left = expression_value(calls, a.expr());
-            let right = expression_value(calls, b.expr());
-            operated(*op, left, right)
+    Found { value, rest }
+}
+
+/// The value of the first of the expressions that the nodes are of.
+fn value_at<'a>(calls: &Calls, nodes: &'a [Node]) -> Found<'a>
+    ensures value { (t : Tree) (rest : List Node) → nodes.now ≡ flat (call_node calls.entry.now.trigger.now) t rest → Evaluates calls.entry.now t rest result }
+    ensures shorter { length result.rest.now ≤ length nodes.now }
+{
+    let Some((node, rest)) = nodes.split_first() else {
+        return with_rest(None, nodes);
+    };
+    match node {
+        Node::Const(number) => with_rest(Some(*number), rest),
+        Node::Last(item) => with_rest(last_of(calls, *item), rest),
+        Node::Unknown => with_rest(None, rest),
+        Node::Neg => {
+            let operand = value_at(calls, rest);
+            with_rest(negative(operand.value), operand.rest)
+        }
+        Node::Not => {
+            let operand = value_at(calls, rest);
+            with_rest(negation(operand.value), operand.rest)
+        }
+        Node::Bin(op) => {
+            let left = value_at(calls, rest);
+            let right = value_at(calls, left.rest);
+            with_rest(operation(*op, left.value, right.value), right.rest)
         }
     }
+}
+
+/// The value of the trigger's expression, whose nodes these are.
+pub(crate) fn plan_value(calls: &Calls, plan: &[Node]) -> Option<Fix>
+    requires { plan.now ≡ plan_of calls.now.trigger.now }
+    ensures { result ≡ value_over (values_of calls.entry.now) (tree_of calls.entry.now.trigger.now.expr) }
+{
+    value_at(calls, plan).value
 }

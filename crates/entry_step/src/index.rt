@@ -1,16 +1,21 @@
 //! A configuration made ready for a run: indexes by which its hosts, items and triggers are found.
 
-ghost use Rattle.std.specs.Prelude.{◌≡◌, IfOk};
+ghost use Rattle.std.specs.Prelude.{◌≡◌, Some, IfOk};
+ghost use Rattle.zbx_types.specs.Ids.{at_id};
+ghost use Rattle.zbx_types.specs.declared.triggers.Trigger.{Trigger};
+ghost use Rattle.entry_step.specs.Plans.{plan_of};
 ghost use Rattle.entry_step.specs.Names.{host_named, item_keyed};
 ghost use Rattle.entry_step.specs.Records.{triggers_over};
 
 use crate::lists::lists_of;
 use crate::names::{hosts_of, keys_of};
+use crate::packed::{Packed, row};
+use crate::plans::{Node, plans_of};
 use std::alloc::Global;
 use std::collections::HashMap;
 use std::convert::AsStr;
 use std::marker::Model;
-use zbx_types::{Conf, Many, OutOfMemory, Text};
+use zbx_types::{Conf, OutOfMemory, Text};
 
 /// A configuration with its indexes, which are made once (this project's own). Contracts see the configuration alone.
 ///
@@ -19,8 +24,9 @@ use zbx_types::{Conf, Many, OutOfMemory, Text};
 pub struct Ready {
     conf: Conf,
     hosts: HashMap<String, u32>,
-    keys: HashMap<u32, HashMap<String, u32>>,
-    over: HashMap<u32, Many<u32>>,
+    keys: Vec<HashMap<String, u32>>,
+    over: Packed<u32>,
+    plans: Packed<Node>,
 }
 
 impl Model for Ready {
@@ -35,7 +41,7 @@ impl Model for Ready {
 
     ghost view = { λ r. r.conf };
 
-    ghost invariant = { λ r. IsIndex r.conf r.hosts r.keys r.over };
+    ghost invariant = { λ r. IsIndex r.conf r.hosts r.keys.items r.over r.plans };
 }
 
 impl Ready {
@@ -44,18 +50,21 @@ impl Ready {
     /// # Errors
     ///
     /// `OutOfMemory` where memory was refused, which a configuration whose hosts, items or triggers can't be counted in
-    /// 32 bits stands for too.
+    /// 32 bits stands for too. There is room for each id of a host or an item that is named and for each depth, up to the
+    /// greatest of them, whether it is in the configuration or not.
     pub fn build(alloc: Global, conf: Conf) -> Result<Ready, OutOfMemory>
         ensures { IfOk result (λ ready. ready ≡ conf) }
     {
         let hosts = hosts_of(alloc, &conf)?;
         let keys = keys_of(alloc, &conf)?;
         let over = lists_of(alloc, &conf)?;
+        let plans = plans_of(alloc, conf.triggers.as_slice())?;
         Ok(Ready {
             conf,
             hosts,
             keys,
             over,
+            plans,
         })
     }
 
@@ -77,7 +86,7 @@ impl Ready {
     pub fn item_keyed(&self, host: u32, key: &Text) -> Option<u32>
         ensures { result ≡ item_keyed self.now host key.now }
     {
-        match self.keys.get(&host) {
+        match self.keys.get(host as usize) {
             None => None,
             Some(ids) => ids.get(key.as_str()).copied(),
         }
@@ -87,9 +96,13 @@ impl Ready {
     pub(crate) fn over(&self, item: u32) -> &[u32]
         ensures { result.now ≡ triggers_over self.now item }
     {
-        match self.over.get(&item) {
-            None => &[],
-            Some(ids) => ids.as_slice(),
-        }
+        row(&self.over, item)
+    }
+
+    /// The nodes of the expression of the trigger with an id.
+    pub(crate) fn plan(&self, id: u32) -> &[Node]
+        ensures { (trigger : Trigger) → at_id self.now.triggers id ≡ Some trigger → result.now ≡ plan_of trigger }
+    {
+        row(&self.plans, id.saturating_sub(1))
     }
 }

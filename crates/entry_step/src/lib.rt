@@ -19,7 +19,7 @@
 //! The module `laws` has the laws of order as clauses: an entry's records and changes depend on its foot alone, and an entry
 //! that conflicts with no later one joins in its place.
 //!
-//! Built so far are the function `last(#1)`, constants and the operator `>`. Everything else is unknown.
+//! Built so far of the functions is `last(#1)`; the others are unknown. Operators are those of the crate `expr_eval`.
 //!
 //! ```text
 //! let ready = Ready::build(alloc, conf)?;
@@ -39,7 +39,10 @@ mod lists;
 mod names;
 mod opens;
 mod order;
+mod packed;
+mod plans;
 mod records;
+mod rows;
 mod stepping;
 mod steps;
 

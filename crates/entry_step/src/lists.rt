@@ -1,13 +1,15 @@
 //! The triggers over each item.
 
-ghost use Rattle.std.specs.Prelude.{◌≡◌, ◌==◌, ◌++◌, ◌∷◌, [], ℕ, Some, IfOk, OnOk, if◌then◌else◌};
+ghost use Rattle.std.specs.Prelude.{◌≡◌, ◌++◌, ◌∷◌, [], ℕ, Some, IfOk, OnOk, if◌then◌else◌};
 ghost use Rattle.zbx_types.specs.Ids.{at_id};
 ghost use Rattle.entry_step.specs.Records.{is_over, triggers_over};
 ghost use Rattle.entry_step.specs.Index.{listed, has_id};
+ghost use Rattle.entry_step.specs.Packed.{row_at};
 
 use crate::order::order;
+use crate::packed::{Packed, pack};
+use crate::rows::enter;
 use std::alloc::Global;
-use std::collections::HashMap;
 use zbx_types::{Conf, Many, OutOfMemory, Trigger, by_id};
 
 /// Whether an id is among these.
@@ -17,27 +19,14 @@ fn has_id(ids: &[u32], id: u32) -> bool
     ids.contains(&id)
 }
 
-/// Adds an id to the list of an item.
-fn enter(
-    alloc: Global,
-    over: &mut HashMap<u32, Many<u32>>,
-    item: u32,
-    id: u32,
-) -> Result<(), OutOfMemory>
-    ensures { OnOk result ((i : ℕ) → listed over.new i ≡ (if item == i then listed over.old i ++ id ∷ [] else listed over.old i)) }
-{
-    over.entry(item)?.or_insert(Many::new(alloc)).push(id)?;
-    Ok(())
-}
-
 /// Adds an enabled trigger's id to the lists of the items that it has calls over, to each once.
 fn enter_all(
     alloc: Global,
-    over: &mut HashMap<u32, Many<u32>>,
+    over: &mut Vec<Many<u32>>,
     trigger: &Trigger,
     id: u32,
 ) -> Result<(), OutOfMemory>
-    ensures { OnOk result ((item : ℕ) → listed over.new item ≡ listed over.old item ++ (if is_over item (Some trigger.now) then id ∷ [] else [])) }
+    ensures { OnOk result ((item : ℕ) → listed over.new.items item ≡ listed over.old.items item ++ (if is_over item (Some trigger.now) then id ∷ [] else [])) }
 {
     if trigger.enabled {
         let items = trigger.call_items.as_slice();
@@ -53,11 +42,11 @@ fn enter_all(
 /// Adds a trigger's id to the lists of the items that the trigger is over.
 fn enter_by_id(
     alloc: Global,
-    over: &mut HashMap<u32, Many<u32>>,
+    over: &mut Vec<Many<u32>>,
     conf: &Conf,
     id: u32,
 ) -> Result<(), OutOfMemory>
-    ensures { OnOk result ((item : ℕ) → listed over.new item ≡ listed over.old item ++ (if is_over item (at_id conf.now.triggers id) then id ∷ [] else [])) }
+    ensures { OnOk result ((item : ℕ) → listed over.new.items item ≡ listed over.old.items item ++ (if is_over item (at_id conf.now.triggers id) then id ∷ [] else [])) }
 {
     match by_id(conf.triggers.as_slice(), id) {
         None => Ok(()),
@@ -67,13 +56,21 @@ fn enter_by_id(
 
 /// The ids of the triggers over each item, in the order of evaluation.
 #[tactic(auto, unfolding(crate::specs::Records::triggers_over))]
-pub(crate) fn lists_of(alloc: Global, conf: &Conf) -> Result<HashMap<u32, Many<u32>>, OutOfMemory>
-    ensures { IfOk result (λ over. (item : ℕ) → listed over item ≡ triggers_over conf.now item) }
+fn rows_of(alloc: Global, conf: &Conf) -> Result<Vec<Many<u32>>, OutOfMemory>
+    ensures { IfOk result (λ over. (item : ℕ) → listed over.items item ≡ triggers_over conf.now item) }
 {
-    let mut over = HashMap::new(alloc);
+    let mut over = Vec::new(alloc);
     let ids = order(alloc, conf)?;
     for id in ids.as_slice() {
         enter_by_id(alloc, &mut over, conf, *id)?;
     }
     Ok(over)
+}
+
+/// The ids of the triggers over each item, in the order of evaluation, by the ids of items.
+pub(crate) fn lists_of(alloc: Global, conf: &Conf) -> Result<Packed<u32>, OutOfMemory>
+    ensures { IfOk result (λ over. (item : ℕ) → row_at over.starts over.items item ≡ triggers_over conf.now item) }
+{
+    let rows = rows_of(alloc, conf)?;
+    pack(alloc, rows.as_slice())
 }

@@ -1,25 +1,15 @@
 //! Ids by names: of hosts by their names, and of a host's items by their keys.
 
-ghost use Rattle.std.specs.Prelude.{◌≡◌, ◌+◌, ◌&&◌, ◌==◌, ℕ, List, IfOk, OnOk};
+ghost use Rattle.std.specs.Prelude.{◌≡◌, ◌<◌, ◌&&◌, ◌==◌, ℕ, List, length, IfOk, OnOk};
 ghost use Rattle.std.specs.HashMap.{get_by_text};
-ghost use Rattle.entry_step.specs.Names.{same_text, host_named, item_keyed};
+ghost use Rattle.std.specs.Str.{bytes_eq};
+ghost use Rattle.entry_step.specs.Names.{host_named, item_keyed};
 ghost use Rattle.entry_step.specs.Index.{id_at, noted};
 
 use std::alloc::Global;
 use std::collections::HashMap;
 use std::convert::AsStr;
-use zbx_types::{Conf, OutOfMemory, Text};
-
-/// The id of what stands at a place, counted from 0. `Err` where it has no id in 32 bits.
-pub(crate) fn id_of(place: usize) -> Result<u32, OutOfMemory>
-    ensures { IfOk result (λ id. id ≡ place + 1) }
-{
-    if place < u32::MAX as usize {
-        Ok(place as u32 + 1)
-    } else {
-        Err(OutOfMemory)
-    }
-}
+use zbx_types::{Conf, OutOfMemory, Text, id_of};
 
 /// Notes the id of a name, unless the name has one.
 fn note(
@@ -28,7 +18,7 @@ fn note(
     name: &Text,
     id: u32,
 ) -> Result<(), OutOfMemory>
-    ensures { OnOk result ((q : List ℕ) → get_by_text ids.new q ≡ noted (get_by_text ids.old q) (same_text name.now q) id) }
+    ensures { OnOk result ((q : List ℕ) → get_by_text ids.new q ≡ noted (get_by_text ids.old q) (bytes_eq name.now q) id) }
 {
     if ids.get(name.as_str()).is_none() {
         ids.insert(String::from_str(alloc, name.as_str())?, id)?;
@@ -47,28 +37,37 @@ pub(crate) fn hosts_of(alloc: Global, conf: &Conf) -> Result<HashMap<String, u32
     Ok(ids)
 }
 
+/// Makes room for the map of a host's keys.
+fn reach(alloc: Global, keys: &mut Vec<HashMap<String, u32>>, host: u32) -> Result<(), OutOfMemory>
+    ensures room { OnOk result (host < length keys.new.items) }
+    ensures same { OnOk result ((h : ℕ) (q : List ℕ) → id_at keys.new.items h q ≡ id_at keys.old.items h q) }
+{
+    let size = host as usize + 1;
+    for _host in keys.len()..size {
+        keys.push(HashMap::new(alloc))?;
+    }
+    Ok(())
+}
+
 /// Notes the id of a host's key, unless the key has one.
 fn note_key(
     alloc: Global,
-    keys: &mut HashMap<u32, HashMap<String, u32>>,
+    keys: &mut Vec<HashMap<String, u32>>,
     host: u32,
     key: &Text,
     id: u32,
 ) -> Result<(), OutOfMemory>
-    ensures { OnOk result ((h : ℕ) (q : List ℕ) → id_at keys.new h q ≡ noted (id_at keys.old h q) ((host == h) && same_text key.now q) id) }
+    ensures { OnOk result ((h : ℕ) (q : List ℕ) → id_at keys.new.items h q ≡ noted (id_at keys.old.items h q) ((host == h) && bytes_eq key.now q) id) }
 {
-    let ids = keys.entry(host)?.or_insert(HashMap::new(alloc));
-    note(alloc, ids, key, id)
+    reach(alloc, keys, host)?;
+    note(alloc, &mut keys[host as usize], key, id)
 }
 
 /// The ids of items by their hosts and keys: of each key of a host the first.
-pub(crate) fn keys_of(
-    alloc: Global,
-    conf: &Conf,
-) -> Result<HashMap<u32, HashMap<String, u32>>, OutOfMemory>
-    ensures { IfOk result (λ keys. (host : ℕ) (key : List ℕ) → id_at keys host key ≡ item_keyed conf.now host key) }
+pub(crate) fn keys_of(alloc: Global, conf: &Conf) -> Result<Vec<HashMap<String, u32>>, OutOfMemory>
+    ensures { IfOk result (λ keys. (host : ℕ) (key : List ℕ) → id_at keys.items host key ≡ item_keyed conf.now host key) }
 {
-    let mut keys = HashMap::new(alloc);
+    let mut keys = Vec::new(alloc);
     for (place, item) in conf.items.as_slice().iter().enumerate() {
         note_key(alloc, &mut keys, item.host, &item.key, id_of(place)?)?;
     }

@@ -3,15 +3,17 @@
 ghost use Rattle.std.specs.Prelude.{◌≡◌, ◌∷◌, [], ℕ, map, Some, IfOk};
 ghost use Rattle.zbx_types.specs.declared.conf.Conf.{Conf};
 ghost use Rattle.zbx_types.specs.Ids.{at_id};
-ghost use Rattle.entry_step.specs.Problems.{event_of, absorbed_all};
+ghost use Rattle.entry_step.specs.Problems.{absorbed_all};
 ghost use Rattle.entry_step.specs.Records.{host_name, problem_of, recovery_of, failure_of, begun, verdict_records, judged};
 ghost use Rattle.entry_step.specs.Represents.{AllAtHome};
 ghost use Rattle.entry_step.specs.Changes.{outcome_records, outcome_opens};
 ghost use Rattle.entry_step.specs.Calls.{histories};
+ghost use Rattle.entry_step.specs.Plans.{plan_of};
 
 use crate::changes::Outcome;
-use crate::evaluation::{Calls, expression_value};
+use crate::evaluation::{Calls, plan_value};
 use crate::opens::Open;
+use crate::plans::Node;
 use std::alloc::Global;
 use zbx_types::{Cause2, Conf, EventId, Fix, Many, Moment, OutOfMemory, Rec, Text, Trigger, by_id};
 
@@ -74,22 +76,6 @@ fn problem_of(
     })
 }
 
-/// The event that a record is about.
-fn event_of(rec: &Rec) -> EventId
-    ensures { result ≡ event_of rec.now }
-{
-    match rec {
-        Rec::Failure { number, .. } => EventId {
-            number: *number,
-            trigger: 0,
-        },
-        Rec::Problem { event, .. } => *event,
-        Rec::Recovery { event, .. } => *event,
-        Rec::Step { event, .. } => *event,
-        Rec::Message { event, .. } => *event,
-    }
-}
-
 /// The Recovery records of open problems at an entry.
 fn recoveries(
     alloc: Global,
@@ -102,7 +88,7 @@ fn recoveries(
     let mut made = Many::new(alloc);
     for open in opens {
         made.push(Rec::Recovery {
-            event: event_of(&open.problem),
+            event: open.problem.event(),
             by: number,
             now,
             cause: Cause2::Expression,
@@ -202,7 +188,7 @@ fn verdict(
     }
 }
 
-/// What a trigger adds where it is evaluated. None: nothing changes.
+/// What a trigger adds where it is evaluated, whose nodes are given. None: nothing changes.
 #[tactic(auto, unfolding(crate::specs::Records::judged))]
 pub(crate) fn judge(
     alloc: Global,
@@ -210,12 +196,14 @@ pub(crate) fn judge(
     number: u64,
     id: u32,
     calls: &Calls,
+    plan: &[Node],
     opens: &[Open],
 ) -> Result<Option<Outcome>, OutOfMemory>
+    requires { plan.now ≡ plan_of calls.now.trigger.now }
     ensures records { IfOk result (λ made. outcome_records made ≡ judged conf.now (histories calls.entry.now) number calls.entry.now.now id calls.entry.now.trigger.now opens.now) }
     ensures opens { IfOk result (λ made. at_id conf.now.triggers id ≡ Some calls.entry.now.trigger.now → AllAtHome conf.now id opens.now → outcome_opens opens.now made ≡ absorbed_all conf.now id opens.now (outcome_records made)) }
 {
-    let value = expression_value(calls, &calls.trigger.expr);
+    let value = plan_value(calls, plan);
     verdict(
         alloc,
         conf,

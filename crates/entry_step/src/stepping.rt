@@ -22,7 +22,7 @@ use crate::records::{failure_of, judge};
 use crate::steps::Steps;
 use std::alloc::Global;
 use std::sync::ledger::Ledger;
-use zbx_types::{Conf, Entry, Many, Moment, Numbered, OutOfMemory, Rec, Stored, Text, by_id};
+use zbx_types::{Entry, Many, Moment, Numbered, OutOfMemory, Rec, Stored, Text, by_id};
 
 /// The open problems of the trigger with an id.
 #[tactic(auto, unfolding(crate::specs::Represents::problems_at))]
@@ -39,7 +39,7 @@ fn problems_at(problems: &[Many<Open>], id: u32) -> &[Open]
 #[tactic(auto, unfolding(crate::specs::Records::evaluated))]
 fn outcome_of(
     alloc: Global,
-    conf: &Conf,
+    ready: &Ready,
     latest: &[Option<Stored>],
     problems: &[Many<Open>],
     number: u64,
@@ -48,9 +48,10 @@ fn outcome_of(
     stored: &Stored,
     id: u32,
 ) -> Result<Option<Outcome>, OutOfMemory>
-    ensures records { IfOk result (λ made. outcome_records made ≡ one_of conf.now number now latest.now item stored.now (problems_at problems.now) id) }
-    ensures opens { IfOk result (λ made. AllAtHome conf.now id (problems_at problems.now id) → outcome_opens (problems_at problems.now id) made ≡ absorbed_all conf.now id (problems_at problems.now id) (outcome_records made)) }
+    ensures records { IfOk result (λ made. outcome_records made ≡ one_of ready.now number now latest.now item stored.now (problems_at problems.now) id) }
+    ensures opens { IfOk result (λ made. AllAtHome ready.now id (problems_at problems.now id) → outcome_opens (problems_at problems.now id) made ≡ absorbed_all ready.now id (problems_at problems.now id) (outcome_records made)) }
 {
+    let conf = ready.conf();
     let Some(trigger) = by_id(conf.triggers.as_slice(), id) else {
         return Ok(None);
     };
@@ -61,7 +62,8 @@ fn outcome_of(
         now,
         trigger,
     };
-    judge(alloc, conf, number, id, &calls, problems_at(problems, id))
+    let opens = problems_at(problems, id);
+    judge(alloc, conf, number, id, &calls, ready.plan(id), opens)
 }
 
 /// Evaluates the triggers over an item that stored a value, one after another. What they had before is kept in the draft,
@@ -84,11 +86,10 @@ fn evaluate_all<L: Ledger>(
     ensures counted { OnOk result (steps.new ≡ steps.old + length (triggers_over ready.now item)) }
     ensures most { steps.new ≤ steps.old + length (triggers_over ready.now item) }
 {
-    let conf = ready.conf();
     for id in ready.over(item) {
         let outcome = outcome_of(
             alloc,
-            conf,
+            ready,
             latest,
             problems.as_slice(),
             number,

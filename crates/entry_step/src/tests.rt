@@ -275,12 +275,29 @@ fn a_late_value_is_not_the_latest(rt: HostRuntime) -> Result<(), Fail> {
 /// The id of the item with a key of the host with a name.
 fn found(alloc: Global, name: &str, key: &str) -> Result<Option<u32>, OutOfMemory> {
     let ready = Ready::build(alloc, configuration(alloc)?)?;
-    let name = Text::of(alloc, name)?;
-    let key = Text::of(alloc, key)?;
-    match ready.host_named(&name) {
-        Some(host) => Ok(ready.item_keyed(host, &key)),
+    found_in(alloc, &ready, name, key)
+}
+
+fn found_in(
+    alloc: Global,
+    ready: &Ready,
+    name: &str,
+    key: &str,
+) -> Result<Option<u32>, OutOfMemory> {
+    match named(alloc, ready, name)? {
+        Some(host) => keyed(alloc, ready, host, key),
         None => Ok(None),
     }
+}
+
+fn named(alloc: Global, ready: &Ready, name: &str) -> Result<Option<u32>, OutOfMemory> {
+    let name = Text::of(alloc, name)?;
+    Ok(ready.host_named(&name))
+}
+
+fn keyed(alloc: Global, ready: &Ready, host: u32, key: &str) -> Result<Option<u32>, OutOfMemory> {
+    let key = Text::of(alloc, key)?;
+    Ok(ready.item_keyed(host, &key))
 }
 
 #[test]
@@ -288,5 +305,146 @@ fn an_item_is_found_by_its_host_and_its_key(rt: HostRuntime) -> Result<(), Fail>
     assert_eq!(rt; found(rt.alloc(), "h", "k")?, Some(1));
     assert_eq!(rt; found(rt.alloc(), "h", "j")?, None);
     assert_eq!(rt; found(rt.alloc(), "a", "k")?, None);
+    Ok(())
+}
+
+/// The items of a host with keys `k0`, `k1` and so on.
+fn items_of(alloc: Global, count: u32) -> Result<Many<Item>, OutOfMemory> {
+    let mut items = Many::new(alloc);
+    for number in 0..count {
+        items.push(numbered_item(alloc, number)?)?;
+    }
+    Ok(items)
+}
+
+fn numbered_item(alloc: Global, number: u32) -> Result<Item, OutOfMemory> {
+    let mut made = item(alloc, 1, "k")?;
+    made.key.push_decimal(number as u64)?;
+    Ok(made)
+}
+
+/// A trigger over each of so many items.
+fn triggers_of(alloc: Global, count: u32) -> Result<Many<Trigger>, OutOfMemory> {
+    let mut triggers = Many::new(alloc);
+    for number in 0..count {
+        triggers.push(trigger(alloc, number.saturating_add(1), 0)?)?;
+    }
+    Ok(triggers)
+}
+
+fn many_items(alloc: Global, count: u32) -> Result<Conf, OutOfMemory> {
+    let hosts = one(alloc, host(alloc, "h")?)?;
+    let items = items_of(alloc, count)?;
+    of_these(alloc, hosts, items, triggers_of(alloc, count)?)
+}
+
+/// A run, and how many records it made.
+#[derive(Drop)]
+struct Run<L: Ledger> {
+    ready: Ready,
+    cells: Cells,
+    steps: Steps<L>,
+    made: usize,
+}
+
+impl<L: Ledger> Run<L> {
+    fn over(alloc: Global, conf: Conf, blank: Blank) -> Result<Run<L>, OutOfMemory>
+        requires name { blank.name ≡ L.name }
+        requires parts { blank.parts ≡ L.parts }
+        requires some { 0 < L.parts }
+    {
+        let ready = Ready::build(alloc, conf)?;
+        let cells = Cells::new(alloc, ready.conf())?;
+        Ok(Run {
+            ready,
+            cells,
+            steps: Steps::new(blank),
+            made: 0,
+        })
+    }
+
+    /// Takes a value of an item, numbered by what was made so far.
+    fn take(&mut self, alloc: Global, item: u32, text: &str) -> Result<(), OutOfMemory> {
+        let entry = value_for(alloc, self.made as u64, item, text)?;
+        let made = step(alloc, &self.ready, &mut self.cells, &entry, &mut self.steps)?;
+        self.made = self.made.saturating_add(made.len());
+        Ok(())
+    }
+
+    /// Takes a value of each of so many items.
+    fn take_all(&mut self, alloc: Global, items: u32, text: &str) -> Result<(), OutOfMemory> {
+        for item in 0..items {
+            self.take(alloc, item.saturating_add(1), text)?;
+        }
+        Ok(())
+    }
+
+    /// Takes so many values of item 1 twice, first a high one and then a low one.
+    fn take_turns(&mut self, alloc: Global, times: u32) -> Result<(), OutOfMemory> {
+        for _time in 0..times {
+            self.take(alloc, 1, "10")?;
+            self.take(alloc, 1, "1")?;
+        }
+        Ok(())
+    }
+}
+
+fn value_for(alloc: Global, number: u64, item: u32, text: &str) -> Result<Numbered, OutOfMemory> {
+    Ok(Numbered {
+        number,
+        entry: Entry::Value {
+            now: Moment { sec: 100, ns: 0 },
+            item,
+            time: Moment { sec: 100, ns: 0 },
+            value: Text::of(alloc, text)?,
+        },
+    })
+}
+
+/// How many records a value of each of so many items makes.
+fn problems_of(alloc: Global, count: u32) -> Result<usize, OutOfMemory> {
+    problems_counted::<Brand>(alloc, count, Blank::new(1))
+}
+
+fn problems_counted<L: Ledger>(
+    alloc: Global,
+    count: u32,
+    blank: Blank,
+) -> Result<usize, OutOfMemory>
+    requires name { blank.name ≡ L.name }
+    requires parts { blank.parts ≡ L.parts }
+    requires some { 0 < L.parts }
+{
+    let conf = many_items(alloc, count)?;
+    let mut run = Run::<L>::over(alloc, conf, blank)?;
+    run.take_all(alloc, count, "10")?;
+    Ok(run.made)
+}
+
+/// How many records so many high and low values of one item make.
+fn turns_of(alloc: Global, times: u32) -> Result<usize, OutOfMemory> {
+    turns_counted::<Brand>(alloc, times, Blank::new(1))
+}
+
+fn turns_counted<L: Ledger>(alloc: Global, times: u32, blank: Blank) -> Result<usize, OutOfMemory>
+    requires name { blank.name ≡ L.name }
+    requires parts { blank.parts ≡ L.parts }
+    requires some { 0 < L.parts }
+{
+    let conf = configuration(alloc)?;
+    let mut run = Run::<L>::over(alloc, conf, blank)?;
+    run.take_turns(alloc, times)?;
+    Ok(run.made)
+}
+
+#[test]
+fn a_thousand_items_make_a_problem_each(rt: HostRuntime) -> Result<(), Fail> {
+    assert_eq!(rt; problems_of(rt.alloc(), 1_000)?, 1_000);
+    Ok(())
+}
+
+#[test]
+fn an_item_takes_a_thousand_values(rt: HostRuntime) -> Result<(), Fail> {
+    assert_eq!(rt; turns_of(rt.alloc(), 500)?, 1_000);
     Ok(())
 }

@@ -1,7 +1,8 @@
 //! The value of a trigger's expression.
 //!
 //! The public contract: [`eval`] gives the value of an expression over the values of its calls, which its caller has worked
-//! out before, or None where it is unknown. It takes no memory.
+//! out before, or None where it is unknown. It takes no memory. [`operation`] and [`negation`] are its operators, for
+//! expressions that lie in another form.
 //!
 //! An unknown value comes from a call that has none, or from arithmetic without a result: a division by 0, or a result out
 //! of range. The rules are three-valued (the Zabbix 6.0 manual, "Trigger expression", "Unknown operands in expressions"):
@@ -32,6 +33,7 @@
 mod operations;
 mod values;
 
+pub use operations::{negation, operation};
 pub use values::eval;
 
 #[cfg(test)]

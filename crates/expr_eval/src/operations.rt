@@ -18,9 +18,10 @@ fn is_true(number: Fix) -> bool
     number.raw() != 0
 }
 
-/// `not`.
+/// `not`: 1 for 0, and 0 for any other number. None stands for an unknown value, here and in the result (the Zabbix 6.0
+/// manual, "Trigger expression", "Unknown operands in expressions").
 #[tactic(auto, unfolding(crate::specs::Operations::negation_of))]
-pub(crate) fn negation(operand: Option<Fix>) -> Option<Fix>
+pub fn negation(operand: Option<Fix>) -> Option<Fix>
     ensures { result ≡ negation_of operand }
 {
     truth(!is_true(operand?))
@@ -50,9 +51,10 @@ fn and(left: Option<Fix>, right: Option<Fix>) -> Option<Fix>
     }
 }
 
-/// A binary operator over the values of its operands.
+/// A binary operator over the values of its operands, by the rules that the crate's comment tells (the Zabbix 6.0 manual,
+/// "Trigger expression"). None stands for an unknown value, here and in the result.
 #[tactic(auto, unfolding(crate::specs::Operations::operation))]
-pub(crate) fn operation(op: Op, left: Option<Fix>, right: Option<Fix>) -> Option<Fix>
+pub fn operation(op: Op, left: Option<Fix>, right: Option<Fix>) -> Option<Fix>
     ensures { result ≡ operation op left right }
 {
     match op {

@@ -1,4 +1,4 @@
-use Rattle.std.proofs.Common.{◌≡◌, ap, ◌∙◌, sym, Some}
+use Rattle.std.proofs.Common.{ap, ◌∙◌, Some}
 use Rattle.std.specs.Option.{option_or}
 use Rattle.entry_step.proofs.Represented.{ok_sub, config_steps, tick_steps, value_steps, config_counted, tick_counted}
 use Rattle.entry_step.proofs.stepping.advance.Goals as goal

@@ -1,6 +1,4 @@
-use Rattle.std.proofs.Common.{◌≡◌, ◌<◌, ◌+◌, ℕ, List, length, get_or, ◌∙◌, sym, ap, subst, arith}
-use Rattle.zbx_types.specs.declared.conf.Conf.{Conf}
-use Rattle.zbx_types.specs.declared.entries.Rec.{Rec}
+use Rattle.std.proofs.Common.{◌≡◌, ◌<◌, ◌+◌, ℕ, List, length, get_or, ◌∙◌, ap, subst, arith}
 use Rattle.entry_step.specs.Kept.{kept, with_value}
 use Rattle.entry_step.specs.Problems.{absorbed_all}
 use Rattle.entry_step.specs.Records.{triggers_over}
@@ -16,11 +14,9 @@ loop-id-preserved g c =
     let id : ℕ = get_or c.over-id-items.result.now c.loop-id.id-index 0 in
     let o = c.in_ok-outcome.outcome in
     let records : outcome_records o ≡ one_of c.args.ready.now c.args.number c.args.now c.args.latest.now c.args.item c.args.stored.now (problems_at c.loop-id.problems.items) id =
-    subst (λ (conf : Conf). outcome_records o ≡ one_of conf c.args.number c.args.now c.args.latest.now c.args.item c.args.stored.now (problems_at c.loop-id.problems.items) id) c.conf-conf.ensures
-    (subst (λ (rows : List (List Open)). outcome_records o ≡ one_of c.conf-conf.result.now c.args.number c.args.now c.args.latest.now c.args.item c.args.stored.now (problems_at rows) id) c.as_slice.ensures.value c.in_ok-outcome.ensures.records) in
+    subst (λ (rows : List (List Open)). outcome_records o ≡ one_of c.args.ready.now c.args.number c.args.now c.args.latest.now c.args.item c.args.stored.now (problems_at rows) id) c.as_slice.ensures.value c.in_ok-outcome.ensures.records in
     let opens : AllAtHome c.args.ready.now id (problems_at c.loop-id.problems.items id) → outcome_opens (problems_at c.loop-id.problems.items id) o ≡ absorbed_all c.args.ready.now id (problems_at c.loop-id.problems.items id) (outcome_records o) =
-    subst (λ (conf : Conf). AllAtHome conf id (problems_at c.loop-id.problems.items id) → outcome_opens (problems_at c.loop-id.problems.items id) o ≡ absorbed_all conf id (problems_at c.loop-id.problems.items id) (outcome_records o)) c.conf-conf.ensures
-    (subst (λ (rows : List (List Open)). AllAtHome c.conf-conf.result.now id (problems_at rows id) → outcome_opens (problems_at rows id) o ≡ absorbed_all c.conf-conf.result.now id (problems_at rows id) (outcome_records o)) c.as_slice.ensures.value c.in_ok-outcome.ensures.opens) in
+    subst (λ (rows : List (List Open)). AllAtHome c.args.ready.now id (problems_at rows id) → outcome_opens (problems_at rows id) o ≡ absorbed_all c.args.ready.now id (problems_at rows id) (outcome_records o)) c.as_slice.ensures.value c.in_ok-outcome.ensures.opens in
     let counted : c.tick.new.self ≡ c.args.steps.now + (c.loop-id.id-index + 1) = let a = c.tick.ensures in let b = c.loop-id.invariant.counted in omega arith in
     record {
       same = c.in_ok-take.ensures.same ∙ c.loop-id.invariant.same;

@@ -1,4 +1,4 @@
-use Rattle.std.proofs.Common.{◌≡◌, ◌∙◌, None, [], replicate, ap, refl}
+use Rattle.std.proofs.Common.{◌∙◌, None, [], replicate, ap, refl}
 use Rattle.entry_step.proofs.Represented.{holds_nothing}
 use Rattle.entry_step.proofs.cells.Cells.new.Goals as goal
 

@@ -1,0 +1,19 @@
+use Rattle.std.proofs.Common.{◌++◌, ◌∙◌, ap, map, List, arith}
+use Rattle.std.proofs.lemmas.List.{length-map}
+use Rattle.zbx_types.specs.Trees.{tree_of}
+use Rattle.entry_step.specs.Plans.{call_node, flat, plan_of}
+use Rattle.entry_step.specs.declared.plans.Node.{Node}
+use Rattle.entry_step.proofs.Packing.{packed_all}
+use Rattle.entry_step.proofs.Planned.{plan_more}
+use Rattle.entry_step.proofs.plans.plans_of.Goals as goal
+
+pub loop-trigger-preserved : goal.loop-trigger-preserved
+loop-trigger-preserved c =
+    plan_more c.args.triggers.now c.loop-trigger.trigger-index c.trigger-item.result c.loop-trigger.made.starts c.begin.new.packed.starts c.loop-trigger.made.items c.add.new.nodes
+    c.loop-trigger-test.true c.trigger-item.is c.in_ok-begin.ensures.starts
+    (λ rest. c.in_ok-add.ensures rest ∙ ap (λ (ns : List Node). ns ++ flat (call_node c.trigger-item.result) (tree_of c.trigger-item.result.expr) rest) c.in_ok-begin.ensures.items) c.loop-trigger.invariant
+
+pub returns : goal.returns
+returns c =
+    let size = length-map c.args.triggers.now plan_of in let past = c.loop-trigger-test.false in
+    λ number. packed_all (map plan_of c.args.triggers.now) c.loop-trigger.trigger-index c.loop-trigger.made.starts c.loop-trigger.made.items number (omega arith) c.loop-trigger.invariant

@@ -1,0 +1,92 @@
+//! Expressions of triggers that lie flat: each node stands before its operands, the left one first.
+
+ghost use Rattle.std.specs.Prelude.{◌≡◌, ◌++◌, [], ℕ, List, map, slice_index_or, OnOk, IfOk};
+ghost use Rattle.zbx_types.specs.Trees.{tree_of};
+ghost use Rattle.entry_step.specs.Plans.{node_of, call_node, flat, plan_of};
+ghost use Rattle.entry_step.specs.Packed.{row_at};
+ghost use Rattle.entry_step.specs.declared.plans.Node.{Node};
+
+use crate::packed::{Packed, begin};
+use std::alloc::Global;
+use zbx_types::{Call, Expr, Fix, Fun, Many, Op, OutOfMemory, Range, Trigger};
+
+/// A node of an expression.
+#[derive(Clone, Copy)]
+pub(crate) enum Node {
+    /// A constant.
+    Const(Fix),
+    /// The latest value of the item with this id.
+    Last(u32),
+    /// A call that isn't built.
+    Unknown,
+    /// `-`, before its operand.
+    Neg,
+    /// `not`, before its operand.
+    Not,
+    /// A binary operator, before its left and its right operand.
+    Bin(Op),
+}
+
+/// The node of a history function of an item.
+fn node_of(call: &Call, item: u32) -> Node
+    ensures { result ≡ node_of call.now.fun call.now.range call.now.shift item }
+{
+    if call.fun != Fun::Last || call.range != Range::Count(1) || call.shift != 0 {
+        Node::Unknown
+    } else {
+        Node::Last(item)
+    }
+}
+
+/// The node of a call of a trigger, by its place.
+#[tactic(auto, unfolding(crate::specs::Plans::call_node))]
+fn call_node(trigger: &Trigger, place: u32) -> Node
+    ensures { result ≡ call_node trigger.now place }
+{
+    let Some(call) = trigger.calls.as_slice().get(place as usize) else {
+        return Node::Unknown;
+    };
+    match trigger.call_items.as_slice().get(place as usize) {
+        None => Node::Unknown,
+        Some(item) => node_of(call, *item),
+    }
+}
+
+/// Adds the nodes of an expression of a trigger.
+fn add(nodes: &mut Many<Node>, trigger: &Trigger, expr: &Expr) -> Result<(), OutOfMemory>
+    ensures { OnOk result ((rest : List Node) → nodes.new ++ rest ≡ nodes.old ++ flat (call_node trigger.now) (tree_of expr.now) rest) }
+{
+    match expr {
+        Expr::Const(number) => nodes.push(Node::Const(*number))?,
+        Expr::Call(place) => nodes.push(call_node(trigger, *place))?,
+        Expr::Neg(operand) => {
+            nodes.push(Node::Neg)?;
+            add(nodes, trigger, operand.expr())?;
+        }
+        Expr::Not(operand) => {
+            nodes.push(Node::Not)?;
+            add(nodes, trigger, operand.expr())?;
+        }
+        Expr::Bin(op, left, right) => {
+            nodes.push(Node::Bin(*op))?;
+            add(nodes, trigger, left.expr())?;
+            add(nodes, trigger, right.expr())?;
+        }
+    }
+    Ok(())
+}
+
+/// The nodes of each trigger's expression, by the places of triggers.
+pub(crate) fn plans_of(alloc: Global, triggers: &[Trigger]) -> Result<Packed<Node>, OutOfMemory>
+    ensures { IfOk result (λ made. (number : ℕ) → row_at made.starts made.items number ≡ slice_index_or (map plan_of triggers.now) number []) }
+{
+    let mut made = Packed {
+        starts: Many::new(alloc),
+        items: Many::new(alloc),
+    };
+    for trigger in triggers {
+        begin(&mut made)?;
+        add(&mut made.items, trigger, &trigger.expr)?;
+    }
+    Ok(made)
+}
