@@ -94,13 +94,13 @@ fn call(alloc: Global) -> Result<Call, OutOfMemory> {
     })
 }
 
-/// A trigger over so many items, each of whose cells keeps its latest value.
-fn triggers(alloc: Global, count: u32) -> Result<Many<Trigger>, OutOfMemory> {
+/// A trigger over all items, so that each cell keeps its latest value.
+fn triggers(alloc: Global, rows: &[Row]) -> Result<Many<Trigger>, OutOfMemory> {
     let mut calls = Many::new(alloc);
     let mut call_items = Many::new(alloc);
-    for item in 0..count {
+    for (place, _row) in rows.iter().enumerate() {
         calls.push(call(alloc)?)?;
-        call_items.push(item + 1)?;
+        call_items.push(id_of(place)?)?;
     }
     let mut made = Many::new(alloc);
     made.push(Trigger {
@@ -130,7 +130,7 @@ fn configuration(alloc: Global, rows: &[Row], steps: &[Step]) -> Result<Conf, Ou
         utc_offset: 0,
         hosts: hosts(alloc)?,
         items: items_of(alloc, rows, steps)?,
-        triggers: triggers(alloc, rows.len() as u32)?,
+        triggers: triggers(alloc, rows)?,
         correlations: Many::new(alloc),
         maintenances: Many::new(alloc),
         actions: Many::new(alloc),
@@ -151,12 +151,17 @@ fn are_plain(item: &Item) -> bool
     item.steps.as_slice().iter().all(|step| is_plain(step))
 }
 
+fn are_all_plain(items: &[Item]) -> bool
+    ensures { result ≡ list_all are_plain items.now }
+{
+    items.iter().all(|item| are_plain(item))
+}
+
 /// Whether no step has a pattern, so that any patterns do.
-#[tactic(auto, using(crate::proofs::Plain::plain_items))]
 fn has_no_patterns(conf: &Conf, patterns: &Patterns) -> bool
     ensures { result ≡ true → ArePatternsOf conf.now patterns.now }
 {
-    conf.items.as_slice().iter().all(|item| are_plain(item))
+    are_all_plain(conf.items.as_slice())
 }
 
 fn show_items(out: &mut Text, ids: &[u32]) -> Result<(), OutOfMemory> {
@@ -218,8 +223,8 @@ fn tell(
         show_failures(&mut out, prepared.failures.as_slice())?;
         out.push_str(";")?;
     }
-    for id in 0..conf.items.len() as u32 {
-        show_latest(&mut out, &cells, id + 1)?;
+    for (place, _item) in conf.items.as_slice().iter().enumerate() {
+        show_latest(&mut out, &cells, id_of(place)?)?;
     }
     Ok(out)
 }
