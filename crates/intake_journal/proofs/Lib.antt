@@ -14,3 +14,8 @@ pub mod Pieces
 pub mod Look
 pub mod Steps
 pub mod Openings
+pub mod Blocks
+pub mod AddingAll
+pub mod Staged
+pub mod One
+pub mod Room

@@ -1,27 +1,27 @@
 //! A journal on a disk: opened, and added to.
 
-ghost use Rattle.std.specs.Prelude.{◌≡◌, ◌≢◌, ◌⊎◌, ℕ, Err, IsTrue, ◌+◌, ◌<◌, ◌≤◌, ◌-◌, ◌^◌, min, [], ◌∷◌, ◌++◌, length, All, Some, is_some, IfSome, IfOk, OnOk, OnErr, IfErr};
+ghost use Rattle.std.specs.Prelude.{◌≡◌, ◌≢◌, ◌⊎◌, ℕ, false, Err, IsTrue, ◌+◌, ◌<◌, ◌≤◌, ◌-◌, ◌^◌, min, [], ◌∷◌, ◌++◌, length, All, Some, is_some, IfSome, IfOk, OnOk, OnErr, IfErr};
 ghost use Rattle.outside.specs.Causes.{Rose};
 ghost use Rattle.outside.specs.Disk.{Only, LeavesOnly};
 ghost use Rattle.intake_journal.specs.Bytes.{group_bytes, entries_bytes, HasShortValue};
 ghost use Rattle.intake_journal.specs.Format.{entries_of};
-ghost use Rattle.intake_journal.specs.Kept.{kept, groups_of};
+ghost use Rattle.intake_journal.specs.Kept.{longest_journal, kept, groups_of};
 ghost use Rattle.intake_journal.specs.Kept.Kept.{NotOurs};
 ghost use Rattle.intake_journal.specs.Opened.{IsOpened, disk_of};
 ghost use Rattle.intake_journal.specs.Settled.{added, KeepsBeforeOrAfter, KeepsAsOneOf, entries_with, bytes_with, passes_limit};
+ghost use Rattle.intake_journal.specs.Block.{opened_bytes, added_all, KeepsNoneOrAll, entries_with_all, bytes_with_all, passes_with_all};
 ghost use Rattle.intake_journal.specs.declared.state.State.TheVariants.{Reading, Ready, Broken};
 ghost use Rattle.intake_journal.specs.declared.state.AppendError.TheVariants as error;
 ghost use Rattle.intake_journal.specs.declared.state.JournalError.TheVariants as cause;
 
+use crate::block::Block;
 use crate::disk_calls::keep;
-use crate::encoding::{encode, size};
+use crate::encoding::size;
 use crate::opening::prepare;
 use crate::state::{AppendError, JournalError, State};
-use byteorder::{ByteOrder, LittleEndian};
 use outside::{Disk, Failed};
-use std::alloc::Global;
 use std::marker::Model;
-use zbx_types::{Bytes, Entry, OutOfMemory};
+use zbx_types::Entry;
 
 /// A journal on a disk. Contracts see its disk, the place of the gate behind what was read or added, how many entries
 /// stand before it, its limits and its state.
@@ -43,22 +43,6 @@ impl<D: Disk> Model for Journal<D> {
     ghost view = { λ j. record { disk = j.disk; at = j.at; entries = j.entries; max_entries = j.max_entries; max_bytes = j.max_bytes; state = j.state } };
 
     ghost invariant = { λ j. IsWithin j.at j.entries j.max_bytes × IsSettled j.state (D.images j.disk) j.at j.entries (D.bytes j.disk) };
-}
-
-/// What stands behind the gate of a group, and a closed gate.
-fn block_of(alloc: Global, group: &[Entry], size: u32, count: u32) -> Result<Bytes, OutOfMemory>
-    requires sized { size ≡ length (entries_bytes group.now) }
-    requires counted { count ≡ length group.now }
-    ensures block { IfOk result (λ block. block ≡ group_bytes group.now ++ 0 ∷ []) }
-    ensures again { OnOk result (All HasShortValue group.now → entries_of (length group.now) (entries_bytes group.now) ≡ Some group.now) }
-{
-    let mut head = [0; 8];
-    LittleEndian::write_u32(&mut head[0..4], size);
-    LittleEndian::write_u32(&mut head[4..8], count);
-    let mut block = Bytes::of(alloc, &head)?;
-    encode(group, &mut block)?;
-    block.extend(&[0])?;
-    Ok(block)
 }
 
 impl<D: Disk> Journal<D> {
@@ -103,55 +87,81 @@ impl<D: Disk> Journal<D> {
         }
     }
 
-    /// Adds a group. At `Ok` it is acknowledged: from then on each crash leaves a file that keeps it.
+    /// How many entries and bytes the journal would have with the groups of a block and one more.
+    fn with(&self, block: &Block, group: &[Entry]) -> (u64, u64)
+        ensures entries { result.0 ≡ entries_with_all self.now (block.now ++ group.now ∷ []) }
+        ensures bytes { result.1 ≡ bytes_with_all self.now (block.now ++ group.now ∷ []) }
+        ensures long { result.1 ≤ longest_journal → length (opened_bytes block.now) + length (entries_bytes group.now) + 10 ≤ longest_journal }
+        ensures most { self.now.max_bytes ≤ longest_journal }
+    {
+        let entries = self.entries + block.entries() + group.len() as u64;
+        let bytes = size(group).saturating_add(self.at + block.size() + 9);
+        (entries, bytes)
+    }
+
+    /// Adds a group to a block that is to be appended. `Full` comes where the journal would pass a limit with the groups of
+    /// the block and this one; it and [`OutOfMemory`] leave the block as before, and no other error comes.
     ///
-    /// The group is of one entry at least, and its values have at most 65,535 bytes each. `Full` comes where the journal
-    /// would pass a limit with it; it and [`OutOfMemory`] change nothing. `DiskFault` comes where the disk failed; the
-    /// journal is broken then, and answers it at each later call and leaves the disk alone. What its file keeps is then
-    /// what it kept before, or that and the group: open it again.
-    pub fn append(&mut self, alloc: Global, group: &[Entry]) -> Result<(), AppendError>
-        requires read { self.old.state ≢ Reading }
+    /// The group is of one entry at least, and its values have at most 65,535 bytes each.
+    pub fn stage(&self, block: &mut Block, group: &[Entry]) -> Result<(), AppendError>
         requires some { 0 < length group.now }
         requires short { All HasShortValue group.now }
 
-        ensures place { OnOk result ((self.new.at ≡ self.old.at + length (entries_bytes group.now) + 9) × (self.new.entries ≡ entries_with self.old group.now)) }
-        ensures kept { OnOk result (IfSome (D.bytes self.old.disk) (λ b. IfSome (D.bytes self.new.disk) (λ c. groups_of (kept c) ≡ added self.old.at group.now (groups_of (kept b))))) }
+        ensures ok { OnOk result (block.new ≡ block.old ++ group.now ∷ []) }
+        ensures room { OnOk result (passes_with_all self.now (block.old ++ group.now ∷ []) ≡ false) }
+        ensures full { IsTrue (passes_with_all self.now (block.old ++ group.now ∷ [])) → result ≡ Err (error.Full (entries_with_all self.now (block.old ++ group.now ∷ [])) (bytes_with_all self.now (block.old ++ group.now ∷ []))) }
+        ensures only_full { (entries bytes : ℕ) → result ≡ Err (error.Full entries bytes) → IsTrue (passes_with_all self.now (block.old ++ group.now ∷ []))
+            × (entries ≡ entries_with_all self.now (block.old ++ group.now ∷ [])) × (bytes ≡ bytes_with_all self.now (block.old ++ group.now ∷ [])) }
+        ensures same { OnErr result (block.new ≡ block.old) }
+        ensures no_fault { result ≢ Err error.DiskFault }
+    {
+        let (entries, bytes) = self.with(block, group);
+        if entries > self.max_entries || bytes > self.max_bytes {
+            return Err(AppendError::Full { entries, bytes });
+        }
+        block.stage(group)?;
+        Ok(())
+    }
+
+    /// Adds the groups of a block, all or none. At `Ok` they are acknowledged: from then on each crash leaves a file that
+    /// keeps them. Takes no memory.
+    ///
+    /// The block has one group at least, and was staged for this journal as it is. At [`Failed`] the disk failed; the
+    /// journal is broken then, and answers it at each later call and leaves the disk alone. What its file keeps is then
+    /// what it kept before, or that and all of the groups: open it again.
+    pub fn append(&mut self, block: &Block) -> Result<(), Failed>
+        requires read { self.old.state ≢ Reading }
+        requires some { 0 < length block.now }
+        requires room { passes_with_all self.old block.now ≡ false }
+
+        ensures place { OnOk result ((self.new.at ≡ self.old.at + length (opened_bytes block.now)) × (self.new.entries ≡ entries_with_all self.old block.now)) }
+        ensures kept { OnOk result (IfSome (D.bytes self.old.disk) (λ b. IfSome (D.bytes self.new.disk) (λ c. groups_of (kept c) ≡ added_all self.old.at block.now (groups_of (kept b))))) }
         ensures durable { OnOk result (IfSome (D.bytes self.new.disk) (λ c. Only c (D.images self.new.disk))) }
 
         ensures told { is_some (D.bytes self.new.disk) ≡ is_some (D.bytes self.old.disk) }
 
-        // A crash at any moment of the call leaves the groups from before it, with the new one or without.
+        // A crash at any moment of the call leaves the groups from before it, with all of the new ones or none.
         ensures any_moment { self.old.state ≡ Ready → IfSome (D.bytes self.old.disk) (λ b.
-            LeavesOnly D.moment D.images_since self.old.disk self.new.disk (KeepsBeforeOrAfter (groups_of (kept b)) self.old.at group.now)) }
+            LeavesOnly D.moment D.images_since self.old.disk self.new.disk (KeepsNoneOrAll (groups_of (kept b)) self.old.at block.now)) }
 
-        ensures full { self.old.state ≡ Ready → IsTrue (passes_limit self.old group.now) → result ≡ Err (error.Full (entries_with self.old group.now) (bytes_with self.old group.now)) }
-        ensures only_full { (entries bytes : ℕ) → result ≡ Err (error.Full entries bytes) → IsTrue (passes_limit self.old group.now) × (entries ≡ entries_with self.old group.now) × (bytes ≡ bytes_with self.old group.now) }
-        ensures same { (OnOk result ⊥) → result ≢ Err error.DiskFault → self.new ≡ self.old }
-        ensures fault { result ≡ Err error.DiskFault → (self.old.state ≡ Broken) ⊎ Rose (D.faults self.old.disk) (D.faults self.new.disk) }
-        ensures broken { self.old.state ≡ Broken → (result ≡ Err error.DiskFault) × (self.new ≡ self.old) }
-        ensures state { result ≢ Err error.DiskFault → self.new.state ≡ Ready }
-        ensures state_broken { result ≡ Err error.DiskFault → self.new.state ≡ Broken }
+        ensures fault { OnErr result ((self.old.state ≡ Broken) ⊎ Rose (D.faults self.old.disk) (D.faults self.new.disk)) }
+        ensures broken { self.old.state ≡ Broken → (OnOk result ⊥) × (self.new ≡ self.old) }
+        ensures state { OnOk result (self.new.state ≡ Ready) }
+        ensures state_broken { OnErr result (self.new.state ≡ Broken) }
         ensures limits { (self.new.max_entries ≡ self.old.max_entries) × (self.new.max_bytes ≡ self.old.max_bytes) }
     {
         if self.state == State::Broken {
-            return Err(AppendError::DiskFault);
+            return Err(Failed);
         }
-        let entries = self.entries + group.len() as u64;
-        let group_size = size(group);
-        let bytes = group_size.saturating_add(self.at + 10);
-        if entries > self.max_entries || bytes > self.max_bytes {
-            return Err(AppendError::Full { entries, bytes });
-        }
-        let block = block_of(alloc, group, group_size as u32, group.len() as u32)?;
-        match keep(&mut self.disk, self.at, block.as_slice()) {
+        match keep(&mut self.disk, self.at, block.behind_gate()) {
             Ok(()) => {
-                self.at += group_size + 9;
-                self.entries = entries;
+                self.at += block.size() - 1;
+                self.entries += block.entries();
                 Ok(())
             }
             Err(Failed) => {
                 self.state = State::Broken;
-                Err(AppendError::DiskFault)
+                Err(Failed)
             }
         }
     }

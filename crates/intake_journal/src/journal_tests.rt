@@ -1,10 +1,11 @@
-ghost use Rattle.std.specs.Prelude.{◌≢◌, ◌<◌, length, All, IfOk};
+ghost use Rattle.std.specs.Prelude.{◌≡◌, ◌≢◌, ◌<◌, false, length, All, IfOk};
 ghost use Rattle.intake_journal.specs.Bytes.{HasShortValue};
+ghost use Rattle.intake_journal.specs.Block.{passes_with_all};
 ghost use Rattle.intake_journal.specs.declared.state.State.TheVariants.{Reading};
 
 use super::tests::counted;
 use super::*;
-use outside::MemDisk;
+use outside::{Failed, MemDisk};
 use std::alloc::Global;
 use std::test::*;
 use zbx_types::{Bytes, Entry, Many, Moment, OutOfMemory};
@@ -28,7 +29,7 @@ fn tick(alloc: Global) -> Result<Many<Entry>, OutOfMemory>
 fn ready(alloc: Global, disk: MemDisk, max_bytes: u16) -> Result<Journal<MemDisk>, MemDisk>
     ensures { IfOk result (λ journal. journal.state ≢ Reading) }
 {
-    match Journal::recover(disk, 1, u64::from(max_bytes)) {
+    match Journal::recover(disk, 2, u64::from(max_bytes)) {
         Ok(mut journal) => match journal.read_next(alloc) {
             Ok(None) => Ok(journal),
             _ => Err(journal.end()),
@@ -37,13 +38,69 @@ fn ready(alloc: Global, disk: MemDisk, max_bytes: u16) -> Result<Journal<MemDisk
     }
 }
 
+/// Appends a block.
+fn commit(journal: &mut Journal<MemDisk>, block: &Block) -> Result<(), AppendError>
+    requires read { journal.old.state ≢ Reading }
+    requires some { 0 < length block.now }
+    requires room { passes_with_all journal.old block.now ≡ false }
+{
+    match journal.append(block) {
+        Ok(()) => Ok(()),
+        Err(Failed) => Err(AppendError::DiskFault),
+    }
+}
+
+/// Adds a group, or a group twice at once.
+fn add_groups(
+    alloc: Global,
+    journal: &mut Journal<MemDisk>,
+    group: &[Entry],
+    twice: bool,
+) -> Result<(), AppendError>
+    requires read { journal.old.state ≢ Reading }
+    requires some { 0 < length group.now }
+    requires short { All HasShortValue group.now }
+{
+    let mut block = Block::new(alloc)?;
+    journal.stage(&mut block, group)?;
+    if !twice {
+        return commit(journal, &block);
+    }
+    journal.stage(&mut block, group)?;
+    commit(journal, &block)
+}
+
+/// What adding a Tick's group twice at once answers, and the disk.
+fn add_two(alloc: Global, disk: MemDisk, max_bytes: u16) -> (MemDisk, Result<(), AppendError>) {
+    match ready(alloc, disk, max_bytes) {
+        Ok(mut journal) => {
+            let answer = match tick(alloc) {
+                Ok(group) => add_groups(alloc, &mut journal, group.as_slice(), true),
+                Err(OutOfMemory) => Err(AppendError::OutOfMemory),
+            };
+            (journal.end(), answer)
+        }
+        Err(disk) => (disk, Err(AppendError::DiskFault)),
+    }
+}
+
+/// How many groups the file keeps after two were added at once and the call with this number failed.
+fn kept_after_two(alloc: Global, failing: u64) -> Result<u64, JournalError> {
+    let (disk, _) = add_two(
+        alloc,
+        disk_of(alloc, b"ZTSJRN01\0\x05\x05", failing)?,
+        1_000,
+    );
+    Ok(counted(alloc, disk.bytes().as_slice())?.0)
+}
+
 /// What adding a Tick's group answers, and the disk.
 fn add(alloc: Global, journal: Journal<MemDisk>) -> (MemDisk, Result<(), AppendError>)
     requires { journal.state ≢ Reading }
 {
     let mut journal = journal;
     let answer = match tick(alloc) {
-        Ok(group) => journal.append(alloc, group.as_slice()),
+        Ok(group) => add_groups(alloc, &mut journal, group.as_slice(), false),
         Err(OutOfMemory) => Err(AppendError::OutOfMemory),
     };
     (journal.end(), answer)
@@ -162,4 +219,15 @@ fn a_stop_at_any_moment_leaves_the_group_whole_or_not_at_all(rt: HostRuntime) {
     assert_eq!(rt; kept_of_image(alloc, 1, 18), Ok(1));
     assert_eq!(rt; kept_of_image(alloc, 2, 18), Ok(0));
     assert_eq!(rt; kept_of_image(alloc, 255, 18), Ok(0));
+}
+
+#[test]
+fn each_failing_call_leaves_both_groups_or_none(rt: HostRuntime) -> Result<(), Fail> {
+    let alloc = rt.alloc();
+    for failing in 1u64..9 {
+        assert_eq!(rt; kept_after_two(alloc, failing), Ok(0));
+    }
+    assert_eq!(rt; kept_after_two(alloc, 9), Ok(2));
+    assert_eq!(rt; kept_after_two(alloc, 100), Ok(2));
+    Ok(())
 }

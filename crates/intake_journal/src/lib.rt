@@ -23,6 +23,7 @@
 //! ```
 #![tactic(auto)]
 
+mod block;
 mod decoding;
 mod disk_calls;
 mod encoding;
@@ -33,6 +34,7 @@ mod reading;
 mod state;
 mod whole;
 
+pub use block::Block;
 pub use decoding::{LONGEST_VALUE, decode};
 pub use encoding::{encode, size};
 pub use format::Group;
