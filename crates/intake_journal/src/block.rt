@@ -77,6 +77,18 @@ impl Block {
         })
     }
 
+    /// A block of one group.
+    pub(crate) fn of(alloc: Global, group: &[Entry]) -> Result<Block, OutOfMemory>
+        requires some { 0 < length group.now }
+        requires short { All HasShortValue group.now }
+        requires within { length (entries_bytes group.now) + 10 ≤ longest_journal }
+        ensures { IfOk result (λ made. made ≡ group.now ∷ []) }
+    {
+        let mut block = Block::new(alloc)?;
+        block.stage(group)?;
+        Ok(block)
+    }
+
     /// Whether it has no group.
     pub fn is_empty(&self) -> bool
         ensures { result ≡ (length self.now == 0) }
@@ -101,7 +113,7 @@ impl Block {
     }
 
     /// Adds a group. At [`OutOfMemory`] the block is as before.
-    pub fn stage(&mut self, group: &[Entry]) -> Result<(), OutOfMemory>
+    pub(crate) fn stage(&mut self, group: &[Entry]) -> Result<(), OutOfMemory>
         requires some { 0 < length group.now }
         requires short { All HasShortValue group.now }
         requires within { length (opened_bytes self.old) + length (entries_bytes group.now) + 10 ≤ longest_journal }

@@ -39,6 +39,7 @@ pub use decoding::{LONGEST_VALUE, decode};
 pub use encoding::{encode, size};
 pub use format::Group;
 pub use journal::Journal;
+pub use opening::FIRST_GATE;
 pub use reading::LONGEST_JOURNAL;
 pub use state::{AppendError, JournalError, State};
 

@@ -8,14 +8,14 @@ use Rattle.intake_journal.proofs.Adding.{ready_of, settled_of}
 use Rattle.intake_journal.proofs.Blocks.{count_all_small}
 use Rattle.intake_journal.proofs.Room.{room_within}
 use Rattle.intake_journal.proofs.AddingAll.{kept_after_all, ready_after_all, moments_after_all}
-use Rattle.intake_journal.proofs.journal.Journal.append.Goals as goal
+use Rattle.intake_journal.proofs.journal.Journal.put_block.Goals as goal
 
 pub returns-in-Ok-clause-kept : goal.returns-in-Ok-clause-kept
 returns-in-Ok-clause-kept g c =
     let bytes = g.D.Disk.bytes in let images = g.D.Disk.images in
     let j = c.self.inside in let new = c.keep.new.disk in let groups = c.args.block.now in
     let read : j.state ≢ Reading = λ e. c.requires.read (sym (ap (λ v. v.state) c.self.view_is) ∙ e) in
-    let going : j.state ≢ Broken = search rules in
+    let going : j.state ≢ Broken = λ e. c.requires.going (sym (ap (λ v. v.state) c.self.view_is) ∙ e) in
     let within : j.at + length (opened_bytes groups) + 1 ≤ longest_journal =
     room_within j.at j.entries j.max_entries j.max_bytes groups (subst (λ v. passes_with_all v groups ≡ false) (sym c.self.view_is) c.requires.room) c.self.invariant.0.2 in
     let readable = c.behind_gate.ensures.readable in
@@ -30,7 +30,7 @@ invariant_of-self g c =
     let bytes = g.D.Disk.bytes in let images = g.D.Disk.images in
     let j = c.self.inside in let new = c.keep.new.disk in let groups = c.args.block.now in
     let read : j.state ≢ Reading = λ e. c.requires.read (sym (ap (λ v. v.state) c.self.view_is) ∙ e) in
-    let going : j.state ≢ Broken = search rules in
+    let going : j.state ≢ Broken = λ e. c.requires.going (sym (ap (λ v. v.state) c.self.view_is) ∙ e) in
     let within : j.at + length (opened_bytes groups) + 1 ≤ longest_journal =
     room_within j.at j.entries j.max_entries j.max_bytes groups (subst (λ v. passes_with_all v groups ≡ false) (sym c.self.view_is) c.requires.room) c.self.invariant.0.2 in
     let readable = c.behind_gate.ensures.readable in
@@ -45,11 +45,11 @@ invariant_of-self g c =
     (small, subst (λ (n : ℕ). IsSettled j.state (images new) n (j.entries + c.entries.result) (bytes new)) place counted)
 
 pub returns-in-Ok-clause-any_moment : goal.returns-in-Ok-clause-any_moment
-returns-in-Ok-clause-any_moment g c _ =
+returns-in-Ok-clause-any_moment g c =
     let bytes = g.D.Disk.bytes in let images = g.D.Disk.images in
     let j = c.self.inside in let new = c.keep.new.disk in let groups = c.args.block.now in
     let read : j.state ≢ Reading = λ e. c.requires.read (sym (ap (λ v. v.state) c.self.view_is) ∙ e) in
-    let going : j.state ≢ Broken = search rules in
+    let going : j.state ≢ Broken = λ e. c.requires.going (sym (ap (λ v. v.state) c.self.view_is) ∙ e) in
     let within : j.at + length (opened_bytes groups) + 1 ≤ longest_journal =
     room_within j.at j.entries j.max_entries j.max_bytes groups (subst (λ v. passes_with_all v groups ≡ false) (sym c.self.view_is) c.requires.room) c.self.invariant.0.2 in
     let readable = c.behind_gate.ensures.readable in
@@ -59,11 +59,11 @@ returns-in-Ok-clause-any_moment g c _ =
     subst (λ v. IfSome (bytes v.disk) (λ b. LeavesOnly g.D.Disk.moment g.D.Disk.images_since v.disk new (KeepsNoneOrAll (groups_of (kept b)) v.at groups))) c.self.view_is around
 
 pub returns-in-Err-clause-any_moment : goal.returns-in-Err-clause-any_moment
-returns-in-Err-clause-any_moment g c _ =
+returns-in-Err-clause-any_moment g c =
     let bytes = g.D.Disk.bytes in let images = g.D.Disk.images in
     let j = c.self.inside in let new = c.keep.new.disk in let groups = c.args.block.now in
     let read : j.state ≢ Reading = λ e. c.requires.read (sym (ap (λ v. v.state) c.self.view_is) ∙ e) in
-    let going : j.state ≢ Broken = search rules in
+    let going : j.state ≢ Broken = λ e. c.requires.going (sym (ap (λ v. v.state) c.self.view_is) ∙ e) in
     let within : j.at + length (opened_bytes groups) + 1 ≤ longest_journal =
     room_within j.at j.entries j.max_entries j.max_bytes groups (subst (λ v. passes_with_all v groups ≡ false) (sym c.self.view_is) c.requires.room) c.self.invariant.0.2 in
     let readable = c.behind_gate.ensures.readable in

@@ -1,6 +1,6 @@
 use Rattle.std.proofs.Common.{ap, arith}
 use Rattle.intake_journal.proofs.Staged.{more_long, count-push}
-use Rattle.intake_journal.proofs.journal.Journal.with.Goals as goal
+use Rattle.intake_journal.proofs.journal.Journal.with_group.Goals as goal
 
 pub returns-clause-entries : goal.returns-clause-entries
 returns-clause-entries g c =
