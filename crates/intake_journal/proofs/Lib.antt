@@ -19,3 +19,4 @@ pub mod AddingAll
 pub mod Staged
 pub mod One
 pub mod Room
+pub mod Sizes
