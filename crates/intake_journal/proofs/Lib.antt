@@ -7,7 +7,6 @@ pub mod Torn
 pub mod Fronts
 pub mod Written
 pub mod Adding
-pub mod Appending
 pub mod Behind
 pub mod Before
 pub mod Pieces
@@ -17,6 +16,5 @@ pub mod Openings
 pub mod Blocks
 pub mod AddingAll
 pub mod Staged
-pub mod One
 pub mod Room
 pub mod Sizes
