@@ -1,20 +1,14 @@
 -- What a file keeps while a group is added, and once it is there.
-use Rattle.std.proofs.Common.{◌≡◌, ◌≢◌, inl, inr, ⊎_elim, ℕ, ◌+◌, ◌≤◌, true, List, [], ◌∷◌, ◌++◌, length, get_or, take, drop, Option, Some, None, IfSome, refl, sym, ◌∙◌, ap, subst, arith, append_assoc, length-append, take-append-drop, true≢false}
+use Rattle.std.proofs.Common.{◌≡◌, ◌≢◌, inl, inr, ℕ, ◌≤◌, true, List, [], ◌∷◌, ◌++◌, length, get_or, take, Option, Some, None, IfSome, refl, sym, ◌∙◌, ap, arith, length-append, true≢false}
 use Rattle.std.specs.Prelude.{is_some, nat_le, unwrap_or}
-use Rattle.std.proofs.lemmas.Bool.{cases_eq, cases_lt, le-leb}
-use Rattle.std.proofs.lemmas.List.{take_at, drop_at, take_more, drop_more, get_or_at, length-take, take-append-le}
-use Rattle.outside.specs.Disk.{overwritten, Only, LeavesOnly}
-use Rattle.zbx_types.specs.declared.entries.Entry.{Entry}
-use Rattle.intake_journal.specs.Around.{IsAround}
-use Rattle.intake_journal.specs.Bytes.{entries_bytes, group_bytes}
-use Rattle.intake_journal.specs.Kept.{Fresh, Groups, magic, group_behind, kept_behind, kept, groups_of}
+use Rattle.std.proofs.lemmas.Bool.{cases_lt, le-leb}
+use Rattle.std.proofs.lemmas.List.{drop_at, take-append-le}
+use Rattle.intake_journal.specs.Kept.{Fresh, Groups, magic, kept_behind, kept, groups_of}
 use Rattle.intake_journal.specs.Settled.{IsFront, IsDurable, IsSettled}
 use Rattle.intake_journal.specs.declared.format.Group.{Group}
 use Rattle.intake_journal.specs.declared.state.State.{State}
 use Rattle.intake_journal.specs.declared.state.State.TheVariants.{Reading, Ready, Broken}
-use Rattle.intake_journal.proofs.Fronts.{keeps_closed, closed, front_goes_on, kept_long, count_entries-push}
-use Rattle.intake_journal.proofs.Torn.{behind, opened_is}
-use Rattle.intake_journal.proofs.Written.{group_length}
+use Rattle.intake_journal.proofs.Fronts.{keeps_closed, closed, kept_long}
 
 pub fresh : (file : List ℕ) → length file ≤ 9 → kept file ≡ Fresh
 unfolding kept

@@ -1,10 +1,7 @@
 -- What is known of a journal and its disk between two calls.
-use Rattle.std.specs.Prelude.{◌≡◌, ◌≢◌, ◌⊎◌, ℕ, ◌+◌, ◌-◌, ◌*◌, ◌^◌, ◌<◌, ◌≤◌, min, nat_lt, Bool, ◌||◌, ⊤, List, [], ◌∷◌, ◌++◌, length, take, get_or, Option, IfSome}
-use Rattle.std.specs.Option.{option_map}
+use Rattle.std.specs.Prelude.{◌≡◌, ◌≢◌, ℕ, ◌+◌, ◌*◌, ◌^◌, ◌<◌, ◌≤◌, ⊤, List, [], ◌∷◌, ◌++◌, length, take, get_or, Option, IfSome}
 use Rattle.outside.specs.Disk.{Only}
-use Rattle.zbx_types.specs.declared.entries.Entry.{Entry}
-use Rattle.intake_journal.specs.Bytes.{entries_bytes}
-use Rattle.intake_journal.specs.Kept.{Kept, magic, longest_journal, with_group, kept_behind, kept_from, kept, groups_of}
+use Rattle.intake_journal.specs.Kept.{Kept, magic, longest_journal, with_group, kept_behind, kept_from, kept}
 use Rattle.intake_journal.specs.declared.format.Group.{Group}
 use Rattle.intake_journal.specs.declared.state.State.{State}
 use Rattle.intake_journal.specs.declared.state.State.TheVariants.{Reading, Ready, Broken}

@@ -1,4 +1,4 @@
-use Rattle.std.proofs.Common.{◌≡◌, ◌≢◌, false, ℕ, ◌+◌, ◌-◌, ◌≤◌, ◌∙◌, length, IfSome, sym, ap, subst, arith, rules}
+use Rattle.std.proofs.Common.{◌≡◌, ◌≢◌, false, ℕ, ◌+◌, ◌-◌, ◌≤◌, ◌∙◌, length, IfSome, sym, ap, subst, arith}
 use Rattle.outside.specs.Disk.{LeavesOnly}
 use Rattle.intake_journal.specs.Kept.{longest_journal, kept, groups_of}
 use Rattle.intake_journal.specs.Settled.{IsWithin, IsSettled}
