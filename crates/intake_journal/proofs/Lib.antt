@@ -7,10 +7,14 @@ pub mod Torn
 pub mod Fronts
 pub mod Written
 pub mod Adding
-pub mod Appending
 pub mod Behind
 pub mod Before
 pub mod Pieces
 pub mod Look
 pub mod Steps
 pub mod Openings
+pub mod Blocks
+pub mod AddingAll
+pub mod Staged
+pub mod Room
+pub mod Sizes

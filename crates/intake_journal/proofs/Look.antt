@@ -66,6 +66,9 @@ pub unread_found : (at : ℕ) (file : List ℕ) (size count : ℕ) → IsOpen at
 unread_found at file size count opened unread =
     (opened.gate, opened_is at file size count opened ∙ none_chosen (fits at size count (length file - (at + 9))) (entries_of count (take size (drop (at + 9) file))) size unread)
 
+pub fit_inside : (at : ℕ) (file : List ℕ) (size count : ℕ) → fits at size count (length file - (at + 9)) ≡ true → at + 9 + size ≤ length file
+fit_inside at file size count fit = omega (arith, (fits_parts at size count (length file - (at + 9)) fit).0)
+
 pub next_found : (at : ℕ) (file : List ℕ) (size count : ℕ) (entries : List Entry) → IsOpen at file size count → fits at size count (length file - (at + 9)) ≡ true
     → entries_of count (take size (drop (at + 9) file)) ≡ Some entries → IsFound (Next entries size) at file
 next_found at file size count entries opened fit read =

@@ -19,3 +19,10 @@ pub read_end : (file into : List ℕ) (at count : ℕ) → count ≤ length into
 read_end file into at count room end content =
     let short : length (drop at file) ≤ count = omega (arith, length-drop at file) in
     content ∙ take_all count (drop at file) short ∙ sym (take_all (length into) (drop at file) (omega arith))
+
+-- all was read where there is enough
+pub read_full : (file into : List ℕ) (at count size : ℕ) → length into ≡ size → count ≤ length into → at + size ≤ length file → take count into ≡ take size (drop at file) → count ≡ size
+read_full file into at count size len bound enough content = omega (arith, ap length content, length-take-le count into bound, length-take-le size (drop at file) (omega (arith, enough, length-drop at file)), len)
+
+pub read_all : (file into : List ℕ) (at count size : ℕ) → length into ≡ size → size ≤ count → take count into ≡ take size (drop at file) → into ≡ take size (drop at file)
+read_all file into at count size len enough content = sym (take_all count into (omega (arith, len, enough))) ∙ content

@@ -2,6 +2,7 @@
 use Rattle.std.specs.Prelude.{◌≡◌, ◌≢◌, ◌≤◌, ◌<◌, ℕ, ◌+◌, ◌^◌, ⊤, List, length, take, drop, slice_index, Some, None}
 use Rattle.byteorder.specs.Endian.{little_number}
 use Rattle.zbx_types.specs.declared.entries.Entry.{Entry}
+use Rattle.intake_journal.specs.Bytes.{entries_bytes}
 use Rattle.intake_journal.specs.Format.{entries_of}
 use Rattle.intake_journal.specs.Kept.{group_behind, longest_journal}
 use Rattle.intake_journal.specs.declared.reading.Head.{Head}
@@ -29,8 +30,8 @@ IsFound End at file = slice_index file at ≢ 1
 IsFound Damage at file = (slice_index file at ≡ 1) × (group_behind at (drop (at + 1) file) ≡ None)
 IsFound (Next entries size) at file = (slice_index file at ≡ 1) × HasGroup at (drop (at + 1) file) size entries
 
--- what was found leads to a gate within the longest journal, behind fewer than 2^32 entries and at least one
+-- what was found leads to a gate within the longest journal, behind fewer than 2^32 entries and at least one, which have this size
 abbrev pub IsSmall : Found → ℕ → Type 0
 IsSmall End at = ⊤
 IsSmall Damage at = ⊤
-IsSmall (Next entries size) at = (at + size + 10 ≤ longest_journal) × (length entries < 2 ^ 32) × (0 < length entries)
+IsSmall (Next entries size) at = (at + size + 10 ≤ longest_journal) × (length entries < 2 ^ 32) × (0 < length entries) × (length (entries_bytes entries) ≡ size)

@@ -16,6 +16,10 @@ pub data Kept : Type 0 where
 abbrev pub magic : List ℕ
 magic = 90 ∷ 84 ∷ 83 ∷ 74 ∷ 82 ∷ 78 ∷ 48 ∷ 49 ∷ []
 
+-- the place where groups begin: that of the first gate
+abbrev pub first_gate : ℕ
+first_gate = 8
+
 -- the most bytes of a journal
 abbrev pub longest_journal : ℕ
 longest_journal = 1073741824
@@ -56,7 +60,7 @@ kept_from at file = kept_behind 0 at (drop at file)
 unfoldable pub kept : List ℕ → Kept
 kept file =
     if nat_le (length file) 9 then Fresh
-    else if list_all (λ p. p.0 == p.1) (zip magic file) then kept_from 8 file
+    else if list_all (λ p. p.0 == p.1) (zip magic file) then kept_from first_gate file
     else NotOurs
 
 -- the groups that a file keeps, where it is a journal without damage; a fresh one keeps none

@@ -8,3 +8,4 @@ pub mod Moments
 pub mod Opened
 pub mod Settled
 pub mod Next
+pub mod Block

@@ -1,10 +1,7 @@
 -- What is known of a journal and its disk between two calls.
-use Rattle.std.specs.Prelude.{◌≡◌, ◌≢◌, ◌⊎◌, ℕ, ◌+◌, ◌-◌, ◌*◌, ◌^◌, ◌<◌, ◌≤◌, min, nat_lt, Bool, ◌||◌, ⊤, List, [], ◌∷◌, ◌++◌, length, take, get_or, Option, IfSome}
-use Rattle.std.specs.Option.{option_map}
+use Rattle.std.specs.Prelude.{◌≡◌, ◌≢◌, ℕ, ◌+◌, ◌*◌, ◌^◌, ◌<◌, ◌≤◌, ⊤, List, [], ◌∷◌, ◌++◌, length, take, get_or, Option, IfSome}
 use Rattle.outside.specs.Disk.{Only}
-use Rattle.zbx_types.specs.declared.entries.Entry.{Entry}
-use Rattle.intake_journal.specs.Bytes.{entries_bytes}
-use Rattle.intake_journal.specs.Kept.{Kept, magic, longest_journal, with_group, kept_behind, kept_from, kept, groups_of}
+use Rattle.intake_journal.specs.Kept.{Kept, magic, longest_journal, with_group, kept_behind, kept_from, kept}
 use Rattle.intake_journal.specs.declared.format.Group.{Group}
 use Rattle.intake_journal.specs.declared.state.State.{State}
 use Rattle.intake_journal.specs.declared.state.State.TheVariants.{Reading, Ready, Broken}
@@ -51,26 +48,6 @@ IsSettled Broken images at entries bytes = ⊤
 -- the place, the count and the limit of a journal are small
 abbrev pub IsWithin : ℕ → ℕ → ℕ → Type 0
 IsWithin at entries max_bytes = (at < longest_journal) × (entries ≤ at * 2 ^ 32) × (max_bytes ≤ longest_journal)
-
--- how many entries a journal would have with a group
-abbrev pub entries_with : {D : Type 0} → Journaled D → List Entry → ℕ
-entries_with journal group = journal.entries + length group
-
--- how many bytes it would have, up to and with the gate behind the group, or 2^64 - 1 where it is more
-abbrev pub bytes_with : {D : Type 0} → Journaled D → List Entry → ℕ
-bytes_with journal group = min (journal.at + length (entries_bytes group) + 10) (2 ^ 64 - 1)
-
--- with the group the journal would pass a limit
-abbrev pub passes_limit : {D : Type 0} → Journaled D → List Entry → Bool
-passes_limit journal group = nat_lt journal.max_entries (entries_with journal group) || nat_lt journal.max_bytes (bytes_with journal group)
-
--- the groups and one more, with its gate at this place
-abbrev pub added : ℕ → List Entry → Option (List Group) → Option (List Group)
-added at entries groups = option_map (λ gs. gs ++ record { at = at; entries = entries } ∷ []) groups
-
--- the bytes keep these groups, or these and one more
-abbrev pub KeepsBeforeOrAfter : Option (List Group) → ℕ → List Entry → List ℕ → Type 0
-KeepsBeforeOrAfter groups at entries c = (groups_of (kept c) ≡ groups) ⊎ (groups_of (kept c) ≡ added at entries groups)
 
 -- the bytes keep what one of these keeps
 abbrev pub KeepsAsOneOf : (List ℕ → Type 0) → List ℕ → Type 0

@@ -1,27 +1,28 @@
 //! A journal on a disk: opened, and added to.
 
-ghost use Rattle.std.specs.Prelude.{◌≡◌, ◌≢◌, ◌⊎◌, ℕ, Err, IsTrue, ◌+◌, ◌<◌, ◌≤◌, ◌-◌, ◌^◌, min, [], ◌∷◌, ◌++◌, length, All, Some, is_some, IfSome, IfOk, OnOk, OnErr, IfErr};
-ghost use Rattle.outside.specs.Causes.{Rose};
+ghost use Rattle.std.specs.Prelude.{◌≡◌, ◌≢◌, ◌⊎◌, ℕ, false, not, Err, IsTrue, ◌+◌, ◌<◌, ◌≤◌, ◌-◌, ◌^◌, min, [], ◌∷◌, ◌++◌, length, All, Some, is_some, IfSome, IfOk, OnOk, OnErr, IfErr};
+ghost use Rattle.outside.specs.Causes.{Rose, HasCause};
 ghost use Rattle.outside.specs.Disk.{Only, LeavesOnly};
 ghost use Rattle.intake_journal.specs.Bytes.{group_bytes, entries_bytes, HasShortValue};
 ghost use Rattle.intake_journal.specs.Format.{entries_of};
-ghost use Rattle.intake_journal.specs.Kept.{kept, groups_of};
+ghost use Rattle.intake_journal.specs.Kept.{first_gate, longest_journal, kept, groups_of};
 ghost use Rattle.intake_journal.specs.Kept.Kept.{NotOurs};
 ghost use Rattle.intake_journal.specs.Opened.{IsOpened, disk_of};
-ghost use Rattle.intake_journal.specs.Settled.{added, KeepsBeforeOrAfter, KeepsAsOneOf, entries_with, bytes_with, passes_limit};
+ghost use Rattle.intake_journal.specs.Settled.{KeepsAsOneOf};
+ghost use Rattle.intake_journal.specs.Block.{opened_bytes, added_all, KeepsNoneOrAll, entries_with_all, bytes_with_all, passes_with_all};
 ghost use Rattle.intake_journal.specs.declared.state.State.TheVariants.{Reading, Ready, Broken};
 ghost use Rattle.intake_journal.specs.declared.state.AppendError.TheVariants as error;
 ghost use Rattle.intake_journal.specs.declared.state.JournalError.TheVariants as cause;
 
+use crate::block::Block;
 use crate::disk_calls::keep;
-use crate::encoding::{encode, size};
-use crate::opening::prepare;
+use crate::encoding::size;
+use crate::opening::{FIRST_GATE, prepare};
 use crate::state::{AppendError, JournalError, State};
-use byteorder::{ByteOrder, LittleEndian};
 use outside::{Disk, Failed};
 use std::alloc::Global;
 use std::marker::Model;
-use zbx_types::{Bytes, Entry, OutOfMemory};
+use zbx_types::{Entry, OutOfMemory};
 
 /// A journal on a disk. Contracts see its disk, the place of the gate behind what was read or added, how many entries
 /// stand before it, its limits and its state.
@@ -45,22 +46,6 @@ impl<D: Disk> Model for Journal<D> {
     ghost invariant = { λ j. IsWithin j.at j.entries j.max_bytes × IsSettled j.state (D.images j.disk) j.at j.entries (D.bytes j.disk) };
 }
 
-/// What stands behind the gate of a group, and a closed gate.
-fn block_of(alloc: Global, group: &[Entry], size: u32, count: u32) -> Result<Bytes, OutOfMemory>
-    requires sized { size ≡ length (entries_bytes group.now) }
-    requires counted { count ≡ length group.now }
-    ensures block { IfOk result (λ block. block ≡ group_bytes group.now ++ 0 ∷ []) }
-    ensures again { OnOk result (All HasShortValue group.now → entries_of (length group.now) (entries_bytes group.now) ≡ Some group.now) }
-{
-    let mut head = [0; 8];
-    LittleEndian::write_u32(&mut head[0..4], size);
-    LittleEndian::write_u32(&mut head[4..8], count);
-    let mut block = Bytes::of(alloc, &head)?;
-    encode(group, &mut block)?;
-    block.extend(&[0])?;
-    Ok(block)
-}
-
 impl<D: Disk> Journal<D> {
     /// Opens the file on a disk, to be read by [`Journal::read_next`] up to its `None`. It begins with a sync; a file of at
     /// most 9 bytes is made anew, as a journal of no group. Takes no memory.
@@ -73,10 +58,10 @@ impl<D: Disk> Journal<D> {
         max_entries: u64,
         max_bytes: u64,
     ) -> Result<Journal<D>, (D, JournalError)>
-        requires { max_bytes ≤ 1073741824 }
+        requires { max_bytes ≤ longest_journal }
 
         // What is left to read is what the file kept, all of it durable.
-        ensures begins { IfOk result (λ j. (j.at ≡ 8) × (j.entries ≡ 0) × (j.max_entries ≡ max_entries) × (j.max_bytes ≡ max_bytes) × (j.state ≡ Reading)) }
+        ensures begins { IfOk result (λ j. (j.at ≡ first_gate) × (j.entries ≡ 0) × (j.max_entries ≡ max_entries) × (j.max_bytes ≡ max_bytes) × (j.state ≡ Reading)) }
         ensures opened { IfOk result (λ j. IfSome (D.bytes disk) (λ b. IfSome (D.bytes j.disk) (λ c. IsOpened (D.images j.disk) b c))) }
 
         ensures ours { IfOk result (λ _. IfSome (D.bytes disk) (λ b. kept b ≢ NotOurs)) }
@@ -84,6 +69,7 @@ impl<D: Disk> Journal<D> {
         ensures fault { IfErr result (λ e. e.1 ≢ cause.NotOurs → (e.1 ≡ cause.DiskFault) × Rose (D.faults disk) (D.faults e.0)) }
 
         ensures told { is_some (D.bytes (disk_of result)) ≡ is_some (D.bytes disk) }
+        ensures later { D.faults disk ≤ D.faults (disk_of result) }
 
         // A crash at any moment of the call leaves a file that keeps what one did that a crash before it might have left.
         ensures any_moment { IfSome (D.bytes disk) (λ _. LeavesOnly D.moment D.images_since disk (disk_of result) (KeepsAsOneOf (D.images disk))) }
@@ -92,7 +78,7 @@ impl<D: Disk> Journal<D> {
         match prepare(&mut disk) {
             Ok(true) => Ok(Journal {
                 disk,
-                at: 8,
+                at: FIRST_GATE,
                 entries: 0,
                 max_entries,
                 max_bytes,
@@ -103,31 +89,186 @@ impl<D: Disk> Journal<D> {
         }
     }
 
-    /// Adds a group. At `Ok` it is acknowledged: from then on each crash leaves a file that keeps it.
+    /// How many entries it has.
+    pub fn entries(&self) -> u64
+        ensures { result ≡ self.now.entries }
+    {
+        self.entries
+    }
+
+    /// How many bytes it has, up to and with the gate behind its last group.
+    pub fn bytes(&self) -> u64
+        ensures { result ≡ self.now.at + 1 }
+    {
+        self.at + 1
+    }
+
+    /// How many entries and bytes the journal would have with the groups of a block.
+    fn with_block(&self, block: &Block) -> (u64, u64)
+        ensures entries { result.0 ≡ entries_with_all self.now block.now }
+        ensures bytes { result.1 ≡ bytes_with_all self.now block.now }
+    {
+        let entries = self.entries + block.entries();
+        let bytes = self.at + block.size();
+        (entries, bytes)
+    }
+
+    /// How many entries and bytes the journal would have with the groups of a block and one more.
+    fn with_group(&self, block: &Block, group: &[Entry]) -> (u64, u64)
+        ensures entries { result.0 ≡ entries_with_all self.now (block.now ++ group.now ∷ []) }
+        ensures bytes { result.1 ≡ bytes_with_all self.now (block.now ++ group.now ∷ []) }
+        ensures long { result.1 ≤ longest_journal → length (opened_bytes block.now) + length (entries_bytes group.now) + 10 ≤ longest_journal }
+        ensures most { self.now.max_bytes ≤ longest_journal }
+    {
+        let entries = self.entries + block.entries() + group.len() as u64;
+        let bytes = size(group).saturating_add(self.at + block.size() + 9);
+        (entries, bytes)
+    }
+
+    /// How many entries and bytes the journal would have with one group.
+    fn with_one(&self, group: &[Entry]) -> (u64, u64)
+        ensures entries { result.0 ≡ entries_with_all self.now (group.now ∷ []) }
+        ensures bytes { result.1 ≡ bytes_with_all self.now (group.now ∷ []) }
+        ensures long { result.1 ≤ longest_journal → length (entries_bytes group.now) + 10 ≤ longest_journal }
+        ensures most { self.now.max_bytes ≤ longest_journal }
+    {
+        let entries = self.entries + group.len() as u64;
+        let bytes = size(group).saturating_add(self.at + 10);
+        (entries, bytes)
+    }
+
+    /// Whether the groups of a block and one more fit into the journal: exactly then [`Journal::stage`] doesn't answer
+    /// `Full`. Takes no memory.
+    pub fn has_room(&self, block: &Block, group: &[Entry]) -> bool
+        ensures { result ≡ not (passes_with_all self.now (block.now ++ group.now ∷ [])) }
+    {
+        let (entries, bytes) = self.with_group(block, group);
+        !(entries > self.max_entries || bytes > self.max_bytes)
+    }
+
+    /// Adds a group to a block that is to be appended. `Full` comes where the journal would pass a limit with the groups of
+    /// the block and this one; it and [`OutOfMemory`] leave the block as before, and no other error comes.
     ///
-    /// The group is of one entry at least, and its values have at most 65,535 bytes each. `Full` comes where the journal
-    /// would pass a limit with it; it and [`OutOfMemory`] change nothing. `DiskFault` comes where the disk failed; the
-    /// journal is broken then, and answers it at each later call and leaves the disk alone. What its file keeps is then
-    /// what it kept before, or that and the group: open it again.
-    pub fn append(&mut self, alloc: Global, group: &[Entry]) -> Result<(), AppendError>
+    /// The group is of one entry at least, and its values have at most 65,535 bytes each.
+    pub fn stage(&self, block: &mut Block, group: &[Entry]) -> Result<(), AppendError>
+        requires some { 0 < length group.now }
+        requires short { All HasShortValue group.now }
+
+        ensures ok { OnOk result (block.new ≡ block.old ++ group.now ∷ []) }
+        ensures room { OnOk result (passes_with_all self.now (block.old ++ group.now ∷ []) ≡ false) }
+        ensures full { IsTrue (passes_with_all self.now (block.old ++ group.now ∷ [])) → result ≡ Err (error.Full (entries_with_all self.now (block.old ++ group.now ∷ [])) (bytes_with_all self.now (block.old ++ group.now ∷ []))) }
+        ensures only_full { (entries bytes : ℕ) → result ≡ Err (error.Full entries bytes) → IsTrue (passes_with_all self.now (block.old ++ group.now ∷ []))
+            × (entries ≡ entries_with_all self.now (block.old ++ group.now ∷ [])) × (bytes ≡ bytes_with_all self.now (block.old ++ group.now ∷ [])) }
+        ensures same { OnErr result (block.new ≡ block.old) }
+        ensures no_fault { result ≢ Err error.DiskFault }
+    {
+        let (entries, bytes) = self.with_group(block, group);
+        if entries > self.max_entries || bytes > self.max_bytes {
+            return Err(AppendError::Full { entries, bytes });
+        }
+        block.stage(group)?;
+        Ok(())
+    }
+
+    /// Writes the groups of a block for which there is room. At [`Failed`] the journal is broken.
+    fn put_block(&mut self, block: &Block) -> Result<(), Failed>
+        requires read { self.old.state ≢ Reading }
+        requires going { self.old.state ≢ Broken }
+        requires some { 0 < length block.now }
+        requires room { passes_with_all self.old block.now ≡ false }
+        ensures place { OnOk result ((self.new.at ≡ self.old.at + length (opened_bytes block.now)) × (self.new.entries ≡ entries_with_all self.old block.now)) }
+        ensures kept { OnOk result (IfSome (D.bytes self.old.disk) (λ b. IfSome (D.bytes self.new.disk) (λ c. groups_of (kept c) ≡ added_all self.old.at block.now (groups_of (kept b))))) }
+        ensures durable { OnOk result (IfSome (D.bytes self.new.disk) (λ c. Only c (D.images self.new.disk))) }
+        ensures told { is_some (D.bytes self.new.disk) ≡ is_some (D.bytes self.old.disk) }
+        ensures any_moment { IfSome (D.bytes self.old.disk) (λ b.
+            LeavesOnly D.moment D.images_since self.old.disk self.new.disk (KeepsNoneOrAll (groups_of (kept b)) self.old.at block.now)) }
+        ensures cause { HasCause (D.faults self.old.disk) (D.faults self.new.disk) result }
+        ensures state { OnOk result (self.new.state ≡ Ready) }
+        ensures state_broken { OnErr result (self.new.state ≡ Broken) }
+        ensures limits { (self.new.max_entries ≡ self.old.max_entries) × (self.new.max_bytes ≡ self.old.max_bytes) }
+    {
+        match keep(&mut self.disk, self.at, block.behind_gate()) {
+            Ok(()) => {
+                self.at += block.size() - 1;
+                self.entries += block.entries();
+                Ok(())
+            }
+            Err(Failed) => {
+                self.state = State::Broken;
+                Err(Failed)
+            }
+        }
+    }
+
+    /// Adds the groups of a block, all or none, by four calls of the disk whatever their number. At `Ok` they are
+    /// acknowledged: from then on each crash leaves a file that keeps them. Takes no memory.
+    ///
+    /// The block has one group at least; [`Block::clear`] takes its groups out for the next. `Full` comes where the journal
+    /// would pass a limit with them, and changes nothing. `DiskFault` comes where the disk failed; the journal is broken
+    /// then, and answers it at each later call and leaves the disk alone. What its file keeps is then what it kept before,
+    /// or that and all of the groups: open it again. `OutOfMemory` doesn't come.
+    pub fn append(&mut self, block: &Block) -> Result<(), AppendError>
+        requires read { self.old.state ≢ Reading }
+        requires some { 0 < length block.now }
+
+        ensures place { OnOk result ((self.new.at ≡ self.old.at + length (opened_bytes block.now)) × (self.new.entries ≡ entries_with_all self.old block.now)) }
+        ensures kept { OnOk result (IfSome (D.bytes self.old.disk) (λ b. IfSome (D.bytes self.new.disk) (λ c. groups_of (kept c) ≡ added_all self.old.at block.now (groups_of (kept b))))) }
+        ensures durable { OnOk result (IfSome (D.bytes self.new.disk) (λ c. Only c (D.images self.new.disk))) }
+
+        ensures told { is_some (D.bytes self.new.disk) ≡ is_some (D.bytes self.old.disk) }
+
+        // A crash at any moment of the call leaves the groups from before it, with all of the new ones or none.
+        ensures any_moment { self.old.state ≡ Ready → IfSome (D.bytes self.old.disk) (λ b.
+            LeavesOnly D.moment D.images_since self.old.disk self.new.disk (KeepsNoneOrAll (groups_of (kept b)) self.old.at block.now)) }
+
+        ensures full { self.old.state ≡ Ready → IsTrue (passes_with_all self.old block.now) → result ≡ Err (error.Full (entries_with_all self.old block.now) (bytes_with_all self.old block.now)) }
+        ensures only_full { (entries bytes : ℕ) → result ≡ Err (error.Full entries bytes) → IsTrue (passes_with_all self.old block.now) × (entries ≡ entries_with_all self.old block.now) × (bytes ≡ bytes_with_all self.old block.now) }
+        ensures same { (OnOk result ⊥) → result ≢ Err error.DiskFault → self.new ≡ self.old }
+        ensures fault { result ≡ Err error.DiskFault → (self.old.state ≡ Broken) ⊎ Rose (D.faults self.old.disk) (D.faults self.new.disk) }
+        ensures later { D.faults self.old.disk ≤ D.faults self.new.disk }
+        ensures broken { self.old.state ≡ Broken → (result ≡ Err error.DiskFault) × (self.new ≡ self.old) }
+        ensures state { result ≢ Err error.DiskFault → self.new.state ≡ Ready }
+        ensures state_broken { result ≡ Err error.DiskFault → self.new.state ≡ Broken }
+        ensures limits { (self.new.max_entries ≡ self.old.max_entries) × (self.new.max_bytes ≡ self.old.max_bytes) }
+        ensures no_memory { result ≢ Err error.OutOfMemory }
+    {
+        if self.state == State::Broken {
+            return Err(AppendError::DiskFault);
+        }
+        let (entries, bytes) = self.with_block(block);
+        if entries > self.max_entries || bytes > self.max_bytes {
+            return Err(AppendError::Full { entries, bytes });
+        }
+        match self.put_block(block) {
+            Ok(()) => Ok(()),
+            Err(Failed) => Err(AppendError::DiskFault),
+        }
+    }
+
+    /// Adds one group: it is staged in a block of its own, and that is appended.
+    ///
+    /// It answers as [`Journal::append`], and [`OutOfMemory`] besides, which changes nothing. The group is of one entry at
+    /// least, and its values have at most 65,535 bytes each.
+    pub fn append_group(&mut self, alloc: Global, group: &[Entry]) -> Result<(), AppendError>
         requires read { self.old.state ≢ Reading }
         requires some { 0 < length group.now }
         requires short { All HasShortValue group.now }
 
-        ensures place { OnOk result ((self.new.at ≡ self.old.at + length (entries_bytes group.now) + 9) × (self.new.entries ≡ entries_with self.old group.now)) }
-        ensures kept { OnOk result (IfSome (D.bytes self.old.disk) (λ b. IfSome (D.bytes self.new.disk) (λ c. groups_of (kept c) ≡ added self.old.at group.now (groups_of (kept b))))) }
+        ensures place { OnOk result ((self.new.at ≡ self.old.at + length (entries_bytes group.now) + 9) × (self.new.entries ≡ self.old.entries + length group.now)) }
+        ensures kept { OnOk result (IfSome (D.bytes self.old.disk) (λ b. IfSome (D.bytes self.new.disk) (λ c. groups_of (kept c) ≡ added_all self.old.at (group.now ∷ []) (groups_of (kept b))))) }
         ensures durable { OnOk result (IfSome (D.bytes self.new.disk) (λ c. Only c (D.images self.new.disk))) }
 
         ensures told { is_some (D.bytes self.new.disk) ≡ is_some (D.bytes self.old.disk) }
 
         // A crash at any moment of the call leaves the groups from before it, with the new one or without.
         ensures any_moment { self.old.state ≡ Ready → IfSome (D.bytes self.old.disk) (λ b.
-            LeavesOnly D.moment D.images_since self.old.disk self.new.disk (KeepsBeforeOrAfter (groups_of (kept b)) self.old.at group.now)) }
+            LeavesOnly D.moment D.images_since self.old.disk self.new.disk (KeepsNoneOrAll (groups_of (kept b)) self.old.at (group.now ∷ []))) }
 
-        ensures full { self.old.state ≡ Ready → IsTrue (passes_limit self.old group.now) → result ≡ Err (error.Full (entries_with self.old group.now) (bytes_with self.old group.now)) }
-        ensures only_full { (entries bytes : ℕ) → result ≡ Err (error.Full entries bytes) → IsTrue (passes_limit self.old group.now) × (entries ≡ entries_with self.old group.now) × (bytes ≡ bytes_with self.old group.now) }
+        ensures full { self.old.state ≡ Ready → IsTrue (passes_with_all self.old (group.now ∷ [])) → result ≡ Err (error.Full (entries_with_all self.old (group.now ∷ [])) (bytes_with_all self.old (group.now ∷ []))) }
+        ensures only_full { (entries bytes : ℕ) → result ≡ Err (error.Full entries bytes) → IsTrue (passes_with_all self.old (group.now ∷ [])) × (entries ≡ entries_with_all self.old (group.now ∷ [])) × (bytes ≡ bytes_with_all self.old (group.now ∷ [])) }
         ensures same { (OnOk result ⊥) → result ≢ Err error.DiskFault → self.new ≡ self.old }
         ensures fault { result ≡ Err error.DiskFault → (self.old.state ≡ Broken) ⊎ Rose (D.faults self.old.disk) (D.faults self.new.disk) }
+        ensures later { D.faults self.old.disk ≤ D.faults self.new.disk }
         ensures broken { self.old.state ≡ Broken → (result ≡ Err error.DiskFault) × (self.new ≡ self.old) }
         ensures state { result ≢ Err error.DiskFault → self.new.state ≡ Ready }
         ensures state_broken { result ≡ Err error.DiskFault → self.new.state ≡ Broken }
@@ -136,23 +277,13 @@ impl<D: Disk> Journal<D> {
         if self.state == State::Broken {
             return Err(AppendError::DiskFault);
         }
-        let entries = self.entries + group.len() as u64;
-        let group_size = size(group);
-        let bytes = group_size.saturating_add(self.at + 10);
+        let (entries, bytes) = self.with_one(group);
         if entries > self.max_entries || bytes > self.max_bytes {
             return Err(AppendError::Full { entries, bytes });
         }
-        let block = block_of(alloc, group, group_size as u32, group.len() as u32)?;
-        match keep(&mut self.disk, self.at, block.as_slice()) {
-            Ok(()) => {
-                self.at += group_size + 9;
-                self.entries = entries;
-                Ok(())
-            }
-            Err(Failed) => {
-                self.state = State::Broken;
-                Err(AppendError::DiskFault)
-            }
+        match Block::of(alloc, group) {
+            Ok(block) => self.append(&block),
+            Err(OutOfMemory) => Err(AppendError::OutOfMemory),
         }
     }
 

@@ -2,7 +2,7 @@
 //!
 //! The one public contract: what [`Journal::recover`] and [`Journal::read_next`] up to its None give is exactly what the
 //! definition `kept` says of the file's bytes, and a crash at any moment of [`Journal::append`] leaves a file that keeps
-//! the groups from before the call, or these with the whole group; once it has answered Ok, each crash leaves the group.
+//! the groups from before the call, or these with all groups of the block; once it has answered Ok, each crash leaves them.
 //!
 //! The file is `ZTSJRN01` and groups, each behind a gate of one byte. Only what stands behind gates equal to 1 counts, up to
 //! the first gate with another byte. All numbers have four bytes, the lowest first:
@@ -14,15 +14,22 @@
 //! Tick      3, seconds, nanoseconds
 //! ```
 //!
+//! Groups are added in blocks, each by one write of all of it but its first gate, a sync, one write of that gate as 1, and a
+//! sync. In a block the gates between the groups are 1, and the one behind the last is 0.
+//!
 //! A journal is Reading until `read_next` has answered None, then Ready, and Broken once its disk has failed. A short use:
 //!
 //! ```text
 //! let mut journal = Journal::recover(disk, 1_000_000, LONGEST_JOURNAL)?;
 //! while let Some(group) = journal.read_next(alloc)? { .. }
-//! journal.append(alloc, entries)?;                       // durable once it has answered Ok
+//! let mut block = Block::new(alloc)?;
+//! journal.stage(&mut block, entries)?;                   // takes the memory, or answers Full
+//! journal.append(&block)?;                               // durable once it has answered Ok
+//! block.clear();
 //! ```
 #![tactic(auto)]
 
+mod block;
 mod decoding;
 mod disk_calls;
 mod encoding;
@@ -33,10 +40,12 @@ mod reading;
 mod state;
 mod whole;
 
+pub use block::Block;
 pub use decoding::{LONGEST_VALUE, decode};
 pub use encoding::{encode, size};
 pub use format::Group;
 pub use journal::Journal;
+pub use opening::FIRST_GATE;
 pub use reading::LONGEST_JOURNAL;
 pub use state::{AppendError, JournalError, State};
 

@@ -16,6 +16,9 @@ use outside::{Disk, Failed};
 /// The bytes with which each journal begins.
 const MAGIC: [u8; 8] = *b"ZTSJRN01";
 
+/// The place where groups begin: that of the first gate.
+pub const FIRST_GATE: u64 = 8;
+
 /// A journal of no group: the magic and a closed gate.
 const FRESH: [u8; 9] = *b"ZTSJRN01\0";
 

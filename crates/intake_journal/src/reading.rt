@@ -4,6 +4,7 @@ ghost use Rattle.std.specs.Prelude.{◌≡◌, ◌⊎◌, Ok, Err, None, ◌≤�
 ghost use Rattle.outside.specs.Causes.{Rose};
 ghost use Rattle.outside.specs.Causes.{HasCause};
 ghost use Rattle.outside.specs.declared.event.Trouble.TheVariants as trouble;
+ghost use Rattle.intake_journal.specs.Bytes.{entries_bytes};
 ghost use Rattle.intake_journal.specs.Format.{entries_of};
 ghost use Rattle.intake_journal.specs.Kept.{fits as has_room};
 ghost use Rattle.intake_journal.specs.Found.{IsHead, IsFound, IsSmall};
@@ -83,7 +84,8 @@ fn zeros(alloc: Global, size: u32) -> Result<Vec<u8>, OutOfMemory>
     Ok(vec![in alloc; 0u8; size as usize]?)
 }
 
-/// The entries from a place on, so many as `count` says in so many bytes as `size` says, or None where these aren't so many.
+/// The entries from a place on, so many as `count` says in so many bytes as `size` says, or None where these aren't so many
+/// or the disk has fewer bytes.
 fn read_entries<D: Disk>(
     alloc: Global,
     disk: &mut D,
@@ -92,15 +94,19 @@ fn read_entries<D: Disk>(
     count: u32,
 ) -> Result<Option<Many<Entry>>, Trouble>
     requires { at < 2 ^ 32 }
-    ensures told { IfOk result (λ read. IfSome (D.bytes disk.old) (λ b. read ≡ entries_of count (take size (drop at b)))) }
+    ensures told { IfOk result (λ read. IfSome (D.bytes disk.old) (λ b. at + size ≤ length b → read ≡ entries_of count (take size (drop at b)))) }
     ensures few { IfOk result (λ read. IfSome read (λ entries. length entries ≡ count)) }
+    ensures sized { IfOk result (λ read. IfSome read (λ entries. length (entries_bytes entries) ≡ size)) }
     ensures before { IsAsBefore D.bytes D.images D.moment D.images_since disk.old disk.new }
     ensures later { D.faults disk.old ≤ D.faults disk.new }
     ensures failed { IsErrOf result trouble.Failed → Rose (D.faults disk.old) (D.faults disk.new) }
 {
     let mut bytes = zeros(alloc, size)?;
     let count_read = read_whole(disk, at, &mut bytes)?;
-    let read = decode(alloc, &bytes[..count_read], count)?;
+    if count_read < bytes.len() {
+        return Ok(None);
+    }
+    let read = decode(alloc, &bytes, count)?;
     Ok(read)
 }
 
@@ -159,10 +165,12 @@ impl<D: Disk> Journal<D> {
     ///
     /// `Damaged` comes where an open gate is followed by no group; it comes again at the next call. `DiskFault` comes where
     /// the disk failed; the journal is broken then, and answers it at each later call. At [`OutOfMemory`] the journal is as
-    /// before, and the same group is next. It takes memory for the group alone.
+    /// before, and the same group is next. The journal's end moves by the bytes of the group's entries and nine, as with
+    /// [`Journal::append`]. It takes memory for the group alone.
     pub fn read_next(&mut self, alloc: Global) -> Result<Option<Group>, JournalError>
         ensures next { ReadsNext (D.bytes self.old.disk) self.old self.new result }
         ensures some { IfOk result (λ read. IfSome read (λ group. 0 < length group.entries)) }
+        ensures place { IfOk result (λ read. IfSome read (λ group. self.new.at ≡ self.old.at + length (entries_bytes group.entries) + 9)) }
         ensures before { IsAsBefore D.bytes D.images D.moment D.images_since self.old.disk self.new.disk }
         ensures ready { self.old.state ≡ Ready → (result ≡ Ok None) × (self.new ≡ self.old) }
         ensures broken { self.old.state ≡ Broken → (result ≡ Err error.DiskFault) × (self.new ≡ self.old) }

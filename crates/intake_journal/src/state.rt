@@ -45,15 +45,15 @@ impl From<OutOfMemory> for JournalError {
     }
 }
 
-/// Why a group wasn't added.
+/// Why groups weren't added.
 #[derive(Clone, Copy, Debug, PartialEq, Eq, Error)]
 pub enum AppendError {
-    /// With the group the journal would pass a limit.
+    /// With the groups the journal would pass a limit.
     #[error("the journal is full")]
     Full {
         /// How many entries it would have.
         entries: u64,
-        /// How many bytes it would have, up to and with the gate behind the group, or 2^64 - 1 where it is more.
+        /// How many bytes it would have, up to and with the gate behind the last of them, or 2^64 - 1 where it is more.
         bytes: u64,
     },
     /// The disk failed, in this call or in an earlier one of this journal.
