@@ -1,16 +1,13 @@
 -- Old problems that no rule matches may be left out.
-use Rattle.std.proofs.Common.{◌≡◌, ◌∙◌, Bool, true, false, ◌&&◌, ◌||◌, cond, List, [], ◌∷◌, ◌++◌, map, refl, sym, ap}
+use Rattle.std.proofs.Common.{◌≡◌, Bool, true, false, ◌||◌, cond, List, [], ◌∷◌, ◌++◌, refl, sym, ap}
 use Rattle.std.specs.Prelude.{filter, All}
 use Rattle.std.specs.List.{list_any}
 use Rattle.std.proofs.lemmas.Bool.{and_right}
 use Rattle.std.proofs.lemmas.List.Elements.{All-head, All-tail, All-weaker}
-use Rattle.zbx_types.specs.Records.{event_of}
-use Rattle.zbx_types.specs.declared.conf.Conf.{Conf}
 use Rattle.zbx_types.specs.declared.entries.Rec.{Rec}
 use Rattle.zbx_types.specs.declared.rules.Rule.{Rule}
-use Rattle.zbx_types.specs.declared.triggers.Trigger.{Trigger}
 use Rattle.event_correlation.specs.Conditions.{matches}
-use Rattle.event_correlation.specs.Closings.{closes_first, closed_from, closes_new, closes_of, closes_old}
+use Rattle.event_correlation.specs.Closings.{closes_first, closed_from, closes_new}
 use Rattle.event_correlation.specs.Laws.{HasTagsOf, share_reach, WithinReach}
 use Rattle.event_correlation.proofs.ReachLemmas.{none_matches}
 

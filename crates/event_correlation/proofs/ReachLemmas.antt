@@ -18,7 +18,7 @@ use Rattle.zbx_types.specs.declared.tag_tests.Matching.TheVariants.{And, Or}
 use Rattle.zbx_types.specs.declared.tag_tests.TagOp.{TagOp}
 use Rattle.zbx_types.specs.declared.tag_tests.TagOp.TheVariants.{Equals, Contains, NotEquals, NotContains}
 use Rattle.zbx_types.specs.declared.triggers.Trigger.{Trigger}
-use Rattle.event_correlation.specs.Conditions.{holds, groups_of, matches, share_value}
+use Rattle.event_correlation.specs.Conditions.{holds, groups_of, matches}
 use Rattle.event_correlation.specs.Laws.{HasTagsOf, share_reach}
 
 abbrev pub names : List Tag → List (List ℕ)

@@ -2,7 +2,7 @@
 use Rattle.std.specs.Prelude.{ℕ, Bool, List, [], bytes_eq, Option, Some, None, find}
 use Rattle.std.specs.List.{list_any}
 use Rattle.zbx_types.specs.Records.{tags_of, host_of}
-use Rattle.zbx_types.specs.Tags.{has_value, passes, joined}
+use Rattle.zbx_types.specs.Tags.{share_value, passes, joined}
 use Rattle.zbx_types.specs.declared.conf.Conf.{Conf}
 use Rattle.zbx_types.specs.declared.conf.Host.{Host}
 use Rattle.zbx_types.specs.declared.entries.Rec.{Rec}
@@ -14,10 +14,6 @@ use Rattle.zbx_types.specs.declared.rules.RuleCond.TheVariants.{OldTag, NewTag, 
 -- some tag has this name
 abbrev pub has_tag : List Tag → List ℕ → Bool
 has_tag tags name = list_any (λ tag. bytes_eq tag.tag name) tags
-
--- some value of the old problem's tag equals some value of the new one's tag
-abbrev pub share_value : List Tag → List ℕ → List Tag → List ℕ → Bool
-share_value old old_tag new new_tag = has_value (λ v. has_value (λ w. bytes_eq w v) new_tag new) old_tag old
 
 -- the groups of a host, where there is one
 abbrev pub groups_in : Option Host → List (List ℕ)

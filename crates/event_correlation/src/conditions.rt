@@ -2,10 +2,9 @@
 
 ghost use Rattle.std.specs.Prelude.{◌≡◌, option_copied, find, bytes_eq};
 ghost use Rattle.zbx_types.specs.Records.{host_of};
-ghost use Rattle.zbx_types.specs.Tags.{has_value};
-ghost use Rattle.event_correlation.specs.Conditions.{has_tag, share_value, groups_of, holds};
+ghost use Rattle.event_correlation.specs.Conditions.{has_tag, groups_of, holds};
 
-use zbx_types::{Conf, Host, Rec, RuleCond, Tag, Text};
+use zbx_types::{Conf, Host, Rec, RuleCond, Tag, Text, share_value};
 
 /// The name of a problem's host; nothing for any other record.
 fn host_name(problem: &Rec) -> &[u8]
@@ -45,30 +44,6 @@ fn has_tag(tags: &[Tag], name: &Text) -> bool
 {
     for tag in tags {
         if tag.tag == *name {
-            return true;
-        }
-    }
-    false
-}
-
-/// Whether some tag of a name has the value.
-fn has_this_value(tags: &[Tag], name: &Text, value: &Text) -> bool
-    ensures { result ≡ has_value (λ v. bytes_eq v value.now) name.now tags.now }
-{
-    for tag in tags {
-        if tag.tag == *name && tag.value == *value {
-            return true;
-        }
-    }
-    false
-}
-
-/// Whether some value of the old problem's tag equals some value of the new one's tag.
-fn share_value(old: &[Tag], old_tag: &Text, new: &[Tag], new_tag: &Text) -> bool
-    ensures { result ≡ share_value old.now old_tag.now new.now new_tag.now }
-{
-    for tag in old {
-        if tag.tag == *old_tag && has_this_value(new, new_tag, &tag.value) {
             return true;
         }
     }

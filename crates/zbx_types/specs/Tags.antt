@@ -20,6 +20,10 @@ holds_of Contains tags name text = has_value (λ v. contains v text) name tags
 holds_of NotEquals tags name text = not (has_value (λ v. bytes_eq v text) name tags)
 holds_of NotContains tags name text = not (has_value (λ v. contains v text) name tags)
 
+-- some value of one list's tag equals some value of the other list's tag
+abbrev pub share_value : List Tag → List ℕ → List Tag → List ℕ → Bool
+share_value one one_tag other other_tag = has_value (λ v. has_value (λ w. bytes_eq w v) other_tag other) one_tag one
+
 -- a test holds of tags
 abbrev pub passes : List Tag → TagTest → Bool
 passes tags test = holds_of test.op tags test.tag test.value

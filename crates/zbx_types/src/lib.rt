@@ -33,6 +33,7 @@ mod bytes;
 mod calls;
 mod causes;
 mod conf;
+mod dependencies;
 mod digits;
 mod entries;
 mod expr;
@@ -66,6 +67,7 @@ pub use bytes::Bytes;
 pub use calls::{Call, Fun, Range};
 pub use causes::Cause;
 pub use conf::{Conf, Host};
+pub use dependencies::{depth_of, depths_fall, masters, masters_by_chains};
 pub use digits::{all_digits, digit_at, last_six_digits, number_up_to, number_within};
 pub use entries::{
     Cause2, Entry, EventId, Held, Numbered, Rec, Stored, Tag, copy_records, copy_tags,
@@ -90,7 +92,7 @@ pub use periods::seconds_up_to;
 pub use reserved::Reserved;
 pub use rules::{Rule, RuleCond};
 pub use steps::{OnFail, StepKind, StepSpec};
-pub use tag_tests::{Matching, TagOp, TagTest, tests_pass};
+pub use tag_tests::{Matching, TagOp, TagTest, share_value, tests_pass};
 pub use text::Text;
 pub use triggers::{RecoveryMode, Trigger};
 

@@ -2,7 +2,7 @@
 
 ghost use Rattle.std.specs.Prelude.{◌≡◌, bytes_eq};
 ghost use Rattle.zbx_types.specs.Texts.{contains};
-ghost use Rattle.zbx_types.specs.Tags.{has_value, passes, joined};
+ghost use Rattle.zbx_types.specs.Tags.{has_value, share_value, passes, joined};
 
 use crate::entries::Tag;
 use crate::text::Text;
@@ -53,6 +53,18 @@ fn has_equal(tags: &[Tag], name: &Text, value: &Text) -> bool
 {
     for tag in tags {
         if is_same(&tag.tag, name) && is_same(&tag.value, value) {
+            return true;
+        }
+    }
+    false
+}
+
+/// Whether some value of a tag equals some value of a tag of another list. Tags of a name may stand more than once.
+pub fn share_value(one: &[Tag], one_tag: &Text, other: &[Tag], other_tag: &Text) -> bool
+    ensures { result ≡ share_value one.now one_tag.now other.now other_tag.now }
+{
+    for tag in one {
+        if is_same(&tag.tag, one_tag) && has_equal(other, other_tag, &tag.value) {
             return true;
         }
     }

@@ -1,0 +1,4 @@
+pub mod Problems
+pub mod Cells
+pub mod Verdicts
+pub mod Laws

@@ -1,0 +1,48 @@
+//! The state of triggers: which problems are open, which triggers are held, and what a trigger does where it is evaluated.
+//!
+//! The one contract: [`verdict`] is exactly the verdict on a trigger (`specs/Verdicts.antt`) over the open problems that the
+//! cells hold, and after [`TriggerCells::absorb`] the cells hold exactly what the search over the records with one more
+//! finds (`specs/Problems.antt`, [`laws`]).
+//!
+//! A trigger is in PROBLEM while a problem of it is open: a Problem record whose event no later Recovery names. An open
+//! problem keeps its Problem record, the last Step record of each action, and the depth that its trigger had. A trigger is
+//! held while one of its masters, through any number of dependencies, is in PROBLEM. With p for the value of its problem
+//! expression and r for that of its recovery expression, the verdict is:
+//!
+//! ```text
+//! held, or p unknown                    nothing
+//! p true                                new where none is open, or at a value where the trigger has `multiple`
+//! p 0, mode expression                  close
+//! p 0, mode recovery_expression         close where r is true
+//! p 0, mode none                        nothing
+//! ```
+//!
+//! With a `close_tag` only those close that share a value of that tag with the trigger's tags as they are now. A short use:
+//!
+//! ```text
+//! let mut cells = TriggerCells::new(alloc, &conf)?;
+//! match verdict(alloc, &conf, &cells, trigger, p, r, tags, is_value)? {
+//!     Verdict::New => cells.absorb(alloc, &problem)?,
+//!     Verdict::Close(events) => { .. }        // a Recovery record for each, absorbed in turn
+//!     Verdict::Nothing => {}
+//! }
+//! ```
+#![tactic(auto)]
+
+mod absorbing;
+mod answer;
+mod cells;
+mod judging;
+pub mod laws;
+mod looking;
+mod problems;
+mod steps;
+
+pub use answer::Verdict;
+pub use cells::TriggerCells;
+pub use judging::{held_by, verdict, verdict_over};
+pub use looking::Opens;
+pub use problems::Open;
+
+#[cfg(test)]
+mod tests;
