@@ -1,5 +1,5 @@
 -- The peers of a table's entries.
-use Rattle.std.specs.Prelude.{◌≡◌, ℕ, List, [], ◌∷◌, ◌++◌, length, map, ◌==◌, false, Option, Some, None, refl, Result, Ok, Err, IfOk, OnOk, OnErr, slice_get, slice_index_or, slice_set, position, remove, take, drop, nat_eq}
+use Rattle.std.specs.Prelude.{◌≡◌, ℕ, List, [], ◌∷◌, ◌++◌, ◌==◌, false, Some, None, refl, Result, Ok, Err, IfOk, OnOk, OnErr, slice_get, slice_index_or, slice_set, position, remove, nat_eq}
 use Rattle.std.specs.List.{position_or_len}
 use Rattle.std.proofs.Common.{sym, ap, subst, ◌∙◌, inl, inr, zero, suc}
 use Rattle.std.proofs.lemmas.List.{length-map, map-append}
@@ -12,7 +12,7 @@ use Rattle.zbxd_frame.specs.Answers.{Answers, fed_with, left_of}
 use Rattle.zbxd_frame.specs.declared.feed.Fed.{Fed}
 use Rattle.wire_core.specs.declared.peer.Peer.{Peer}
 use Rattle.wire_core.specs.declared.peer.Opened.{Opened}
-use Rattle.wire_core.specs.Peers.{Peers, is_of, is_there}
+use Rattle.wire_core.specs.Peers.{is_of, is_there}
 use Rattle.wire_core.specs.Kept.{begun, given, peers_in}
 use Rattle.wire_core.proofs.PeerLaws.{both_false, one_of, place_none}
 

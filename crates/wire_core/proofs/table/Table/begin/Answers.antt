@@ -1,4 +1,4 @@
-use Rattle.std.proofs.Common.{◌≡◌, ℕ, List, Some, None, refl, sym, position, length, false, ◌<◌, ◌≤◌, arith}
+use Rattle.std.proofs.Common.{◌≡◌, ℕ, List, None, refl, sym, position, length, false, ◌<◌, ◌≤◌, arith}
 use Rattle.std.proofs.lemmas.List.{length-map}
 use Rattle.wire_core.specs.Kept.{peers_in}
 use Rattle.wire_core.specs.declared.peer.Peer.{Peer}

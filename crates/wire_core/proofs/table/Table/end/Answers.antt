@@ -1,5 +1,4 @@
 use Rattle.std.proofs.Common.{sym, ◌∙◌}
-use Rattle.wire_core.specs.Kept.{peers_in}
 use Rattle.wire_core.specs.Peers.{fresh}
 use Rattle.wire_core.proofs.PeerLaws.{AreKept-without, gone_there, gone_nowhere}
 use Rattle.wire_core.proofs.table.Table.end.Goals as goal
