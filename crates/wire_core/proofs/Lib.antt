@@ -1,2 +1,3 @@
 pub mod PeerLaws
 pub mod Others
+pub mod Entries

@@ -1,5 +1,5 @@
 -- Laws of the connections that are there.
-use Rattle.std.specs.Prelude.{◌≡◌, ℕ, ◌+◌, ◌<◌, ◌≤◌, List, [], ◌∷◌, ◌++◌, length, if◌then◌else◌, Bool, true, false, not, ◌||◌, Option, Some, None, refl, slice_index_or, slice_set, position, nat_lt}
+use Rattle.std.specs.Prelude.{◌≡◌, ℕ, ◌+◌, ◌<◌, ◌≤◌, List, [], ◌∷◌, ◌++◌, length, if◌then◌else◌, Bool, true, false, not, ◌||◌, Option, Some, None, refl, slice_index_or, slice_set, position, remove, nat_lt}
 use Rattle.std.specs.List.{find, list_any, slice_get, position_from, position_or_len}
 use Rattle.std.proofs.Common.{arith, sym, ap, ◌∙◌, subst, inl, inr, zero, suc, length-append}
 use Rattle.std.proofs.lemmas.List.{length-map}
@@ -19,11 +19,11 @@ use Rattle.wire_core.specs.declared.turn.Turn.TheVariants.{Nothing, Shut, Whole}
 use Rattle.wire_core.specs.Peers.{Peers, is_of, is_there, peer_of, replaced, without, most_peers, fresh, may_open, opened, with_piece, turn_at, peers_at, piece_turn, after_piece}
 use Rattle.wire_core.specs.Kept.{AreApart, AreKept, given}
 
-both_false : (a b : Bool) → (a || b) ≡ false → (a ≡ false) × (b ≡ false)
+pub both_false : (a b : Bool) → (a || b) ≡ false → (a ≡ false) × (b ≡ false)
 both_false true b h = absurd (cc)
 both_false false b h = (refl, h)
 
-one_of : (b : Bool) → (b ≡ true → ⊥) → b ≡ false
+pub one_of : (b : Bool) → (b ≡ true → ⊥) → b ≡ false
 one_of true no_true = absurd (no_true refl)
 one_of false no_true = refl
 
@@ -95,12 +95,32 @@ AreApart-push (p ∷ ps) q apart none =
     let other : is_of p.conn q ≡ false = one_of (is_of p.conn q) (λ e. let met = eq-eqb p.conn q.conn (sym (eqb-true q.conn p.conn e)) in cc) in
     (rw (list_any-append (is_of p.conn) ps (q ∷ []), apart.0, other), AreApart-push ps q apart.1 h.1)
 
--- forgetting a connection takes what was done to its peer along
-pub without-replaced : (ps : Peers) (q : Peer) → without (replaced ps q) q.conn ≡ without ps q.conn
-without-replaced [] q = refl
-without-replaced (p ∷ ps) q =
-    let rest = without-replaced ps q in
-    elim (eqb_tells p.conn q.conn) [ inl h ↦ rw (h.0, eq-eqb q.conn q.conn refl, rest) | inr h ↦ rw (h.0, h.0, rest) ]
+-- where no peer is of the connection, none is forgotten
+without_none : (ps : Peers) (conn : ℕ) → is_there ps conn ≡ false → without ps conn ≡ ps
+without_none [] conn none = refl
+without_none (p ∷ ps) conn none =
+    let h = both_false (is_of conn p) (is_there ps conn) none in
+    rw (h.0, without_none ps conn h.1)
+
+-- among peers that are apart, the one at the place of a connection is all that goes with it
+removed : (ps : Peers) (i conn : ℕ) (d : Peer) → AreApart ps → i < length ps → (slice_index_or ps i d).conn ≡ conn → remove ps i ≡ without ps conn
+removed [] i conn d apart within same = absurd (omega arith)
+removed (p ∷ ps) zero conn d apart within same =
+    let is : is_of conn p ≡ true = eq-eqb p.conn conn same in
+    let none : is_there ps conn ≡ false = subst (λ c. is_there ps c ≡ false) same apart.0 in
+    rw (is, without_none ps conn none)
+removed (p ∷ ps) (suc i) conn d apart within same =
+    let below : i < length ps = omega arith in
+    let away : is_of p.conn (slice_index_or ps i d) ≡ false = none_at ps p.conn i d apart.0 below in
+    let other : is_of conn p ≡ false = one_of (is_of conn p) (λ e.
+    let met : is_of p.conn (slice_index_or ps i d) ≡ true = eq-eqb (slice_index_or ps i d).conn p.conn (same ∙ sym (eqb-true p.conn conn e)) in cc) in
+    rw (other, removed ps i conn d apart.1 below same)
+
+-- what was put in a place goes with it
+set_removed : (ps : Peers) (i : ℕ) (q : Peer) → remove (slice_set ps i q) i ≡ remove ps i
+set_removed [] i q = refl
+set_removed (p ∷ ps) zero q = refl
+set_removed (p ∷ ps) (suc i) q = rw (set_removed ps i q)
 
 -- where no place is found, no element passes
 from_none : {X : Type 0} (t : X → Bool) (i : ℕ) (xs : List X) → position_from t i xs ≡ None → list_any t xs ≡ false
@@ -142,6 +162,14 @@ pub place_none : (ps : Peers) (conn : ℕ) → position (is_of conn) ps ≡ None
 place_none ps conn at =
     let none = from_none (is_of conn) 0 ps (sym (position_from-zero (is_of conn) ps) ∙ at) in
     (find_none (is_of conn) ps none, none)
+
+-- a connection that is forgotten at its place
+pub gone_there : (ps : Peers) (i conn : ℕ) (d : Peer) → AreApart ps → position (is_of conn) ps ≡ Some i → remove ps i ≡ without ps conn
+gone_there ps i conn d apart at = let h = place_found ps conn i d at in removed ps i conn d apart h.0 h.1
+
+-- and one that is not there
+pub gone_nowhere : (ps : Peers) (conn : ℕ) → position (is_of conn) ps ≡ None → ps ≡ without ps conn
+gone_nowhere ps conn at = sym (without_none ps conn (place_none ps conn at).1)
 
 length-without : (ps : Peers) (conn : ℕ) → length (without ps conn) ≤ length ps
 length-without ps conn = omega (arith, length-filter_both (λ p. not (is_of conn p)) (is_of conn) (λ p. sym (not_not (is_of conn p))) ps)
@@ -185,10 +213,10 @@ AreKept-set ps i q d kept within same waits =
 
 -- a connection that is there begins anew at its place
 pub reopened : (ps : Peers) (i conn now : ℕ) (bytes : List ℕ) (d : Peer) → AreApart ps → position (is_of conn) ps ≡ Some i → bytes ≡ []
-    → slice_set ps i (record { conn = conn; since = now; bytes = bytes }) ≡ (if may_open ps conn then opened ps conn now else ps)
+    → slice_set ps i (record { conn = (slice_index_or ps i d).conn; since = now; bytes = bytes }) ≡ (if may_open ps conn then opened ps conn now else ps)
 reopened ps i conn now bytes d apart at empty =
     let h = place_found ps conn i d at in
-    rw (empty, h.3) (sym (replaced-set ps i (fresh conn now) d apart h.0 h.1))
+    rw (empty, h.1, h.3) (sym (replaced-set ps i (fresh conn now) d apart h.0 h.1))
 
 -- another one joins behind the others where there is room
 pub joined : (ps : Peers) (conn now : ℕ) (bytes : List ℕ) → is_there ps conn ≡ false → length ps < most_peers → bytes ≡ []
@@ -213,14 +241,11 @@ pub record Comes (before after : Peers) (conn : ℕ) (piece : List ℕ) (turn : 
 given-short : (p : Peer) (piece : List ℕ) → found (p.bytes ++ piece) ≡ short → given p piece ≡ with_piece p piece
 given-short p piece seen = rw seen
 
--- a peer that is forgotten may have had a piece before
+-- the connection that is forgotten may have had a piece before
 forgotten : (ps : Peers) (i conn : ℕ) (piece : List ℕ) (d : Peer) → AreKept ps → position (is_of conn) ps ≡ Some i
-    → without (slice_set ps i (given (slice_index_or ps i d) piece)) conn ≡ without ps conn
+    → remove (slice_set ps i (given (slice_index_or ps i d) piece)) i ≡ without ps conn
 forgotten ps i conn piece d kept at =
-    let h = place_found ps conn i d at in
-    let q : Peer = given (slice_index_or ps i d) piece in
-    let set : replaced ps q ≡ slice_set ps i q = replaced-set ps i q d kept.apart h.0 refl in
-    rw (sym set) (subst (λ k. without (replaced ps q) k ≡ without ps k) h.1 (without-replaced ps q))
+    set_removed ps i (given (slice_index_or ps i d) piece) ∙ gone_there ps i conn d kept.apart at
 
 pub comes_short : (ps : Peers) (i conn : ℕ) (piece : List ℕ) (d : Peer) → AreKept ps → position (is_of conn) ps ≡ Some i
     → found ((slice_index_or ps i d).bytes ++ piece) ≡ short
@@ -237,7 +262,7 @@ comes_short ps i conn piece d kept at seen =
 
 pub comes_whole : (ps : Peers) (i conn : ℕ) (piece : List ℕ) (d : Peer) (body behind : List ℕ) → AreKept ps → position (is_of conn) ps ≡ Some i
     → found ((slice_index_or ps i d).bytes ++ piece) ≡ whole body behind
-    → Comes ps (without (slice_set ps i (given (slice_index_or ps i d) piece)) conn) conn piece (Whole conn body (slice_index_or ps i d).since)
+    → Comes ps (remove (slice_set ps i (given (slice_index_or ps i d) piece)) i) conn piece (Whole conn body (slice_index_or ps i d).since)
 unfolding piece_turn after_piece turn_at peers_at
 comes_whole ps i conn piece d body behind kept at seen =
     let h = place_found ps conn i d at in
@@ -249,7 +274,7 @@ comes_whole ps i conn piece d body behind kept at seen =
 
 pub comes_bad : (ps : Peers) (i conn : ℕ) (piece : List ℕ) (d : Peer) (fault : Fault) → AreKept ps → position (is_of conn) ps ≡ Some i
     → found ((slice_index_or ps i d).bytes ++ piece) ≡ bad fault
-    → Comes ps (without (slice_set ps i (given (slice_index_or ps i d) piece)) conn) conn piece (Shut conn)
+    → Comes ps (remove (slice_set ps i (given (slice_index_or ps i d) piece)) i) conn piece (Shut conn)
 unfolding piece_turn after_piece turn_at peers_at
 comes_bad ps i conn piece d fault kept at seen =
     let h = place_found ps conn i d at in

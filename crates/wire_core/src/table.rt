@@ -1,15 +1,16 @@
 //! The table of the connections that are there.
 
-ghost use Rattle.std.specs.Prelude.{◌≡◌, ◌≤◌, ◌<◌, ◌++◌, length, IfOk, OnOk, OnErr, Some, position, slice_set, slice_index_or, if◌then◌else◌, ℕ};
+ghost use Rattle.std.specs.Prelude.{◌≡◌, ◌≤◌, ◌<◌, ◌++◌, ◌∷◌, [], length, IfOk, OnOk, OnErr, Some, None, position, remove, slice_set, slice_index_or, if◌then◌else◌, ℕ};
 ghost use Rattle.wire_core.specs.Peers.{no_peers, turn_of, after_event, LeavesOthers, without, is_of, may_open, opened, peer_of, piece_turn, after_piece, most_peers};
-ghost use Rattle.wire_core.specs.Kept.{given};
+ghost use Rattle.wire_core.specs.Kept.{given, begun, peers_in};
 ghost use Rattle.wire_core.specs.declared.turn.Turn.TheVariants as turns;
 ghost use Rattle.wire_core.specs.declared.peer.Peer.{Peer};
 ghost use Rattle.zbxd_frame.specs.Found.{found, short};
 ghost use Rattle.zbxd_frame.specs.Answers.{Answers};
 
-use crate::peer::Peer;
+use crate::peer::Opened;
 use crate::turn::Turn;
+use indexmap::IndexMap;
 use outside::WireEvent;
 use std::alloc::Global;
 use std::marker::Model;
@@ -20,23 +21,24 @@ use zbxd_frame::{Fed, Feed};
 const MOST_PEERS: usize = 128;
 
 /// The connections of a wire that are there, each with the moment at which it opened and its bytes
-/// since then. Contracts see them as a list of peers, `Peers`. There are at most 128, no two of one
+/// since then. A connection is found by its number, with no walk over the others. Contracts see them as
+/// a list of peers in the order in which they opened, `Peers`. There are at most 128, no two of one
 /// number, and each has brought less than a frame.
 #[derive(Debug, Drop)]
 pub struct Table {
-    peers: Vec<Peer>,
+    peers: IndexMap<u64, Opened>,
 }
 
 impl Model for Table {
     ghost use Rattle.std.specs.Prelude.{List};
     ghost use Rattle.wire_core.specs.Peers.{Peers};
-    ghost use Rattle.wire_core.specs.Kept.{AreKept};
+    ghost use Rattle.wire_core.specs.Kept.{AreKept, peers_in};
 
     ghost Value = { Peers };
 
-    ghost view = { λ t. t.peers.items };
+    ghost view = { λ t. peers_in t.peers.entries };
 
-    ghost invariant = { λ t. AreKept t.peers.items };
+    ghost invariant = { λ t. AreKept (peers_in t.peers.entries) };
 }
 
 impl Table {
@@ -45,15 +47,17 @@ impl Table {
         ensures { result ≡ no_peers }
     {
         Table {
-            peers: Vec::new(alloc),
+            peers: IndexMap::new(alloc),
         }
     }
 
     /// Takes an event of the wire, and says what it comes to. `now` is the moment of the run at the
     /// event, at which a connection that opens begins; the event's own moment isn't looked at. A
-    /// piece takes time for its own bytes and a look-up, and one that ends a frame for moving the body
-    /// to the front of its bytes, which are handed over. At `Err`, where memory was refused, nothing has changed, and the same event may be
-    /// taken again. The rules are this project's own.
+    /// piece takes time for its own bytes and a look-up by hash. One that ends a frame takes time for
+    /// moving the body to the front of its bytes, which are handed over, and a connection that goes
+    /// takes time for closing its gap among those that opened later. At `Err`, where memory was
+    /// refused, nothing has changed, and the same event may be taken again. The rules are this
+    /// project's own.
     pub fn on(&mut self, alloc: Global, event: &WireEvent, now: Moment) -> Result<Turn, OutOfMemory>
         ensures turn { IfOk result (λ t. t ≡ turn_of self.old now event.now) }
         ensures after { OnOk result (self.new ≡ after_event self.old now event.now) }
@@ -91,19 +95,18 @@ impl Table {
         ensures after { OnOk result (self.new ≡ (if may_open self.old conn then opened self.old conn now else self.old)) }
         ensures err { OnErr result (self.new ≡ self.old) }
     {
-        let peer = Peer {
-            conn,
+        let opened = Opened {
             since: now,
             bytes: Feed::new(alloc),
         };
         match place_of(&self.peers, conn) {
             Some(place) => {
-                self.peers[place] = peer;
+                begin_anew(&mut self.peers, place, opened);
                 Ok(Turn::Nothing)
             }
             None => {
                 if self.peers.len() < MOST_PEERS {
-                    self.peers.push(peer)?;
+                    join(&mut self.peers, conn, opened)?;
                     Ok(Turn::Nothing)
                 } else {
                     Ok(Turn::Shut { conn })
@@ -121,15 +124,15 @@ impl Table {
         match place_of(&self.peers, conn) {
             None => Ok(Turn::Nothing),
             Some(place) => {
-                let since = self.peers[place].since;
+                let since = since_at(&self.peers, place);
                 match feed_at(&mut self.peers, place, alloc, piece)? {
                     Fed::More => Ok(Turn::Nothing),
                     Fed::Frame { body, .. } => {
-                        forget(&mut self.peers, conn);
+                        forget(&mut self.peers, place);
                         Ok(Turn::Whole { conn, body, since })
                     }
                     Fed::Refused(_) => {
-                        forget(&mut self.peers, conn);
+                        forget(&mut self.peers, place);
                         Ok(Turn::Shut { conn })
                     }
                 }
@@ -141,37 +144,65 @@ impl Table {
     fn end(&mut self, conn: u64)
         ensures { self.new ≡ without self.old conn }
     {
-        forget(&mut self.peers, conn);
+        if let Some(place) = place_of(&self.peers, conn) {
+            forget(&mut self.peers, place);
+        }
     }
 }
 
-/// Where the peer of a connection stands.
-fn place_of(peers: &[Peer], conn: u64) -> Option<usize>
-    ensures { result ≡ position (is_of conn) peers.now }
+/// Where the peer of a connection stands. It is looked up by its hash.
+fn place_of(peers: &IndexMap<u64, Opened>, conn: u64) -> Option<usize>
+    ensures { result ≡ position (is_of conn) (peers_in peers.now.entries) }
 {
-    peers.iter().position(|peer| peer.conn == conn)
+    peers.get_index_of(&conn)
+}
+
+/// The moment at which the connection at a place opened.
+fn since_at(peers: &IndexMap<u64, Opened>, place: usize) -> Moment
+    requires { place < length peers.now.entries }
+    ensures { (d : Peer) → result ≡ (slice_index_or (peers_in peers.now.entries) place d).since }
+{
+    peers[place].since
+}
+
+/// The connection at a place begins anew.
+fn begin_anew(peers: &mut IndexMap<u64, Opened>, place: usize, opened: Opened)
+    requires { place < length peers.old.entries }
+    ensures { (d : Peer) → peers_in peers.new.entries ≡ slice_set (peers_in peers.old.entries) place (begun (slice_index_or (peers_in peers.old.entries) place d).conn opened) }
+{
+    peers[place] = opened;
+}
+
+/// A connection that wasn't there joins behind the others. At `Err` nothing has changed.
+fn join(peers: &mut IndexMap<u64, Opened>, conn: u64, opened: Opened) -> Result<(), OutOfMemory>
+    requires { position (is_of conn) (peers_in peers.old.entries) ≡ None }
+    ensures after { OnOk result (peers_in peers.new.entries ≡ peers_in peers.old.entries ++ begun conn opened ∷ []) }
+    ensures err { OnErr result (peers_in peers.new.entries ≡ peers_in peers.old.entries) }
+{
+    peers.insert(conn, opened)?;
+    Ok(())
 }
 
 /// Gives a piece to the feed of the peer at a place, which hands a whole frame over. At `Err` nothing has changed.
 fn feed_at(
-    peers: &mut Vec<Peer>,
+    peers: &mut IndexMap<u64, Opened>,
     place: usize,
     alloc: Global,
     piece: &[u8],
 ) -> Result<Fed, OutOfMemory>
-    requires place { place < length peers.old.items }
-    requires waits { (d : Peer) → found (slice_index_or peers.old.items place d).bytes ≡ short }
-    ensures answer { IfOk result (λ fed. (d : Peer) → Answers fed (found ((slice_index_or peers.old.items place d).bytes ++ piece.now))) }
-    ensures after { OnOk result ((d : Peer) → peers.new.items ≡ slice_set peers.old.items place (given (slice_index_or peers.old.items place d) piece.now)) }
-    ensures err { OnErr result (peers.new.items ≡ peers.old.items) }
+    requires place { place < length peers.old.entries }
+    requires waits { (d : Peer) → found (slice_index_or (peers_in peers.old.entries) place d).bytes ≡ short }
+    ensures answer { IfOk result (λ fed. (d : Peer) → Answers fed (found ((slice_index_or (peers_in peers.old.entries) place d).bytes ++ piece.now))) }
+    ensures after { OnOk result ((d : Peer) → peers_in peers.new.entries ≡ slice_set (peers_in peers.old.entries) place (given (slice_index_or (peers_in peers.old.entries) place d) piece.now)) }
+    ensures err { OnErr result (peers_in peers.new.entries ≡ peers_in peers.old.entries) }
 {
-    let peer = &mut peers[place];
-    peer.bytes.hand_over(alloc, piece)
+    let opened = &mut peers[place];
+    opened.bytes.hand_over(alloc, piece)
 }
 
-/// A connection is there no more, if it was.
-fn forget(peers: &mut Vec<Peer>, conn: u64)
-    ensures { peers.new.items ≡ without peers.old.items conn }
+/// The connection at a place is there no more.
+fn forget(peers: &mut IndexMap<u64, Opened>, place: usize)
+    ensures { peers_in peers.new.entries ≡ remove (peers_in peers.old.entries) place }
 {
-    peers.retain(|peer| peer.conn != conn);
+    peers.shift_remove_index(place);
 }
