@@ -18,3 +18,4 @@ pub mod AddingAll
 pub mod Staged
 pub mod Room
 pub mod Sizes
+pub mod Reached

@@ -9,3 +9,4 @@ pub mod Opened
 pub mod Settled
 pub mod Next
 pub mod Block
+pub mod Ahead

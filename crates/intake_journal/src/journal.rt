@@ -14,6 +14,7 @@ ghost use Rattle.intake_journal.specs.declared.state.State.TheVariants.{Reading,
 ghost use Rattle.intake_journal.specs.declared.state.AppendError.TheVariants as error;
 ghost use Rattle.intake_journal.specs.declared.state.JournalError.TheVariants as cause;
 
+use crate::ahead::Ahead;
 use crate::block::Block;
 use crate::disk_calls::keep;
 use crate::encoding::size;
@@ -34,16 +35,18 @@ pub struct Journal<D: Disk> {
     pub(crate) max_entries: u64,
     pub(crate) max_bytes: u64,
     pub(crate) state: State,
+    pub(crate) ahead: Ahead,
 }
 
 impl<D: Disk> Model for Journal<D> {
+    ghost use Rattle.intake_journal.specs.Ahead.{IsReadAhead};
     ghost use Rattle.intake_journal.specs.Settled.{Journaled, IsSettled, IsWithin};
 
     ghost Value = { Journaled D };
 
     ghost view = { λ j. record { disk = j.disk; at = j.at; entries = j.entries; max_entries = j.max_entries; max_bytes = j.max_bytes; state = j.state } };
 
-    ghost invariant = { λ j. IsWithin j.at j.entries j.max_bytes × IsSettled j.state (D.images j.disk) j.at j.entries (D.bytes j.disk) };
+    ghost invariant = { λ j. IsWithin j.at j.entries j.max_bytes × IsSettled j.state (D.images j.disk) j.at j.entries (D.bytes j.disk) × IsReadAhead j.state j.ahead (D.bytes j.disk) };
 }
 
 impl<D: Disk> Journal<D> {
@@ -54,6 +57,7 @@ impl<D: Disk> Journal<D> {
     /// 1,073,741,824 at most. `NotOurs` comes where the file has more than 9 bytes and doesn't begin as a journal,
     /// `DiskFault` where the disk failed; no other error comes. The disk comes back with the error.
     pub fn recover(
+        alloc: Global,
         disk: D,
         max_entries: u64,
         max_bytes: u64,
@@ -83,6 +87,7 @@ impl<D: Disk> Journal<D> {
                 max_entries,
                 max_bytes,
                 state: State::Reading,
+                ahead: Ahead::new(alloc),
             }),
             Ok(false) => Err((disk, JournalError::NotOurs)),
             Err(Failed) => Err((disk, JournalError::DiskFault)),

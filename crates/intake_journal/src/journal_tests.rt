@@ -64,7 +64,7 @@ fn ready(
 ) -> Result<Journal<MemDisk>, MemDisk>
     ensures { IfOk result (λ journal. journal.state ≢ Reading) }
 {
-    match Journal::recover(disk, u64::from(max_entries), u64::from(max_bytes)) {
+    match Journal::recover(alloc, disk, u64::from(max_entries), u64::from(max_bytes)) {
         Ok(mut journal) => match journal.read_next(alloc) {
             Ok(None) => Ok(journal),
             _ => Err(journal.end()),

@@ -20,7 +20,7 @@
 //! A journal is Reading until `read_next` has answered None, then Ready, and Broken once its disk has failed. A short use:
 //!
 //! ```text
-//! let mut journal = Journal::recover(disk, 1_000_000, LONGEST_JOURNAL)?;
+//! let mut journal = Journal::recover(alloc, disk, 1_000_000, LONGEST_JOURNAL)?;
 //! while let Some(group) = journal.read_next(alloc)? { .. }
 //! let mut block = Block::new(alloc)?;
 //! journal.stage(&mut block, entries)?;                   // takes the memory, or answers Full
@@ -29,6 +29,7 @@
 //! ```
 #![tactic(auto)]
 
+mod ahead;
 mod block;
 mod decoding;
 mod disk_calls;

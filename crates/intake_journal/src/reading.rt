@@ -5,6 +5,7 @@ ghost use Rattle.outside.specs.Causes.{Rose};
 ghost use Rattle.outside.specs.Causes.{HasCause};
 ghost use Rattle.outside.specs.declared.event.Trouble.TheVariants as trouble;
 ghost use Rattle.intake_journal.specs.Bytes.{entries_bytes};
+ghost use Rattle.intake_journal.specs.Ahead.{IsAhead};
 ghost use Rattle.intake_journal.specs.Format.{entries_of};
 ghost use Rattle.intake_journal.specs.Kept.{fits as has_room};
 ghost use Rattle.intake_journal.specs.Found.{IsHead, IsFound, IsSmall};
@@ -14,15 +15,15 @@ ghost use Rattle.intake_journal.specs.Next.{ReadsNext};
 ghost use Rattle.intake_journal.specs.declared.state.State.TheVariants.{Ready, Broken};
 ghost use Rattle.intake_journal.specs.declared.state.JournalError.TheVariants as error;
 
+use crate::ahead::Ahead;
 use crate::decoding::decode;
 use crate::format::Group;
 use crate::journal::Journal;
 use crate::state::{JournalError, State};
-use crate::whole::read_whole;
 use byteorder::{ByteOrder, LittleEndian};
-use outside::{Disk, Failed, Trouble};
+use outside::{Disk, Trouble};
 use std::alloc::Global;
-use zbx_types::{Entry, Many, OutOfMemory};
+use zbx_types::{Entry, Many};
 
 /// The most bytes of a journal.
 pub const LONGEST_JOURNAL: u64 = 1_073_741_824;
@@ -66,22 +67,22 @@ fn head_of(bytes: &[u8]) -> Head
 }
 
 /// The gate at a place, and what stands between it and the first entry.
-fn read_head<D: Disk>(disk: &mut D, at: u64) -> Result<Head, Failed>
-    requires { at < 2 ^ 32 }
+fn read_head<D: Disk>(
+    alloc: Global,
+    disk: &mut D,
+    ahead: &mut Ahead,
+    at: u64,
+) -> Result<Head, Trouble>
+    requires small { at < 2 ^ 32 }
+    requires ahead { IsAhead ahead.old (D.bytes disk.old) }
     ensures told { IfOk result (λ head. IfSome (D.bytes disk.old) (λ b. IsHead head (take 9 (drop at b)))) }
+    ensures ahead { IsAhead ahead.new (D.bytes disk.old) }
     ensures before { IsAsBefore D.bytes D.images D.moment D.images_since disk.old disk.new }
-    ensures cause { HasCause (D.faults disk.old) (D.faults disk.new) result }
+    ensures later { D.faults disk.old ≤ D.faults disk.new }
+    ensures failed { IsErrOf result trouble.Failed → Rose (D.faults disk.old) (D.faults disk.new) }
 {
-    let mut bytes = [0; 9];
-    let count = read_whole(disk, at, &mut bytes)?;
-    Ok(head_of(&bytes[..count]))
-}
-
-/// So many zero bytes.
-fn zeros(alloc: Global, size: u32) -> Result<Vec<u8>, OutOfMemory>
-    ensures { IfOk result (λ bytes. length bytes.items ≡ size) }
-{
-    Ok(vec![in alloc; 0u8; size as usize]?)
+    ahead.reach(alloc, disk, at, 9)?;
+    Ok(head_of(ahead.part(at, 9)))
 }
 
 /// The entries from a place on, so many as `count` says in so many bytes as `size` says, or None where these aren't so many
@@ -89,11 +90,14 @@ fn zeros(alloc: Global, size: u32) -> Result<Vec<u8>, OutOfMemory>
 fn read_entries<D: Disk>(
     alloc: Global,
     disk: &mut D,
+    ahead: &mut Ahead,
     at: u64,
     size: u32,
     count: u32,
 ) -> Result<Option<Many<Entry>>, Trouble>
-    requires { at < 2 ^ 32 }
+    requires small { at < 2 ^ 32 }
+    requires ahead { IsAhead ahead.old (D.bytes disk.old) }
+    ensures ahead { IsAhead ahead.new (D.bytes disk.old) }
     ensures told { IfOk result (λ read. IfSome (D.bytes disk.old) (λ b. at + size ≤ length b → read ≡ entries_of count (take size (drop at b)))) }
     ensures few { IfOk result (λ read. IfSome read (λ entries. length entries ≡ count)) }
     ensures sized { IfOk result (λ read. IfSome read (λ entries. length (entries_bytes entries) ≡ size)) }
@@ -101,12 +105,12 @@ fn read_entries<D: Disk>(
     ensures later { D.faults disk.old ≤ D.faults disk.new }
     ensures failed { IsErrOf result trouble.Failed → Rose (D.faults disk.old) (D.faults disk.new) }
 {
-    let mut bytes = zeros(alloc, size)?;
-    let count_read = read_whole(disk, at, &mut bytes)?;
-    if count_read < bytes.len() {
+    ahead.reach(alloc, disk, at, size)?;
+    let bytes = ahead.part(at, size);
+    if bytes.len() < size as usize {
         return Ok(None);
     }
-    let read = decode(alloc, &bytes, count)?;
+    let read = decode(alloc, bytes, count)?;
     Ok(read)
 }
 
@@ -123,11 +127,14 @@ fn fits(at: u64, size: u32, count: u32, left: u64) -> bool
 fn group_at<D: Disk>(
     alloc: Global,
     disk: &mut D,
+    ahead: &mut Ahead,
     at: u64,
     size: u32,
     count: u32,
 ) -> Result<Found, Trouble>
-    requires { at < 2 ^ 31 }
+    requires small { at < 2 ^ 31 }
+    requires ahead { IsAhead ahead.old (D.bytes disk.old) }
+    ensures ahead { IsAhead ahead.new (D.bytes disk.old) }
     ensures told { IfOk result (λ found. IfSome (D.bytes disk.old) (λ b. IsHead (Open size count) (take 9 (drop at b)) → IsFound found at b)) }
     ensures within { IfOk result (λ found. IsSmall found at) }
     ensures before { IsAsBefore D.bytes D.images D.moment D.images_since disk.old disk.new }
@@ -138,25 +145,32 @@ fn group_at<D: Disk>(
     if !fits(at, size, count, length.saturating_sub(at + 9)) {
         return Ok(Found::Damage);
     }
-    match read_entries(alloc, disk, at + 9, size, count)? {
+    match read_entries(alloc, disk, ahead, at + 9, size, count)? {
         Some(entries) => Ok(Found::Next { entries, size }),
         None => Ok(Found::Damage),
     }
 }
 
 /// What stands at the gate at a place.
-pub(crate) fn look<D: Disk>(alloc: Global, disk: &mut D, at: u64) -> Result<Found, Trouble>
-    requires { at < 2 ^ 31 }
+pub(crate) fn look<D: Disk>(
+    alloc: Global,
+    disk: &mut D,
+    ahead: &mut Ahead,
+    at: u64,
+) -> Result<Found, Trouble>
+    requires small { at < 2 ^ 31 }
+    requires ahead { IsAhead ahead.old (D.bytes disk.old) }
+    ensures ahead { IsAhead ahead.new (D.bytes disk.old) }
     ensures told { IfOk result (λ found. IfSome (D.bytes disk.old) (IsFound found at)) }
     ensures within { IfOk result (λ found. IsSmall found at) }
     ensures before { IsAsBefore D.bytes D.images D.moment D.images_since disk.old disk.new }
     ensures later { D.faults disk.old ≤ D.faults disk.new }
     ensures failed { IsErrOf result trouble.Failed → Rose (D.faults disk.old) (D.faults disk.new) }
 {
-    match read_head(disk, at)? {
+    match read_head(alloc, disk, ahead, at)? {
         Head::Closed => Ok(Found::End),
         Head::Cut => Ok(Found::Damage),
-        Head::Open { size, count } => group_at(alloc, disk, at, size, count),
+        Head::Open { size, count } => group_at(alloc, disk, ahead, at, size, count),
     }
 }
 
@@ -166,7 +180,8 @@ impl<D: Disk> Journal<D> {
     /// `Damaged` comes where an open gate is followed by no group; it comes again at the next call. `DiskFault` comes where
     /// the disk failed; the journal is broken then, and answers it at each later call. At [`OutOfMemory`] the journal is as
     /// before, and the same group is next. The journal's end moves by the bytes of the group's entries and nine, as with
-    /// [`Journal::append`]. It takes memory for the group alone.
+    /// [`Journal::append`]. It takes memory for the group
+    /// and for what is read ahead, which is 64 KiB or the group's bytes, and reads once for so many bytes.
     pub fn read_next(&mut self, alloc: Global) -> Result<Option<Group>, JournalError>
         ensures next { ReadsNext (D.bytes self.old.disk) self.old self.new result }
         ensures some { IfOk result (λ read. IfSome read (λ group. 0 < length group.entries)) }
@@ -183,7 +198,7 @@ impl<D: Disk> Journal<D> {
         if self.state == State::Ready {
             return Ok(None);
         }
-        match look(alloc, &mut self.disk, self.at) {
+        match look(alloc, &mut self.disk, &mut self.ahead, self.at) {
             Ok(Found::End) => {
                 self.state = State::Ready;
                 Ok(None)

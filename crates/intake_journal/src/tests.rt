@@ -16,7 +16,7 @@ const TWO_GROUPS: &[u8] = b"ZTSJRN01\
 /// How many groups and entries a file keeps, or why it wasn't opened or read to its end.
 pub(crate) fn counted(alloc: Global, file: &[u8]) -> Result<(u64, u64), JournalError> {
     let disk = MemDisk::new(alloc, Bytes::of(alloc, file)?, Many::new(alloc));
-    let mut journal = match Journal::recover(disk, 1_000, LONGEST_JOURNAL) {
+    let mut journal = match Journal::recover(alloc, disk, 1_000, LONGEST_JOURNAL) {
         Ok(journal) => journal,
         Err((_, why)) => return Err(why),
     };

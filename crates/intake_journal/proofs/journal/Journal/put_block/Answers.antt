@@ -42,7 +42,7 @@ invariant_of-self g c =
     (omega (arith, within, place), omega (arith, c.self.invariant.0.1, count_all_small groups, c.entries.ensures.value, place), c.self.invariant.0.2) in
     let settled = settled_of j.state (images new) _ _ (bytes new) read done in
     let counted = subst (λ (n : ℕ). IsSettled j.state (images new) (j.at + length (opened_bytes groups)) (j.entries + n) (bytes new)) (sym c.entries.ensures.value) settled in
-    (small, subst (λ (n : ℕ). IsSettled j.state (images new) n (j.entries + c.entries.result) (bytes new)) place counted)
+    (small, subst (λ (n : ℕ). IsSettled j.state (images new) n (j.entries + c.entries.result) (bytes new)) place counted, λ e. absurd (read e))
 
 pub returns-in-Ok-clause-any_moment : goal.returns-in-Ok-clause-any_moment
 returns-in-Ok-clause-any_moment g c =

@@ -1,6 +1,7 @@
-use Rattle.std.proofs.Common.{◌≡◌, ◌≢◌, ℕ, ◌+◌, ◌∙◌, List, [], length, IfSome, sym, ap, subst, arith, rules}
+use Rattle.std.proofs.Common.{◌≡◌, ◌≢◌, ℕ, ◌+◌, ◌∙◌, List, [], length, Option, IfSome, sym, ap, subst, arith, rules}
 use Rattle.zbx_types.specs.declared.entries.Entry.{Entry}
 use Rattle.intake_journal.specs.Kept.{Groups, Damaged, with_group, kept_from}
+use Rattle.intake_journal.specs.Ahead.{IsAhead}
 use Rattle.intake_journal.specs.Found.{IsFound}
 use Rattle.intake_journal.specs.Settled.{IsSettled, IsWithin}
 use Rattle.intake_journal.specs.declared.format.Group.{Group}
@@ -69,4 +70,5 @@ invariant_of-self-in-Ok-Next g c =
     let settled = settled_next g.D.Disk.bytes g.D.Disk.images g.D.Disk.moment g.D.Disk.images_since j.disk c.look.new.disk c.look.ensures.before j.state j.at j.entries c.in-Ok-Next.size entries c.self.invariant.1 reading ensured.told in
     let alike : (c.in-Ok-Next.size + 9 ≡ c.from.result + 9) × (length entries ≡ length c.as_slice.result.now) = (omega arith, sym count) in
     let state = λ (n m : ℕ). IsSettled j.state (g.D.Disk.images c.look.new.disk) (j.at + n) (j.entries + m) (g.D.Disk.bytes c.look.new.disk) in
-    (small, subst (λ (m : ℕ). state (c.from.result + 9) m) alike.1 (subst (λ (n : ℕ). state n (length entries)) alike.0 settled))
+    (small, subst (λ (m : ℕ). state (c.from.result + 9) m) alike.1 (subst (λ (n : ℕ). state n (length entries)) alike.0 settled),
+    λ _. subst (λ (o : Option (List ℕ)). IsAhead c.look.new.ahead o) (sym c.look.ensures.before.same) ensured.ahead)
