@@ -2,7 +2,6 @@
 use Rattle.std.proofs.Common.{◌≡◌, ◌≢◌, ◌≤◌, ◌<◌, ◌-◌, ◌==◌, ℕ, zero, suc, List, [], ◌∷◌, length, map, get_or, set, take, drop, ◌++◌, ◌+◌, append_assoc, slice_get, cond, Bool, true, false, true≢false, Option, Some, None, IfSome, option_map, refl, ap, sym, ◌∙◌, subst, arith, eq-eqb, eqb-true}
 use Rattle.std.proofs.lemmas.List.{set_past, drop_more, map-append}
 use Rattle.std.proofs.lemmas.Option.{get_or_from_slice_get}
-use Rattle.std.specs.List.{AllByRecursion}
 use Rattle.zbx_types.specs.Ids.{at_id}
 use Rattle.zbx_types.specs.declared.entries.Stored.{Stored}
 use Rattle.prep_steps.specs.declared.memory.StepMemory.{StepMemory}
@@ -26,7 +25,7 @@ count_map : {A B : Type 0} (f : A → B) (xs : List A) → length (map f xs) ≡
 count_map f [] = refl
 count_map f (x ∷ xs) = ap suc (count_map f xs)
 
-map_get : {A B : Type 0} (f : A → B) (xs : List A) (i : ℕ) → slice_get (map f xs) i ≡ option_map f (slice_get xs i)
+pub map_get : {A B : Type 0} (f : A → B) (xs : List A) (i : ℕ) → slice_get (map f xs) i ≡ option_map f (slice_get xs i)
 map_get f [] i = refl
 map_get f (x ∷ xs) zero = refl
 map_get f (x ∷ xs) (suc i) = map_get f xs i

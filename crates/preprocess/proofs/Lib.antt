@@ -7,3 +7,4 @@ mod Apart
 mod Keeping
 mod Becoming
 mod Plain
+mod Logs

@@ -10,3 +10,4 @@ pub mod Walks
 pub mod Draft
 pub mod Putting
 pub mod Cells
+pub mod Laws

@@ -36,6 +36,7 @@ mod chains;
 mod draft;
 mod ended;
 mod json;
+pub mod laws;
 mod putting;
 mod running;
 mod step;
