@@ -201,6 +201,7 @@ impl<D: Disk> Journal<D> {
         match look(alloc, &mut self.disk, &mut self.ahead, self.at) {
             Ok(Found::End) => {
                 self.state = State::Ready;
+                self.ahead = Ahead::new(alloc);
                 Ok(None)
             }
             Ok(Found::Damage) => Err(JournalError::Damaged { at: self.at }),
