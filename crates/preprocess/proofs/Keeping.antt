@@ -2,7 +2,6 @@
 use Rattle.std.proofs.Common.{◌≡◌, ◌≢◌, ◌≤◌, ◌<◌, ◌-◌, ◌==◌, ℕ, zero, suc, List, [], ◌∷◌, length, map, get_or, set, take, drop, ◌++◌, ◌+◌, append_assoc, slice_get, cond, Bool, true, false, true≢false, Option, Some, None, IfSome, option_map, refl, ap, sym, ◌∙◌, subst, arith, eq-eqb, eqb-true}
 use Rattle.std.proofs.lemmas.List.{set_past, drop_more, map-append}
 use Rattle.std.proofs.lemmas.Option.{get_or_from_slice_get}
-use Rattle.std.specs.List.{AllByRecursion}
 use Rattle.zbx_types.specs.Ids.{at_id}
 use Rattle.zbx_types.specs.declared.entries.Stored.{Stored}
 use Rattle.prep_steps.specs.declared.memory.StepMemory.{StepMemory}

@@ -1,5 +1,5 @@
 -- Rows by ids, where one is another.
-use Rattle.std.proofs.Common.{◌≡◌, ◌≢◌, ℕ, zero, suc, ◌-◌, ◌<◌, ◌≤◌, ◌==◌, Bool, true, false, cond, Option, Some, None, List, [], ◌∷◌, ◌++◌, length, set, slice_get, refl, sym, ◌∙◌, ap, ne_eqb, eq-eqb, eqb-true, arith, option_map, append-nil, append_assoc, get_or, drop, replicate, ◌+◌}
+use Rattle.std.proofs.Common.{◌≡◌, ◌≢◌, ℕ, zero, suc, ◌-◌, ◌<◌, ◌≤◌, ◌==◌, Bool, true, false, cond, Some, None, List, [], ◌∷◌, ◌++◌, length, set, slice_get, refl, sym, ◌∙◌, ap, ne_eqb, eq-eqb, eqb-true, arith, option_map, append-nil, append_assoc, get_or, drop, replicate, ◌+◌}
 use Rattle.std.specs.Option.{unwrap_or}
 use Rattle.zbx_types.specs.Ids.{at_id}
 use Rattle.std.proofs.lemmas.List.{set_past, length-set, drop_more}

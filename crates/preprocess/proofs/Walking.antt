@@ -1,5 +1,5 @@
 -- A walk by its parts.
-use Rattle.std.proofs.Common.{◌≡◌, ◌≢◌, ◌<◌, ◌≤◌, ◌+◌, ◌-◌, ℕ, zero, suc, List, [], ◌∷◌, ◌++◌, flat_map, Option, Some, None, refl, ap, sym, ◌∙◌, arith, append-nil, append_assoc, map, slice_get, true≢false, length, drop}
+use Rattle.std.proofs.Common.{◌≡◌, ◌≢◌, ◌≤◌, ◌-◌, ℕ, zero, suc, List, [], ◌∷◌, ◌++◌, flat_map, Option, Some, None, refl, ap, sym, ◌∙◌, arith, append-nil, append_assoc, map, slice_get, true≢false, length, drop}
 use Rattle.std.proofs.lemmas.List.{drop_all}
 use Rattle.zbx_types.specs.Ids.{at_id}
 use Rattle.zbx_types.specs.declared.conf.Conf.{Conf}
@@ -12,7 +12,7 @@ use Rattle.preprocess.specs.Ways.{way_for, ways_for}
 use Rattle.preprocess.specs.declared.chains.Chains.{Chains}
 use Rattle.preprocess.proofs.Rows.{at_zero, at_suc, row_within}
 use Rattle.preprocess.specs.Visits.{visit_of, ended_text}
-use Rattle.preprocess.specs.Walks.{walk, walk_below, own_visit, given, with_text}
+use Rattle.preprocess.specs.Walks.{walk, walk_below, with_text}
 use Rattle.preprocess.specs.declared.visit.Visit.{Visit}
 use Rattle.preprocess.specs.declared.chain.Chained.{Chained}
 

@@ -1,5 +1,5 @@
 -- What a run keeps of the items, and what an entry's value makes of it.
-use Rattle.std.specs.Prelude.{◌≡◌, ℕ, List, [], map, Option, option_map}
+use Rattle.std.specs.Prelude.{◌≡◌, ℕ, List, [], map, option_map}
 use Rattle.zbx_types.specs.Ids.{at_id}
 use Rattle.zbx_types.specs.declared.conf.Conf.{Conf}
 use Rattle.zbx_types.specs.declared.items.Item.{Item}
@@ -11,7 +11,6 @@ use Rattle.preprocess.specs.Visits.{Arrival, memory_in, visits_of}
 use Rattle.preprocess.specs.Draft.{Kept, kept_of, visit_at, kept_after, marks_after, stored_ids, failures_of}
 use Rattle.preprocess.specs.declared.cells.Cells.{Cells}
 use Rattle.preprocess.specs.declared.draft.Draft.{Draft}
-use Rattle.preprocess.specs.declared.draft.Prepared.{Prepared}
 use Rattle.preprocess.specs.declared.visit.Visit.{Visit}
 
 -- what the cells keep, in the order of ids

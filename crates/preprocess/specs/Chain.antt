@@ -1,5 +1,5 @@
 -- One item's chain of preprocessing steps over one value.
-use Rattle.std.specs.Prelude.{ℕ, ◌+◌, List, [], ◌∷◌, ◌++◌, Option, Some, None, ℤ, codes, All}
+use Rattle.std.specs.Prelude.{ℕ, ◌+◌, List, [], ◌∷◌, ◌++◌, Option, Some, None, ℤ, codes}
 use Rattle.std.specs.Fmt.{decimal}
 use Rattle.zbx_types.specs.Written.{written}
 use Rattle.zbx_types.specs.declared.entries.Held.TheVariants.{Number as NumberHeld, Words as WordsHeld}

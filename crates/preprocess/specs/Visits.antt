@@ -1,6 +1,6 @@
 -- The value of an entry on its way through its item and the items that depend on it: what comes to each item is found by a
 -- search up its masters.
-use Rattle.std.specs.Prelude.{◌≡◌, ℕ, zero, suc, ◌==◌, List, [], ◌∷◌, length, flat_map, filter_map, Option, Some, None, IfSome, option_map, if◌then◌else◌}
+use Rattle.std.specs.Prelude.{ℕ, zero, suc, ◌==◌, List, [], ◌∷◌, length, flat_map, filter_map, Option, Some, None, IfSome, option_map, if◌then◌else◌}
 use Rattle.zbx_types.specs.Ids.{at_id}
 use Rattle.zbx_types.specs.Items.{is_trapper_kind}
 use Rattle.zbx_types.specs.declared.conf.Conf.{Conf}

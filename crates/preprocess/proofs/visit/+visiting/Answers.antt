@@ -1,9 +1,9 @@
-use Rattle.std.proofs.Common.{arith, ◌≡◌, ◌-◌, ◌++◌, [], ℕ, List, Some, None, ap, sym, ◌∙◌, drop, flat_map, append-nil}
+use Rattle.std.proofs.Common.{◌-◌, ℕ, Some, None, ap, sym, ◌∙◌}
 use Rattle.std.proofs.lemmas.Result.{IfOk-weaker}
 use Rattle.preprocess.specs.Chain.{chain_of}
 use Rattle.preprocess.specs.Ways.{memory_at}
 use Rattle.preprocess.specs.Visits.{memory_in}
-use Rattle.preprocess.specs.Walks.{walk, walk_below}
+use Rattle.preprocess.specs.Walks.{walk}
 use Rattle.preprocess.proofs.Walking.{walk_none, below_none, below_some, ways_are, below_are, nothing, finished, stops, goes, at_found}
 use Rattle.preprocess.proofs.visit.+visiting.Goals as goal
 
