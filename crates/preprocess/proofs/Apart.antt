@@ -1,9 +1,8 @@
 -- No item is visited twice at an entry.
-use Rattle.std.proofs.Common.{◌≡◌, ◌≢◌, ◌≤◌, ◌<◌, ◌+◌, ◌==◌, ℕ, zero, suc, List, [], ◌∷◌, ◌++◌, length, flat_map, filter_map, Bool, true, false, cond, not, ◌&&◌, true≢false, Option, Some, None, option_map, refl, ap, sym, ◌∙◌, subst, arith, eqb-true, is_some}
+use Rattle.std.proofs.Common.{◌≡◌, ◌≢◌, ◌≤◌, ◌+◌, ◌==◌, ℕ, zero, suc, List, [], ◌∷◌, ◌++◌, length, flat_map, filter_map, Bool, true, false, cond, true≢false, Option, Some, None, option_map, refl, ap, sym, ◌∙◌, subst, arith, eqb-true, is_some}
 use Rattle.std.specs.Prelude.{⊤}
 use Rattle.std.specs.List.{cons_option, AllByRecursion}
 use Rattle.zbx_types.specs.Ids.{at_id}
-use Rattle.zbx_types.specs.Items.{is_trapper_kind}
 use Rattle.zbx_types.specs.declared.conf.Conf.{Conf}
 use Rattle.zbx_types.specs.declared.items.Item.{Item}
 use Rattle.preprocess.specs.Chains.{dependents_of, dependents_from, is_dependent, depends_on}

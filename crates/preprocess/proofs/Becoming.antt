@@ -1,5 +1,5 @@
 -- Cells that keep the same become the same.
-use Rattle.std.proofs.Common.{◌≡◌, ℕ, List, option_map, ap, sym, ◌∙◌}
+use Rattle.std.proofs.Common.{ℕ, List, option_map, ap, ◌∙◌}
 use Rattle.zbx_types.specs.Ids.{at_id}
 use Rattle.preprocess.specs.Cells.{AreSame, Becomes}
 use Rattle.preprocess.specs.Draft.{kept_after, marks_after, visit_at}

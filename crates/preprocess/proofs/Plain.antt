@@ -1,5 +1,5 @@
 -- Steps without patterns.
-use Rattle.std.proofs.Common.{◌≡◌, ℕ, zero, suc, List, [], ◌∷◌, true, false, not, true≢false, Option, Some, None, IfSome, slice_get, slice_index_or, refl, sym, ◌∙◌, ap, subst, is_some}
+use Rattle.std.proofs.Common.{◌≡◌, ℕ, zero, suc, List, [], ◌∷◌, true, not, true≢false, Option, Some, None, IfSome, slice_get, slice_index_or, refl, sym, ◌∙◌, ap, subst, is_some}
 use Rattle.std.specs.List.{list_all}
 use Rattle.std.proofs.lemmas.List.Sums.{AllPass-from_list_all}
 use Rattle.zbx_types.specs.Ids.{at_id}

@@ -1,5 +1,5 @@
 -- The visits that a walk makes are those that the search up the masters finds.
-use Rattle.std.proofs.Common.{◌≡◌, ◌≤◌, ◌+◌, ◌==◌, ℕ, zero, suc, List, [], ◌∷◌, ◌++◌, length, flat_map, filter_map, slice_get, Bool, true, false, cond, not, ◌&&◌, true≢false, Option, Some, None, option_map, option_to_list, refl, ap, sym, ◌∙◌, subst, arith, add-one, append-nil, append_assoc, eq-eqb, eqb-true, length-append}
+use Rattle.std.proofs.Common.{◌≡◌, ◌≤◌, ◌+◌, ◌==◌, ℕ, zero, suc, List, [], ◌∷◌, ◌++◌, length, flat_map, filter_map, slice_get, Bool, true, false, cond, not, ◌&&◌, true≢false, Option, Some, None, option_map, option_to_list, refl, ap, sym, ◌∙◌, subst, arith, add-one, append_assoc, eq-eqb, eqb-true, length-append}
 use Rattle.std.proofs.lemmas.List.Elements.{filter_map-append}
 use Rattle.std.specs.List.{cons_option, AllByRecursion}
 use Rattle.zbx_types.specs.Ids.{at_id}
@@ -10,9 +10,8 @@ use Rattle.prep_steps.specs.declared.memory.StepMemory.{StepMemory}
 use Rattle.preprocess.specs.Chains.{dependents_of, dependents_from, is_dependent, depends_on}
 use Rattle.preprocess.specs.Visits.{Arrival, chained_by, text_of, came_by, came, result_of, visited, visit_of, visits_of}
 use Rattle.preprocess.specs.Walks.{walk, given, with_text, takes, takes_by}
-use Rattle.preprocess.specs.declared.chain.Chained.{Chained}
 use Rattle.preprocess.specs.declared.visit.Visit.{Visit}
-use Rattle.preprocess.proofs.Rows.{at_zero, at_suc}
+use Rattle.preprocess.proofs.Rows.{at_suc}
 
 abbrev pub Memory : Type 0
 Memory = ℕ → ℕ → StepMemory

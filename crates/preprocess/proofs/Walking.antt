@@ -1,5 +1,5 @@
 -- A walk by its parts.
-use Rattle.std.proofs.Common.{◌≡◌, ◌≢◌, ◌<◌, ◌≤◌, ◌+◌, ◌-◌, ℕ, zero, suc, List, [], ◌∷◌, ◌++◌, flat_map, Option, Some, None, refl, ap, sym, ◌∙◌, arith, append-nil, append_assoc, map, slice_get, true≢false, length, drop}
+use Rattle.std.proofs.Common.{◌≡◌, ◌≢◌, ◌≤◌, ◌-◌, ℕ, zero, suc, List, [], ◌∷◌, ◌++◌, flat_map, Option, Some, None, refl, ap, sym, ◌∙◌, arith, append-nil, append_assoc, map, slice_get, true≢false, length, drop}
 use Rattle.std.proofs.lemmas.List.{drop_all}
 use Rattle.zbx_types.specs.Ids.{at_id}
 use Rattle.zbx_types.specs.declared.conf.Conf.{Conf}
@@ -7,12 +7,12 @@ use Rattle.zbx_types.specs.declared.items.Item.{Item}
 use Rattle.prep_steps.specs.declared.memory.StepMemory.{StepMemory}
 use Rattle.preprocess.specs.Chain.{chain_of}
 use Rattle.std.specs.Option.{unwrap_or}
-use Rattle.preprocess.specs.Chains.{dependents_of, listed, paths_for, AreChainsOf}
-use Rattle.preprocess.specs.Ways.{path_for}
+use Rattle.preprocess.specs.Chains.{dependents_of, listed, AreChainsOf}
+use Rattle.preprocess.specs.Ways.{way_for, ways_for}
 use Rattle.preprocess.specs.declared.chains.Chains.{Chains}
 use Rattle.preprocess.proofs.Rows.{at_zero, at_suc, row_within}
 use Rattle.preprocess.specs.Visits.{visit_of, ended_text}
-use Rattle.preprocess.specs.Walks.{walk, walk_below, own_visit, given, with_text}
+use Rattle.preprocess.specs.Walks.{walk, walk_below, with_text}
 use Rattle.preprocess.specs.declared.visit.Visit.{Visit}
 use Rattle.preprocess.specs.declared.chain.Chained.{Chained}
 
@@ -54,11 +54,11 @@ listed_map f xs zero x e = let n = at_zero xs in absurd (true≢false (cc))
 listed_map f xs (suc k) x e = ap (λ o. unwrap_or o []) (at_suc (map f xs) k ∙ row_map f xs k x (sym (at_suc xs k) ∙ e))
 
 -- what was found at the opening, at an item that is there
-pub paths_are : (conf : Conf) (chains : Chains) (id : ℕ) (item : Item) → AreChainsOf conf chains → at_id conf.items id ≡ Some item → listed chains.paths.items id ≡ map path_for item.steps
-paths_are conf chains id item are e = ap (λ rows. listed rows id) are.paths ∙ listed_map paths_for conf.items id item e
+pub ways_are : (conf : Conf) (patterns : List (List ℕ)) (chains : Chains) (id : ℕ) (item : Item) → AreChainsOf conf patterns chains → at_id conf.items id ≡ Some item → listed chains.ways.items id ≡ map (way_for patterns) item.steps
+ways_are conf patterns chains id item are e = ap (λ rows. listed rows id) are.ways ∙ listed_map (ways_for patterns) conf.items id item e
 
-pub below_are : (conf : Conf) (chains : Chains) (id : ℕ) (item : Item) → AreChainsOf conf chains → at_id conf.items id ≡ Some item → listed chains.below.items id ≡ dependents_of conf id
-below_are conf chains id item are e = let w = row_within conf.items id item e in are.below id w.0 w.1
+pub below_are : (conf : Conf) (patterns : List (List ℕ)) (chains : Chains) (id : ℕ) (item : Item) → AreChainsOf conf patterns chains → at_id conf.items id ≡ Some item → listed chains.below.items id ≡ dependents_of conf id
+below_are conf patterns chains id item are e = let w = row_within conf.items id item e in are.below id w.0 w.1
 
 -- what the visits so far come to
 pub nothing : (before w : List Visit) → w ≡ [] → before ≡ before ++ w

@@ -1,12 +1,11 @@
--- What is found of the items at the opening: the dependents of each, and the paths of its steps.
-use Rattle.std.specs.Prelude.{◌≡◌, ℕ, ◌+◌, ◌==◌, Bool, ◌&&◌, not, List, [], ◌∷◌, ◌++◌, ◌≤◌, length, Option, map, if◌then◌else◌}
+-- What is found of the items at the opening: the dependents of each, and the ways of its steps.
+use Rattle.std.specs.Prelude.{◌≡◌, ℕ, ◌+◌, ◌==◌, Bool, ◌&&◌, not, List, [], ◌∷◌, ◌++◌, ◌≤◌, length, map, if◌then◌else◌}
 use Rattle.std.specs.Option.{unwrap_or}
 use Rattle.zbx_types.specs.Ids.{at_id}
 use Rattle.zbx_types.specs.Items.{is_trapper_kind}
 use Rattle.zbx_types.specs.declared.conf.Conf.{Conf}
 use Rattle.zbx_types.specs.declared.items.Item.{Item}
-use Rattle.json_path.specs.declared.path.Path.{Path}
-use Rattle.preprocess.specs.Ways.{path_for}
+use Rattle.preprocess.specs.Ways.{ways_for}
 use Rattle.preprocess.specs.declared.chains.Chains.{Chains}
 
 -- an item is an enabled dependent
@@ -31,11 +30,7 @@ dependents_of conf id = dependents_from id 1 conf.items
 abbrev pub listed : {A : Type 0} → List (List A) → ℕ → List A
 listed rows id = unwrap_or (at_id rows id) []
 
--- the paths of an item's steps
-abbrev pub paths_for : Item → List (Option Path)
-paths_for item = map path_for item.steps
-
--- what was found is that of the configuration
-pub record AreChainsOf (conf : Conf) (chains : Chains) : Type 0 where
+-- what was found is that of the configuration with these patterns
+pub record AreChainsOf (conf : Conf) (patterns : List (List ℕ)) (chains : Chains) : Type 0 where
   pub below : (id : ℕ) → 1 ≤ id → id ≤ length conf.items → listed chains.below.items id ≡ dependents_of conf id
-  pub paths : chains.paths.items ≡ map paths_for conf.items
+  pub ways : chains.ways.items ≡ map (ways_for patterns) conf.items

@@ -1,16 +1,16 @@
 //! One item's chain over one value.
 
-ghost use Rattle.std.specs.Prelude.{◌≡◌, ◌+◌, ◌++◌, IfOk, None, drop, map, option_copied, slice_index_or};
+ghost use Rattle.std.specs.Prelude.{◌≡◌, ◌+◌, ◌++◌, IfOk, drop, map, slice_index_or};
 ghost use Rattle.zbx_types.specs.Steps.{has_pattern};
 ghost use Rattle.prep_steps.specs.Outcomes.{kept};
 ghost use Rattle.preprocess.specs.Chain.{ended_as, chain_of, comes_of, marks_of, unreached};
 ghost use Rattle.preprocess.specs.Parsing.{IsParsed};
-ghost use Rattle.preprocess.specs.Ways.{path_for, memory_at, HavePatterns};
+ghost use Rattle.preprocess.specs.Ways.{way_for, memory_at, HavePatterns};
 
 use crate::ended::{Ended, end};
 use crate::json::{Parsed, kept_parsed};
 use crate::step::{Stepped, settle, step_done};
-use json_path::Path;
+use crate::ways::Way;
 use pattern_set::Patterns;
 use prep_steps::{Outcome, StepMemory};
 use std::alloc::Global;
@@ -46,16 +46,6 @@ fn memory_at<'a>(
     }
 }
 
-/// The path of the step at a place.
-fn path_at(paths: &[Option<Path>], index: usize) -> Option<&Path>
-    ensures { option_copied result ≡ slice_index_or paths.now index None }
-{
-    match paths.get(index) {
-        Some(path) => path.as_ref(),
-        None => None,
-    }
-}
-
 /// The memories of steps, with those from a place on, which a value doesn't reach, behind them.
 fn with_unreached(
     alloc: Global,
@@ -78,13 +68,13 @@ fn with_unreached(
 fn pass_steps(
     alloc: Global,
     steps: &[StepSpec],
-    paths: &[Option<Path>],
+    ways: &[Way],
     patterns: &Patterns,
     memories: &[StepMemory],
     value: &Text,
     time: Moment,
 ) -> Result<Passed, OutOfMemory>
-    requires paths { paths.now ≡ map path_for steps.now }
+    requires ways { ways.now ≡ map (way_for patterns.now) steps.now }
     requires patterns { HavePatterns patterns.now steps.now }
     ensures outcome { IfOk result (λ passed. passed.outcome ≡ comes_of steps.now 1 (memory_at memories.now) value.now time) }
     ensures marks { IfOk result (λ passed. passed.marks ≡ marks_of steps.now 1 (memory_at memories.now) value.now time) }
@@ -95,12 +85,12 @@ fn pass_steps(
     let mut parsed = Parsed::Unread;
     for (index, step) in steps.iter().enumerate() {
         let memory = memory_at(memories, index, &unmarked);
-        let path = path_at(paths, index);
+        let way = &ways[index];
         let Stepped {
             outcome,
             memory: mark,
             parsed: known,
-        } = step_done(alloc, step, path, patterns, memory, &text, parsed, time)?;
+        } = step_done(alloc, step, way, patterns, memory, &text, parsed, time)?;
         marks.push(mark)?;
         match settle(alloc, step, index as u64 + 1, outcome)? {
             Outcome::Value(next) => {
@@ -130,26 +120,26 @@ fn pass_steps(
 /// What an item's chain makes of a value that came at a moment (the Zabbix 6.0 manual, "Item value preprocessing"; texts of
 /// failures, the limit of 65,535 bytes and the last reading of a number are this project's own).
 ///
-/// `memories` is what the steps remember of the item's values so far, in the order of the steps; `paths` are the paths of
-/// the steps, as [`crate::paths_of`] gives them. A step that discards or fails ends the chain, unless its `on_fail` sets a
+/// `memories` is what the steps remember of the item's values so far, in the order of the steps; `ways` are those of the
+/// steps, as [`crate::ways_of`] gives them. A step that discards or fails ends the chain, unless its `on_fail` sets a
 /// value, with which the chain goes on behind it. A step's memory changes as the step says, also where a later step
 /// discards the value or fails. [`OutOfMemory`] where there is no room for the results.
 #[tactic(auto, unfolding(crate::specs::Chain::chain_of))]
 pub fn run_chain(
     alloc: Global,
     item: &Item,
-    paths: &[Option<Path>],
+    ways: &[Way],
     patterns: &Patterns,
     memories: &[StepMemory],
     value: &Text,
     time: Moment,
 ) -> Result<Chained, OutOfMemory>
-    requires paths { paths.now ≡ map path_for item.now.steps }
+    requires ways { ways.now ≡ map (way_for patterns.now) item.now.steps }
     requires patterns { HavePatterns patterns.now item.now.steps }
     ensures { IfOk result (λ made. made ≡ chain_of item.now (memory_at memories.now) value.now time) }
 {
     let steps = item.steps.as_slice();
-    let passed = pass_steps(alloc, steps, paths, patterns, memories, value, time)?;
+    let passed = pass_steps(alloc, steps, ways, patterns, memories, value, time)?;
     Ok(Chained {
         end: end(alloc, item.value_type, passed.outcome)?,
         marks: passed.marks,

@@ -1,22 +1,21 @@
 //! What is found of a configuration's items once, at the opening.
 
 ghost use Rattle.std.specs.Prelude.{◌≡◌, ◌≤◌, [], ℕ, length, replicate, map, IfOk, OnOk};
-ghost use Rattle.preprocess.specs.Chains.{is_dependent, dependents_of, listed, paths_for, AreChainsOf};
+ghost use Rattle.preprocess.specs.Chains.{is_dependent, dependents_of, listed, AreChainsOf};
 ghost use Rattle.preprocess.specs.Rows.{with_id, noted};
-ghost use Rattle.preprocess.specs.Ways.{path_for};
+ghost use Rattle.preprocess.specs.Ways.{ways_for};
 
-use crate::json::path_of;
-use json_path::Path;
-use prep_steps::parameter;
+use crate::ways::{Way, ways_of};
+use pattern_set::Patterns;
 use std::alloc::Global;
-use zbx_types::{Conf, Item, Many, OutOfMemory, StepKind, StepSpec, by_id, id_of};
+use zbx_types::{Conf, Item, Many, OutOfMemory, by_id, id_of};
 
 /// What is found of a configuration's items once, so that no value has to seek or read it: the enabled dependents of each
-/// item, and the paths of its steps.
+/// item, and the ways of its steps.
 #[derive(Drop)]
 pub struct Chains {
     below: Vec<Many<u32>>,
-    paths: Vec<Many<Option<Path>>>,
+    ways: Vec<Many<Way>>,
 }
 
 /// Adds an id to the list of an item; where there is no such item it is left out.
@@ -74,47 +73,26 @@ fn below_of(alloc: Global, conf: &Conf) -> Result<Vec<Many<u32>>, OutOfMemory>
     Ok(below)
 }
 
-/// The path of a step that looks into JSON, if its parameter is one.
-fn path_for(alloc: Global, step: &StepSpec) -> Result<Option<Path>, OutOfMemory>
-    ensures { IfOk result (λ path. path ≡ path_for step.now) }
+/// The ways of the steps of each item.
+fn all_ways(alloc: Global, conf: &Conf, patterns: &Patterns) -> Result<Vec<Many<Way>>, OutOfMemory>
+    ensures { IfOk result (λ ways. ways.items ≡ map (ways_for patterns.now) conf.now.items) }
 {
-    match step.kind {
-        StepKind::JsonPath | StepKind::JsonError => path_of(alloc, parameter(&step.params, 0)),
-        _ => Ok(None),
-    }
-}
-
-/// The paths of an item's steps, in the order of the steps: of a step that looks into JSON that which its parameter is,
-/// of any other none. [`OutOfMemory`] where there is no room for them.
-pub fn paths_of(alloc: Global, item: &Item) -> Result<Many<Option<Path>>, OutOfMemory>
-    ensures { IfOk result (λ paths. paths ≡ paths_for item.now) }
-{
-    let mut paths = Many::new(alloc);
-    for step in item.steps.as_slice() {
-        paths.push(path_for(alloc, step)?)?;
-    }
-    Ok(paths)
-}
-
-/// The paths of the steps of each item.
-fn all_paths(alloc: Global, conf: &Conf) -> Result<Vec<Many<Option<Path>>>, OutOfMemory>
-    ensures { IfOk result (λ paths. paths.items ≡ map paths_for conf.now.items) }
-{
-    let mut paths = Vec::new(alloc);
+    let mut ways = Vec::new(alloc);
     for item in conf.items.as_slice() {
-        paths.push(paths_of(alloc, item)?)?;
+        ways.push(ways_of(alloc, item, patterns)?)?;
     }
-    Ok(paths)
+    Ok(ways)
 }
 
 impl Chains {
-    /// Finds it, in time that grows with the length of the configuration. [`OutOfMemory`] where there is no room for it.
-    pub fn build(alloc: Global, conf: &Conf) -> Result<Chains, OutOfMemory>
-        ensures { IfOk result (λ chains. AreChainsOf conf.now chains) }
+    /// Finds it, once for all values: the places of patterns are those among `patterns`, to which it then belongs.
+    /// [`OutOfMemory`] where there is no room for it.
+    pub fn build(alloc: Global, conf: &Conf, patterns: &Patterns) -> Result<Chains, OutOfMemory>
+        ensures { IfOk result (λ chains. AreChainsOf conf.now patterns.now chains) }
     {
         Ok(Chains {
             below: below_of(alloc, conf)?,
-            paths: all_paths(alloc, conf)?,
+            ways: all_ways(alloc, conf, patterns)?,
         })
     }
 
@@ -128,12 +106,12 @@ impl Chains {
         }
     }
 
-    /// The paths of the steps of an item.
-    pub(crate) fn paths(&self, id: u32) -> &[Option<Path>]
-        ensures { result.now ≡ listed self.now.paths.items id }
+    /// The ways of the steps of an item.
+    pub(crate) fn ways(&self, id: u32) -> &[Way]
+        ensures { result.now ≡ listed self.now.ways.items id }
     {
-        match by_id(self.paths.as_slice(), id) {
-            Some(paths) => paths.as_slice(),
+        match by_id(self.ways.as_slice(), id) {
+            Some(ways) => ways.as_slice(),
             None => &[],
         }
     }

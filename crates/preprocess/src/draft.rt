@@ -137,7 +137,7 @@ pub fn prepare(
     time: Moment,
     number: u64,
 ) -> Result<Draft, OutOfMemory>
-    requires chains { AreChainsOf conf.now chains.now }
+    requires chains { AreChainsOf conf.now patterns.now chains.now }
     requires patterns { ArePatternsOf conf.now patterns.now }
     ensures draft { IfOk result (λ draft. draft ≡ draft_of conf.now cells.old (record { item = item; time = time; value = value.now }) number) }
     ensures apart { IfOk result (λ draft. AreApart draft.visits) }

@@ -19,11 +19,12 @@
 //! time: of a number its written form. A value that is discarded or fails gives them nothing. Each step of an item keeps
 //! its own memory, so that no visit changes what another one finds.
 //!
-//! A text is read as JSON once a chain, as long as it stays the same text, and a path once, at the opening. A caller of
-//! many values builds [`Chains`] once, and takes each value in two calls, of which the second takes no memory:
+//! A text is read as JSON once a chain, as long as it stays the same text. A path is read, and the place of a pattern found,
+//! once, at the opening. A caller of many values builds [`Chains`] once, and takes each value in two calls, of which the
+//! second takes no memory:
 //!
 //! ```text
-//! let chains = Chains::build(alloc, &conf)?;
+//! let chains = Chains::build(alloc, &conf, &patterns)?;
 //! let mut cells = Cells::new(alloc, &conf)?;
 //! let draft = prepare(alloc, &conf, &patterns, &chains, &mut cells, item, &value, time, number)?;
 //! let done = commit(&mut cells, draft, now);      // done.stored: ids of items; done.failures: records
@@ -41,13 +42,15 @@ mod putting;
 mod running;
 mod step;
 mod visit;
+mod ways;
 
 pub use cells::Cells;
 pub use chain::{Chained, run_chain};
-pub use chains::{Chains, paths_of};
+pub use chains::Chains;
 pub use draft::{Draft, Prepared, commit, prepare};
 pub use ended::Ended;
 pub use running::run;
+pub use ways::{Way, ways_of};
 
 #[cfg(test)]
 mod tests;

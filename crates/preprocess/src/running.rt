@@ -33,7 +33,7 @@ pub fn run(
     ensures cells { OnOk result (Becomes now time number (visits_in conf.now cells.old (record { item = item; time = time; value = value.now })) cells.old cells.new) }
     ensures err { OnErr result (AreSame cells.new cells.old) }
 {
-    let chains = Chains::build(alloc, conf)?;
+    let chains = Chains::build(alloc, conf, patterns)?;
     let draft = prepare(
         alloc, conf, patterns, &chains, cells, item, value, time, number,
     )?;

@@ -1,15 +1,15 @@
 //! One step of any kind, and what comes of a failure at it.
 
-ghost use Rattle.std.specs.Prelude.{◌≡◌, ◌++◌, IfOk, option_copied, codes};
+ghost use Rattle.std.specs.Prelude.{◌≡◌, ◌++◌, IfOk, codes};
 ghost use Rattle.std.specs.Fmt.{decimal};
 ghost use Rattle.preprocess.specs.Chain.{step_done, on_failure, settled};
 ghost use Rattle.preprocess.specs.Parsing.{IsParsed};
-ghost use Rattle.preprocess.specs.Ways.{path_for, HasPattern};
+ghost use Rattle.preprocess.specs.Ways.{way_for, HasPattern};
 
 use crate::json::{Looked, Parsed, check, look, select};
-use json_path::Path;
+use crate::ways::Way;
 use pattern_set::Patterns;
-use prep_steps::{Outcome, StepDone, StepMemory, apply};
+use prep_steps::{Outcome, StepDone, StepMemory, apply_at};
 use std::alloc::Global;
 use std::convert::AsStr;
 use zbx_types::{Moment, OnFail, OutOfMemory, StepKind, StepSpec, Text};
@@ -23,18 +23,18 @@ pub(crate) struct Stepped {
 }
 
 /// What a step makes of a text that came at a moment.
-#[tactic(auto, unfolding(crate::specs::Chain::step_done))]
+#[tactic(auto, unfolding(crate::specs::Chain::step_done), using(pattern_set::proofs::Placed::placed))]
 pub(crate) fn step_done(
     alloc: Global,
     step: &StepSpec,
-    path: Option<&Path>,
+    way: &Way,
     patterns: &Patterns,
     memory: &StepMemory,
     text: &Text,
     parsed: Parsed,
     time: Moment,
 ) -> Result<Stepped, OutOfMemory>
-    requires path { option_copied path ≡ path_for step.now }
+    requires way { way.now ≡ way_for patterns.now step.now }
     requires pattern { HasPattern patterns.now step.now }
     requires parsed { IsParsed text.now parsed }
     ensures done { IfOk result (λ stepped. record { outcome = stepped.outcome; memory = stepped.memory } ≡ step_done step.now memory.now text.now time) }
@@ -42,7 +42,7 @@ pub(crate) fn step_done(
 {
     match step.kind {
         StepKind::JsonPath => {
-            let Looked { found, parsed } = look(alloc, text, parsed, path)?;
+            let Looked { found, parsed } = look(alloc, text, parsed, way.path.as_ref())?;
             Ok(Stepped {
                 outcome: select(alloc, found)?,
                 memory: memory.copy(alloc)?,
@@ -50,7 +50,7 @@ pub(crate) fn step_done(
             })
         }
         StepKind::JsonError => {
-            let Looked { found, parsed } = look(alloc, text, parsed, path)?;
+            let Looked { found, parsed } = look(alloc, text, parsed, way.path.as_ref())?;
             Ok(Stepped {
                 outcome: check(alloc, found, text)?,
                 memory: memory.copy(alloc)?,
@@ -58,7 +58,9 @@ pub(crate) fn step_done(
             })
         }
         _ => {
-            let StepDone { outcome, memory } = apply(alloc, step, memory, text, time, patterns)?;
+            let StepDone { outcome, memory } = apply_at(
+                alloc, step, way.place, memory, text, time, patterns,
+            )?;
             Ok(Stepped {
                 outcome,
                 memory,

@@ -99,7 +99,7 @@ pub(crate) fn go_through(
     value: &Text,
     down: usize,
 ) -> Result<(), OutOfMemory>
-    requires chains { AreChainsOf conf.now chains.now }
+    requires chains { AreChainsOf conf.now patterns.now chains.now }
     requires patterns { ArePatternsOf conf.now patterns.now }
     ensures { OnOk result (visits.new ≡ visits.old ++ walk conf.now (memory_in memories.now) time down id value.now) }
 {
@@ -107,7 +107,7 @@ pub(crate) fn go_through(
         return Ok(());
     };
     let own = memories_of(memories, id);
-    let chained = run_chain(alloc, item, chains.paths(id), patterns, own, value, time)?;
+    let chained = run_chain(alloc, item, chains.ways(id), patterns, own, value, time)?;
     let Visited { visit, text } = left_by(id, chained);
     visits.push(visit)?;
     match text {
@@ -136,7 +136,7 @@ fn visit_below(
     value: &Text,
     down: usize,
 ) -> Result<(), OutOfMemory>
-    requires chains { AreChainsOf conf.now chains.now }
+    requires chains { AreChainsOf conf.now patterns.now chains.now }
     requires patterns { ArePatternsOf conf.now patterns.now }
     ensures { OnOk result (visits.new ≡ visits.old ++ walk_below conf.now (memory_in memories.now) time down ids.now value.now) }
 {
@@ -182,7 +182,7 @@ pub(crate) fn visits(
     value: &Text,
     time: Moment,
 ) -> Result<Many<Visit>, OutOfMemory>
-    requires chains { AreChainsOf conf.now chains.now }
+    requires chains { AreChainsOf conf.now patterns.now chains.now }
     requires patterns { ArePatternsOf conf.now patterns.now }
     ensures { IfOk result (λ visits. visits ≡ visits_of conf.now (memory_in memories.now) (record { item = item; time = time; value = value.now })) }
 {

@@ -1,4 +1,4 @@
-use Rattle.std.proofs.Common.{arith, ◌≡◌, ◌∙◌, ap, slice_index_or}
+use Rattle.std.proofs.Common.{arith, ◌∙◌, ap, slice_index_or}
 use Rattle.preprocess.proofs.Chaining.{unreached_on}
 use Rattle.preprocess.proofs.chain.with_unreached.Goals as goal
 

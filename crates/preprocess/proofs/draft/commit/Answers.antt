@@ -1,4 +1,4 @@
-use Rattle.std.proofs.Common.{◌≡◌, ◌∷◌, [], ℕ, List, length, arith, map, option_map, ap, sym, ◌∙◌, subst}
+use Rattle.std.proofs.Common.{◌≡◌, ◌∷◌, [], List, length, arith, map, option_map, ap, sym, ◌∙◌, subst}
 use Rattle.std.specs.Vec.Iter.{into_iter_items}
 use Rattle.zbx_types.specs.Ids.{at_id}
 use Rattle.preprocess.specs.Draft.{AreApart, HaveRoom, kept_of, kept_after, marks_after, visit_at}

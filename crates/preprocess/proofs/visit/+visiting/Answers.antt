@@ -1,10 +1,10 @@
-use Rattle.std.proofs.Common.{arith, ◌≡◌, ◌-◌, ◌++◌, [], ℕ, List, Some, None, ap, sym, ◌∙◌, drop, flat_map, append-nil}
+use Rattle.std.proofs.Common.{◌-◌, ℕ, Some, None, ap, sym, ◌∙◌}
 use Rattle.std.proofs.lemmas.Result.{IfOk-weaker}
 use Rattle.preprocess.specs.Chain.{chain_of}
 use Rattle.preprocess.specs.Ways.{memory_at}
 use Rattle.preprocess.specs.Visits.{memory_in}
-use Rattle.preprocess.specs.Walks.{walk, walk_below}
-use Rattle.preprocess.proofs.Walking.{walk_none, below_none, below_some, paths_are, below_are, nothing, finished, stops, goes, at_found}
+use Rattle.preprocess.specs.Walks.{walk}
+use Rattle.preprocess.proofs.Walking.{walk_none, below_none, below_some, ways_are, below_are, nothing, finished, stops, goes, at_found}
 use Rattle.preprocess.proofs.visit.+visiting.Goals as goal
 
 pub go_through-returns-in_default : goal.go_through-returns-in_default
@@ -12,9 +12,9 @@ go_through-returns-in_default t c =
     nothing c.args.visits.now _ (walk_none c.args.conf.now (memory_in c.args.memories.now) c.args.time c.args.down c.args.id c.args.value.now
     (at_found c.args.conf.now.items c.as_slice.result.now c.args.id None c.as_slice.ensures c.in_default.ensures))
 
-pub go_through-run_chain-requires-clause-paths : goal.go_through-run_chain-requires-clause-paths
-go_through-run_chain-requires-clause-paths t c =
-    c.paths.ensures ∙ paths_are c.args.conf.now c.args.chains.now c.args.id c.in-Some.item.now c.requires.chains
+pub go_through-run_chain-requires-clause-ways : goal.go_through-run_chain-requires-clause-ways
+go_through-run_chain-requires-clause-ways t c =
+    c.ways.ensures ∙ ways_are c.args.conf.now c.args.patterns.now c.args.chains.now c.args.id c.in-Some.item.now c.requires.chains
     (at_found c.args.conf.now.items c.as_slice.result.now c.args.id (Some c.in-Some.item.now) c.as_slice.ensures c.in-Some.ensures)
 
 pub go_through-returns-in-None : goal.go_through-returns-in-None
@@ -30,7 +30,7 @@ go_through-returns-in-Some-text t c = IfOk-weaker c.visit_below.result _ _ (λ o
     (at_found c.args.conf.now.items c.as_slice.result.now c.args.id (Some c.in-Some.item.now) c.as_slice.ensures c.in-Some.ensures)
     (c.in_ok-chained.ensures ∙ ap (λ own. chain_of c.in-Some.item.now (memory_at own) c.args.value.now c.args.time) c.memories_of-own.ensures)
     c.left_by-visit.ensures.visit c.in_ok-push.ensures.ok (sym c.left_by-visit.ensures.text ∙ c.in-Some-text.is)
-    (c.below-below.ensures ∙ below_are c.args.conf.now c.args.chains.now c.args.id c.in-Some.item.now c.requires.chains
+    (c.below-below.ensures ∙ below_are c.args.conf.now c.args.patterns.now c.args.chains.now c.args.id c.in-Some.item.now c.requires.chains
     (at_found c.args.conf.now.items c.as_slice.result.now c.args.id (Some c.in-Some.item.now) c.as_slice.ensures c.in-Some.ensures))
     after) c.visit_below.ensures
 

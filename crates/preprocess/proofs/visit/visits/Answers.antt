@@ -1,4 +1,4 @@
-use Rattle.std.proofs.Common.{◌≡◌, ◌++◌, ap, ◌∙◌, not, Bool, true, false, refl, sym}
+use Rattle.std.proofs.Common.{◌++◌, ap, ◌∙◌, sym}
 use Rattle.preprocess.specs.Visits.{Arrival, memory_in}
 use Rattle.preprocess.specs.Walks.{walk}
 use Rattle.preprocess.proofs.Visiting.{first_taken}
