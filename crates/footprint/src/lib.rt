@@ -1,0 +1,10 @@
+//! Footprints.
+#![tactic(auto)]
+
+mod feet;
+mod meeting;
+mod reach;
+mod rows;
+mod tables;
+
+pub use feet::Feet;
