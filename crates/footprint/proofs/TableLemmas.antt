@@ -65,7 +65,7 @@ rows_go f all made next whole row place h pushed is kept =
 -- rows of a table
 row_from : {A : Type 0} (f : ℕ → List ℕ) (k j : ℕ) (all : List A) → j < length all → row_at (rows_from f k all) j ≡ f (k + j)
 row_from f k j [] h = absurd (omega arith)
-row_from f k zero (a ∷ all) h = refl
+row_from f k zero (a ∷ all) h = ap f (let z : k ≡ k + 0 = omega arith in z)
 row_from f k (suc j) (a ∷ all) h = row_from f (k + 1) j all (omega arith) ∙ ap f (let z : k + 1 + j ≡ k + suc j = omega arith in z)
 
 one_up : {A : Type 0} (all : List A) (id : ℕ) → is_one all id ≡ true → (0 < id) × (id < length all + 1)

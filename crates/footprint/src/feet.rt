@@ -1,8 +1,9 @@
 //! Feet, and which entries conflict.
 
-ghost use Rattle.std.specs.Prelude.{◌≡◌, IfOk};
+ghost use Rattle.std.specs.Prelude.{◌≡◌, true, IfOk};
 ghost use Rattle.zbx_types.specs.Masters.{DepthsFall};
 ghost use Rattle.footprint.specs.Feet.{feet_of, told_by};
+ghost use Rattle.footprint.specs.Rows.{rises};
 ghost use Rattle.footprint.specs.Conflict.{feet_meet, conflict_by};
 
 use crate::meeting::meet;
@@ -57,28 +58,32 @@ impl Feet {
     /// The items of an item's foot, rising: the item, its dependents, and the items of the triggers over these. None where
     /// there is no such item.
     pub fn items(&self, item: u32) -> &[u32]
-        ensures { result.now ≡ (told_by self.now).items item }
+        ensures row { result.now ≡ (told_by self.now).items item }
+        ensures rising { rises result.now ≡ true }
     {
         row_at(self.items.as_slice(), item)
     }
 
     /// The triggers of an item's foot, rising: those over the item and its dependents, and all masters of those.
     pub fn triggers(&self, item: u32) -> &[u32]
-        ensures { result.now ≡ (told_by self.now).triggers item }
+        ensures row { result.now ≡ (told_by self.now).triggers item }
+        ensures rising { rises result.now ≡ true }
     {
         row_at(self.triggers.as_slice(), item)
     }
 
     /// The marks of an item's foot, rising: the rules whose reach holds one of its triggers, counted from 1.
     pub fn marks(&self, item: u32) -> &[u32]
-        ensures { result.now ≡ (told_by self.now).marks item }
+        ensures row { result.now ≡ (told_by self.now).marks item }
+        ensures rising { rises result.now ≡ true }
     {
         row_at(self.marks.as_slice(), item)
     }
 
     /// The rules whose marks an item's foot meets, rising: those that share a trigger with one of its marks.
     pub fn met_marks(&self, item: u32) -> &[u32]
-        ensures { result.now ≡ (told_by self.now).met_marks item }
+        ensures row { result.now ≡ (told_by self.now).met_marks item }
+        ensures rising { rises result.now ≡ true }
     {
         row_at(self.met_marks.as_slice(), item)
     }

@@ -195,9 +195,10 @@ pub(crate) fn foot_marks(
     ensures met { IfOk result (λ made. IsTable made.met.items (λ item. those conf.now.correlations (foot_meets_mark conf.now item))) }
 {
     let rules = conf.correlations.as_slice();
-    let reached = reached(alloc, rules, conf.triggers.as_slice())?;
+    let all = conf.triggers.as_slice();
+    let reached = reached(alloc, rules, all)?;
     let own = gathered_all(alloc, reached.as_slice(), triggers, rules)?;
-    let members = inverse(alloc, reached.as_slice(), rules, conf.triggers.as_slice())?;
+    let members = inverse(alloc, reached.as_slice(), rules, all)?;
     let shares = gathered_all(alloc, reached.as_slice(), members.as_slice(), rules)?;
     let met = gathered_all(alloc, shares.as_slice(), own.as_slice(), rules)?;
     Ok(Marks { own, met })
