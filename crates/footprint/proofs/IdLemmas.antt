@@ -81,7 +81,7 @@ one_from p k x (a ∷ all) = go (nat_lt k x) (k == x) refl refl (one_from p (k +
         last : (t : Bool) → ((t && true) || false) ≡ t
         last true = refl
         last false = refl
-    go false false e f ih = 
+    go false false e f ih =
         let a : nat_le (k + 1) x ≡ false = le_no (k + 1) x (omega (arith, below)) in
         let b : nat_le k x ≡ false = le_no k x below in
         rw (and_no (p k), ih, a, b) refl

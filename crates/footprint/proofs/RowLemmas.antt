@@ -136,8 +136,8 @@ pub inverse_is : {A B : Type 0} (all : List A) (from : List B) (rows turned : Li
 inverse_is all from rows turned count size counted told id =
     row_map (λ row. those from (has_id row)) (those_none 1 from) turned id
     ∙ those_same from (has_id (row_at turned id)) (λ one. is_one all id && has_id (row_at rows one) id) (λ one is.
-      let l : nat_lt one (length rows) ≡ true = ap (λ n. nat_lt one n) size ∙ known_one one (length from + 1) is in
-      told id one ∙ ap (λ b. is_in count id && (b && has_id (row_at rows one) id)) l ∙ ap (λ n. is_in n id && has_id (row_at rows one) id) counted)
+    let l : nat_lt one (length rows) ≡ true = ap (λ n. nat_lt one n) size ∙ known_one one (length from + 1) is in
+    told id one ∙ ap (λ b. is_in count id && (b && has_id (row_at rows one) id)) l ∙ ap (λ n. is_in n id && has_id (row_at rows one) id) counted)
 
 row_past : (rows : List (List ℕ)) (id : ℕ) → length rows ≤ id → row_at rows id ≡ []
 row_past [] id h = refl

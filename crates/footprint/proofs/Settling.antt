@@ -101,7 +101,7 @@ walk all size last q rest (x ∷ ys) g = go (nat_lt last x) (x == (last + 1)) re
         let here : has_id (x ∷ ys) (last + 1) ≡ has_id ys (last + 1) = no (last + 1) (omega arith) in
         risen_head size last x ys false (nat_le x size) e refl ∙ ih
         ∙ sym (ap (λ b. cond b ((last + 1) ∷ filter (has_id (x ∷ ys)) (ids_from (last + 1 + 1) all)) (filter (has_id (x ∷ ys)) (ids_from (last + 1 + 1) all))) here
-            ∙ ap (λ r. cond (has_id ys (last + 1)) ((last + 1) ∷ r) r) same)
+        ∙ ap (λ r. cond (has_id ys (last + 1)) ((last + 1) ∷ r) r) same)
     go true true e f ih =
         let at : x ≡ last + 1 = eqb-true x (last + 1) f in
         let fits : nat_le x size ≡ true = le-leb x size (omega arith) in

@@ -135,7 +135,7 @@ pub over_is : (conf : Conf) (called calls under over : List (List ℕ)) → IsTa
 over_is conf called calls under over called_as under_as calls_are e =
     held_rows conf.triggers conf.items calls under over (is_under conf) (λ i t. is_of conf t i) e under_as
     (λ i t inside one. ap (λ xs. has_id xs t) (calls_are i) ∙ has_those conf.triggers (λ t. is_one conf.items i && has_id (row_at called t) i) t
-      ∙ ap (λ b. b && (is_one conf.items i && has_id (row_at called t) i)) one ∙ ap (λ b. b && has_id (row_at called t) i) inside ∙ ap (λ xs. has_id xs i) (called_as t))
+    ∙ ap (λ b. b && (is_one conf.items i && has_id (row_at called t) i)) one ∙ ap (λ b. b && has_id (row_at called t) i) inside ∙ ap (λ xs. has_id xs i) (called_as t))
 
 -- the foot's items
 pub foot_items_are : (conf : Conf) (called under over others made : List (List ℕ)) → IsTable called (λ t. calls_by (at_id conf.triggers t)) → IsTable under (under_of conf) → IsTable over (over_of conf)
@@ -145,17 +145,17 @@ foot_items_are conf called under over others made called_as under_as over_as e k
     held_rows conf.items conf.triggers called over others (is_over conf) (λ t i. is_of conf t i) e over_as (λ t i inside one. ap (λ xs. has_id xs i) (called_as t)) in
     known id ∙ those_same conf.items (has_id (row_at under id ++ row_at others id)) (foot_has_item conf id)
     (λ i one.
-      list_any-append (λ y. y == i) (row_at under id) (row_at others id)
-      ∙ ap (λ xs. has_id xs i || has_id (row_at others id) i) (under_as id)
-      ∙ ap (λ b. b || has_id (row_at others id) i) (has_those conf.items (is_under conf id) i ∙ ap (λ b. b && is_under conf id i) one)
-      ∙ ap (λ b. is_under conf id i || b) (ap (λ xs. has_id xs i) (rest id) ∙ has_those conf.items (λ i. list_any (λ t. is_of conf t i) (over_of conf id)) i ∙ ap (λ b. b && list_any (λ t. is_of conf t i) (over_of conf id)) one))
+    list_any-append (λ y. y == i) (row_at under id) (row_at others id)
+    ∙ ap (λ xs. has_id xs i || has_id (row_at others id) i) (under_as id)
+    ∙ ap (λ b. b || has_id (row_at others id) i) (has_those conf.items (is_under conf id) i ∙ ap (λ b. b && is_under conf id i) one)
+    ∙ ap (λ b. is_under conf id i || b) (ap (λ xs. has_id xs i) (rest id) ∙ has_those conf.items (λ i. list_any (λ t. is_of conf t i) (over_of conf id)) i ∙ ap (λ b. b && list_any (λ t. is_of conf t i) (over_of conf id)) one))
 
 -- its triggers
 pub foot_triggers_are : (conf : Conf) (families over made : List (List ℕ)) → IsTable over (over_of conf) → families ≡ table_of conf.triggers (λ t. t ∷ masters_of conf t) → made ≡ map (held_by conf.triggers families) over → IsTable made (foot_triggers conf)
 foot_triggers_are conf families over made over_as e f =
     held_rows conf.triggers conf.triggers families over made (is_over conf) (λ t u. (t == u) || is_master conf t u) f over_as
     (λ t u inside one. ap (λ xs. has_id xs u) (ap (λ rows. row_at rows t) e ∙ row_table (λ t. t ∷ masters_of conf t) conf.triggers t inside)
-      ∙ ap (λ b. (t == u) || b) (has_those conf.triggers (is_master conf t) u ∙ ap (λ b. b && is_master conf t u) one))
+    ∙ ap (λ b. (t == u) || b) (has_those conf.triggers (is_master conf t) u ∙ ap (λ b. b && is_master conf t u) one))
 
 -- its marks
 reached_low : (trigger : Trigger) (k x : ℕ) (rules : List Rule) → x < k → has_id (reached_from trigger k rules) x ≡ false
@@ -212,14 +212,14 @@ pub met_are : (conf : Conf) (reached members shares own made : List (List ℕ)) 
 met_are conf reached members shares own made e among f known g =
     held_rows conf.correlations conf.correlations shares own made (foot_has_mark conf) (share_trigger conf) g known
     (λ rule other inside one.
-      let shared : IsTable shares (λ id. those conf.correlations (λ s. list_any (λ u. is_reached conf s u) (those conf.triggers (λ u. is_one conf.correlations id && has_id (row_at reached u) id)))) =
-      held_rows conf.correlations conf.triggers reached members shares (λ id u. is_one conf.correlations id && has_id (row_at reached u) id) (λ u s. is_reached conf s u) f among (λ u s t o. reached_is conf reached e u s o) in
-      ap (λ xs. has_id xs other) (shared rule)
-      ∙ has_those conf.correlations (λ s. list_any (λ u. is_reached conf s u) (those conf.triggers (λ u. is_one conf.correlations rule && has_id (row_at reached u) rule))) other
-      ∙ ap (λ b. b && list_any (λ u. is_reached conf other u) (those conf.triggers (λ u. is_one conf.correlations rule && has_id (row_at reached u) rule))) one
-      ∙ any_filter (λ u. is_one conf.correlations rule && has_id (row_at reached u) rule) (λ u. is_reached conf other u) (ids_from 1 conf.triggers)
-      ∙ any_same conf.triggers (λ u. (is_one conf.correlations rule && has_id (row_at reached u) rule) && is_reached conf other u) (λ u. is_reached conf rule u && is_reached conf other u)
-      (λ u t. ap (λ b. (b && has_id (row_at reached u) rule) && is_reached conf other u) inside ∙ ap (λ b. b && is_reached conf other u) (reached_is conf reached e u rule inside)))
+    let shared : IsTable shares (λ id. those conf.correlations (λ s. list_any (λ u. is_reached conf s u) (those conf.triggers (λ u. is_one conf.correlations id && has_id (row_at reached u) id)))) =
+    held_rows conf.correlations conf.triggers reached members shares (λ id u. is_one conf.correlations id && has_id (row_at reached u) id) (λ u s. is_reached conf s u) f among (λ u s t o. reached_is conf reached e u s o) in
+    ap (λ xs. has_id xs other) (shared rule)
+    ∙ has_those conf.correlations (λ s. list_any (λ u. is_reached conf s u) (those conf.triggers (λ u. is_one conf.correlations rule && has_id (row_at reached u) rule))) other
+    ∙ ap (λ b. b && list_any (λ u. is_reached conf other u) (those conf.triggers (λ u. is_one conf.correlations rule && has_id (row_at reached u) rule))) one
+    ∙ any_filter (λ u. is_one conf.correlations rule && has_id (row_at reached u) rule) (λ u. is_reached conf other u) (ids_from 1 conf.triggers)
+    ∙ any_same conf.triggers (λ u. (is_one conf.correlations rule && has_id (row_at reached u) rule) && is_reached conf other u) (λ u. is_reached conf rule u && is_reached conf other u)
+    (λ u t. ap (λ b. (b && has_id (row_at reached u) rule) && is_reached conf other u) inside ∙ ap (λ b. b && is_reached conf other u) (reached_is conf reached e u rule inside)))
 
 above : {A : Type 0} (p : ℕ → Bool) (n j : ℕ) (all : List A) → n < j → list_all (λ y. nat_lt n y) (filter p (ids_from j all)) ≡ true
 above p n j [] h = refl

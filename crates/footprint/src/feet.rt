@@ -104,8 +104,9 @@ impl Feet {
         ensures { result ≡ conflict_by (told_by self.now) a.now b.now }
     {
         match (a, b) {
-            (Entry::Value { item, .. }, Entry::Value { item: other, .. }) =>
-                self.meet(*item, *other),
+            (Entry::Value { item, .. }, Entry::Value { item: other, .. }) => self.meet(
+                *item, *other,
+            ),
             _ => true,
         }
     }

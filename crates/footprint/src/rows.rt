@@ -34,7 +34,11 @@ fn risen(alloc: Global, ids: &[u32], count: usize) -> Result<Many<u32>, OutOfMem
 }
 
 /// Those ids of a list that were found, rising.
-pub(crate) fn settled<T>(alloc: Global, found: Vec<u32>, all: &[T]) -> Result<Many<u32>, OutOfMemory>
+pub(crate) fn settled<T>(
+    alloc: Global,
+    found: Vec<u32>,
+    all: &[T],
+) -> Result<Many<u32>, OutOfMemory>
     ensures { IfOk result (λ row. row ≡ those all.now (has_id found.items)) }
 {
     let mut ids = found;
@@ -128,11 +132,7 @@ fn id_at(place: usize) -> Result<u32, OutOfMemory>
 }
 
 /// For each id of a list the ids of the rows that hold it.
-fn turned<A>(
-    alloc: Global,
-    rows: &[Many<u32>],
-    all: &[A],
-) -> Result<Vec<Many<u32>>, OutOfMemory>
+fn turned<A>(alloc: Global, rows: &[Many<u32>], all: &[A]) -> Result<Vec<Many<u32>>, OutOfMemory>
     ensures { IfOk result (λ made. IsTurned (length all.now + 1) (length rows.now) rows.now made.items) }
 {
     let mut made = no_rows(alloc, all)?;

@@ -155,7 +155,12 @@ pub(crate) fn foot_items(
     ensures { IfOk result (λ made. IsTable made.items (λ item. those conf.now.items (foot_has_item conf.now item))) }
 {
     let items = conf.items.as_slice();
-    let others = gathered_all(alloc, hanging.called.as_slice(), hanging.over.as_slice(), items)?;
+    let others = gathered_all(
+        alloc,
+        hanging.called.as_slice(),
+        hanging.over.as_slice(),
+        items,
+    )?;
     let made = united_all(alloc, hanging.under.as_slice(), others.as_slice(), items)?;
     Ok(made)
 }

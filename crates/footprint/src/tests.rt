@@ -211,7 +211,11 @@ fn dependents_items_of_triggers_and_masters_of_masters(rt: HostRuntime) -> Resul
 }
 
 fn tagged() -> [Given<'static>; 3] {
-    [(&[1], "a", &[], 0), (&[2], "b", &[], 0), (&[3], "c", &[], 0)]
+    [
+        (&[1], "a", &[], 0),
+        (&[2], "b", &[], 0),
+        (&[3], "c", &[], 0),
+    ]
 }
 
 #[test]

@@ -17,6 +17,6 @@ pub loop-place-preserved : goal.loop-place-preserved
 loop-place-preserved g c = record {
   size = c.in_ok-enter.ensures.size ∙ c.loop-place.invariant.size;
   rows = turned_more (length c.args.all.now + 1) c.loop-place.place c.args.rows.now c.loop-place.made.items c.enter.new.rows.items c.row_at.result.now c.loop-place.invariant.size
-  (c.row_at.ensures ∙ ap (λ k. row_at c.args.rows.now k) c.in_ok-id.ensures) c.loop-place.invariant.rows
-  (subst (λ k. IsNoted c.loop-place.made.items c.row_at.result.now k c.enter.new.rows.items) c.in_ok-id.ensures c.in_ok-enter.ensures.rows);
+      (c.row_at.ensures ∙ ap (λ k. row_at c.args.rows.now k) c.in_ok-id.ensures) c.loop-place.invariant.rows
+      (subst (λ k. IsNoted c.loop-place.made.items c.row_at.result.now k c.enter.new.rows.items) c.in_ok-id.ensures c.in_ok-enter.ensures.rows);
 }
