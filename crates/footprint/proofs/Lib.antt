@@ -1,0 +1,5 @@
+pub mod IdLemmas
+pub mod RowLemmas
+pub mod Walks
+pub mod Settling
+pub mod TableLemmas

@@ -1,0 +1,7 @@
+use Rattle.std.proofs.Common.{◌≡◌, ◌++◌, ◌+◌, drop, take, length, replicate, []}
+use Rattle.std.specs.List.{flat_map}
+use Rattle.footprint.specs.Rows.{row_at, risen, from_id, walk_meets, IsNoted, IsTurned}
+use Rattle.footprint.proofs.rows.joined.Given as goal
+
+abbrev pub invariant-loop-id : goal.invariant-loop-id
+invariant-loop-id l = l.made.items ++ flat_map (row_at l.table) (drop l.id-index l.ids) ≡ flat_map (row_at l.table) l.ids

@@ -1,0 +1,7 @@
+use Rattle.std.proofs.Common.{◌≡◌, ◌++◌, ◌+◌, drop, take, length, replicate, []}
+use Rattle.std.specs.List.{flat_map}
+use Rattle.footprint.specs.Rows.{row_at, risen, from_id, walk_meets, IsNoted, IsTurned}
+use Rattle.footprint.proofs.rows.risen.Given as goal
+
+abbrev pub invariant-loop-id : goal.invariant-loop-id
+invariant-loop-id l = l.row ++ risen l.count l.last (drop l.id-index l.ids) ≡ risen l.count 0 l.ids

@@ -1,0 +1,4 @@
+pub mod Rows
+pub mod Feet
+pub mod Conflict
+pub mod Reaches
