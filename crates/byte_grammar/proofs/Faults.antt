@@ -1,7 +1,7 @@
 -- A machine that lives exactly on what is viable stops at the first fault.
 use Rattle.std.proofs.Math.Seq.{take-length}
-use Rattle.std.proofs.Common.{◌≡◌, ℕ, zero, suc, ◌+◌, ◌≤◌, ◌<◌, List, [], ◌∷◌, length, take, get_or, refl, ap, sym, ◌∙◌, Option, Some, None, add-one, arith}
-use Rattle.byte_grammar.specs.Runs.{run, move}
+use Rattle.std.proofs.Common.{◌≡◌, ℕ, suc, ◌+◌, ◌<◌, List, length, take, get_or, ap, sym, ◌∙◌, Option, Some, None, add-one, arith}
+use Rattle.byte_grammar.specs.Runs.{run}
 use Rattle.byte_grammar.specs.Fault.{IsFaultOf}
 use Rattle.byte_grammar.proofs.Runs.{run_end, run_more, none_on}
 

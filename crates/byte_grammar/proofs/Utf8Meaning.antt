@@ -1,5 +1,5 @@
 -- The characters in the words of UTF-8: each can be made whole, and a byte without a next one has no text.
-use Rattle.std.proofs.Common.{◌≡◌, ℕ, List, [], ◌∷◌, ◌++◌, refl, sym, ◌∙◌, Some, None, Bool, true, false, IsUtf8, nat_le}
+use Rattle.std.proofs.Common.{◌≡◌, ℕ, List, [], ◌∷◌, ◌++◌, refl, sym, ◌∙◌, Some, None, Bool, true, IsUtf8, nat_le}
 use Rattle.byte_grammar.specs.Bytes.{Each}
 use Rattle.byte_grammar.specs.Fault.{IsViable}
 use Rattle.byte_grammar.specs.Runs.{run}
