@@ -97,3 +97,11 @@ none_on step s [] (suc m) zero h e = e
 none_on step s [] (suc m) (suc n) h e = e
 none_on step s (b ∷ bs) (suc m) zero h e = absurd (omega arith)
 none_on step s (b ∷ bs) (suc m) (suc n) h e = none_on step (move step s b) bs m n (omega arith) e
+
+-- the first byte of a run, and the rest
+pub run_first : {S : Type 0} (step : S → ℕ → Option S) (s t : S) (b : ℕ) (bs : List ℕ) → run step (Some s) (b ∷ bs) ≡ Some t → (r : S) × (step s b ≡ Some r) × (run step (Some r) bs ≡ Some t)
+run_first {S} step s t b bs h = at (step s b) refl (sym (one_on step s b bs) ∙ h)
+  where
+    at : (o : Option S) → step s b ≡ o → run step o bs ≡ Some t → (r : S) × (step s b ≡ Some r) × (run step (Some r) bs ≡ Some t)
+    at None e g = absurd (let n = run_none step bs in cc)
+    at (Some r) e g = (r, e, g)
