@@ -24,7 +24,7 @@ number_go : (p q : InNumber) (s : List ℕ) (k : List Frame) (b : ℕ) (bs : Lis
 number_go p q s k b bs e = stepped (Number p s) k b bs (in_number q (s ++ b ∷ []) k) (rw e refl)
 
 -- digits stay in a place
-digits_run : (q : InNumber) → ((b : ℕ) → is_digit b ≡ true → number_step q b ≡ Some q) → (s bs : List ℕ) (k : List Frame) → AreDigits bs → after (in_number q s k) bs ≡ in_number q (s ++ bs) k
+pub digits_run : (q : InNumber) → ((b : ℕ) → is_digit b ≡ true → number_step q b ≡ Some q) → (s bs : List ℕ) (k : List Frame) → AreDigits bs → after (in_number q s k) bs ≡ in_number q (s ++ bs) k
 unfolding Each
 digits_run q on s [] k a = no_step _ ∙ ap (λ (z : List ℕ). in_number q z k) (sym (append-nil s))
 digits_run q on s (b ∷ bs) k a =

@@ -4,6 +4,8 @@ pub mod CharBytes
 pub mod CompleteStrings
 pub mod CompleteNumbers
 pub mod Complete
+pub mod Moving
+pub mod Names
 pub mod SoundStrings
 pub mod SoundNumbers
 pub mod Standing

@@ -1,8 +1,9 @@
 -- A text goes on exactly as far as the machine does.
-use Rattle.std.proofs.Math.Seq.{take-length}
+use Rattle.std.proofs.Math.Seq.{take-length, take-add}
+use Rattle.std.proofs.lemmas.List.{get_or-drop, take_all, length-drop}
 use Rattle.std.proofs.lemmas.Str.{encode_ascii, IsUtf8-append, IsUtf8-encode, IsUtf8-nil}
 use Rattle.std.proofs.lemmas.Bool.Decides.{nat_tests}
-use Rattle.std.proofs.Common.{zero, suc, ◌+◌, ◌<◌, ◌≤◌, length, take, get_or, arith, add-one, ◌≡◌, ℕ, List, [], ◌∷◌, ◌++◌, refl, ap, sym, ◌∙◌, Option, Some, None, Bool, true, nat_lt, subst, IsUtf8}
+use Rattle.std.proofs.Common.{zero, suc, ◌+◌, ◌-◌, ◌<◌, ◌≤◌, length, take, drop, get_or, arith, ◌≡◌, ℕ, List, [], ◌∷◌, ◌++◌, refl, ap, sym, ◌∙◌, Option, Some, None, Bool, true, nat_lt, subst, IsUtf8}
 use lib.Utf8.{low_scalar}
 use Rattle.json_text.specs.Bytes.{is_digit, is_e, is_sign, is_nonzero_digit, Each, AreDigits}
 use Rattle.json_text.specs.Json.{Json}
@@ -59,20 +60,26 @@ pub reached_start : (text : List ℕ) → Reached text 0 start
 unfolding after
 reached_start text = record { is = refl }
 
-pub reached_next : (text : List ℕ) (i : ℕ) (s t : State) → i < length text → Reached text i s → step s (get_or text i 0) ≡ Some t → Reached text (i + 1) t
-reached_next text i s t h r e = record { is = rw add-one (rw (after_more (Some start) text i h) (rw r.is e)) }
+-- what is left behind the first i bytes
+pub left : (text : List ℕ) (i : ℕ) → take (length text - i) (drop i text) ≡ drop i text
+left text i = take_all (length text - i) (drop i text) (omega (arith, length-drop i text))
 
-stopped : (text : List ℕ) (i : ℕ) (s : State) → i < length text → Reached text i s → step s (get_or text i 0) ≡ None → after (Some start) (take (suc i) text) ≡ None
-stopped text i s h r e = rw (after_more (Some start) text i h) (rw r.is e)
+pub reached_on : (text : List ℕ) (i n : ℕ) (s t : State) → Reached text i s → after (Some s) (take n (drop i text)) ≡ Some t → Reached text (i + n) t
+reached_on text i n s t r e = record { is = rw (take-add i n text) (joined (Some start) (Some s) (take i text) (take n (drop i text)) r.is ∙ e) }
 
-pub fault_stop : (text : List ℕ) (i : ℕ) (s : State) → i < length text → Reached text i s → step s (get_or text i 0) ≡ None → IsFault IsText text i
+stopped : (text : List ℕ) (i : ℕ) (s : State) → i < length text → Reached text i s → step s (get_or (drop i text) 0 0) ≡ None → after (Some start) (take (suc i) text) ≡ None
+stopped text i s h r e =
+    let same : get_or text i 0 ≡ get_or (drop i text) 0 0 = ap (λ (j : ℕ). get_or text j 0) (omega arith) ∙ sym (get_or-drop i text 0 0) in
+    rw (after_more (Some start) text i h) (rw (r.is, same) e)
+
+pub fault_stop : (text : List ℕ) (i : ℕ) (s : State) → i < length text → Reached text i s → step s (get_or (drop i text) 0 0) ≡ None → IsFault IsText text i
 fault_stop text i s h r e = record {
   within = omega arith;
   goes_on = viable (take i text) s r.is;
   stops = λ n a b. not_viable (take n text) (none_on (Some start) text (suc i) n a (stopped text i s h r e));
 }
 
-pub none_stop : (text : List ℕ) (i : ℕ) (s : State) → i < length text → Reached text i s → step s (get_or text i 0) ≡ None → IsText text → ⊥
+pub none_stop : (text : List ℕ) (i : ℕ) (s : State) → i < length text → Reached text i s → step s (get_or (drop i text) 0 0) ≡ None → IsText text → ⊥
 none_stop text i s h r e t =
     let n = none_on (Some start) text (suc i) (length text) h (stopped text i s h r e) in
     let m : after (Some start) text ≡ None = rw (take-length text) at n in

@@ -1,5 +1,6 @@
 -- Kinds of bytes in JSON texts (RFC 8259, "JSON Grammar", "Numbers" and "Strings").
-use Rattle.std.specs.Prelude.{◌≡◌, ℕ, ◌+◌, ◌*◌, ◌-◌, ◌%◌, List, [], ◌∷◌, Bool, true, false, ◌==◌, nat_le, nat_lt, if◌then◌else◌, Option, Some, None}
+use Rattle.std.specs.Prelude.{◌≡◌, ℕ, ◌+◌, ◌*◌, ◌-◌, ◌%◌, List, [], ◌∷◌, Bool, true, false, ◌==◌, nat_le, nat_lt}
+use Rattle.std.specs.Prelude.{if◌then◌else◌, Option, Some, None}
 
 -- a space, a tab, a line feed or a carriage return
 abbrev pub is_blank : ℕ → Bool
@@ -23,11 +24,13 @@ is_sign b = if b == 43 then true else b == 45
 
 -- a hexadecimal digit, `0` to `9`, `a` to `f` or `A` to `F`
 abbrev pub is_hex : ℕ → Bool
-is_hex b = if is_digit b then true else if nat_le 97 b then nat_le b 102 else if nat_le 65 b then nat_le b 70 else false
+is_hex b = if is_digit b then true else if nat_le 97 b then nat_le b 102 else if nat_le 65 b then nat_le b 70
+    else false
 
 -- the value of a hexadecimal digit, 0 for another byte
 abbrev pub hex_value : ℕ → ℕ
-hex_value b = if is_digit b then b - 48 else if (if nat_le 97 b then nat_le b 102 else false) then b - 87 else if (if nat_le 65 b then nat_le b 70 else false) then b - 55 else 0
+hex_value b = if is_digit b then b - 48 else if (if nat_le 97 b then nat_le b 102 else false) then b - 87
+    else if (if nat_le 65 b then nat_le b 70 else false) then b - 55 else 0
 
 -- the number that four hexadecimal digits stand for
 abbrev pub hex_code : ℕ → ℕ → ℕ → ℕ → ℕ
@@ -49,15 +52,18 @@ paired high low = 65536 + (high % 1024) * 1024 + low % 1024
 abbrev pub short_escape : ℕ → Option ℕ
 short_escape b =
     if b == 34 then Some 34 else if b == 92 then Some 92 else if b == 47 then Some 47 else if b == 98 then Some 8
-    else if b == 102 then Some 12 else if b == 110 then Some 10 else if b == 114 then Some 13 else if b == 116 then Some 9 else None
+    else if b == 102 then Some 12 else if b == 110 then Some 10 else if b == 114 then Some 13
+    else if b == 116 then Some 9 else None
 
 -- each byte passes the test
 unfoldable pub Each : (ℕ → Bool) → List ℕ → Type 0
 Each test [] = Unit {0}
 Each test (b ∷ bs) = (test b ≡ true) × Each test bs
 
+-- each byte is a blank
 abbrev pub AreBlanks : List ℕ → Type 0
 AreBlanks x = Each is_blank x
 
+-- each byte is a digit
 abbrev pub AreDigits : List ℕ → Type 0
 AreDigits x = Each is_digit x

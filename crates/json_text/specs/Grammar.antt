@@ -1,8 +1,10 @@
 -- Which text is which value, by cases of the grammar of JSON (RFC 8259).
 use Rattle.std.specs.Prelude.{◌≡◌, ◌≢◌, ℕ, suc, ◌≤◌, List, [], ◌∷◌, ◌++◌, true, false, Some}
 use Rattle.std.specs.Char.{IsScalar, encode_utf8}
-use Rattle.json_text.specs.Bytes.{is_digit, is_nonzero_digit, is_e, is_sign, is_hex, hex_code, is_high, is_low, paired, short_escape, AreBlanks, AreDigits}
-use Rattle.json_text.specs.Json.{Json, null, boolean, number, words, list, object, Items, no_items, add, Members, no_members, put}
+use Rattle.json_text.specs.Bytes.{is_digit, is_nonzero_digit, is_e, is_sign, is_hex, hex_code, is_high, is_low}
+use Rattle.json_text.specs.Bytes.{paired, short_escape, AreBlanks, AreDigits}
+use Rattle.json_text.specs.Json.{Json, null, boolean, number, words, list, object, Items, no_items, add, Members}
+use Rattle.json_text.specs.Json.{no_members, put}
 
 -- ---- numbers ("Numbers")
 
@@ -25,7 +27,8 @@ pub data IsFraction : List ℕ → Type 0 where
 pub data IsExponent : List ℕ → Type 0 where
   no_exponent : IsExponent []
   unsigned : (e b : ℕ) (bs : List ℕ) → is_e e ≡ true → is_digit b ≡ true → AreDigits bs → IsExponent (e ∷ b ∷ bs)
-  signed : (e s b : ℕ) (bs : List ℕ) → is_e e ≡ true → is_sign s ≡ true → is_digit b ≡ true → AreDigits bs → IsExponent (e ∷ s ∷ b ∷ bs)
+  signed : (e s b : ℕ) (bs : List ℕ) → is_e e ≡ true → is_sign s ≡ true → is_digit b ≡ true → AreDigits bs
+      → IsExponent (e ∷ s ∷ b ∷ bs)
 
 -- the text of a number
 pub record IsNumber (text : List ℕ) : Type 0 where
@@ -43,7 +46,8 @@ pub record IsNumber (text : List ℕ) : Type 0 where
 
 -- the bytes of one character as it stands in quotes, and its bytes in UTF-8
 pub data IsChar : List ℕ → List ℕ → Type 0 where
-  plain : {t s : List ℕ} (c : ℕ) → IsScalar c → 32 ≤ c → c ≢ 34 → c ≢ 92 → t ≡ encode_utf8 c → s ≡ encode_utf8 c → IsChar t s
+  plain : {t s : List ℕ} (c : ℕ) → IsScalar c → 32 ≤ c → c ≢ 34 → c ≢ 92 → t ≡ encode_utf8 c → s ≡ encode_utf8 c
+      → IsChar t s
   short : {t s : List ℕ} (b c : ℕ) → short_escape b ≡ Some c → t ≡ 92 ∷ b ∷ [] → s ≡ c ∷ [] → IsChar t s
   code : {t s : List ℕ} (a b c d : ℕ) → is_hex a ≡ true → is_hex b ≡ true → is_hex c ≡ true → is_hex d ≡ true
       → is_high a b ≡ false → is_low a b ≡ false
@@ -81,27 +85,34 @@ mutual
     is_false : {d : ℕ} {t : List ℕ} → t ≡ 102 ∷ 97 ∷ 108 ∷ 115 ∷ 101 ∷ [] → IsValue d t (boolean false)
     is_number : {d : ℕ} {t : List ℕ} → IsNumber t → IsValue d t (number t)
     is_words : {d : ℕ} {t s : List ℕ} → IsString t s → IsValue d t (words s)
-    empty_list : {d : ℕ} {t : List ℕ} (x : List ℕ) → AreBlanks x → t ≡ 91 ∷ (x ++ 93 ∷ []) → IsValue (suc d) t (list no_items)
-    is_list : {d : ℕ} {t : List ℕ} {all : Items} (q e : List ℕ) (js : Items) (j : Json) → AreItems d q js → IsElement d e j
+    empty_list : {d : ℕ} {t : List ℕ} (x : List ℕ) → AreBlanks x → t ≡ 91 ∷ (x ++ 93 ∷ [])
+        → IsValue (suc d) t (list no_items)
+    is_list : {d : ℕ} {t : List ℕ} {all : Items} (q e : List ℕ) (js : Items) (j : Json) → AreItems d q js
+        → IsElement d e j
         → t ≡ 91 ∷ (q ++ (e ++ 93 ∷ [])) → all ≡ add js j → IsValue (suc d) t (list all)
-    empty_object : {d : ℕ} {t : List ℕ} (x : List ℕ) → AreBlanks x → t ≡ 123 ∷ (x ++ 125 ∷ []) → IsValue (suc d) t (object no_members)
-    is_object : {d : ℕ} {t : List ℕ} {all : Members} (q w e k : List ℕ) (ms : Members) (j : Json) → AreMembers d q ms → IsName w k → IsElement d e j
+    empty_object : {d : ℕ} {t : List ℕ} (x : List ℕ) → AreBlanks x → t ≡ 123 ∷ (x ++ 125 ∷ [])
+        → IsValue (suc d) t (object no_members)
+    is_object : {d : ℕ} {t : List ℕ} {all : Members} (q w e k : List ℕ) (ms : Members) (j : Json)
+        → AreMembers d q ms → IsName w k → IsElement d e j
         → t ≡ 123 ∷ (q ++ (w ++ 58 ∷ (e ++ 125 ∷ []))) → all ≡ put k j ms → IsValue (suc d) t (object all)
 
   -- a value with blanks around it
   pub data IsElement : ℕ → List ℕ → Json → Type 0 where
-    element : {d : ℕ} {t : List ℕ} {j : Json} (x v y : List ℕ) → AreBlanks x → IsValue d v j → AreBlanks y → t ≡ x ++ (v ++ y) → IsElement d t j
+    element : {d : ℕ} {t : List ℕ} {j : Json} (x v y : List ℕ) → AreBlanks x → IsValue d v j → AreBlanks y
+        → t ≡ x ++ (v ++ y) → IsElement d t j
 
   -- items, each with a comma behind it
   pub data AreItems : ℕ → List ℕ → Items → Type 0 where
     no_item : {d : ℕ} → AreItems d [] no_items
-    next_item : {d : ℕ} {t : List ℕ} {all : Items} (q e : List ℕ) (js : Items) (j : Json) → AreItems d q js → IsElement d e j
+    next_item : {d : ℕ} {t : List ℕ} {all : Items} (q e : List ℕ) (js : Items) (j : Json) → AreItems d q js
+        → IsElement d e j
         → t ≡ q ++ (e ++ 44 ∷ []) → all ≡ add js j → AreItems d t all
 
   -- members, each with a comma behind it
   pub data AreMembers : ℕ → List ℕ → Members → Type 0 where
     no_member : {d : ℕ} → AreMembers d [] no_members
-    next_member : {d : ℕ} {t : List ℕ} {all : Members} (q w e k : List ℕ) (ms : Members) (j : Json) → AreMembers d q ms → IsName w k → IsElement d e j
+    next_member : {d : ℕ} {t : List ℕ} {all : Members} (q w e k : List ℕ) (ms : Members) (j : Json)
+        → AreMembers d q ms → IsName w k → IsElement d e j
         → t ≡ q ++ (w ++ 58 ∷ (e ++ 44 ∷ [])) → all ≡ put k j ms → AreMembers d t all
 
 -- the most brackets that are open at one place (this project's own)

@@ -2,7 +2,8 @@
 use Rattle.std.specs.Prelude.{◌≡◌, ℕ, ◌==◌, true, false, cond, List, [], ◌∷◌, refl}
 use Rattle.std.proofs.Common.{ap, ◌∙◌}
 use Rattle.std.specs.Coded.{Coded, code_by, coded×, coded_ℕ, coded_list}
-use Rattle.json_text.specs.Json.{Json, null, boolean, number, words, list, object, Items, no_items, item, Members, no_members, member}
+use Rattle.json_text.specs.Json.{Json, null, boolean, number, words, list, object, Items, no_items, item, Members}
+use Rattle.json_text.specs.Json.{no_members, member}
 
 -- a part of a value
 pub data Part : Type 0 where
@@ -10,9 +11,11 @@ pub data Part : Type 0 where
   items : (js : Items) → Part
   members : (ms : Members) → Part
 
+-- a node: its number, and a text where it has one
 abbrev Node : Type 0
 Node = ℕ × List ℕ
 
+-- the nodes of a value, its items or its members, before others
 abbrev mutual
   nodes : Json → List Node → List Node
   nodes null rest = (0, []) ∷ rest
@@ -31,36 +34,42 @@ abbrev mutual
   members_nodes no_members rest = (9, []) ∷ rest
   members_nodes (member k j ms) rest = (10, k) ∷ nodes j (members_nodes ms rest)
 
+-- an array of the items in front
 abbrev listed : List Part → List Part
 listed [] = []
 listed (value j ∷ ps) = ps
 listed (items js ∷ ps) = value (list js) ∷ ps
 listed (members ms ∷ ps) = ps
 
+-- an object of the members in front
 abbrev objected : List Part → List Part
 objected [] = []
 objected (value j ∷ ps) = ps
 objected (items js ∷ ps) = ps
 objected (members ms ∷ ps) = value (object ms) ∷ ps
 
+-- an item before the items in front
 abbrev item_onto : Json → List Part → List Part
 item_onto j [] = []
 item_onto j (value i ∷ ps) = ps
 item_onto j (items js ∷ ps) = items (item j js) ∷ ps
 item_onto j (members ms ∷ ps) = ps
 
+-- the value in front as the first of the items behind it
 abbrev item_made : List Part → List Part
 item_made [] = []
 item_made (value j ∷ ps) = item_onto j ps
 item_made (items js ∷ ps) = ps
 item_made (members ms ∷ ps) = ps
 
+-- a member before the members in front
 abbrev member_onto : List ℕ → Json → List Part → List Part
 member_onto k j [] = []
 member_onto k j (value i ∷ ps) = ps
 member_onto k j (items js ∷ ps) = ps
 member_onto k j (members ms ∷ ps) = members (member k j ms) ∷ ps
 
+-- the value in front, with a name, as the first of the members behind it
 abbrev member_made : List ℕ → List Part → List Part
 member_made k [] = []
 member_made k (value j ∷ ps) = member_onto k j ps
@@ -75,10 +84,12 @@ made n s ps =
     (cond (n == 6) (objected ps) (cond (n == 7) (items no_items ∷ ps) (cond (n == 8) (item_made ps)
     (cond (n == 9) (members no_members ∷ ps) (member_made s ps))))))))))
 
+-- the parts that nodes are made of
 abbrev parts : List Node → List Part
 parts [] = []
 parts (node ∷ rest) = made node.0 node.1 (parts rest)
 
+-- the parts come back from their nodes
 mutual
   parts_back : (j : Json) (rest : List Node) → parts (nodes j rest) ≡ value j ∷ parts rest
   parts_back null rest = refl
@@ -97,21 +108,25 @@ mutual
   members_back no_members rest = refl
   members_back (member k j ms) rest = ap (member_made k) (parts_back j (members_nodes ms rest)) ∙ ap (member_onto k j) (members_back ms rest)
 
+-- the items in front, or none
 abbrev first_items : List Part → Items
 first_items [] = no_items
 first_items (value j ∷ ps) = no_items
 first_items (items js ∷ ps) = js
 first_items (members ms ∷ ps) = no_items
 
+-- the members in front, or none
 abbrev first_members : List Part → Members
 first_members [] = no_members
 first_members (value j ∷ ps) = no_members
 first_members (items js ∷ ps) = no_members
 first_members (members ms ∷ ps) = ms
 
+-- how a list of nodes is stored
 abbrev node_code : Coded (List Node)
 node_code = coded_list (coded× coded_ℕ (coded_list coded_ℕ))
 
+-- the value in front, or null
 abbrev first_value : List Part → Json
 first_value [] = null
 first_value (value j ∷ ps) = j
@@ -131,8 +146,10 @@ members_again ms = ap first_members (members_back ms [])
 abbrev pub json_code : Coded Json
 json_code = code_by (List Node) node_code (λ j. nodes j []) (λ ns. first_value (parts ns)) value_again
 
+-- how items are stored
 abbrev pub items_code : Coded Items
 items_code = code_by (List Node) node_code (λ js. items_nodes js []) (λ ns. first_items (parts ns)) items_again
 
+-- how members are stored
 abbrev pub members_code : Coded Members
 members_code = code_by (List Node) node_code (λ ms. members_nodes ms []) (λ ns. first_members (parts ns)) members_again

@@ -2,10 +2,12 @@ pub mod Fault
 pub mod Json
 pub mod JsonCode
 pub mod Trees
+pub mod Naming
 pub mod TreeFalls
 pub mod Bytes
 pub mod Grammar
 pub mod Tokens
+pub mod Moves
 pub mod Machine
 pub mod Sane
 pub mod Parts

@@ -1,5 +1,6 @@
 -- JSON texts byte by byte: where a text stands behind a front of it, and what was read of it.
-use Rattle.std.specs.Prelude.{ℕ, List, [], ◌∷◌, ◌++◌, length, Bool, true, false, ◌==◌, nat_lt, if◌then◌else◌, Option, Some, None}
+use Rattle.std.specs.Prelude.{ℕ, List, [], ◌∷◌, ◌++◌, length, Bool, true, false, ◌==◌, nat_lt, if◌then◌else◌, Option}
+use Rattle.std.specs.Prelude.{Some, None}
 use Rattle.json_text.specs.Bytes.{is_blank, is_digit}
 use Rattle.json_text.specs.Json.{Json, null, boolean, number, words, list, object, no_items, add, no_members, put}
 use Rattle.json_text.specs.Tokens.{number_step, number_ends, spot, string_step}
@@ -15,12 +16,15 @@ use Rattle.json_text.specs.declared.place.Use.TheVariants.{ForValue, ForName}
 use Rattle.json_text.specs.declared.frame.Frame.{Frame}
 use Rattle.json_text.specs.declared.frame.Frame.TheVariants.{Array, Object}
 use Rattle.json_text.specs.declared.place.Mode.{Mode}
-use Rattle.json_text.specs.declared.place.Mode.TheVariants.{Value, FirstItem, FirstName, NextName, Named, Literal, Number, String, Done}
+use Rattle.json_text.specs.declared.place.Mode.TheVariants.{Value, FirstItem, FirstName, NextName, Named, Literal}
+use Rattle.json_text.specs.declared.place.Mode.TheVariants.{Number, String, Done}
 use Rattle.json_text.specs.declared.machine.State.{State}
 
+-- that place, with these containers open
 abbrev pub state : Mode → List Frame → State
 state m k = record { mode = m; stack = k }
 
+-- the text goes on there
 abbrev pub to : Mode → List Frame → Option State
 to m k = Some (state m k)
 
@@ -28,6 +32,7 @@ to m k = Some (state m k)
 abbrev pub opened : Mode → List Frame → Option State
 opened m k = if nat_lt (length k) 64 then to m k else None
 
+-- behind the quote that opens a string
 abbrev pub quoted : Use → Mode
 quoted u = String u (spot Between [])
 
@@ -57,6 +62,7 @@ close_array j [] = None
 close_array j (Array js ∷ k) = to (Done (list (add js j))) k
 close_array j (Object ms name ∷ k) = None
 
+-- the brace behind the last value of an object
 abbrev pub close_object : Json → List Frame → Option State
 close_object j [] = None
 close_object j (Array js ∷ k) = None
@@ -71,9 +77,11 @@ behind j k b =
     else if b == 125 then close_object j k
     else None
 
+-- that place, where the byte is the one wanted
 abbrev pub exactly : ℕ → Mode → List Frame → ℕ → Option State
 exactly want m k b = if b == want then to m k else None
 
+-- a byte of a literal
 abbrev pub literal_on : InLiteral → List Frame → ℕ → Option State
 literal_on T k b = exactly 114 (Literal Tr) k b
 literal_on Tr k b = exactly 117 (Literal Tru) k b
@@ -91,6 +99,7 @@ abbrev pub behind_number : Bool → List ℕ → List Frame → ℕ → Option S
 behind_number false text k b = None
 behind_number true text k b = behind (number text) k b
 
+-- a byte in a number or behind it
 abbrev pub number_on : Option InNumber → InNumber → List ℕ → List Frame → ℕ → Option State
 number_on None n text k b = behind_number (number_ends n) text k b
 number_on (Some p) n text k b = to (Number p (text ++ b ∷ [])) k
@@ -100,18 +109,22 @@ abbrev pub unquoted : Use → List ℕ → List Frame → Option State
 unquoted ForValue s k = to (Done (words s)) k
 unquoted (ForName ms) s k = to (Named ms s) k
 
+-- a place in a string, if there is one
 abbrev pub string_on : Use → Option Spot → List Frame → Option State
 string_on u None k = None
 string_on u (Some at) k = to (String u at) k
 
+-- whether the byte is the quote that ends the string
 abbrev pub is_end : InString → ℕ → Bool
 is_end Between b = b == 34
 is_end _ b = false
 
+-- the state behind one byte more
 abbrev pub move : Mode → List Frame → ℕ → Option State
 move Value k b = if is_blank b then to Value k else begun k b
 move FirstItem k b =
-    if is_blank b then to FirstItem k else if b == 93 then to (Done (list no_items)) k else begun (Array no_items ∷ k) b
+    if is_blank b then to FirstItem k else if b == 93 then to (Done (list no_items)) k
+    else begun (Array no_items ∷ k) b
 move FirstName k b =
     if is_blank b then to FirstName k else if b == 125 then to (Done (object no_members)) k
     else exactly 34 (quoted (ForName no_members)) k b
@@ -119,12 +132,15 @@ move (NextName ms) k b = if is_blank b then to (NextName ms) k else exactly 34 (
 move (Named ms name) k b = if is_blank b then to (Named ms name) k else exactly 58 Value (Object ms name ∷ k) b
 move (Literal l) k b = literal_on l k b
 move (Number n text) k b = number_on (number_step n b) n text k b
-move (String u at) k b = if is_end at.place b then unquoted u at.text k else string_on u (string_step at.place at.text b) k
+move (String u at) k b = if is_end at.place b then unquoted u at.text k
+    else string_on u (string_step at.place at.text b) k
 move (Done j) k b = behind j k b
 
+-- the same, of a state
 abbrev pub step : State → ℕ → Option State
 step s b = move s.mode s.stack b
 
+-- the same, where a text goes on at all
 abbrev pub go : Option State → ℕ → Option State
 go None b = None
 go (Some s) b = step s b
@@ -134,6 +150,7 @@ unfoldable pub after : Option State → List ℕ → Option State
 after s [] = s
 after s (b ∷ bs) = after (go s b) bs
 
+-- the state where no byte has come
 abbrev pub start : State
 start = state Value []
 
@@ -149,6 +166,7 @@ held (Number n text) = if number_ends n then Some (number text) else None
 held (String u at) = None
 held (Done j) = Some j
 
+-- the value, where no container is open
 abbrev pub ends_in : Option Json → List Frame → Option Json
 ends_in j [] = j
 ends_in j (f ∷ k) = None
@@ -157,6 +175,7 @@ ends_in j (f ∷ k) = None
 abbrev pub ends : State → Option Json
 ends s = ends_in (held s.mode) s.stack
 
+-- the same, where a text goes on at all
 abbrev pub ends_at : Option State → Option Json
 ends_at None = None
 ends_at (Some s) = ends s

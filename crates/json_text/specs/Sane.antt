@@ -2,7 +2,8 @@
 use Rattle.std.specs.Prelude.{◌≡◌, IsUtf8}
 use Rattle.json_text.specs.declared.string.InString.TheVariants.{Between}
 use Rattle.json_text.specs.declared.place.Mode.{Mode}
-use Rattle.json_text.specs.declared.place.Mode.TheVariants.{Value, FirstItem, FirstName, NextName, Named, Literal, Number, String, Done}
+use Rattle.json_text.specs.declared.place.Mode.TheVariants.{Value, FirstItem, FirstName, NextName, Named, Literal}
+use Rattle.json_text.specs.declared.place.Mode.TheVariants.{Number, String, Done}
 
 -- the text so far of a number is UTF-8, and that of a string between characters
 abbrev pub IsSane : Mode → Type 0

@@ -9,6 +9,7 @@ use Rattle.json_text.specs.declared.tree.Tree.TheVariants.{Null, Bool, Number, W
 use Rattle.json_text.specs.declared.tree.Member.{Member}
 use Rattle.json_text.specs.declared.tree.Members.TheDeep.{deep-Tree, deep-Member}
 
+-- a tree is no deeper than its value is large
 tree_depth : (t : Tree) → deep-Tree t ≤ json_size (json_of t)
 tree_depth Null = omega arith
 tree_depth (Bool b) = omega arith
@@ -17,6 +18,7 @@ tree_depth (Words s) = omega arith
 tree_depth (ListOf js) = omega arith
 tree_depth (Object ms) = omega arith
 
+-- no item is deeper than the list is large
 most_items : (ts : List Tree) → most deep-Tree ts ≤ items_size (items_of ts)
 most_items [] = omega arith
 most_items (t ∷ ts) = omega (arith, tree_depth t, most_items ts)
@@ -25,9 +27,11 @@ most_items (t ∷ ts) = omega (arith, tree_depth t, most_items ts)
 pub items_fall : (ts : List Tree) → max (most deep-Tree ts) 0 ≤ items_size (items_of ts)
 items_fall ts = omega (arith, most_items ts)
 
+-- a member is no deeper than its value is large
 member_depth : (m : Member) → deep-Member m ≤ json_size (json_of m.value)
 member_depth m = omega (arith, tree_depth m.value)
 
+-- no member is deeper than the object is large
 most_members : (ms : List Member) → most deep-Member ms ≤ members_size (members_of ms)
 most_members [] = omega arith
 most_members (m ∷ ms) = omega (arith, member_depth m, most_members ms)

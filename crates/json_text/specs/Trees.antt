@@ -1,7 +1,7 @@
 -- The values that trees of the code stand for.
-use Rattle.std.specs.Prelude.{List, [], ◌∷◌, String, string_bytes}
-use Rattle.std.specs.declared.alloc.Global.{Global}
-use Rattle.json_text.specs.Json.{Json, null, boolean, number, words, list, object, Items, no_items, item, Members, no_members, member}
+use Rattle.std.specs.Prelude.{List, [], ◌∷◌}
+use Rattle.json_text.specs.Json.{Json, null, boolean, number, words, list, object, Items, no_items, item, Members}
+use Rattle.json_text.specs.Json.{no_members, member}
 use Rattle.json_text.specs.declared.tree.Tree.{Tree}
 use Rattle.json_text.specs.declared.tree.Tree.TheVariants.{Null, Bool, Number, Words, List as ListOf, Object}
 use Rattle.json_text.specs.declared.tree.Member.{Member}
@@ -24,8 +24,3 @@ items_of (t ∷ ts) = item (json_of t) (items_of ts)
 abbrev pub members_of : List Member → Members
 members_of [] = no_members
 members_of (m ∷ ms) = member m.name (json_of m.value) (members_of ms)
-
--- the same of names with trees
-abbrev pub fields_of : List (String Global × Tree) → Members
-fields_of [] = no_members
-fields_of (f ∷ fs) = member (string_bytes f.0) (json_of f.1) (fields_of fs)

@@ -1,7 +1,8 @@
 -- The written form of values (this project's own): no blanks, members in order, numbers with their text.
 use Rattle.std.specs.Prelude.{ℕ, ◌/◌, ◌%◌, List, [], ◌∷◌, ◌++◌, Bool, true, false, ◌==◌, nat_lt, if◌then◌else◌}
 use Rattle.std.specs.Char.{digit_char}
-use Rattle.json_text.specs.Json.{Json, null, boolean, number, words, list, object, Items, no_items, item, Members, no_members, member}
+use Rattle.json_text.specs.Json.{Json, null, boolean, number, words, list, object, Items, no_items, item, Members}
+use Rattle.json_text.specs.Json.{no_members, member}
 
 -- a byte in quotes: a quote and a backslash get a backslash, a byte below 32 is `\u00` and two lower-case digits
 abbrev pub escaped_byte : ℕ → List ℕ
@@ -9,6 +10,7 @@ escaped_byte b =
     if b == 34 then 92 ∷ 34 ∷ [] else if b == 92 then 92 ∷ 92 ∷ []
     else if nat_lt b 32 then 92 ∷ 117 ∷ 48 ∷ 48 ∷ digit_char (b / 16) ∷ digit_char (b % 16) ∷ [] else b ∷ []
 
+-- the bytes of a text as they stand in quotes
 unfoldable pub escaped : List ℕ → List ℕ
 escaped [] = []
 escaped (b ∷ bs) = escaped_byte b ++ escaped bs

@@ -1,12 +1,11 @@
-//! What was read so far: values, members of an object, and the containers that are open.
+//! What was read so far: values, and the containers that are open.
 
 ghost use Rattle.std.specs.Prelude.{◌≡◌, ◌∷◌, [], length, Some, None, OnOk, IfOk, option_map};
-ghost use Rattle.json_text.specs.Json.{no_members, put};
-ghost use Rattle.json_text.specs.Parts.{PartsList};
+ghost use Rattle.json_text.specs.Parts.{IsPopped};
 ghost use Rattle.json_text.specs.Trees.{json_of};
 
-use crate::tree::{Member, Members, Tree, Trees};
-use indexmap::IndexMap;
+use crate::naming::Fields;
+use crate::tree::{Tree, Trees};
 use std::alloc::Global;
 use std::marker::Model;
 use zbx_types::{OutOfMemory, Text};
@@ -41,57 +40,6 @@ impl Read {
         ensures { json_of result ≡ self }
     {
         self.tree
-    }
-}
-
-/// The members of an object so far, with an index of their names. Contracts see the members in order.
-#[derive(Drop)]
-pub(crate) struct Fields {
-    members: IndexMap<String, Tree>,
-}
-
-impl Model for Fields {
-    ghost use Rattle.json_text.specs.Json.{Members};
-    ghost use Rattle.json_text.specs.JsonCode.{members_code};
-
-    ghost Value = { Members };
-
-    ghost coded = { members_code };
-
-    ghost use Rattle.json_text.specs.Trees.{fields_of};
-
-    ghost view = { λ f. fields_of f.members.entries };
-}
-
-impl Fields {
-    pub(crate) fn new(alloc: Global) -> Fields
-        ensures { result ≡ no_members }
-    {
-        Fields {
-            members: IndexMap::new(alloc),
-        }
-    }
-
-    /// The members with one more, in the place of the first of its name if there is one.
-    pub(crate) fn put(self, name: Text, value: Read) -> Result<Fields, OutOfMemory>
-        ensures { IfOk result (λ fields. fields ≡ put name value self) }
-    {
-        let mut members = self.members;
-        members.insert(name.into_string(), value.into_tree())?;
-        Ok(Fields { members })
-    }
-
-    pub(crate) fn into_members(self, alloc: Global) -> Result<Members, OutOfMemory>
-        ensures { IfOk result (λ members. members ≡ self) }
-    {
-        let mut members = Vec::with_capacity(alloc, self.members.len())?;
-        for (name, value) in self.members {
-            members.push(Member {
-                name: Text::from(name),
-                value,
-            })?;
-        }
-        Ok(Members::from_vec(members))
     }
 }
 
@@ -139,23 +87,20 @@ impl Stack {
         self.frames.len()
     }
 
-    /// The containers with one more inside them.
-    pub(crate) fn with(self, frame: Frame) -> Result<Stack, OutOfMemory>
-        ensures { IfOk result (λ stack. stack ≡ frame ∷ self) }
+    /// Opens a container inside the others.
+    #[inline(always)]
+    pub(crate) fn push(&mut self, frame: Frame) -> Result<(), OutOfMemory>
+        ensures { OnOk result (self.new ≡ frame ∷ self.old) }
     {
-        let mut frames = self.frames;
-        frames.push(frame)?;
-        Ok(Stack { frames })
+        self.frames.push(frame)?;
+        Ok(())
     }
 
-    /// The innermost container with those around it.
-    pub(crate) fn parted(self) -> Option<(Frame, Stack)>
-        ensures { PartsList self result }
+    /// Takes the innermost container out.
+    #[inline(always)]
+    pub(crate) fn pop(&mut self) -> Option<Frame>
+        ensures { IsPopped self.old result self.new }
     {
-        let mut frames = self.frames;
-        match frames.pop() {
-            Some(frame) => Some((frame, Stack { frames })),
-            None => None,
-        }
+        self.frames.pop()
     }
 }

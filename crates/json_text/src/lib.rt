@@ -11,6 +11,8 @@
 //! number   keeps its text as it was written
 //! string   without quotes and escapes; surrogate escapes only in pairs, the high one first
 //! object   members in order; a repeated name puts the later value in the earlier place (this project's own)
+//!
+//! time     as the text's length, and n log n in the names of an object, whichever they are
 //! ```
 //!
 //! [`write`] puts no blanks. In texts a quote and a backslash get a backslash, bytes below 32 are `\u00` with two
@@ -29,9 +31,12 @@
 mod frame;
 mod kinds;
 mod machine;
+mod making;
+mod naming;
 mod number;
 mod place;
 mod reading;
+mod spans;
 mod string;
 mod tree;
 mod writing;

@@ -1,23 +1,30 @@
-//! JSON texts byte by byte.
+//! JSON texts from their front, by bytes and by runs of them.
 
-ghost use Rattle.std.specs.Prelude.{◌≡◌, ◌∷◌, ◌++◌, [], if◌then◌else◌, IfOk, IsUtf8, option_map};
-ghost use Rattle.json_text.specs.Json.{add};
-ghost use Rattle.json_text.specs.Machine.{to as at, start, state, opened as opened_state, quoted as quoted_mode, begun as begun_state, comma as comma_state, close_array as array_closed, close_object as object_closed, behind as behind_state, exactly as exactly_state, literal_on as literal_state, behind_number as state_behind_number, number_on, unquoted as unquoted_state, string_on, is_end as end_test, move as moved, step as next_state, ends_in, ends as end_of};
+ghost use Rattle.std.specs.Prelude.{◌≡◌, ◌∷◌, [], ◌<◌, ◌≤◌, length, take, get_or, None, Some, IfOk, IsUtf8, option_map};
+ghost use Rattle.json_text.specs.Machine as machine;
+ghost use Rattle.json_text.specs.Moves.{reach};
 ghost use Rattle.json_text.specs.Sane.{IsSane};
 ghost use Rattle.json_text.specs.Trees.{json_of};
-ghost use Rattle.json_text.specs.declared.place.Mode.TheVariants.{FirstItem, FirstName, NextName, Named, Number, String};
+ghost use Rattle.json_text.specs.declared.place.Mode.TheVariants as modes;
 
-use crate::frame::{Fields, Frame, Read, Stack};
+use crate::frame::{Frame, Read, Stack};
 use crate::kinds::{is_blank, is_digit};
+use crate::making::{behind_string, is_end, quoted, takes_string, text_of, with_item};
+use crate::naming::Fields;
 use crate::number::{InNumber, may_end, next_in_number};
 use crate::place::{InLiteral, Mode, Use};
-use crate::string::{InString, Spot, next_in_string};
+use crate::spans::{blank_len, digits, plain, plain_in_quotes};
+use crate::string::{Spot, next_in_string};
 use crate::tree::{Members, Tree, Trees};
 use std::alloc::Global;
+use std::mem::replace;
 use zbx_types::{Bytes, OutOfMemory, Text};
 
 /// The most brackets that are open at one place (this project's own).
 const DEEPEST: usize = 64;
+
+/// The bytes of most numbers, for which there is room from the first on.
+const NUMBER_ROOM: usize = 16;
 
 /// A place in a JSON text, with the containers that are open there.
 #[derive(Drop)]
@@ -26,298 +33,13 @@ pub(crate) struct State {
     stack: Stack,
 }
 
-type Moved = Result<Option<State>, OutOfMemory>;
-
-/// That place.
-fn to(mode: Mode, stack: Stack) -> Moved
-    ensures { IfOk result (λ r. r ≡ at mode stack) }
-{
-    Ok(Some(State { mode, stack }))
-}
-
-/// That place behind an opening bracket, where there may be one more.
-fn opened(mode: Mode, stack: Stack) -> Moved
-    ensures { IfOk result (λ r. r ≡ opened_state mode stack) }
-{
-    if stack.len() < DEEPEST {
-        to(mode, stack)
-    } else {
-        Ok(None)
-    }
-}
-
-/// Behind the quote that opens a string.
-fn quoted(alloc: Global, string_use: Use) -> Mode
-    ensures { result ≡ quoted_mode string_use }
-{
-    Mode::String(
-        string_use,
-        Spot {
-            place: InString::Between,
-            text: Bytes::new(alloc),
-        },
-    )
-}
-
-/// The first byte of a number.
-fn number(alloc: Global, place: InNumber, stack: Stack, byte: u8) -> Moved
-    ensures { IfOk result (λ r. r ≡ at (Number place (byte ∷ [])) stack) }
-{
-    let text = Bytes::of(alloc, &[byte])?;
-    to(Mode::Number(place, text), stack)
-}
-
-/// The first byte of a value.
-fn begun(alloc: Global, stack: Stack, byte: u8) -> Moved
-    ensures { IfOk result (λ r. r ≡ begun_state stack byte) }
-{
-    match byte {
-        b'"' => to(quoted(alloc, Use::ForValue), stack),
-        b'[' => opened(Mode::FirstItem, stack),
-        b'{' => opened(Mode::FirstName, stack),
-        b'-' => number(alloc, InNumber::Minus, stack, byte),
-        b'0' => number(alloc, InNumber::Zero, stack, byte),
-        b't' => to(Mode::Literal(InLiteral::T), stack),
-        b'f' => to(Mode::Literal(InLiteral::F), stack),
-        b'n' => to(Mode::Literal(InLiteral::N), stack),
-        _ if is_digit(byte) => number(alloc, InNumber::Whole, stack, byte),
-        _ => Ok(None),
-    }
-}
-
-/// A comma behind a value.
-fn comma(value: Read, stack: Stack) -> Moved
-    ensures { IfOk result (λ r. r ≡ comma_state value stack) }
-{
-    let Some((frame, outer)) = stack.parted() else {
-        return Ok(None);
-    };
-    match frame {
-        Frame::Array(items) => {
-            let items = with_item(items, value)?;
-            to(Mode::Value, outer.with(Frame::Array(items))?)
-        }
-        Frame::Object(members, name) => {
-            let members = members.put(name, value)?;
-            to(Mode::NextName(members), outer)
-        }
-    }
-}
-
-/// The items with one more.
-fn with_item(items: Trees, value: Read) -> Result<Trees, OutOfMemory>
-    ensures { IfOk result (λ r. r ≡ add items value) }
-{
-    let mut items = items;
-    items.push(value.into_tree())?;
-    Ok(items)
-}
-
-/// The bracket behind the last value of an array.
-fn close_array(value: Read, stack: Stack) -> Moved
-    ensures { IfOk result (λ r. r ≡ array_closed value stack) }
-{
-    let Some((frame, outer)) = stack.parted() else {
-        return Ok(None);
-    };
-    match frame {
-        Frame::Array(items) => {
-            let items = with_item(items, value)?;
-            to(Mode::Done(Read::new(Tree::List(items))), outer)
-        }
-        Frame::Object(_, _) => Ok(None),
-    }
-}
-
-/// The bracket behind the last value of an object.
-fn close_object(alloc: Global, value: Read, stack: Stack) -> Moved
-    ensures { IfOk result (λ r. r ≡ object_closed value stack) }
-{
-    let Some((frame, outer)) = stack.parted() else {
-        return Ok(None);
-    };
-    match frame {
-        Frame::Array(_) => Ok(None),
-        Frame::Object(members, name) => {
-            let members = members.put(name, value)?.into_members(alloc)?;
-            to(Mode::Done(Read::new(Tree::Object(members))), outer)
-        }
-    }
-}
-
-/// A byte behind a value.
-fn behind(alloc: Global, value: Read, stack: Stack, byte: u8) -> Moved
-    ensures { IfOk result (λ r. r ≡ behind_state value stack byte) }
-{
-    if is_blank(byte) {
-        to(Mode::Done(value), stack)
-    } else if byte == b',' {
-        comma(value, stack)
-    } else if byte == b']' {
-        close_array(value, stack)
-    } else if byte == b'}' {
-        close_object(alloc, value, stack)
-    } else {
-        Ok(None)
-    }
-}
-
-/// That place, where the byte is the one wanted.
-fn exactly(want: u8, mode: Mode, stack: Stack, byte: u8) -> Moved
-    ensures { IfOk result (λ r. r ≡ exactly_state want mode stack byte) }
-{
-    if byte == want {
-        to(mode, stack)
-    } else {
-        Ok(None)
-    }
-}
-
-/// A byte of a literal.
-fn literal(place: InLiteral, stack: Stack, byte: u8) -> Moved
-    ensures { IfOk result (λ r. r ≡ literal_state place stack byte) }
-{
-    let (want, to) = match place {
-        InLiteral::T => (b'r', Mode::Literal(InLiteral::Tr)),
-        InLiteral::Tr => (b'u', Mode::Literal(InLiteral::Tru)),
-        InLiteral::Tru => (b'e', Mode::Done(Read::new(Tree::Bool(true)))),
-        InLiteral::F => (b'a', Mode::Literal(InLiteral::Fa)),
-        InLiteral::Fa => (b'l', Mode::Literal(InLiteral::Fal)),
-        InLiteral::Fal => (b's', Mode::Literal(InLiteral::Fals)),
-        InLiteral::Fals => (b'e', Mode::Done(Read::new(Tree::Bool(false)))),
-        InLiteral::N => (b'u', Mode::Literal(InLiteral::Nu)),
-        InLiteral::Nu => (b'l', Mode::Literal(InLiteral::Nul)),
-        InLiteral::Nul => (b'l', Mode::Done(Read::new(Tree::Null))),
-    };
-    exactly(want, to, stack, byte)
-}
-
-/// Bytes that are UTF-8 as a text.
-fn text_of(bytes: Bytes) -> Text
-    requires { IsUtf8 bytes }
-    ensures { result ≡ bytes }
-{
-    match String::from_utf8(bytes.into_vec()) {
-        Ok(text) => Text::from(text),
-        Err(_) => unreachable!(),
-    }
-}
-
-/// A byte in a number or behind it.
-fn in_number(alloc: Global, place: InNumber, text: Bytes, stack: Stack, byte: u8) -> Moved
-    requires { IsUtf8 text }
-    ensures { IfOk result (λ r. r ≡ moved (Number place text) stack byte) }
-{
-    match next_in_number(place, byte) {
-        Some(next) => {
-            let mut text = text;
-            text.extend(&[byte])?;
-            to(Mode::Number(next, text), stack)
-        }
-        None if may_end(place) => {
-            let value = Read::new(Tree::Number(text_of(text)));
-            behind(alloc, value, stack, byte)
-        }
-        None => Ok(None),
-    }
-}
-
-/// The quote behind a string.
-fn unquoted(string_use: Use, text: Bytes, stack: Stack) -> Moved
-    requires { IsUtf8 text }
-    ensures { IfOk result (λ r. r ≡ unquoted_state string_use text stack) }
-{
-    let text = text_of(text);
-    match string_use {
-        Use::ForValue => to(Mode::Done(Read::new(Tree::Words(text))), stack),
-        Use::ForName(members) => to(Mode::Named(members, text), stack),
-    }
-}
-
-/// Whether the byte is the quote that ends the string.
-fn is_end(place: InString, byte: u8) -> bool
-    ensures { result ≡ end_test place byte }
-{
-    match place {
-        InString::Between => byte == b'"',
-        _ => false,
-    }
-}
-
-/// A byte in a string or the quote behind it.
-fn in_string(string_use: Use, spot: Spot, stack: Stack, byte: u8) -> Moved
-    requires { IsSane (String string_use spot) }
-    ensures { IfOk result (λ r. r ≡ moved (String string_use spot) stack byte) }
-{
-    if is_end(spot.place, byte) {
-        return unquoted(string_use, spot.text, stack);
-    }
-    match next_in_string(spot, byte)? {
-        Some(spot) => to(Mode::String(string_use, spot), stack),
-        None => Ok(None),
-    }
-}
-
-/// A byte behind the bracket that opens an array.
-fn first_item(alloc: Global, stack: Stack, byte: u8) -> Moved
-    ensures { IfOk result (λ r. r ≡ moved FirstItem stack byte) }
-{
-    let items = Trees::from_vec(Vec::new(alloc));
-    if is_blank(byte) {
-        to(Mode::FirstItem, stack)
-    } else if byte == b']' {
-        to(Mode::Done(Read::new(Tree::List(items))), stack)
-    } else {
-        begun(alloc, stack.with(Frame::Array(items))?, byte)
-    }
-}
-
-/// A byte behind the bracket that opens an object.
-fn first_name(alloc: Global, stack: Stack, byte: u8) -> Moved
-    ensures { IfOk result (λ r. r ≡ moved FirstName stack byte) }
-{
-    if is_blank(byte) {
-        to(Mode::FirstName, stack)
-    } else if byte == b'}' {
-        let members = Members::from_vec(Vec::new(alloc));
-        to(Mode::Done(Read::new(Tree::Object(members))), stack)
-    } else {
-        let mode = quoted(alloc, Use::ForName(Fields::new(alloc)));
-        exactly(b'"', mode, stack, byte)
-    }
-}
-
-/// A byte behind a comma in an object.
-fn next_name(alloc: Global, members: Fields, stack: Stack, byte: u8) -> Moved
-    ensures { IfOk result (λ r. r ≡ moved (NextName members) stack byte) }
-{
-    if is_blank(byte) {
-        to(Mode::NextName(members), stack)
-    } else {
-        exactly(b'"', quoted(alloc, Use::ForName(members)), stack, byte)
-    }
-}
-
-/// A byte behind a name.
-fn named(members: Fields, name: Text, stack: Stack, byte: u8) -> Moved
-    ensures { IfOk result (λ r. r ≡ moved (Named members name) stack byte) }
-{
-    if is_blank(byte) {
-        to(Mode::Named(members, name), stack)
-    } else {
-        exactly(
-            b':',
-            Mode::Value,
-            stack.with(Frame::Object(members, name))?,
-            byte,
-        )
-    }
-}
+/// Whether a JSON text goes on.
+type Moved = Result<bool, OutOfMemory>;
 
 impl State {
     /// The place where no byte has come.
     pub(crate) fn start(alloc: Global) -> State
-        ensures { result ≡ start }
+        ensures { result ≡ machine.start }
     {
         State {
             mode: Mode::Value,
@@ -325,30 +47,330 @@ impl State {
         }
     }
 
-    /// The place behind one byte more, none where no JSON text goes on with it.
-    pub(crate) fn next(self, alloc: Global, byte: u8) -> Moved
-        requires { IsSane self.mode }
-        ensures { IfOk result (λ r. r ≡ next_state self byte) }
+    /// Goes on in that place.
+    #[inline(always)]
+    fn to(&mut self, mode: Mode) -> Moved
+        ensures { IfOk result (λ on. reach on self.new ≡ machine.to mode self.old.stack) }
     {
-        let State { mode, stack } = self;
-        match mode {
-            Mode::Value if is_blank(byte) => to(Mode::Value, stack),
-            Mode::Value => begun(alloc, stack, byte),
-            Mode::FirstItem => first_item(alloc, stack, byte),
-            Mode::FirstName => first_name(alloc, stack, byte),
-            Mode::NextName(members) => next_name(alloc, members, stack, byte),
-            Mode::Named(members, name) => named(members, name, stack, byte),
-            Mode::Literal(place) => literal(place, stack, byte),
-            Mode::Number(place, text) => in_number(alloc, place, text, stack, byte),
-            Mode::String(string_use, spot) => in_string(string_use, spot, stack, byte),
-            Mode::Done(value) => behind(alloc, value, stack, byte),
+        self.mode = mode;
+        Ok(true)
+    }
+
+    /// Goes on in that place behind an opening bracket, where there may be one more.
+    #[inline(always)]
+    fn opened(&mut self, mode: Mode) -> Moved
+        ensures { IfOk result (λ on. reach on self.new ≡ machine.opened mode self.old.stack) }
+    {
+        if self.stack.len() < DEEPEST {
+            self.to(mode)
+        } else {
+            Ok(false)
+        }
+    }
+
+    /// The first byte of a number.
+    fn number(&mut self, alloc: Global, place: InNumber, byte: u8) -> Moved
+        ensures { IfOk result (λ on. reach on self.new ≡ machine.to (modes.Number place (byte ∷ [])) self.old.stack) }
+    {
+        let mut text = Vec::with_capacity(alloc, NUMBER_ROOM)?;
+        text.push(byte)?;
+        self.to(Mode::Number(place, Bytes::from(text)))
+    }
+
+    /// The first byte of a value.
+    fn begun(&mut self, alloc: Global, byte: u8) -> Moved
+        ensures { IfOk result (λ on. reach on self.new ≡ machine.begun self.old.stack byte) }
+    {
+        match byte {
+            b'"' => self.to(quoted(alloc, Use::ForValue)),
+            b'[' => self.opened(Mode::FirstItem),
+            b'{' => self.opened(Mode::FirstName),
+            b'-' => self.number(alloc, InNumber::Minus, byte),
+            b'0' => self.number(alloc, InNumber::Zero, byte),
+            b't' => self.to(Mode::Literal(InLiteral::T)),
+            b'f' => self.to(Mode::Literal(InLiteral::F)),
+            b'n' => self.to(Mode::Literal(InLiteral::N)),
+            _ if is_digit(byte) => self.number(alloc, InNumber::Whole, byte),
+            _ => Ok(false),
+        }
+    }
+
+    /// A comma behind a value.
+    fn comma(&mut self, value: Read) -> Moved
+        ensures { IfOk result (λ on. reach on self.new ≡ machine.comma value self.old.stack) }
+    {
+        match self.stack.pop() {
+            None => Ok(false),
+            Some(Frame::Array(items)) => {
+                let items = with_item(items, value)?;
+                self.stack.push(Frame::Array(items))?;
+                self.to(Mode::Value)
+            }
+            Some(Frame::Object(members, name)) => {
+                let members = members.put(name, value)?;
+                self.to(Mode::NextName(members))
+            }
+        }
+    }
+
+    /// The bracket behind the last value of an array.
+    fn close_array(&mut self, value: Read) -> Moved
+        ensures { IfOk result (λ on. reach on self.new ≡ machine.close_array value self.old.stack) }
+    {
+        match self.stack.pop() {
+            None => Ok(false),
+            Some(Frame::Array(items)) => {
+                let items = with_item(items, value)?;
+                self.to(Mode::Done(Read::new(Tree::List(items))))
+            }
+            Some(Frame::Object(_, _)) => Ok(false),
+        }
+    }
+
+    /// The bracket behind the last value of an object.
+    fn close_object(&mut self, alloc: Global, value: Read) -> Moved
+        ensures { IfOk result (λ on. reach on self.new ≡ machine.close_object value self.old.stack) }
+    {
+        match self.stack.pop() {
+            None => Ok(false),
+            Some(Frame::Array(_)) => Ok(false),
+            Some(Frame::Object(members, name)) => {
+                let members = members.put(name, value)?.into_members(alloc)?;
+                self.to(Mode::Done(Read::new(Tree::Object(members))))
+            }
+        }
+    }
+
+    /// A byte behind a value.
+    fn behind(&mut self, alloc: Global, value: Read, byte: u8) -> Moved
+        ensures { IfOk result (λ on. reach on self.new ≡ machine.behind value self.old.stack byte) }
+    {
+        match byte {
+            b',' => self.comma(value),
+            b']' => self.close_array(value),
+            b'}' => self.close_object(alloc, value),
+            _ if is_blank(byte) => self.to(Mode::Done(value)),
+            _ => Ok(false),
+        }
+    }
+
+    /// Goes on in that place, where the byte is the one wanted.
+    #[inline(always)]
+    fn exactly(&mut self, want: u8, mode: Mode, byte: u8) -> Moved
+        ensures { IfOk result (λ on. reach on self.new ≡ machine.exactly want mode self.old.stack byte) }
+    {
+        if byte == want {
+            self.to(mode)
+        } else {
+            Ok(false)
+        }
+    }
+
+    /// A byte of a literal.
+    fn literal(&mut self, place: InLiteral, byte: u8) -> Moved
+        ensures { IfOk result (λ on. reach on self.new ≡ machine.literal_on place self.old.stack byte) }
+    {
+        let (want, mode) = match place {
+            InLiteral::T => (b'r', Mode::Literal(InLiteral::Tr)),
+            InLiteral::Tr => (b'u', Mode::Literal(InLiteral::Tru)),
+            InLiteral::Tru => (b'e', Mode::Done(Read::new(Tree::Bool(true)))),
+            InLiteral::F => (b'a', Mode::Literal(InLiteral::Fa)),
+            InLiteral::Fa => (b'l', Mode::Literal(InLiteral::Fal)),
+            InLiteral::Fal => (b's', Mode::Literal(InLiteral::Fals)),
+            InLiteral::Fals => (b'e', Mode::Done(Read::new(Tree::Bool(false)))),
+            InLiteral::N => (b'u', Mode::Literal(InLiteral::Nu)),
+            InLiteral::Nu => (b'l', Mode::Literal(InLiteral::Nul)),
+            InLiteral::Nul => (b'l', Mode::Done(Read::new(Tree::Null))),
+        };
+        self.exactly(want, mode, byte)
+    }
+
+    /// A byte in a number or behind it.
+    fn in_number(&mut self, alloc: Global, place: InNumber, text: Bytes, byte: u8) -> Moved
+        requires { IsUtf8 text }
+        ensures { IfOk result (λ on. reach on self.new ≡ machine.move (modes.Number place text) self.old.stack byte) }
+    {
+        match next_in_number(place, byte) {
+            Some(next) => {
+                let mut text = text;
+                text.extend(&[byte])?;
+                self.to(Mode::Number(next, text))
+            }
+            None if may_end(place) => {
+                let value = Read::new(Tree::Number(text_of(text)));
+                self.behind(alloc, value, byte)
+            }
+            None => Ok(false),
+        }
+    }
+
+    /// The quote behind a string.
+    fn unquoted(&mut self, string_use: Use, text: Bytes) -> Moved
+        requires { IsUtf8 text }
+        ensures { IfOk result (λ on. reach on self.new ≡ machine.unquoted string_use text self.old.stack) }
+    {
+        let text = text_of(text);
+        match string_use {
+            Use::ForValue => self.to(Mode::Done(Read::new(Tree::Words(text)))),
+            Use::ForName(members) => self.to(Mode::Named(members, text)),
+        }
+    }
+
+    /// A byte in a string or the quote behind it.
+    fn in_string(&mut self, string_use: Use, spot: Spot, byte: u8) -> Moved
+        requires { IsSane (modes.String string_use spot) }
+        ensures { IfOk result (λ on. reach on self.new
+            ≡ machine.move (modes.String string_use spot) self.old.stack byte) }
+    {
+        if is_end(spot.place, byte) {
+            return self.unquoted(string_use, spot.text);
+        }
+        match next_in_string(spot, byte)? {
+            Some(spot) => self.to(Mode::String(string_use, spot)),
+            None => Ok(false),
+        }
+    }
+
+    /// A byte behind the bracket that opens an array.
+    fn first_item(&mut self, alloc: Global, byte: u8) -> Moved
+        ensures { IfOk result (λ on. reach on self.new ≡ machine.move modes.FirstItem self.old.stack byte) }
+    {
+        let items = Trees::from_vec(Vec::new(alloc));
+        if is_blank(byte) {
+            self.to(Mode::FirstItem)
+        } else if byte == b']' {
+            self.to(Mode::Done(Read::new(Tree::List(items))))
+        } else {
+            self.stack.push(Frame::Array(items))?;
+            self.begun(alloc, byte)
+        }
+    }
+
+    /// A byte behind the bracket that opens an object.
+    fn first_name(&mut self, alloc: Global, byte: u8) -> Moved
+        ensures { IfOk result (λ on. reach on self.new ≡ machine.move modes.FirstName self.old.stack byte) }
+    {
+        if is_blank(byte) {
+            self.to(Mode::FirstName)
+        } else if byte == b'}' {
+            let members = Members::from_vec(Vec::new(alloc));
+            self.to(Mode::Done(Read::new(Tree::Object(members))))
+        } else {
+            let mode = quoted(alloc, Use::ForName(Fields::new(alloc)));
+            self.exactly(b'"', mode, byte)
+        }
+    }
+
+    /// A byte behind a comma in an object.
+    fn next_name(&mut self, alloc: Global, members: Fields, byte: u8) -> Moved
+        ensures { IfOk result (λ on. reach on self.new ≡ machine.move (modes.NextName members) self.old.stack byte) }
+    {
+        if is_blank(byte) {
+            self.to(Mode::NextName(members))
+        } else {
+            self.exactly(b'"', quoted(alloc, Use::ForName(members)), byte)
+        }
+    }
+
+    /// A byte behind a name.
+    fn named(&mut self, members: Fields, name: Text, byte: u8) -> Moved
+        ensures { IfOk result (λ on. reach on self.new ≡ machine.move (modes.Named members name) self.old.stack byte) }
+    {
+        if is_blank(byte) {
+            self.to(Mode::Named(members, name))
+        } else if byte == b':' {
+            self.stack.push(Frame::Object(members, name))?;
+            self.to(Mode::Value)
+        } else {
+            Ok(false)
+        }
+    }
+
+    /// Goes on by one byte, and answers whether a JSON text goes on with it.
+    fn next(&mut self, alloc: Global, byte: u8) -> Moved
+        requires { IsSane self.old.mode }
+        ensures { IfOk result (λ on. reach on self.new ≡ machine.step self.old byte) }
+    {
+        match replace(&mut self.mode, Mode::Value) {
+            Mode::Value if is_blank(byte) => Ok(true),
+            Mode::Value => self.begun(alloc, byte),
+            Mode::FirstItem => self.first_item(alloc, byte),
+            Mode::FirstName => self.first_name(alloc, byte),
+            Mode::NextName(members) => self.next_name(alloc, members, byte),
+            Mode::Named(members, name) => self.named(members, name, byte),
+            Mode::Literal(place) => self.literal(place, byte),
+            Mode::Number(place, text) => self.in_number(alloc, place, text, byte),
+            Mode::String(string_use, spot) => self.in_string(string_use, spot, byte),
+            Mode::Done(value) => self.behind(alloc, value, byte),
+        }
+    }
+
+    /// Takes the bytes at the front that lead from the place to itself, and answers how many.
+    fn run(&mut self, rest: &[u8]) -> Result<usize, OutOfMemory>
+        ensures within { IfOk result (λ n. n ≤ length rest.now) }
+        ensures goes { IfOk result (λ n. machine.after (Some self.old) (take n rest.now) ≡ Some self.new) }
+    {
+        match &mut self.mode {
+            Mode::String(_, spot) => plain(spot, rest),
+            Mode::Number(place, text) => digits(*place, text, rest),
+            Mode::Literal(_) => Ok(0),
+            _ => Ok(blank_len(rest)),
+        }
+    }
+
+    /// Takes the plain bytes in quotes at the front, where a value or a name may begin here, and answers how many.
+    fn whole_string(&mut self, alloc: Global, rest: &[u8]) -> Result<usize, OutOfMemory>
+        ensures within { IfOk result (λ n. n ≤ length rest.now) }
+        ensures goes { IfOk result (λ n. machine.after (Some self.old) (take n rest.now) ≡ Some self.new) }
+    {
+        if !takes_string(&self.mode) {
+            return Ok(0);
+        }
+        match plain_in_quotes(alloc, rest)? {
+            None => Ok(0),
+            Some(text) => {
+                let length = text.len() + 2;
+                self.mode = behind_string(alloc, replace(&mut self.mode, Mode::Value), text);
+                Ok(length)
+            }
+        }
+    }
+
+    /// Takes a run or a string of plain bytes at the front, and answers how many bytes.
+    fn several(&mut self, alloc: Global, rest: &[u8]) -> Result<usize, OutOfMemory>
+        ensures within { IfOk result (λ n. n ≤ length rest.now) }
+        ensures goes { IfOk result (λ n. machine.after (Some self.old) (take n rest.now) ≡ Some self.new) }
+    {
+        let run = self.run(rest)?;
+        if run > 0 {
+            Ok(run)
+        } else {
+            self.whole_string(alloc, rest)
+        }
+    }
+
+    /// Takes bytes from the front of what is left, and answers how many: none where no text goes on with the first.
+    pub(crate) fn advance(&mut self, alloc: Global, rest: &[u8]) -> Result<usize, OutOfMemory>
+        requires sane { IsSane self.old.mode }
+        requires more { 0 < length rest.now }
+        ensures within { IfOk result (λ n. n ≤ length rest.now) }
+        ensures goes { IfOk result (λ n. 0 < n → machine.after (Some self.old) (take n rest.now) ≡ Some self.new) }
+        ensures stops { IfOk result (λ n. n ≡ 0 → machine.step self.old (get_or rest.now 0 0) ≡ None) }
+    {
+        let several = self.several(alloc, rest)?;
+        if several > 0 {
+            Ok(several)
+        } else if self.next(alloc, rest[0])? {
+            Ok(1)
+        } else {
+            Ok(0)
         }
     }
 
     /// The value, where the text may end here.
     pub(crate) fn end(self) -> Option<Tree>
         requires { IsSane self.mode }
-        ensures { option_map json_of result ≡ end_of self }
+        ensures { option_map json_of result ≡ machine.ends self }
     {
         let State { mode, stack } = self;
         if stack.len() > 0 {

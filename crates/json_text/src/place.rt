@@ -1,6 +1,7 @@
 //! Places in JSON texts.
 
-use crate::frame::{Fields, Read};
+use crate::frame::Read;
+use crate::naming::Fields;
 use crate::number::InNumber;
 use crate::string::Spot;
 use zbx_types::{Bytes, Text};

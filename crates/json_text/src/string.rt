@@ -2,7 +2,8 @@
 
 ghost use Rattle.std.specs.Prelude.{◌≡◌, ◌++◌, ◌∷◌, [], ◌<◌, if◌then◌else◌, None, Some, IfOk, OnOk};
 ghost use Rattle.std.specs.Char.{encode_utf8};
-ghost use Rattle.json_text.specs.Tokens.{on, if_hex as hex_on, lead as lead_of, is_between as between_test, rest_step, rest_on, string_step};
+ghost use Rattle.json_text.specs.Tokens.{on, if_hex as hex_on, lead as lead_of, is_between as between_test};
+ghost use Rattle.json_text.specs.Tokens.{rest_step, rest_on, string_step};
 ghost use Rattle.json_text.specs.declared.string.InString.TheVariants.{Between, Escaped, Hex, HexD};
 
 use crate::kinds::{hex_code, hex_value, is_hex, paired, short_escape_of};

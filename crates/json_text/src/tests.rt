@@ -342,6 +342,25 @@ fn written_texts(alloc: Global) -> Result<bool, OutOfMemory> {
     )
 }
 
+/// An object of 18 members, of which some names come again.
+fn many_names(alloc: Global) -> Result<bool, OutOfMemory> {
+    all_written(
+        alloc,
+        &[(
+            "{\"a\":1,\"b\":2,\"c\":3,\"d\":4,\"e\":5,\"f\":6,\"g\":7,\"h\":8,\"i\":9,\
+                \"j\":10,\"k\":11,\"l\":12,\"m\":13,\"n\":14,\"b\":15,\"o\":16,\"b\":17,\"a\":18}",
+            "{\"a\":18,\"b\":17,\"c\":3,\"d\":4,\"e\":5,\"f\":6,\"g\":7,\"h\":8,\"i\":9,\
+                \"j\":10,\"k\":11,\"l\":12,\"m\":13,\"n\":14,\"o\":16}",
+        )],
+    )
+}
+
+#[test]
+fn repeated_names_among_many_keep_their_place(rt: HostRuntime) -> Result<(), Fail> {
+    assert!(rt; many_names(rt.alloc())?);
+    Ok(())
+}
+
 #[test]
 fn written_texts_are_compact(rt: HostRuntime) -> Result<(), Fail> {
     assert!(rt; written_texts(rt.alloc())?);

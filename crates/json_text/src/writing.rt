@@ -5,7 +5,8 @@ ghost use Rattle.std.specs.Char.{digit_char};
 ghost use Rattle.json_text.specs.Grammar.{IsJson};
 ghost use Rattle.json_text.specs.Parts.{IsGrown};
 ghost use Rattle.json_text.specs.Trees.{json_of, items_of, members_of};
-ghost use Rattle.json_text.specs.Written.{comma_before, escaped_byte, in_quotes, json_written, items_written, member_written, members_written};
+ghost use Rattle.json_text.specs.Written.{comma_before, escaped_byte, in_quotes, json_written, items_written};
+ghost use Rattle.json_text.specs.Written.{member_written, members_written};
 
 use crate::tree::{Member, Members, Tree, Trees};
 use zbx_types::{Bytes, OutOfMemory};
@@ -122,8 +123,8 @@ fn put_members(out: &mut Bytes, members: &Members) -> Result<(), OutOfMemory>
 /// backslash get a backslash, and bytes below 32 are `\u00` with two lower-case hexadecimal digits (this project's own
 /// form of RFC 8259's texts).
 ///
-/// What is written of a tree that [`read`](crate::read) gave is a JSON text for the same value. At [`OutOfMemory`] `out`
-/// is as before.
+/// What is written of a tree that [`read`](crate::read) gave is a JSON text for the same value. At [`OutOfMemory`]
+/// `out` is as before.
 pub fn write(tree: &Tree, out: &mut Bytes) -> Result<(), OutOfMemory>
     ensures ok { OnOk result (out.new ≡ out.old ++ json_written (json_of tree.now)) }
     ensures err { OnErr result (out.new ≡ out.old) }

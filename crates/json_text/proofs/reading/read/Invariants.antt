@@ -1,9 +1,12 @@
-use Rattle.std.proofs.Common.{◌≡◌}
+use Rattle.std.proofs.Common.{length, ◌-◌, ◌≤◌}
 use Rattle.json_text.proofs.Places.{Reached}
 use Rattle.json_text.proofs.reading.read.Given as goal
 
-abbrev pub invariant-loop-byte : goal.invariant-loop-byte
-invariant-loop-byte l = record {
-  count : l.count ≡ l.byte-index;
-  reached : Reached l.bytes l.byte-index l.state;
+abbrev pub invariant-loop-count : goal.invariant-loop-count
+invariant-loop-count l = record {
+  within : l.count ≤ length l.bytes;
+  reached : Reached l.bytes l.count l.state;
 }
+
+abbrev pub decreases-loop-count : goal.decreases-loop-count
+decreases-loop-count l = length l.bytes - l.count
