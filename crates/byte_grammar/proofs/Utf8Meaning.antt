@@ -1,5 +1,8 @@
 -- The characters in the words of UTF-8: each can be made whole, and a byte without a next one has no text.
-use Rattle.std.proofs.Common.{◌≡◌, ℕ, List, [], ◌∷◌, ◌++◌, refl, sym, ◌∙◌, Some, None, Bool, true, IsUtf8, nat_le}
+use lib.Utf8.{encode, next}
+use Rattle.std.proofs.lemmas.Bool.{cases_lt}
+use Rattle.std.proofs.lemmas.Bool.Decides.{nat_tests}
+use Rattle.std.proofs.Common.{◌+◌, ◌/◌, ◌≤◌, arith, inl, inr, false, ◌≡◌, ℕ, List, [], ◌∷◌, ◌++◌, refl, sym, ◌∙◌, Some, None, Bool, true, IsUtf8, nat_le}
 use Rattle.byte_grammar.specs.Bytes.{Each}
 use Rattle.byte_grammar.specs.Fault.{IsViable}
 use Rattle.byte_grammar.specs.Runs.{run}
@@ -8,7 +11,7 @@ use Rattle.byte_grammar.specs.Meaning.{GoesOn, TellsUtf8}
 use Rattle.byte_grammar.specs.declared.characters.Character.{Character}
 use Rattle.byte_grammar.specs.declared.characters.Character.TheVariants.{Whole, One, Two, Three, BehindE0, BehindEd, BehindF0, BehindF4}
 use Rattle.byte_grammar.proofs.Runs.{joined, grown, run_none}
-use Rattle.byte_grammar.proofs.Utf8Texts.{text_taken, taken_text}
+use Rattle.byte_grammar.proofs.Utf8Texts.{text_taken, taken_text, two, three, four}
 
 -- they lead from a character to a whole one
 pub rest_run : (c : Character) → run follow (Some c) (rest_of c) ≡ Some Whole
@@ -70,3 +73,28 @@ tells_utf8 c = record {
       let h : c ≡ Whole = cc in
       rw h refl;
 }
+
+-- a byte of a character that isn't whole
+pub open_high : (c d : Character) (b : ℕ) → is_whole c ≡ false → follow c b ≡ Some d → is_high b ≡ true
+open_high Whole d b h e = absurd cc
+open_high One d b h e = grind (arith, nat_tests)
+open_high Two d b h e = grind (arith, nat_tests)
+open_high Three d b h e = grind (arith, nat_tests)
+open_high BehindE0 d b h e = grind (arith, nat_tests)
+open_high BehindEd d b h e = grind (arith, nat_tests)
+open_high BehindF0 d b h e = grind (arith, nat_tests)
+open_high BehindF4 d b h e = grind (arith, nat_tests)
+
+-- the bytes of a character of two bytes or more
+pub encode_high : (c : ℕ) → 128 ≤ c → Each is_high (encode c)
+unfolding Each
+encode_high c l = elim (cases_lt c 2048) [
+  | inl h ↦ rw (two c l h) (high (192 + c / 64) (omega arith), (high (next c) (omega arith), tt))
+  | inr h ↦ elim (cases_lt c 65536) [
+    | inl k ↦ rw (three c h k) (high (224 + c / 4096) (omega arith), (high (next (c / 64)) (omega arith), (high (next c) (omega arith), tt)))
+    | inr k ↦ rw (four c k) (high (240 + c / 262144) (omega arith), (high (next (c / 4096)) (omega arith), (high (next (c / 64)) (omega arith), (high (next c) (omega arith), tt))))
+  ]
+]
+  where
+    high : (b : ℕ) → 128 ≤ b → is_high b ≡ true
+    high b h = grind (arith, nat_tests)

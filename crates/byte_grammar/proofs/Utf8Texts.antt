@@ -24,15 +24,15 @@ one : (c : ℕ) → c < 128 → encode c ≡ c ∷ []
 unfolding encode
 one c h = below c 128 _ _ h
 
-two : (c : ℕ) → 128 ≤ c → c < 2048 → encode c ≡ (192 + c / 64) ∷ next c ∷ []
+pub two : (c : ℕ) → 128 ≤ c → c < 2048 → encode c ≡ (192 + c / 64) ∷ next c ∷ []
 unfolding encode
 two c l h = above c 128 _ _ l ∙ below c 2048 _ _ h
 
-three : (c : ℕ) → 2048 ≤ c → c < 65536 → encode c ≡ (224 + c / 4096) ∷ next (c / 64) ∷ next c ∷ []
+pub three : (c : ℕ) → 2048 ≤ c → c < 65536 → encode c ≡ (224 + c / 4096) ∷ next (c / 64) ∷ next c ∷ []
 unfolding encode
 three c l h = above c 128 _ _ (omega arith) ∙ above c 2048 _ _ l ∙ below c 65536 _ _ h
 
-four : (c : ℕ) → 65536 ≤ c → encode c ≡ (240 + c / 262144) ∷ next (c / 4096) ∷ next (c / 64) ∷ next c ∷ []
+pub four : (c : ℕ) → 65536 ≤ c → encode c ≡ (240 + c / 262144) ∷ next (c / 4096) ∷ next (c / 64) ∷ next c ∷ []
 unfolding encode
 four c l = above c 128 _ _ (omega arith) ∙ above c 2048 _ _ (omega arith) ∙ above c 65536 _ _ l
 
