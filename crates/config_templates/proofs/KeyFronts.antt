@@ -5,7 +5,8 @@ use Rattle.std.proofs.lemmas.Bool.{le-leb, leb-true, eq-eqb}
 use Rattle.std.proofs.lemmas.List.{take_all}
 use Rattle.std.proofs.lemmas.Grind.{common_steps}
 use Rattle.item_key.specs.Grammar.{IsKey, longest_key}
-use Rattle.item_key.specs.Machine.{ends_at, place_of, after}
+use Rattle.byte_grammar.specs.Runs.{run}
+use Rattle.item_key.specs.Machine.{ends_at, place_of}
 use Rattle.item_key.specs.Fault.{HasNoLonger, HasNone}
 use Rattle.item_key.proofs.Sound.{sound}
 use Rattle.item_key.proofs.Complete.{taken}
@@ -69,6 +70,6 @@ whole_key text h = at (length text) refl h
     at (suc n) e l = by n (is_key text) refl (ap is_key (take_all (suc n) text (omega arith)))
 
 pub no_bytes : (text : List ℕ) → length text < 1 → is_key text ≡ false
-unfolding after
+unfolding run
 no_bytes [] h = refl
 no_bytes (c ∷ rest) h = absurd (omega arith)

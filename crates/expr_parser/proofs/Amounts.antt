@@ -1,5 +1,5 @@
 -- The values of decimals.
-use Rattle.std.proofs.Common.{◌≡◌, ℕ, zero, suc, ◌+◌, ◌-◌, ◌*◌, ◌/◌, ◌^◌, ◌≤◌, ◌<◌, List, [], ◌∷◌, ◌++◌, length, take, drop, refl, ap, sym, ◌∙◌, Bool, true, false, nat_le, ◌==◌, arith, Option, Some, None, inl, inr, if◌then◌else◌, subst, option_map, unsigned_abs, pos}
+use Rattle.std.proofs.Common.{◌≡◌, ℕ, zero, suc, ◌+◌, ◌-◌, ◌*◌, ◌/◌, ◌^◌, ◌≤◌, ◌<◌, List, [], ◌∷◌, ◌++◌, length, take, drop, refl, ap, sym, ◌∙◌, Bool, true, false, nat_le, ◌==◌, arith, Option, Some, None, inl, inr, if◌then◌else◌, subst, option_map, unsigned_abs, pos, append-nil, append_assoc}
 use Rattle.std.proofs.lemmas.Bool.Decides.{nat_tests}
 use Rattle.std.specs.Char.{is_ascii_digit}
 use Rattle.std.specs.List.{prefix_len}
@@ -8,7 +8,7 @@ use Rattle.expr_parser.specs.Bytes.{is_digit, AreDigits}
 use Rattle.expr_parser.specs.Numbers.{millionths}
 use native.Mathlib.Nat.{le-div_iff_mul-le, div-mul-le_self, le_trans, le_of_eq, pow-suc, mul-div-mul_right}
 use Rattle.expr_parser.specs.Figures.{is_at_most}
-use Rattle.expr_parser.proofs.Lists.{le_test, le_true, nothing_behind, assoc, are_snoc, digit_bounds, way, some_is, none_some}
+use Rattle.expr_parser.proofs.Lists.{le_test, le_true, are_snoc, digit_bounds, way, some_is, none_some}
 
 -- the millionths that these digits before and behind the point write, cut
 abbrev pub amount : List ℕ → List ℕ → ℕ
@@ -125,11 +125,11 @@ ten_pos n = pow_at_least_one n
     pow_at_least_one (suc n) = rw (pow-suc 10 n) (let e = pow_at_least_one n in omega arith)
 
 snoc_value : (w ds : List ℕ) (d : ℕ) → digits_after 0 (w ++ (ds ++ d ∷ [])) ≡ digits_after 0 (w ++ ds) * 10 + (d - 48)
-snoc_value w ds d = ap (λ (v : List ℕ). digits_after 0 v) (sym (assoc w ds (d ∷ []))) ∙ after_append (w ++ ds) (d ∷ []) 0
+snoc_value w ds d = ap (λ (v : List ℕ). digits_after 0 v) (sym (append_assoc w ds (d ∷ []))) ∙ after_append (w ++ ds) (d ∷ []) 0
 
 pub whole_more : (w : List ℕ) (d : ℕ) → amount w [] ≤ amount (w ++ d ∷ []) []
 whole_more w d =
-    let e : digits_after 0 ((w ++ d ∷ []) ++ []) ≡ digits_after 0 (w ++ []) * 10 + (d - 48) = ap (λ (v : List ℕ). digits_after 0 v) (nothing_behind (w ++ d ∷ [])) ∙ after_append w (d ∷ []) 0 ∙ ap (λ (v : List ℕ). digits_after 0 v * 10 + (d - 48)) (sym (nothing_behind w)) in
+    let e : digits_after 0 ((w ++ d ∷ []) ++ []) ≡ digits_after 0 (w ++ []) * 10 + (d - 48) = ap (λ (v : List ℕ). digits_after 0 v) (append-nil (w ++ d ∷ [])) ∙ after_append w (d ∷ []) 0 ∙ ap (λ (v : List ℕ). digits_after 0 v * 10 + (d - 48)) (sym (append-nil w)) in
     rw e (div_le (digits_after 0 (w ++ []) * 1000000) ((digits_after 0 (w ++ []) * 10 + (d - 48)) * 1000000) 1 (omega arith) (omega arith))
 
 pub point_more : (w ds : List ℕ) (d : ℕ) → amount w ds ≤ amount w (ds ++ d ∷ [])

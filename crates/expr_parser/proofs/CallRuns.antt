@@ -1,5 +1,5 @@
 -- Runs over calls.
-use Rattle.std.proofs.Common.{◌≡◌, ℕ, suc, zero, ◌+◌, ◌≤◌, ◌<◌, List, [], ◌∷◌, ◌++◌, length, take, refl, ap, sym, ◌∙◌, Option, Some, None, Bool, true, false, arith, nat_le, ◌==◌, subst, inl, inr, ◌⊎◌, IsUtf8}
+use Rattle.std.proofs.Common.{◌≡◌, ℕ, suc, zero, ◌+◌, ◌≤◌, ◌<◌, List, [], ◌∷◌, ◌++◌, length, take, refl, ap, sym, ◌∙◌, Option, Some, None, Bool, true, false, arith, ◌==◌, subst, inl, inr, ◌⊎◌, IsUtf8, append_assoc, append-nil, length-append, nat_lt}
 use Rattle.std.proofs.lemmas.Bool.Decides.{nat_tests}
 use Rattle.std.proofs.lemmas.Str.{is_utf8-from_IsUtf8}
 use Rattle.std.specs.Str.{is_utf8}
@@ -11,8 +11,8 @@ use Rattle.item_key.specs.declared.places.Place.TheVariants.{Start, Name, Done a
 use Rattle.item_key.specs.Machine as key
 use Rattle.item_key.specs.Grammar.{IsKeyText}
 use Rattle.item_key.proofs.Complete as keys
-use Rattle.expr_parser.specs.declared.characters.Within.{Within}
-use Rattle.expr_parser.specs.declared.characters.Within.TheVariants.{Whole}
+use Rattle.byte_grammar.specs.declared.characters.Character.{Character}
+use Rattle.byte_grammar.specs.declared.characters.Character.TheVariants.{Whole}
 use Rattle.expr_parser.specs.declared.slots.Slot.{Slot}
 use Rattle.expr_parser.specs.declared.slots.Slot.TheVariants as slots'
 use Rattle.expr_parser.specs.declared.slots.Slot.TheVariants.{Newest, Span, MaybeSpan, Silence, Percent, Free}
@@ -25,13 +25,15 @@ use Rattle.expr_parser.specs.Bytes.{is_blank, is_digit, AreBlanks, Point, one_le
 use Rattle.expr_parser.specs.Functions.{name_of, slots}
 use Rattle.zbx_types.specs.Operators.{is_dated}
 use Rattle.expr_parser.specs.Calls.{is_host_byte, AreHostBytes, IsHost, IsPart, put, Arguments, no_more, another, plain_call, IsCall, dated, of_item}
-use Rattle.expr_parser.specs.Characters.{character, characters}
+use Rattle.byte_grammar.specs.Utf8.{follow}
+use Rattle.byte_grammar.specs.Runs.{run}
 use Rattle.expr_parser.specs.Parts.{part, part_value}
 use Rattle.expr_parser.specs.Machine.{Mode, Slash, Host, Key, Argument, Close, Done, State, state, has_room, is_delimiter, delivered, key_on, argument_byte, argument_end, move, calling, is_zero, after}
-use Rattle.expr_parser.proofs.Lists.{assoc, nothing_behind, snoc, behind_append, behind_one, way, either_way, eq_true, lt_test, some_is, none_some}
+use Rattle.expr_parser.proofs.Lists.{snoc, behind_append, behind_one, way, either_way, eq_true, lt_test, some_is, none_some}
 use Rattle.expr_parser.proofs.PartPaths.{Steps}
 use Rattle.expr_parser.proofs.PartRuns.{part_run, part_utf8, no_early, ends_of, Ends}
-use Rattle.expr_parser.proofs.Utf.{utf_runs, runs_utf, run_none}
+use Rattle.byte_grammar.proofs.Utf8Texts.{text_taken, taken_text}
+use Rattle.byte_grammar.proofs.Runs.{run_first}
 use Rattle.expr_parser.proofs.Runs.{two_runs, stepped, onward, onward_behind, nothing_run, On, name_run, room}
 
 -- ---- arguments
@@ -116,7 +118,7 @@ arguments_run (another {s} {ss} {c} {d} {text} {v} x t r a i w e) p m o k cs h g
     let p1 : Point = onward p 44 in
     let f = part_all c s ss (behind (onward p 44) x) q.place o k cs t q.steps in
     ap (λ (z : List ℕ). after p.held (Some (state m p.last o k cs)) (z ++ 41 ∷ [])) e
-    ∙ ap (λ (z : List ℕ). after p.held (Some (state m p.last o k cs)) (44 ∷ z)) (assoc x (t ++ r) (41 ∷ []) ∙ ap (λ (z : List ℕ). x ++ z) (assoc t r (41 ∷ [])))
+    ∙ ap (λ (z : List ℕ). after p.held (Some (state m p.last o k cs)) (44 ∷ z)) (append_assoc x (t ++ r) (41 ∷ []) ∙ ap (λ (z : List ℕ). x ++ z) (append_assoc t r (41 ∷ [])))
     ∙ stepped p m o k cs 44 (x ++ (t ++ (r ++ 41 ∷ []))) (Some (state (Argument true c s ss Before) 44 o k cs)) (g (is_zero p.held) 44 refl)
     ∙ two_runs (onward p 44) (Some (state (Argument true c s ss Before) 44 o k cs)) (Some (state (Argument true c s ss Before) (behind (onward p 44) x).last o k cs)) x (t ++ (r ++ 41 ∷ [])) (argument_blanks x (onward p 44) c s ss Before o k cs a)
     ∙ two_runs (behind (onward p 44) x) (Some (state (Argument true c s ss Before) (behind (onward p 44) x).last o k cs)) (Some (state (Argument f.0 c s ss q.place) (behind (behind (onward p 44) x) t).last o k cs)) t (r ++ 41 ∷ []) f.1
@@ -124,52 +126,27 @@ arguments_run (another {s} {ss} {c} {d} {text} {v} x t r a i w e) p m o k cs h g
 
 -- ---- hosts
 
-name_low : (b : ℕ) → is_host_byte b ≡ true → nat_le b 127 ≡ true
+name_low : (b : ℕ) → is_host_byte b ≡ true → nat_lt b 128 ≡ true
 name_low b h = grind (arith, nat_tests)
 
-host_chars : (h : List ℕ) → AreHostBytes h → characters (Some Whole) h ≡ Some Whole
-unfolding characters AreHostBytes
+host_chars : (h : List ℕ) → AreHostBytes h → run follow (Some Whole) h ≡ Some Whole
+unfolding run AreHostBytes
 host_chars [] a = refl
 host_chars (b ∷ h) a = rw (name_low b a.0) (host_chars h a.1)
 
 pub host_utf8 : (h : List ℕ) → AreHostBytes h → is_utf8 h ≡ true
-host_utf8 h a = is_utf8-from_IsUtf8 h (runs_utf h (host_chars h a))
-
-list_length : (a b : List ℕ) → length (a ++ b) ≡ length a + length b
-list_length [] b = omega arith
-list_length (x ∷ a) b = let e = list_length a b in omega arith
+host_utf8 h a = is_utf8-from_IsUtf8 h (taken_text h (host_chars h a))
 
 host_run : (f : Fun) (bs h : List ℕ) (p : Point) (o : ℕ) (k : List Pending) (cs : List Call) → AreHostBytes bs → length h + length bs ≤ 128
     → after p.held (Some (state (Host f h) p.last o k cs)) bs ≡ Some (state (Host f (h ++ bs)) (behind p bs).last o k cs)
 unfolding after behind AreHostBytes
-host_run f [] h p o k cs a l = ap (λ (v : List ℕ). Some (state (Host f v) p.last o k cs)) (sym (nothing_behind h))
+host_run f [] h p o k cs a l = ap (λ (v : List ℕ). Some (state (Host f v) p.last o k cs)) (sym (append-nil h))
 host_run f (b ∷ bs) h p o k cs a l =
     stepped p (Host f h) o k cs b bs (Some (state (Host f (h ++ b ∷ [])) b o k cs)) (rw (a.0, lt_test (length h) 128 (omega arith)) refl)
-    ∙ host_run f bs (h ++ b ∷ []) (onward p b) o k cs a.1 (let e = list_length h (b ∷ []) in omega arith)
+    ∙ host_run f bs (h ++ b ∷ []) (onward p b) o k cs a.1 (let e = length-append h (b ∷ []) in omega arith)
     ∙ ap (λ (v : List ℕ). Some (state (Host f v) (behind (onward p b) bs).last o k cs)) (sym (snoc h b bs))
 
 -- ---- keys
-
-key_none : (bs : List ℕ) → key.after None bs ≡ None
-unfolding key.after
-key_none [] = refl
-key_none (b ∷ bs) = key_none bs
-
-key_first : (place q : Place) (b : ℕ) (bs : List ℕ) → key.after (Some place) (b ∷ bs) ≡ Some q → (r : Place) × (key.step place b ≡ Some r) × (key.after (Some r) bs ≡ Some q)
-unfolding key.after
-key_first place q b bs h = at (key.step place b) refl h
-  where
-    at : (o : Option Place) → key.step place b ≡ o → key.after o bs ≡ Some q → (r : Place) × (key.step place b ≡ Some r) × (key.after (Some r) bs ≡ Some q)
-    at None e g = none_some q (sym (key_none bs) ∙ g)
-    at (Some r) e g = (r, e, g)
-
-char_first : (w u : Within) (b : ℕ) (bs : List ℕ) → characters (Some w) (b ∷ bs) ≡ Some u → (v : Within) × (character w b ≡ Some v) × (characters (Some v) bs ≡ Some u)
-unfolding characters
-char_first w u b bs h = at (character w b) refl h
-  where
-    at : (o : Option Within) → character w b ≡ o → characters o bs ≡ Some u → (v : Within) × (character w b ≡ Some v) × (characters (Some v) bs ≡ Some u)
-    at None e g = none_some u (sym (run_none bs) ∙ g)
-    at (Some v) e g = (v, e, g)
 
 -- where a key may end, it doesn't go on with a comma or a parenthesis
 key_stops : (place r : Place) (b : ℕ) → is_delimiter b ≡ true → key.step place b ≡ Some r → key.ends place ≡ true → ⊥
@@ -184,7 +161,7 @@ key_stops place r b d h e = elim (way (b == 44) true (b == 41) true d) [
     at Ended c g h e = none_some r h
     at _ c g h e = absurd cc
 
-key_goes : (free : Bool) (f : Fun) (h t : List ℕ) (place r : Place) (u v : Within) (l o : ℕ) (k : List Pending) (cs : List Call) (b : ℕ) → key.step place b ≡ Some r → character u b ≡ Some v → (free ≡ true) ⊎ (length t < 2048)
+key_goes : (free : Bool) (f : Fun) (h t : List ℕ) (place r : Place) (u v : Character) (l o : ℕ) (k : List Pending) (cs : List Call) (b : ℕ) → key.step place b ≡ Some r → follow u b ≡ Some v → (free ≡ true) ⊎ (length t < 2048)
     → move free (Key f h t place u) l o k cs b ≡ Some (state (Key f h (t ++ b ∷ []) r v) b o k cs)
 key_goes free f h t place r u v l o k cs b e g z = elim (either_way (is_delimiter b)) [
   | inr d ↦ rw d (goes free z)
@@ -202,16 +179,16 @@ Fits n t ks = 0 < n → length t + length (take n ks) ≤ 2048
 
 fits_on : (n : ℕ) (t : List ℕ) (b : ℕ) (ks : List ℕ) → Fits n t (b ∷ ks) → ((is_zero n ≡ true) ⊎ (length t < 2048)) × Fits (one_less n) (t ++ b ∷ []) ks
 fits_on zero t b ks h = (inl refl, λ z. absurd (omega arith))
-fits_on (suc n) t b ks h = let g : length t + suc (length (take n ks)) ≤ 2048 = h (omega arith) in (inr (omega arith), λ z. let e = list_length t (b ∷ []) in omega arith)
+fits_on (suc n) t b ks h = let g : length t + suc (length (take n ks)) ≤ 2048 = h (omega arith) in (inr (omega arith), λ z. let e = length-append t (b ∷ []) in omega arith)
 
-key_run : (f : Fun) (h ks t : List ℕ) (place q : Place) (u v : Within) (p : Point) (o : ℕ) (k : List Pending) (cs : List Call) → key.after (Some place) ks ≡ Some q → characters (Some u) ks ≡ Some v → Fits p.held t ks
+key_run : (f : Fun) (h ks t : List ℕ) (place q : Place) (u v : Character) (p : Point) (o : ℕ) (k : List Pending) (cs : List Call) → run key.step (Some place) ks ≡ Some q → run follow (Some u) ks ≡ Some v → Fits p.held t ks
     → after p.held (Some (state (Key f h t place u) p.last o k cs)) ks ≡ Some (state (Key f h (t ++ ks) q v) (behind p ks).last o k cs)
-unfolding after behind key.after characters
+unfolding after behind run
 key_run f h [] t place q u v p o k cs a c l = let e : place ≡ q = some_is place q a in let g : u ≡ v = some_is u v c in
-    rw (e, g) (ap (λ (w : List ℕ). Some (state (Key f h w q v) p.last o k cs)) (sym (nothing_behind t)))
+    rw (e, g) (ap (λ (w : List ℕ). Some (state (Key f h w q v) p.last o k cs)) (sym (append-nil t)))
 key_run f h (b ∷ ks) t place q u v p o k cs a c l =
-    let e = key_first place q b ks a in
-    let g = char_first u v b ks c in
+    let e = run_first key.step place q b ks a in
+    let g = run_first follow u v b ks c in
     let w = fits_on p.held t b ks l in
     stepped p (Key f h t place u) o k cs b ks (Some (state (Key f h (t ++ b ∷ []) e.0 g.0) b o k cs)) (key_goes (is_zero p.held) f h t place e.0 u g.0 p.last o k cs b e.1 g.1 w.0)
     ∙ key_run f h ks (t ++ b ∷ []) e.0 q g.0 v (onward p b) o k cs e.2 g.2 w.1
@@ -239,7 +216,7 @@ item_run f h t r d p o k cs room a b c l w =
     ∙ two_runs (onward p 47) (Some (state (Host f []) 47 o k cs)) (Some (state (Host f h) (behind (onward p 47) h).last o k cs)) h (47 ∷ (t ++ (r ++ 41 ∷ []))) (host_run f h [] (onward p 47) o k cs a.2 (omega (arith, a.1)))
     ∙ stepped (behind (onward p 47) h) (Host f h) o k cs 47 (t ++ (r ++ 41 ∷ [])) (Some (state (Key f h [] Start Whole) 47 o k cs)) (rw (lt_test 0 (length h) a.0) refl)
     ∙ two_runs (onward (behind (onward p 47) h) 47) (Some (state (Key f h [] Start Whole) 47 o k cs)) (Some (state (Key f h t e.0 Whole) (behind (onward (behind (onward p 47) h) 47) t).last o k cs)) t (r ++ 41 ∷ [])
-    (key_run f h t [] Start e.0 Whole Whole (onward (behind (onward p 47) h) 47) o k cs e.1 (utf_runs t c) (λ z. omega (arith, fits)))
+    (key_run f h t [] Start e.0 Whole Whole (onward (behind (onward p 47) h) 47) o k cs e.1 (text_taken t c) (λ z. omega (arith, fits)))
     ∙ arguments_run w (behind (onward (behind (onward p 47) h) 47) t) (Key f h t e.0 Whole) o k cs room (key_delivers f h t e.0 (behind (onward (behind (onward p 47) h) 47) t).last o k cs e.2 (host_utf8 h a.2) (is_utf8-from_IsUtf8 t c))
 
 call_dated : (f : Fun) (o : ℕ) (k : List Pending) (cs : List Call) → is_dated f ≡ true → calling f o k cs ≡ state (Close (plain_call f [] [])) 40 o k cs

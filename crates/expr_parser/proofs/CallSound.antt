@@ -1,5 +1,5 @@
 -- Calls that the machine takes.
-use Rattle.std.proofs.Common.{◌≡◌, ℕ, suc, zero, ◌+◌, ◌-◌, ◌≤◌, ◌<◌, List, [], ◌∷◌, ◌++◌, length, take, refl, ap, sym, ◌∙◌, Option, Some, None, Bool, true, false, arith, nat_le, nat_lt, ◌==◌, subst, inl, inr, ◌⊎◌}
+use Rattle.std.proofs.Common.{◌≡◌, ℕ, suc, zero, ◌+◌, ◌-◌, ◌≤◌, ◌<◌, List, [], ◌∷◌, ◌++◌, length, take, refl, ap, sym, ◌∙◌, Option, Some, None, Bool, true, false, arith, nat_le, nat_lt, ◌==◌, subst, inl, inr, ◌⊎◌, append_assoc, append-nil, length-append}
 use Rattle.std.proofs.lemmas.Bool.Decides.{nat_tests}
 use Rattle.std.proofs.lemmas.Str.{IsUtf8-from_is_utf8}
 use Rattle.std.specs.Str.{is_utf8}
@@ -12,9 +12,8 @@ use Rattle.item_key.specs.declared.places.Within.TheVariants as within
 use Rattle.item_key.specs.Machine as key
 use Rattle.item_key.specs.Grammar.{is_name_byte}
 use Rattle.item_key.proofs.Sound as keys
-use Rattle.item_key.proofs.Runs as key_runs
-use Rattle.expr_parser.specs.declared.characters.Within.{Within}
-use Rattle.expr_parser.specs.declared.characters.Within.TheVariants.{Whole, One, Two, Three, HighOfTwo, LowOfTwo, HighOfThree, LowOfThree}
+use Rattle.byte_grammar.specs.declared.characters.Character.{Character}
+use Rattle.byte_grammar.specs.declared.characters.Character.TheVariants.{Whole, One, Two, Three, BehindE0, BehindEd, BehindF0, BehindF4}
 use Rattle.expr_parser.specs.declared.slots.Slot.{Slot}
 use Rattle.expr_parser.specs.declared.parts.Value.{Value}
 use Rattle.expr_parser.specs.declared.parts.Value.TheVariants.{Ranged, Said}
@@ -25,13 +24,14 @@ use Rattle.expr_parser.specs.Bytes.{is_blank, Point, beginning}
 use Rattle.expr_parser.specs.Functions.{name_of, slots}
 use Rattle.zbx_types.specs.Operators.{is_dated}
 use Rattle.expr_parser.specs.Calls.{is_host_byte, AreHostBytes, put, all_absent, no_more, another, plain_call, IsCall, of_item}
-use Rattle.expr_parser.specs.Characters.{character, characters}
+use Rattle.byte_grammar.specs.Utf8.{follow}
+use Rattle.byte_grammar.specs.Runs.{run}
 use Rattle.expr_parser.specs.Grammar.{called}
 use Rattle.expr_parser.specs.Parts.{part, part_value}
 use Rattle.expr_parser.specs.Machine.{Host, Key, Argument, Done, State, has_room, host, ended, next_slot, delivered, is_delimiter, key_more, key_on, key_byte, argument_on, argument_end, argument_byte, argument, slash, close, is_zero}
-use Rattle.expr_parser.proofs.Lists.{assoc, nothing_behind, behind_append, held_behind, way, either_way, eq_true, le_test, le_true, lt_true, le_false, some_is, none_some, no_blanks, one_blank, blanks_append}
+use Rattle.expr_parser.proofs.Lists.{behind_append, held_behind, way, either_way, eq_true, lt_test, le_true, lt_true, le_false, some_is, none_some, no_blanks, one_blank, blanks_append}
 use Rattle.expr_parser.proofs.PartPasts.{Past, part_past, part_ends}
-use Rattle.expr_parser.proofs.Utf.{run_append, run_one}
+use Rattle.byte_grammar.proofs.Runs.{run_append, grown}
 use Rattle.expr_parser.proofs.Stacks.{at, at_append, holds_moved, token_holds}
 use Rattle.expr_parser.proofs.Stands.{Token, InKey, InCall, InArgument, Stands, stays}
 use Rattle.expr_parser.proofs.Sound.{token_on}
@@ -45,9 +45,9 @@ ended_sound n d o k cs c ss q s deep a w h = elim (way (has_room cs) _ _ (Some s
   | inl z ↦ stays n q d o 41 (Done (call (length cs))) k (cs ++ c ∷ []) s deep (record {
     w = q ++ 41 ∷ [];
     y = [];
-    parts = sym (nothing_behind (q ++ 41 ∷ []));
+    parts = sym (append-nil (q ++ 41 ∷ []));
     blanks = no_blanks;
-    holds = holds_moved n d k (call (length cs)) 8 (w.front ++ (w.text ++ 41 ∷ [])) (q ++ 41 ∷ []) (cs ++ c ∷ []) (sym (ap (λ (v : List ℕ). v ++ 41 ∷ []) w.parts ∙ assoc w.front w.text (41 ∷ [])))
+    holds = holds_moved n d k (call (length cs)) 8 (w.front ++ (w.text ++ 41 ∷ [])) (q ++ 41 ∷ []) (cs ++ c ∷ []) (sym (ap (λ (v : List ℕ). v ++ 41 ∷ []) w.parts ∙ append_assoc w.front w.text (41 ∷ [])))
         (token_holds n d k (call (length cs)) w.front (w.text ++ 41 ∷ []) cs (c ∷ []) w.entry.stack w.entry.clear (called c (lt_true (length cs) 32 z.0) (w.goes_on [] c (no_more a))));
   }) z.1
 ]
@@ -77,16 +77,12 @@ no_host : AreHostBytes []
 unfolding AreHostBytes
 no_host = tt
 
-pub list_length : (a b : List ℕ) → length (a ++ b) ≡ length a + length b
-list_length [] b = omega arith
-list_length (x ∷ a) b = let e = list_length a b in omega arith
-
 start_place : key.place_of [] ≡ Some Start
-unfolding key.after
+unfolding run
 start_place = refl
 
-no_characters : characters (Some Whole) [] ≡ Some Whole
-unfolding characters
+no_characters : run follow (Some Whole) [] ≡ Some Whole
+unfolding run
 no_characters = refl
 
 take_none : (m : ℕ) → length {A = ℕ} (take m []) ≤ 2048
@@ -96,8 +92,8 @@ take_none (suc m) = omega arith
 pub host_sound : (n d o : ℕ) (k : List Pending) (cs : List Call) (f : Fun) (h q : List ℕ) (b : ℕ) (s : State) → d + o ≡ 32 → Token n d k cs q (name_of f ++ 40 ∷ 47 ∷ h) → has_room cs ≡ true → is_dated f ≡ false → AreHostBytes h → length h ≤ 128 → host f h o k cs b ≡ Some s → Stands n (q ++ b ∷ []) s
 host_sound n d o k cs f h q b s deep t r looks a l e = elim (way (is_host_byte b) _ _ (Some s) e) [
   | inl z ↦ elim (way (nat_lt (length h) 128) _ _ (Some s) z.1) [
-    | inl y ↦ let i = list_length h (b ∷ []) in let j = lt_true (length h) 128 y.0 in
-        stays n q d o b (Host f (h ++ b ∷ [])) k cs s deep (token_on n d k cs q (name_of f ++ 40 ∷ 47 ∷ h) (b ∷ []) (name_of f ++ 40 ∷ 47 ∷ (h ++ b ∷ [])) (assoc (name_of f) (40 ∷ 47 ∷ h) (b ∷ [])) t, r, looks, host_snoc h b a z.0, omega arith) y.1
+    | inl y ↦ let i = length-append h (b ∷ []) in let j = lt_true (length h) 128 y.0 in
+        stays n q d o b (Host f (h ++ b ∷ [])) k cs s deep (token_on n d k cs q (name_of f ++ 40 ∷ 47 ∷ h) (b ∷ []) (name_of f ++ 40 ∷ 47 ∷ (h ++ b ∷ [])) (append_assoc (name_of f) (40 ∷ 47 ∷ h) (b ∷ [])) t, r, looks, host_snoc h b a z.0, omega arith) y.1
     | inr y ↦ none_some s y.1
   ]
   | inr z ↦ elim (way (b == 47) _ _ (Some s) z.1) [
@@ -106,7 +102,7 @@ host_sound n d o k cs f h q b s deep t r looks a l e = elim (way (is_host_byte b
       | inr x ↦ none_some s x.1
       | inl x ↦ stays n q d o b (Key f h [] Start Whole) k cs s deep (record {
         front = t.front;
-        parts = ap (λ (c : ℕ). q ++ c ∷ []) (eq_true b 47 y.0) ∙ ap (λ (v : List ℕ). v ++ 47 ∷ []) t.parts ∙ assoc t.front (name_of f ++ 40 ∷ 47 ∷ h) (47 ∷ []) ∙ ap (λ (v : List ℕ). t.front ++ v) (assoc (name_of f) (40 ∷ 47 ∷ h) (47 ∷ [])) ∙ sym (nothing_behind (t.front ++ (name_of f ++ 40 ∷ 47 ∷ (h ++ 47 ∷ []))));
+        parts = ap (λ (c : ℕ). q ++ c ∷ []) (eq_true b 47 y.0) ∙ ap (λ (v : List ℕ). v ++ 47 ∷ []) t.parts ∙ append_assoc t.front (name_of f ++ 40 ∷ 47 ∷ h) (47 ∷ []) ∙ ap (λ (v : List ℕ). t.front ++ v) (append_assoc (name_of f) (40 ∷ 47 ∷ h) (47 ∷ [])) ∙ sym (append-nil (t.front ++ (name_of f ++ 40 ∷ 47 ∷ (h ++ 47 ∷ []))));
         entry = t.entry;
         room = r;
         looks = looks;
@@ -172,25 +168,25 @@ key_high Closed r b h e = let g = high b h in none_some r (sym (rw (g.comma, g.c
 key_high Ended r b h e = none_some r e
 
 -- behind a byte of ASCII no character is open
-low_whole : (u v : Within) (b : ℕ) → b < 128 → character u b ≡ Some v → v ≡ Whole
-low_whole Whole v b h e = sym (some_is Whole v (sym (rw (le_test b 127 (omega arith)) refl) ∙ e))
+low_whole : (u v : Character) (b : ℕ) → b < 128 → follow u b ≡ Some v → v ≡ Whole
+low_whole Whole v b h e = sym (some_is Whole v (sym (rw (lt_test b 128 (omega arith)) refl) ∙ e))
 low_whole One v b h e = absurd (grind (arith, nat_tests))
 low_whole Two v b h e = absurd (grind (arith, nat_tests))
 low_whole Three v b h e = absurd (grind (arith, nat_tests))
-low_whole HighOfTwo v b h e = absurd (grind (arith, nat_tests))
-low_whole LowOfTwo v b h e = absurd (grind (arith, nat_tests))
-low_whole HighOfThree v b h e = absurd (grind (arith, nat_tests))
-low_whole LowOfThree v b h e = absurd (grind (arith, nat_tests))
+low_whole BehindE0 v b h e = absurd (grind (arith, nat_tests))
+low_whole BehindEd v b h e = absurd (grind (arith, nat_tests))
+low_whole BehindF0 v b h e = absurd (grind (arith, nat_tests))
+low_whole BehindF4 v b h e = absurd (grind (arith, nat_tests))
 
-steady_on : (place r : Place) (u v : Within) (b : ℕ) → key.step place b ≡ Some r → character u b ≡ Some v → (v ≡ Whole) ⊎ ((c : ℕ) → 128 ≤ c → key.step r c ≡ Some r)
+steady_on : (place r : Place) (u v : Character) (b : ℕ) → key.step place b ≡ Some r → follow u b ≡ Some v → (v ≡ Whole) ⊎ ((c : ℕ) → 128 ≤ c → key.step r c ≡ Some r)
 steady_on place r u v b e g = elim (either_way (nat_le 128 b)) [
   | inl h ↦ inr (key_high place r b (le_true 128 b h) e)
   | inr h ↦ inl (low_whole u v b (le_false 128 b h) g)
 ]
 
 place_on : (t : List ℕ) (place r : Place) (b : ℕ) → key.place_of t ≡ Some place → key.step place b ≡ Some r → key.place_of (t ++ b ∷ []) ≡ Some r
-unfolding key.after
-place_on t place r b e g = key_runs.after_append (Some Start) t (b ∷ []) ∙ ap (λ (o : Option Place). key.after o (b ∷ [])) e ∙ g
+unfolding run
+place_on t place r b e g = run_append key.step (Some Start) t (b ∷ []) ∙ ap (λ (o : Option Place). run key.step o (b ∷ [])) e ∙ g
 
 take_short : (m : ℕ) (a b : List ℕ) → m ≤ length a → take m (a ++ b) ≡ take m a
 take_short zero a b h = refl
@@ -208,52 +204,52 @@ zero_is (suc m) h = absurd cc
 
 -- a key with one byte more is within the limit
 fits_on : (n : ℕ) (x t q : List ℕ) (b : ℕ) → q ≡ x ++ t → length (take (at n x).held t) ≤ 2048 → (is_zero (at n q).held ≡ true) ⊎ (length t < 2048) → length (take (at n x).held (t ++ b ∷ [])) ≤ 2048
-fits_on n x t q b e h (inr g) = let l = take_le (at n x).held (t ++ b ∷ []) in let m = list_length t (b ∷ []) in omega arith
+fits_on n x t q b e h (inr g) = let l = take_le (at n x).held (t ++ b ∷ []) in let m = length-append t (b ∷ []) in omega arith
 fits_on n x t q b e h (inl g) =
     let z : (at n q).held ≡ 0 = zero_is (at n q).held g in
     let y : (at n q).held ≡ (at n x).held - length t = ap (λ (v : List ℕ). (at n v).held) e ∙ ap (λ (v : Point). v.held) (behind_append (beginning n) x t) ∙ held_behind (at n x) t in
     subst (λ (v : List ℕ). length v ≤ 2048) (sym (take_short (at n x).held t (b ∷ []) (omega arith))) h
 
-key_more_sound : (n d o : ℕ) (k : List Pending) (cs : List Call) (f : Fun) (h t q : List ℕ) (place : Place) (u : Within) (b : ℕ) (r : Option Place) (v : Option Within) (s : State) → d + o ≡ 32 → InKey n d k cs f h t place u q → (is_zero (at n q).held ≡ true) ⊎ (length t < 2048)
-    → key.step place b ≡ r → character u b ≡ v → key_more f h t r v o k cs b ≡ Some s → Stands n (q ++ b ∷ []) s
+key_more_sound : (n d o : ℕ) (k : List Pending) (cs : List Call) (f : Fun) (h t q : List ℕ) (place : Place) (u : Character) (b : ℕ) (r : Option Place) (v : Option Character) (s : State) → d + o ≡ 32 → InKey n d k cs f h t place u q → (is_zero (at n q).held ≡ true) ⊎ (length t < 2048)
+    → key.step place b ≡ r → follow u b ≡ v → key_more f h t r v o k cs b ≡ Some s → Stands n (q ++ b ∷ []) s
 key_more_sound n d o k cs f h t q place u b None v s deep w l e g i = none_some s i
 key_more_sound n d o k cs f h t q place u b (Some r) None s deep w l e g i = none_some s i
 key_more_sound n d o k cs f h t q place u b (Some r) (Some v) s deep w l e g i = stays n q d o b (Key f h (t ++ b ∷ []) r v) k cs s deep (record {
   front = w.front;
-  parts = ap (λ (z : List ℕ). z ++ b ∷ []) w.parts ∙ assoc (w.front ++ (name_of f ++ 40 ∷ 47 ∷ (h ++ 47 ∷ []))) t (b ∷ []);
+  parts = ap (λ (z : List ℕ). z ++ b ∷ []) w.parts ∙ append_assoc (w.front ++ (name_of f ++ 40 ∷ 47 ∷ (h ++ 47 ∷ []))) t (b ∷ []);
   entry = w.entry;
   room = w.room;
   looks = w.looks;
   host = w.host;
   place_is = place_on t place r b w.place_is e;
-  characters_are = run_append (Some Whole) t (b ∷ []) ∙ ap (λ (z : Option Within). characters z (b ∷ [])) w.characters_are ∙ run_one u b ∙ g;
+  characters_are = grown follow (Some Whole) u t b w.characters_are ∙ g;
   fits = fits_on n (w.front ++ (name_of f ++ 40 ∷ 47 ∷ (h ++ 47 ∷ []))) t q b w.parts w.fits l;
   steady = steady_on place r u v b e g;
 }) i
 
-key_on_sound : (n d o : ℕ) (k : List Pending) (cs : List Call) (f : Fun) (h t q : List ℕ) (place : Place) (u : Within) (b : ℕ) (s : State) → d + o ≡ 32 → InKey n d k cs f h t place u q → key_on (is_zero (at n q).held) f h t place u o k cs b ≡ Some s → Stands n (q ++ b ∷ []) s
+key_on_sound : (n d o : ℕ) (k : List Pending) (cs : List Call) (f : Fun) (h t q : List ℕ) (place : Place) (u : Character) (b : ℕ) (s : State) → d + o ≡ 32 → InKey n d k cs f h t place u q → key_on (is_zero (at n q).held) f h t place u o k cs b ≡ Some s → Stands n (q ++ b ∷ []) s
 key_on_sound n d o k cs f h t q place u b s deep w i = elim (way (is_zero (at n q).held) _ _ (Some s) i) [
-  | inl z ↦ key_more_sound n d o k cs f h t q place u b (key.step place b) (character u b) s deep w (inl z.0) refl refl z.1
+  | inl z ↦ key_more_sound n d o k cs f h t q place u b (key.step place b) (follow u b) s deep w (inl z.0) refl refl z.1
   | inr z ↦ elim (way (nat_lt (length t) 2048) _ _ (Some s) z.1) [
-    | inl y ↦ key_more_sound n d o k cs f h t q place u b (key.step place b) (character u b) s deep w (inr (lt_true (length t) 2048 y.0)) refl refl y.1
+    | inl y ↦ key_more_sound n d o k cs f h t q place u b (key.step place b) (follow u b) s deep w (inr (lt_true (length t) 2048 y.0)) refl refl y.1
     | inr y ↦ none_some s y.1
   ]
 ]
 
 -- a whole key, and what its call may still be
-key_call : (n d : ℕ) (k : List Pending) (cs : List Call) (f : Fun) (h t q : List ℕ) (place : Place) (u : Within) → InKey n d k cs f h t place u q → key.ends place ≡ true → is_utf8 t ≡ true → InCall n d k cs (plain_call f h t) (slots f) q
+key_call : (n d : ℕ) (k : List Pending) (cs : List Call) (f : Fun) (h t q : List ℕ) (place : Place) (u : Character) → InKey n d k cs f h t place u q → key.ends place ≡ true → is_utf8 t ≡ true → InCall n d k cs (plain_call f h t) (slots f) q
 key_call n d k cs f h t q place u w e g = record {
   front = w.front;
   text = name_of f ++ 40 ∷ 47 ∷ (h ++ 47 ∷ t);
-  parts = w.parts ∙ assoc w.front (name_of f ++ 40 ∷ 47 ∷ (h ++ 47 ∷ [])) t ∙ ap (λ (v : List ℕ). w.front ++ v) (assoc (name_of f) (40 ∷ 47 ∷ (h ++ 47 ∷ [])) t ∙ ap (λ (v : List ℕ). name_of f ++ 40 ∷ 47 ∷ v) (assoc h (47 ∷ []) t));
+  parts = w.parts ∙ append_assoc w.front (name_of f ++ 40 ∷ 47 ∷ (h ++ 47 ∷ [])) t ∙ ap (λ (v : List ℕ). w.front ++ v) (append_assoc (name_of f) (40 ∷ 47 ∷ (h ++ 47 ∷ [])) t ∙ ap (λ (v : List ℕ). name_of f ++ 40 ∷ 47 ∷ v) (append_assoc h (47 ∷ []) t));
   entry = w.entry;
   room = w.room;
   goes_on = λ r c a. of_item f h t r w.looks w.host (keys.sound t (ap (λ (o : Option Place). key.ends_at o) w.place_is ∙ e)) (IsUtf8-from_is_utf8 t g)
       (subst (λ (v : Point). length (take v.held t) ≤ 2048) (sym (at_append n w.front (name_of f ++ 40 ∷ 47 ∷ (h ++ 47 ∷ [])))) w.fits) a
-      (assoc (name_of f) (40 ∷ 47 ∷ (h ++ 47 ∷ t)) (r ++ 41 ∷ []) ∙ ap (λ (v : List ℕ). name_of f ++ 40 ∷ 47 ∷ v) (assoc h (47 ∷ t) (r ++ 41 ∷ [])));
+      (append_assoc (name_of f) (40 ∷ 47 ∷ (h ++ 47 ∷ t)) (r ++ 41 ∷ []) ∙ ap (λ (v : List ℕ). name_of f ++ 40 ∷ 47 ∷ v) (append_assoc h (47 ∷ t) (r ++ 41 ∷ [])));
 }
 
-pub key_sound : (n d o : ℕ) (k : List Pending) (cs : List Call) (f : Fun) (h t q : List ℕ) (place : Place) (u : Within) (b : ℕ) (s : State) → d + o ≡ 32 → InKey n d k cs f h t place u q → key_byte (is_zero (at n q).held) f h t place u o k cs b ≡ Some s → Stands n (q ++ b ∷ []) s
+pub key_sound : (n d o : ℕ) (k : List Pending) (cs : List Call) (f : Fun) (h t q : List ℕ) (place : Place) (u : Character) (b : ℕ) (s : State) → d + o ≡ 32 → InKey n d k cs f h t place u q → key_byte (is_zero (at n q).held) f h t place u o k cs b ≡ Some s → Stands n (q ++ b ∷ []) s
 key_sound n d o k cs f h t q place u b s deep w i = elim (way (is_delimiter b) _ _ (Some s) i) [
   | inr z ↦ key_on_sound n d o k cs f h t q place u b s deep w z.1
   | inl z ↦ elim (way (key.ends place) _ _ (Some s) z.1) [
@@ -276,7 +272,7 @@ argument_on_sound n d o k cs fresh c a ss x q b (Some y) s deep w e i = stays n 
   before = w.before;
   blanks = w.blanks;
   own = w.own ++ b ∷ [];
-  parts = ap (λ (v : List ℕ). v ++ b ∷ []) w.parts ∙ assoc w.before (44 ∷ (w.blanks ++ w.own)) (b ∷ []) ∙ ap (λ (v : List ℕ). w.before ++ 44 ∷ v) (assoc w.blanks w.own (b ∷ []));
+  parts = ap (λ (v : List ℕ). v ++ b ∷ []) w.parts ∙ append_assoc w.before (44 ∷ (w.blanks ++ w.own)) (b ∷ []) ∙ ap (λ (v : List ℕ). w.before ++ 44 ∷ v) (append_assoc w.blanks w.own (b ∷ []));
   are_blanks = w.are_blanks;
   past = part_past a x y w.own b w.past e;
   not_begun = λ z. absurd cc;
@@ -290,10 +286,10 @@ argument_call n d k cs fresh c a ss x q v w e =
     record {
       front = g.front;
       text = g.text ++ 44 ∷ (w.blanks ++ w.own);
-      parts = w.parts ∙ ap (λ (z : List ℕ). z ++ 44 ∷ (w.blanks ++ w.own)) g.parts ∙ assoc g.front g.text (44 ∷ (w.blanks ++ w.own));
+      parts = w.parts ∙ ap (λ (z : List ℕ). z ++ 44 ∷ (w.blanks ++ w.own)) g.parts ∙ append_assoc g.front g.text (44 ∷ (w.blanks ++ w.own));
       entry = g.entry;
       room = g.room;
-      goes_on = λ r f i. subst (λ (z : List ℕ). IsCall (at n g.front) z f) (sym (assoc g.text (44 ∷ (w.blanks ++ w.own)) (r ++ 41 ∷ []) ∙ ap (λ (z : List ℕ). g.text ++ 44 ∷ z) (assoc w.blanks w.own (r ++ 41 ∷ []) ∙ ap (λ (z : List ℕ). w.blanks ++ z) (sym (assoc w.own r (41 ∷ []))) ∙ sym (assoc w.blanks (w.own ++ r) (41 ∷ [])))))
+      goes_on = λ r f i. subst (λ (z : List ℕ). IsCall (at n g.front) z f) (sym (append_assoc g.text (44 ∷ (w.blanks ++ w.own)) (r ++ 41 ∷ []) ∙ ap (λ (z : List ℕ). g.text ++ 44 ∷ z) (append_assoc w.blanks w.own (r ++ 41 ∷ []) ∙ ap (λ (z : List ℕ). w.blanks ++ z) (sym (append_assoc w.own r (41 ∷ []))) ∙ sym (append_assoc w.blanks (w.own ++ r) (41 ∷ [])))))
           (g.goes_on (44 ∷ (w.blanks ++ (w.own ++ r))) f (another w.blanks w.own r w.are_blanks (part_ends a x w.own v w.past e) i refl));
     }
 
@@ -324,7 +320,7 @@ argument_sound n d o k cs true c a ss x q b s deep w i = elim (way (is_blank b) 
         before = w.before;
         blanks = w.blanks ++ b ∷ [];
         own = w.own;
-        parts = ap (λ (v : List ℕ). v ++ b ∷ []) (w.parts ∙ ap (λ (v : List ℕ). w.before ++ 44 ∷ (w.blanks ++ v)) e ∙ ap (λ (v : List ℕ). w.before ++ 44 ∷ v) (nothing_behind w.blanks)) ∙ assoc w.before (44 ∷ w.blanks) (b ∷ []) ∙ ap (λ (v : List ℕ). w.before ++ 44 ∷ v) (sym (nothing_behind (w.blanks ++ b ∷ [])) ∙ ap (λ (v : List ℕ). (w.blanks ++ b ∷ []) ++ v) (sym e));
+        parts = ap (λ (v : List ℕ). v ++ b ∷ []) (w.parts ∙ ap (λ (v : List ℕ). w.before ++ 44 ∷ (w.blanks ++ v)) e ∙ ap (λ (v : List ℕ). w.before ++ 44 ∷ v) (append-nil w.blanks)) ∙ append_assoc w.before (44 ∷ w.blanks) (b ∷ []) ∙ ap (λ (v : List ℕ). w.before ++ 44 ∷ v) (sym (append-nil (w.blanks ++ b ∷ [])) ∙ ap (λ (v : List ℕ). (w.blanks ++ b ∷ []) ++ v) (sym e));
         are_blanks = blanks_append w.blanks (b ∷ []) w.are_blanks (one_blank b z.0);
         past = w.past;
         not_begun = w.not_begun;
@@ -334,7 +330,7 @@ argument_sound n d o k cs true c a ss x q b s deep w i = elim (way (is_blank b) 
 
 pub slash_sound : (n d o : ℕ) (k : List Pending) (cs : List Call) (f : Fun) (q : List ℕ) (b : ℕ) (s : State) → d + o ≡ 32 → Token n d k cs q (name_of f ++ 40 ∷ []) → has_room cs ≡ true → is_dated f ≡ false → slash f o k cs b ≡ Some s → Stands n (q ++ b ∷ []) s
 slash_sound n d o k cs f q b s deep t r l i = elim (way (b == 47) _ _ (Some s) i) [
-  | inl z ↦ stays n q d o b (Host f []) k cs s deep (token_on n d k cs q (name_of f ++ 40 ∷ []) (b ∷ []) (name_of f ++ 40 ∷ 47 ∷ []) (assoc (name_of f) (40 ∷ []) (b ∷ []) ∙ ap (λ (c : ℕ). name_of f ++ 40 ∷ c ∷ []) (eq_true b 47 z.0)) t, r, l, no_host, omega arith) z.1
+  | inl z ↦ stays n q d o b (Host f []) k cs s deep (token_on n d k cs q (name_of f ++ 40 ∷ []) (b ∷ []) (name_of f ++ 40 ∷ 47 ∷ []) (append_assoc (name_of f) (40 ∷ []) (b ∷ []) ∙ ap (λ (c : ℕ). name_of f ++ 40 ∷ c ∷ []) (eq_true b 47 z.0)) t, r, l, no_host, omega arith) z.1
   | inr z ↦ none_some s z.1
 ]
 

@@ -1,5 +1,5 @@
 -- What the grammar says is an expression, the machine takes, and makes the same tree and calls of it.
-use Rattle.std.proofs.Common.{◌≡◌, ℕ, suc, ◌+◌, ◌≤◌, ◌<◌, List, [], ◌∷◌, ◌++◌, length, refl, ap, sym, ◌∙◌, Option, Some, None, Bool, true, false, arith, nat_le, ◌==◌, subst, inl, inr, if◌then◌else◌}
+use Rattle.std.proofs.Common.{◌≡◌, ℕ, suc, ◌+◌, ◌≤◌, ◌<◌, List, [], ◌∷◌, ◌++◌, length, refl, ap, sym, ◌∙◌, Option, Some, None, Bool, true, false, arith, nat_le, ◌==◌, subst, inl, inr, if◌then◌else◌, append_assoc, length-append}
 use Rattle.std.proofs.lemmas.Bool.Decides.{nat_tests}
 use Rattle.zbx_types.specs.Tree.{Tree, call, negative, negation, binary}
 use Rattle.zbx_types.specs.declared.expr.Op.{Op}
@@ -17,10 +17,10 @@ use Rattle.expr_parser.specs.Calls.{IsCall, dated, of_item, greatest_number}
 use Rattle.expr_parser.specs.Figures.{is_figure}
 use Rattle.expr_parser.specs.Grammar.{op_text, op_level, StandsApart, Spells, number, called, paren, minus, denied, tighter, joined, IsExpr}
 use Rattle.expr_parser.specs.Machine.{half_level, floor, reduced, Mode, Begin, Operand, Word, Done, Less, Greater, Joint, State, state, opened, has_room, not_word, function_of, operand, with_op, pushed, closed, move, is_zero, after, start, held, ends_by, ends_at}
-use Rattle.expr_parser.proofs.Lists.{assoc, behind_append, behind_one, le_test, lt_test, some_is, blank_first, blank_rest, blank_or_open, IsFirst, first_kept, digit_first}
+use Rattle.expr_parser.proofs.Lists.{behind_append, behind_one, le_test, lt_test, some_is, blank_first, blank_rest, blank_or_open, IsFirst, first_kept, digit_first}
 use Rattle.expr_parser.proofs.NumberPaths.{Path, here, there, NumberRun, number_path}
 use Rattle.expr_parser.proofs.Words.{named, not_begins, are_letters, letters_first}
-use Rattle.expr_parser.proofs.Runs.{two_runs, stepped, onward, onward_behind, nothing_run, behind_step, blanks_held, blanks_operand, On, Claim, calls_assoc, calls_length, do_number, room}
+use Rattle.expr_parser.proofs.Runs.{two_runs, stepped, onward, onward_behind, nothing_run, behind_step, blanks_held, blanks_operand, On, Claim, do_number, room}
 use Rattle.expr_parser.proofs.CallRuns.{call_run, call_last}
 
 -- ---- what a text begins with, and ends with
@@ -267,19 +267,19 @@ do_joined p d c l a b ks js op t x y u lev g f ax ay w g2 f2 m o k0 k cs deep le
     let folded : reduced (op_level op) q.stack q.tree ≡ (k, a) = subst (λ (v : ℕ). reduced v q.stack q.tree ≡ (k, a)) lev (q.folds l (omega arith) ∙ still l k a low) in
     let on2 : On z.mode (behind (behind (behind p t) x) (op_text op ++ y)).last o z.stack (Waits (Left op a) ∷ k) (cs ++ ks) u = subst (λ (v : List Pending). On z.mode (behind (behind (behind p t) x) (op_text op ++ y)).last o z.stack v (cs ++ ks) u) (ap (λ (v : List Pending × Tree). pushed op v) folded) z.on in
     let e2 : behind p (t ++ (x ++ (op_text op ++ y))) ≡ behind (behind (behind p t) x) (op_text op ++ y) = behind_append p t (x ++ (op_text op ++ y)) ∙ behind_append (behind p t) x (op_text op ++ y) in
-    let e3 : behind p (t ++ (x ++ (op_text op ++ (y ++ u)))) ≡ behind (behind (behind (behind p t) x) (op_text op ++ y)) u = ap (λ (v : List ℕ). behind p (t ++ (x ++ v))) (sym (assoc (op_text op) y u)) ∙ behind_append p t (x ++ ((op_text op ++ y) ++ u)) ∙ behind_append (behind p t) x ((op_text op ++ y) ++ u) ∙ behind_append (behind (behind p t) x) (op_text op ++ y) u in
+    let e3 : behind p (t ++ (x ++ (op_text op ++ (y ++ u)))) ≡ behind (behind (behind (behind p t) x) (op_text op ++ y)) u = ap (λ (v : List ℕ). behind p (t ++ (x ++ v))) (sym (append_assoc (op_text op) y u)) ∙ behind_append p t (x ++ ((op_text op ++ y) ++ u)) ∙ behind_append (behind p t) x ((op_text op ++ y) ++ u) ∙ behind_append (behind (behind p t) x) (op_text op ++ y) u in
     let g' : Claim (behind (behind (behind p t) x) (op_text op ++ y)) d (c + length ks) (suc l) u b js = subst (λ (v : Point). Claim v d (c + length ks) (suc l) u b js) e2 g2 in
-    let v = g' z.mode o z.stack (Waits (Left op a) ∷ k) (cs ++ ks) deep (calls_length cs ks ∙ ap (λ (n : ℕ). n + length ks) len) (omega (arith, lev)) on2 in
+    let v = g' z.mode o z.stack (Waits (Left op a) ∷ k) (cs ++ ks) deep (length-append cs ks ∙ ap (λ (n : ℕ). n + length ks) len) (omega (arith, lev)) on2 in
     record {
       mode = v.mode;
       stack = v.stack;
       tree = v.tree;
       is = two_runs p (Some (state m p.last o k0 cs)) (Some (state q.mode (behind p t).last o q.stack (cs ++ ks))) t (x ++ (op_text op ++ (y ++ u))) q.is
           ∙ two_runs (behind p t) (Some (state q.mode (behind p t).last o q.stack (cs ++ ks))) (Some (state r.0 (behind (behind p t) x).last o q.stack (cs ++ ks))) x (op_text op ++ (y ++ u)) r.1
-          ∙ ap (λ (n : List ℕ). after (behind (behind p t) x).held (Some (state r.0 (behind (behind p t) x).last o q.stack (cs ++ ks))) n) (sym (assoc (op_text op) y u))
+          ∙ ap (λ (n : List ℕ). after (behind (behind p t) x).held (Some (state r.0 (behind (behind p t) x).last o q.stack (cs ++ ks))) n) (sym (append_assoc (op_text op) y u))
           ∙ two_runs (behind (behind p t) x) (Some (state r.0 (behind (behind p t) x).last o q.stack (cs ++ ks))) (Some (state z.mode (behind (behind (behind p t) x) (op_text op ++ y)).last o z.stack (cs ++ ks))) (op_text op ++ y) u z.is
           ∙ v.is
-          ∙ ap (λ (n : List Call). Some (state v.mode (behind (behind (behind (behind p t) x) (op_text op ++ y)) u).last o v.stack n)) (calls_assoc cs ks js)
+          ∙ ap (λ (n : List Call). Some (state v.mode (behind (behind (behind (behind p t) x) (op_text op ++ y)) u).last o v.stack n)) (append_assoc cs ks js)
           ∙ ap (λ (n : Point). Some (state v.mode n.last o v.stack (cs ++ (ks ++ js)))) (sym e3);
       holds = v.holds;
       folds = λ i j. v.folds i (omega arith) ∙ rw (le_test i (op_level op) (omega (arith, lev))) refl;

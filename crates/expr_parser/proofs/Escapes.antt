@@ -1,10 +1,10 @@
 -- Texts between quotes.
-use Rattle.std.proofs.Common.{◌≡◌, ℕ, suc, ◌+◌, ◌<◌, List, [], ◌∷◌, ◌++◌, length, refl, ap, sym, ◌∙◌, ◌==◌, arith, Option, Some, None, MatchOption, lit<, inl, inr}
+use Rattle.std.proofs.Common.{◌≡◌, ℕ, suc, ◌+◌, ◌<◌, List, [], ◌∷◌, ◌++◌, length, refl, ap, sym, ◌∙◌, ◌==◌, arith, Option, Some, None, MatchOption, lit<, inl, inr, append_assoc}
 use denote.Ref.{Bor}
 use Rattle.std.proofs.lemmas.Str.Pattern.{IsSplitOnceResult, split_once_first}
 use Rattle.std.specs.List.{position_or_len, before_first, after_first}
 use Rattle.expr_parser.specs.Written.{escaped}
-use Rattle.expr_parser.proofs.Lists.{assoc, either_way}
+use Rattle.expr_parser.proofs.Lists.{either_way}
 
 -- no quote
 pub stays : (s : List ℕ) → position_or_len (λ b. b == 34) s ≡ length s → escaped s ≡ s
@@ -35,7 +35,7 @@ split_parts : (s : List ℕ) (r : Option (Bor (List ℕ) × Bor (List ℕ)))
 split_parts s None h = stays s h
 split_parts s (Some x) h =
     splits s h.0 ∙ ap (λ (f : List ℕ). f ++ 92 ∷ 34 ∷ escaped (after_first (λ b. b == 34) s)) (sym h.1)
-    ∙ ap (λ (r : List ℕ). x.0.now ++ 92 ∷ 34 ∷ escaped r) (sym h.2) ∙ sym (assoc x.0.now (92 ∷ 34 ∷ []) (escaped x.1.now))
+    ∙ ap (λ (r : List ℕ). x.0.now ++ 92 ∷ 34 ∷ escaped r) (sym h.2) ∙ sym (append_assoc x.0.now (92 ∷ 34 ∷ []) (escaped x.1.now))
 
 pub parts : (s : List ℕ) (r : Option (Bor (List ℕ) × Bor (List ℕ))) → IsSplitOnceResult 34 s r
     → MatchOption r (escaped s ≡ s) (λ x. escaped s ≡ (x.0.now ++ 92 ∷ 34 ∷ []) ++ escaped x.1.now)

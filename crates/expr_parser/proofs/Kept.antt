@@ -1,5 +1,5 @@
 -- Each byte keeps what a state says of the text so far; so what the machine takes, the grammar says.
-use Rattle.std.proofs.Common.{◌≡◌, ℕ, ◌+◌, List, [], ◌∷◌, ◌++◌, length, refl, ap, sym, ◌∙◌, Option, Some, None, true, false, arith, nat_le, subst, inl, inr, pos}
+use Rattle.std.proofs.Common.{◌≡◌, ℕ, ◌+◌, List, [], ◌∷◌, ◌++◌, length, refl, ap, sym, ◌∙◌, Option, Some, None, true, false, arith, nat_le, subst, inl, inr, pos, append-nil}
 use Rattle.zbx_types.specs.Tree.{Tree, constant}
 use Rattle.zbx_types.specs.declared.calls.Call.{Call}
 use Rattle.expr_parser.specs.declared.figures.Figures.{Figures}
@@ -9,7 +9,7 @@ use Rattle.expr_parser.specs.Calls.{greatest_number}
 use Rattle.expr_parser.specs.Figures.{figures_text, figures_value}
 use Rattle.expr_parser.specs.Grammar.{Spells}
 use Rattle.expr_parser.specs.Machine.{reduced, Mode, Begin, Operand, Word, Number, Slash, Host, Key, Argument, Close, Done, Less, Greater, Joint, State, move, go, is_zero, after, start, constant_of, held, whole, ends_by, ends_at}
-use Rattle.expr_parser.proofs.Lists.{nothing_behind, snoc, behind_append, behind_one, way, either_way, some_is, none_some}
+use Rattle.expr_parser.proofs.Lists.{snoc, behind_append, behind_one, way, either_way, some_is, none_some}
 use Rattle.expr_parser.proofs.NumberPasts.{NumberPast}
 use Rattle.expr_parser.proofs.Stacks.{at, Folded, fold, floor_le}
 use Rattle.expr_parser.proofs.Stands.{Token, Behind, Within', Stands}
@@ -41,7 +41,7 @@ held_on n q b = ap (λ (v : Point). v.held) (behind_append (beginning n) q (b �
 
 run_sound : (n : ℕ) (bs q : List ℕ) (o : Option State) → ((s : State) → o ≡ Some s → Stands n q s) → (t : State) → after (at n q).held o bs ≡ Some t → Stands n (q ++ bs) t
 unfolding after
-run_sound n [] q o h t e = subst (λ (v : List ℕ). Stands n v t) (sym (nothing_behind q)) (h t e)
+run_sound n [] q o h t e = subst (λ (v : List ℕ). Stands n v t) (sym (append-nil q)) (h t e)
 run_sound n (b ∷ bs) q o h t e = subst (λ (v : List ℕ). Stands n v t) (sym (snoc q b bs))
     (run_sound n bs (q ++ b ∷ []) (go (is_zero (at n q).held) o b) (go_sound n q b o h) t (subst (λ (v : ℕ). after v (go (is_zero (at n q).held) o b) bs ≡ Some t) (sym (held_on n q b)) e))
 
@@ -88,7 +88,7 @@ end_behind n d l o k cs x q e ks last w h = elim (way (is_blank l) _ _ (Some (e,
   | inl z ↦ none_some (e, ks) z.1
   | inr z ↦
       let y : w.y ≡ [] = no_trail n w.w w.y w.blanks (subst (λ (v : ℕ). is_blank v ≡ false) (last ∙ ap (λ (v : List ℕ). (at n v).last) w.parts) z.0) in
-      let i : w.w ≡ q = sym (w.parts ∙ ap (λ (v : List ℕ). w.w ++ v) y ∙ nothing_behind w.w) in
+      let i : w.w ≡ q = sym (w.parts ∙ ap (λ (v : List ℕ). w.w ++ v) y ∙ append-nil w.w) in
       subst (λ (v : List ℕ). Spells (beginning n) 32 0 0 v e ks) i (whole_sound n d (reduced 0 k x) w.w cs e ks (fold n d 0 k x 8 w.w cs (floor_le k) (omega arith) w.holds) z.1)
 ]
 

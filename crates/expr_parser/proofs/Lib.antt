@@ -1,6 +1,5 @@
 pub mod Lists
 pub mod Amounts
-pub mod Utf
 pub mod NumberPaths
 pub mod PartPaths
 pub mod TextPaths

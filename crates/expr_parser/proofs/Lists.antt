@@ -1,19 +1,11 @@
 -- Lists, bytes and points.
-use Rattle.std.proofs.Common.{◌≡◌, ℕ, zero, suc, ◌+◌, ◌-◌, ◌*◌, ◌≤◌, ◌<◌, List, [], ◌∷◌, ◌++◌, length, refl, ap, sym, ◌∙◌, Bool, true, false, nat_le, nat_lt, ◌==◌, arith, Some, None, inl, inr, ◌⊎◌, if◌then◌else◌}
+use Rattle.std.proofs.Common.{◌≡◌, ℕ, zero, suc, ◌+◌, ◌-◌, ◌*◌, ◌≤◌, ◌<◌, List, [], ◌∷◌, ◌++◌, length, refl, ap, sym, ◌∙◌, Bool, true, false, nat_le, nat_lt, ◌==◌, arith, Some, None, inl, inr, ◌⊎◌, if◌then◌else◌, append_assoc}
 use Rattle.std.proofs.lemmas.Bool.Decides.{nat_tests}
 use Rattle.expr_parser.specs.Bytes.{is_blank, is_digit, is_gap, ends_word, AreBlanks, AreDigits, Digits, first_byte, Point, one_less, behind}
 
-pub assoc : (a b c : List ℕ) → (a ++ b) ++ c ≡ a ++ (b ++ c)
-assoc [] b c = refl
-assoc (x ∷ a) b c = ap (λ (r : List ℕ). x ∷ r) (assoc a b c)
-
-pub nothing_behind : (a : List ℕ) → a ++ [] ≡ a
-nothing_behind [] = refl
-nothing_behind (x ∷ a) = ap (λ (r : List ℕ). x ∷ r) (nothing_behind a)
-
 -- one byte moves to the front
 pub snoc : (q : List ℕ) (b : ℕ) (r : List ℕ) → q ++ b ∷ r ≡ (q ++ b ∷ []) ++ r
-snoc q b r = sym (assoc q (b ∷ []) r)
+snoc q b r = sym (append_assoc q (b ∷ []) r)
 
 pub behind_append : (p : Point) (a b : List ℕ) → behind p (a ++ b) ≡ behind (behind p a) b
 unfolding behind

@@ -1,5 +1,5 @@
 -- From each state that a text leads to, some bytes complete an expression.
-use Rattle.std.proofs.Common.{◌≡◌, ℕ, suc, zero, ◌+◌, ◌≤◌, List, [], ◌∷◌, ◌++◌, length, take, refl, ap, sym, ◌∙◌, Option, Some, Bool, true, false, arith, ◌==◌, subst, inl, inr, ◌⊎◌, if◌then◌else◌, pos, IsUtf8}
+use Rattle.std.proofs.Common.{◌≡◌, ℕ, suc, zero, ◌+◌, ◌≤◌, List, [], ◌∷◌, ◌++◌, length, take, refl, ap, sym, ◌∙◌, Option, Some, Bool, true, false, arith, ◌==◌, subst, inl, inr, ◌⊎◌, if◌then◌else◌, pos, IsUtf8, append_assoc, append-nil, length-append}
 use Rattle.zbx_types.specs.Tree.{Tree, constant, call}
 use Rattle.zbx_types.specs.declared.expr.Op.{Op}
 use Rattle.zbx_types.specs.declared.expr.Op.TheVariants.{Lt, Gt, Add}
@@ -11,9 +11,8 @@ use Rattle.item_key.specs.declared.places.Within.TheVariants as within
 use Rattle.item_key.specs.Machine as key
 use Rattle.item_key.specs.Grammar.{IsKeyText}
 use Rattle.item_key.proofs.Sound as keys
-use Rattle.item_key.proofs.Runs as key_runs
-use Rattle.expr_parser.specs.declared.characters.Within.{Within}
-use Rattle.expr_parser.specs.declared.characters.Within.TheVariants.{Whole, One, Two, Three, HighOfTwo, LowOfTwo, HighOfThree, LowOfThree}
+use Rattle.byte_grammar.specs.declared.characters.Character.{Character}
+use Rattle.byte_grammar.specs.declared.characters.Character.TheVariants.{Whole, One, Two, Three, BehindE0, BehindEd, BehindF0, BehindF4}
 use Rattle.expr_parser.specs.declared.slots.Slot.{Slot}
 use Rattle.expr_parser.specs.declared.parts.Part.{Part}
 use Rattle.expr_parser.specs.declared.pending.Half.TheVariants.{Denied}
@@ -24,12 +23,12 @@ use Rattle.expr_parser.specs.Bytes.{is_gap, AreBlanks, Point, behind as behind_b
 use Rattle.expr_parser.specs.Functions.{name_of, slots}
 use Rattle.zbx_types.specs.Operators.{is_dated}
 use Rattle.expr_parser.specs.Calls.{AreHostBytes, IsHost, put, Arguments, no_more, another, plain_call, IsCall, dated, of_item, greatest_number}
-use Rattle.expr_parser.specs.Characters.{characters}
 use Rattle.expr_parser.specs.Figures.{figures_text}
 use Rattle.expr_parser.specs.Grammar.{op_text, is_word, Spells, number, called}
 use Rattle.expr_parser.specs.Machine.{floor, reduced, Mode, Begin, Operand, Word, Number, Slash, Host, Key, Argument, Close, Done, Less, Greater, Joint, State, has_room, is_begun, not_word, is_not, first_functions, second_functions, with_op, go}
-use Rattle.expr_parser.proofs.Lists.{assoc, nothing_behind, held_behind, last_snoc, way, either_way, eq_true, lt_true, no_blanks, one_blank}
-use Rattle.expr_parser.proofs.Utf.{run_append}
+use Rattle.expr_parser.proofs.Lists.{held_behind, last_snoc, way, either_way, eq_true, lt_true, no_blanks, one_blank}
+use Rattle.byte_grammar.proofs.Utf8Texts.{taken_text}
+use Rattle.byte_grammar.proofs.Runs.{run_append}
 use Rattle.expr_parser.proofs.Stacks.{at, at_append, gap_clear, Stack, Holds, Folded, fold, close_holds, token_holds, floor_le, stack_depth}
 use Rattle.expr_parser.proofs.Stands.{Entry, Token, Behind, left_of, InJoint, InKey, InCall, InArgument, Within', Stands}
 use Rattle.expr_parser.specs.Grammar.{IsText}
@@ -37,9 +36,11 @@ use Rattle.expr_parser.specs.Parts.{is_front, begins_one}
 use Rattle.expr_parser.specs.Machine.{names, begins_name}
 use Rattle.item_key.proofs.Meanings as meanings
 use Rattle.expr_parser.proofs.NumberPasts.{number_lives}
-use Rattle.expr_parser.proofs.PartLives.{sample, part_lives, zero_number, tail, tail_runs}
+use Rattle.byte_grammar.specs.Utf8.{follow, rest_of as tail}
+use Rattle.byte_grammar.specs.Runs.{run}
+use Rattle.byte_grammar.proofs.Utf8Meaning.{rest_run as tail_runs}
+use Rattle.expr_parser.proofs.PartLives.{sample, part_lives, zero_number}
 use Rattle.expr_parser.proofs.Sound.{waiting_entry, op_waits, denied_waits}
-use Rattle.expr_parser.proofs.Utf.{runs_utf}
 
 -- some bytes complete an expression
 pub record Lives (n : ℕ) (q : List ℕ) : Type 0 where
@@ -47,7 +48,7 @@ pub record Lives (n : ℕ) (q : List ℕ) : Type 0 where
   pub is : IsText n (q ++ more)
 
 further : (n : ℕ) (q a : List ℕ) → Lives n (q ++ a) → Lives n q
-further n q a h = record { more = a ++ h.more; is = subst (λ (v : List ℕ). IsText n v) (assoc q a h.more) h.is }
+further n q a h = record { more = a ++ h.more; is = subst (λ (v : List ℕ). IsText n v) (append_assoc q a h.more) h.is }
 
 moved : (n : ℕ) (q r : List ℕ) → q ≡ r → Lives n r → Lives n q
 moved n q r e h = subst (λ (v : List ℕ). Lives n v) (sym e) h
@@ -62,7 +63,7 @@ whole_lives n d e q cs h =
     let i : q ≡ h.text = h.parts ∙ ap (λ (v : List ℕ). v ++ h.text) s.1 in
     let a : Spells (at n []) 32 (length h.before) 0 h.text e h.own = subst (λ (v : ℕ). Spells (at n []) v (length h.before) 0 h.text e h.own) s.0 (subst (λ (v : List ℕ). Spells (at n v) d (length h.before) 0 h.text e h.own) s.1 h.spells) in
     let b : Spells (beginning n) 32 0 0 h.text e h.own = subst (λ (v : List Call). Spells (beginning n) 32 (length v) 0 h.text e h.own) s.2 (subst (λ (v : Point). Spells v 32 (length h.before) 0 h.text e h.own) (nothing_at n) a) in
-    record { more = []; is = (e, h.own, subst (λ (v : List ℕ). Spells (beginning n) 32 0 0 v e h.own) (sym (nothing_behind q ∙ i)) b) }
+    record { more = []; is = (e, h.own, subst (λ (v : List ℕ). Spells (beginning n) 32 0 0 v e h.own) (sym (append-nil q ∙ i)) b) }
 
 -- the parentheses that are still open are closed
 closing : (n d o : ℕ) (k : List Pending) (e : Tree) (q : List ℕ) (cs : List Call) → d + o ≡ 32 → Holds n d k e 8 q cs → Lives n q
@@ -92,12 +93,12 @@ behind_lives n d o k cs e q deep b = further n q (43 ∷ []) (entry_lives n d o 
 
 -- an operator without a word
 op_lives : (n d o : ℕ) (k : List Pending) (cs : List Call) (e : Tree) (op : Op) (q w : List ℕ) → d + o ≡ 32 → is_word op ≡ false → q ≡ w ++ op_text op → Behind n d k cs e w → Lives n q
-op_lives n d o k cs e op q w deep i p b = entry_lives n d o (with_op op e k) cs q deep (record { stack = subst (λ (v : List ℕ). Stack n (with_op op e k) d v cs) (sym (p ∙ ap (λ (v : List ℕ). w ++ v) (sym (nothing_behind (op_text op))))) (op_waits n d k cs e op w b (λ x. absurd cc) [] no_blanks); clear = λ x. absurd cc })
+op_lives n d o k cs e op q w deep i p b = entry_lives n d o (with_op op e k) cs q deep (record { stack = subst (λ (v : List ℕ). Stack n (with_op op e k) d v cs) (sym (p ∙ ap (λ (v : List ℕ). w ++ v) (sym (append-nil (op_text op))))) (op_waits n d k cs e op w b (λ x. absurd cc) [] no_blanks); clear = λ x. absurd cc })
 
 joint_lives : (n d o : ℕ) (k : List Pending) (cs : List Call) (e : Tree) (op : Op) (rest : Rest) (q : List ℕ) → d + o ≡ 32 → InJoint n d k cs e op rest q → Lives n q
 joint_lives n d o k cs e op rest q deep w =
-    let i : q ++ left_of rest ≡ w.operand ++ op_text op = ap (λ (v : List ℕ). v ++ left_of rest) w.parts ∙ assoc w.operand w.x (left_of rest) ∙ ap (λ (v : List ℕ). w.operand ++ v) w.letters in
-    further n q (left_of rest) (word_lives n d o (with_op op e k) cs (q ++ left_of rest) deep (λ y a. subst (λ (v : List ℕ). Stack n (with_op op e k) d v cs) (sym (ap (λ (v : List ℕ). v ++ y) i ∙ assoc w.operand (op_text op) y)) (op_waits n d k cs e op w.operand w.is (λ x. w.gap) y a)))
+    let i : q ++ left_of rest ≡ w.operand ++ op_text op = ap (λ (v : List ℕ). v ++ left_of rest) w.parts ∙ append_assoc w.operand w.x (left_of rest) ∙ ap (λ (v : List ℕ). w.operand ++ v) w.letters in
+    further n q (left_of rest) (word_lives n d o (with_op op e k) cs (q ++ left_of rest) deep (λ y a. subst (λ (v : List ℕ). Stack n (with_op op e k) d v cs) (sym (ap (λ (v : List ℕ). v ++ y) i ∙ append_assoc w.operand (op_text op) y)) (op_waits n d k cs e op w.operand w.is (λ x. w.gap) y a)))
 
 -- ---- calls
 
@@ -121,7 +122,7 @@ samples (s ∷ ss) c =
 in_call_lives : (n d o : ℕ) (k : List Pending) (cs : List Call) (c : Call) (ss : List Slot) (q : List ℕ) → d + o ≡ 32 → InCall n d k cs c ss q → Lives n q
 in_call_lives n d o k cs c ss q deep w =
     let r = samples ss c in
-    further n q (r.text ++ 41 ∷ []) (moved n (q ++ (r.text ++ 41 ∷ [])) (w.front ++ (w.text ++ (r.text ++ 41 ∷ []))) (ap (λ (v : List ℕ). v ++ (r.text ++ 41 ∷ [])) w.parts ∙ assoc w.front w.text (r.text ++ 41 ∷ []))
+    further n q (r.text ++ 41 ∷ []) (moved n (q ++ (r.text ++ 41 ∷ [])) (w.front ++ (w.text ++ (r.text ++ 41 ∷ []))) (ap (λ (v : List ℕ). v ++ (r.text ++ 41 ∷ [])) w.parts ∙ append_assoc w.front w.text (r.text ++ 41 ∷ []))
     (call_lives n d o k cs w.front (w.text ++ (r.text ++ 41 ∷ [])) r.whole deep w.entry w.room (w.goes_on r.text r.whole r.is)))
 
 argument_lives : (n d o : ℕ) (k : List Pending) (cs : List Call) (fresh : Bool) (c : Call) (a : Slot) (ss : List Slot) (x : Part) (q : List ℕ) → d + o ≡ 32 → InArgument n d k cs fresh c a ss x q → Lives n q
@@ -131,10 +132,10 @@ argument_lives n d o k cs fresh c a ss x q deep w =
     further n q m.more (in_call_lives n d o k cs (put a m.value c) ss (q ++ m.more) deep (record {
       front = g.front;
       text = g.text ++ 44 ∷ (w.blanks ++ (w.own ++ m.more));
-      parts = ap (λ (v : List ℕ). v ++ m.more) w.parts ∙ assoc w.before (44 ∷ (w.blanks ++ w.own)) m.more ∙ ap (λ (v : List ℕ). w.before ++ 44 ∷ v) (assoc w.blanks w.own m.more) ∙ ap (λ (v : List ℕ). v ++ 44 ∷ (w.blanks ++ (w.own ++ m.more))) g.parts ∙ assoc g.front g.text (44 ∷ (w.blanks ++ (w.own ++ m.more)));
+      parts = ap (λ (v : List ℕ). v ++ m.more) w.parts ∙ append_assoc w.before (44 ∷ (w.blanks ++ w.own)) m.more ∙ ap (λ (v : List ℕ). w.before ++ 44 ∷ v) (append_assoc w.blanks w.own m.more) ∙ ap (λ (v : List ℕ). v ++ 44 ∷ (w.blanks ++ (w.own ++ m.more))) g.parts ∙ append_assoc g.front g.text (44 ∷ (w.blanks ++ (w.own ++ m.more)));
       entry = g.entry;
       room = g.room;
-      goes_on = λ r f i. subst (λ (z : List ℕ). IsCall (at n g.front) z f) (sym (assoc g.text (44 ∷ (w.blanks ++ (w.own ++ m.more))) (r ++ 41 ∷ []) ∙ ap (λ (z : List ℕ). g.text ++ 44 ∷ z) (assoc w.blanks (w.own ++ m.more) (r ++ 41 ∷ []) ∙ ap (λ (z : List ℕ). w.blanks ++ z) (sym (assoc (w.own ++ m.more) r (41 ∷ []))) ∙ sym (assoc w.blanks ((w.own ++ m.more) ++ r) (41 ∷ [])))))
+      goes_on = λ r f i. subst (λ (z : List ℕ). IsCall (at n g.front) z f) (sym (append_assoc g.text (44 ∷ (w.blanks ++ (w.own ++ m.more))) (r ++ 41 ∷ []) ∙ ap (λ (z : List ℕ). g.text ++ 44 ∷ z) (append_assoc w.blanks (w.own ++ m.more) (r ++ 41 ∷ []) ∙ ap (λ (z : List ℕ). w.blanks ++ z) (sym (append_assoc (w.own ++ m.more) r (41 ∷ []))) ∙ sym (append_assoc w.blanks ((w.own ++ m.more) ++ r) (41 ∷ [])))))
           (g.goes_on (44 ∷ (w.blanks ++ ((w.own ++ m.more) ++ r))) f (another w.blanks (w.own ++ m.more) r w.are_blanks m.is i refl));
     }))
 
@@ -143,26 +144,22 @@ take_short zero a b h = refl
 take_short (suc m) [] b h = absurd (omega arith)
 take_short (suc m) (x ∷ a) b h = ap (λ (v : List ℕ). x ∷ v) (take_short m a b (omega arith))
 
-list_length : (a b : List ℕ) → length (a ++ b) ≡ length a + length b
-list_length [] b = omega arith
-list_length (x ∷ a) b = let e = list_length a b in omega arith
-
 -- a host and a key, with this key
 item_lives : (n d o : ℕ) (k : List Pending) (cs : List Call) (p : List ℕ) (f : Fun) (h t : List ℕ) → d + o ≡ 32 → Entry n d k cs p → has_room cs ≡ true → is_dated f ≡ false → IsHost h → IsKeyText t → IsUtf8 t → length (take (at n (p ++ (name_of f ++ 40 ∷ 47 ∷ (h ++ 47 ∷ [])))).held t) ≤ 2048
     → Lives n (p ++ (name_of f ++ 40 ∷ 47 ∷ (h ++ 47 ∷ t)))
 item_lives n d o k cs p f h t deep e r l a b c g =
     let m = samples (slots f) (plain_call f h t) in
-    let i : (p ++ (name_of f ++ 40 ∷ 47 ∷ (h ++ 47 ∷ t))) ++ (m.text ++ 41 ∷ []) ≡ p ++ (name_of f ++ 40 ∷ 47 ∷ (h ++ 47 ∷ (t ++ (m.text ++ 41 ∷ [])))) = assoc p (name_of f ++ 40 ∷ 47 ∷ (h ++ 47 ∷ t)) (m.text ++ 41 ∷ []) ∙ ap (λ (v : List ℕ). p ++ v) (assoc (name_of f) (40 ∷ 47 ∷ (h ++ 47 ∷ t)) (m.text ++ 41 ∷ []) ∙ ap (λ (v : List ℕ). name_of f ++ 40 ∷ 47 ∷ v) (assoc h (47 ∷ t) (m.text ++ 41 ∷ []))) in
+    let i : (p ++ (name_of f ++ 40 ∷ 47 ∷ (h ++ 47 ∷ t))) ++ (m.text ++ 41 ∷ []) ≡ p ++ (name_of f ++ 40 ∷ 47 ∷ (h ++ 47 ∷ (t ++ (m.text ++ 41 ∷ [])))) = append_assoc p (name_of f ++ 40 ∷ 47 ∷ (h ++ 47 ∷ t)) (m.text ++ 41 ∷ []) ∙ ap (λ (v : List ℕ). p ++ v) (append_assoc (name_of f) (40 ∷ 47 ∷ (h ++ 47 ∷ t)) (m.text ++ 41 ∷ []) ∙ ap (λ (v : List ℕ). name_of f ++ 40 ∷ 47 ∷ v) (append_assoc h (47 ∷ t) (m.text ++ 41 ∷ []))) in
     further n (p ++ (name_of f ++ 40 ∷ 47 ∷ (h ++ 47 ∷ t))) (m.text ++ 41 ∷ []) (moved n ((p ++ (name_of f ++ 40 ∷ 47 ∷ (h ++ 47 ∷ t))) ++ (m.text ++ 41 ∷ [])) (p ++ (name_of f ++ 40 ∷ 47 ∷ (h ++ 47 ∷ (t ++ (m.text ++ 41 ∷ []))))) i
     (call_lives n d o k cs p (name_of f ++ 40 ∷ 47 ∷ (h ++ 47 ∷ (t ++ (m.text ++ 41 ∷ [])))) m.whole deep e r
     (of_item f h t m.text l a b c (subst (λ (v : Point). length (take v.held t) ≤ 2048) (sym (at_append n p (name_of f ++ 40 ∷ 47 ∷ (h ++ 47 ∷ [])))) g) m.is refl)))
 
 key_k : IsKeyText (107 ∷ [])
-unfolding key.after
+unfolding run
 key_k = keys.sound (107 ∷ []) refl
 
-utf_k : characters (Some Whole) (107 ∷ []) ≡ Some Whole
-unfolding characters
+utf_k : run follow (Some Whole) (107 ∷ []) ≡ Some Whole
+unfolding run
 utf_k = refl
 
 short_k : (m : ℕ) → length {A = ℕ} (take m (107 ∷ [])) ≤ 2048
@@ -172,8 +169,8 @@ short_k (suc (suc m)) = omega arith
 
 -- a host, completed
 host_lives : (n d o : ℕ) (k : List Pending) (cs : List Call) (p : List ℕ) (f : Fun) (h : List ℕ) → d + o ≡ 32 → Entry n d k cs p → has_room cs ≡ true → is_dated f ≡ false → IsHost h → Lives n (p ++ (name_of f ++ 40 ∷ 47 ∷ h))
-host_lives n d o k cs p f h deep e r l a = further n (p ++ (name_of f ++ 40 ∷ 47 ∷ h)) (47 ∷ 107 ∷ []) (moved n ((p ++ (name_of f ++ 40 ∷ 47 ∷ h)) ++ 47 ∷ 107 ∷ []) (p ++ (name_of f ++ 40 ∷ 47 ∷ (h ++ 47 ∷ 107 ∷ []))) (assoc p (name_of f ++ 40 ∷ 47 ∷ h) (47 ∷ 107 ∷ []) ∙ ap (λ (v : List ℕ). p ++ v) (assoc (name_of f) (40 ∷ 47 ∷ h) (47 ∷ 107 ∷ [])))
-    (item_lives n d o k cs p f h (107 ∷ []) deep e r l a key_k (runs_utf (107 ∷ []) utf_k) (short_k (at n (p ++ (name_of f ++ 40 ∷ 47 ∷ (h ++ 47 ∷ [])))).held)))
+host_lives n d o k cs p f h deep e r l a = further n (p ++ (name_of f ++ 40 ∷ 47 ∷ h)) (47 ∷ 107 ∷ []) (moved n ((p ++ (name_of f ++ 40 ∷ 47 ∷ h)) ++ 47 ∷ 107 ∷ []) (p ++ (name_of f ++ 40 ∷ 47 ∷ (h ++ 47 ∷ 107 ∷ []))) (append_assoc p (name_of f ++ 40 ∷ 47 ∷ h) (47 ∷ 107 ∷ []) ∙ ap (λ (v : List ℕ). p ++ v) (append_assoc (name_of f) (40 ∷ 47 ∷ h) (47 ∷ 107 ∷ [])))
+    (item_lives n d o k cs p f h (107 ∷ []) deep e r l a key_k (taken_text (107 ∷ []) utf_k) (short_k (at n (p ++ (name_of f ++ 40 ∷ 47 ∷ (h ++ 47 ∷ [])))).held)))
 
 host_h : IsHost (104 ∷ [])
 unfolding AreHostBytes
@@ -184,14 +181,14 @@ unfolding AreHostBytes
 no_bytes = tt
 
 host_token : (n d o : ℕ) (k : List Pending) (cs : List Call) (p : List ℕ) (f : Fun) (h : List ℕ) → d + o ≡ 32 → Entry n d k cs p → has_room cs ≡ true → is_dated f ≡ false → AreHostBytes h → length h ≤ 128 → Lives n (p ++ (name_of f ++ 40 ∷ 47 ∷ h))
-host_token n d o k cs p f [] deep e r l a b = further n (p ++ (name_of f ++ 40 ∷ 47 ∷ [])) (104 ∷ []) (moved n ((p ++ (name_of f ++ 40 ∷ 47 ∷ [])) ++ 104 ∷ []) (p ++ (name_of f ++ 40 ∷ 47 ∷ 104 ∷ [])) (assoc p (name_of f ++ 40 ∷ 47 ∷ []) (104 ∷ []) ∙ ap (λ (v : List ℕ). p ++ v) (assoc (name_of f) (40 ∷ 47 ∷ []) (104 ∷ []))) (host_lives n d o k cs p f (104 ∷ []) deep e r l host_h))
+host_token n d o k cs p f [] deep e r l a b = further n (p ++ (name_of f ++ 40 ∷ 47 ∷ [])) (104 ∷ []) (moved n ((p ++ (name_of f ++ 40 ∷ 47 ∷ [])) ++ 104 ∷ []) (p ++ (name_of f ++ 40 ∷ 47 ∷ 104 ∷ [])) (append_assoc p (name_of f ++ 40 ∷ 47 ∷ []) (104 ∷ []) ∙ ap (λ (v : List ℕ). p ++ v) (append_assoc (name_of f) (40 ∷ 47 ∷ []) (104 ∷ []))) (host_lives n d o k cs p f (104 ∷ []) deep e r l host_h))
 host_token n d o k cs p f (c ∷ h) deep e r l a b = host_lives n d o k cs p f (c ∷ h) deep e r l (omega arith, b, a)
 
 -- the name of a function
 name_lives : (n d o : ℕ) (k : List Pending) (cs : List Call) (p : List ℕ) (f : Fun) → d + o ≡ 32 → Entry n d k cs p → has_room cs ≡ true → Lives n (p ++ name_of f)
 name_lives n d o k cs p f deep e r = elim (either_way (is_dated f)) [
-  | inl z ↦ further n (p ++ name_of f) (40 ∷ 41 ∷ []) (moved n ((p ++ name_of f) ++ 40 ∷ 41 ∷ []) (p ++ (name_of f ++ 40 ∷ 41 ∷ [])) (assoc p (name_of f) (40 ∷ 41 ∷ [])) (call_lives n d o k cs p (name_of f ++ 40 ∷ 41 ∷ []) (plain_call f [] []) deep e r (dated f z refl)))
-  | inr z ↦ further n (p ++ name_of f) (40 ∷ 47 ∷ []) (moved n ((p ++ name_of f) ++ 40 ∷ 47 ∷ []) (p ++ (name_of f ++ 40 ∷ 47 ∷ [])) (assoc p (name_of f) (40 ∷ 47 ∷ [])) (host_token n d o k cs p f [] deep e r z no_bytes (omega arith)))
+  | inl z ↦ further n (p ++ name_of f) (40 ∷ 41 ∷ []) (moved n ((p ++ name_of f) ++ 40 ∷ 41 ∷ []) (p ++ (name_of f ++ 40 ∷ 41 ∷ [])) (append_assoc p (name_of f) (40 ∷ 41 ∷ [])) (call_lives n d o k cs p (name_of f ++ 40 ∷ 41 ∷ []) (plain_call f [] []) deep e r (dated f z refl)))
+  | inr z ↦ further n (p ++ name_of f) (40 ∷ 47 ∷ []) (moved n ((p ++ name_of f) ++ 40 ∷ 47 ∷ []) (p ++ (name_of f ++ 40 ∷ 47 ∷ [])) (append_assoc p (name_of f) (40 ∷ 47 ∷ [])) (host_token n d o k cs p f [] deep e r z no_bytes (omega arith)))
 ]
 
 -- ---- words
@@ -229,12 +226,12 @@ begun_lives n d o k cs nots w q deep t h g = elim (way (if has_room cs then begi
   | inl z ↦
       let a = both_so (has_room cs) (begins_name w) z.0 in
       let f = begun_name w a.1 in
-      further n q f.1 (moved n (q ++ f.1) (t.front ++ name_of f.0) (ap (λ (v : List ℕ). v ++ f.1) t.parts ∙ assoc t.front w f.1 ∙ ap (λ (v : List ℕ). t.front ++ v) f.2) (name_lives n d o k cs t.front f.0 deep t.entry a.0))
+      further n q f.1 (moved n (q ++ f.1) (t.front ++ name_of f.0) (ap (λ (v : List ℕ). v ++ f.1) t.parts ∙ append_assoc t.front w f.1 ∙ ap (λ (v : List ℕ). t.front ++ v) f.2) (name_lives n d o k cs t.front f.0 deep t.entry a.0))
   | inr z ↦
       let a = both_so nots (is_front w not_word) z.1 in
       let r = front_rest w not_word a.1 in
       further n q r.0 (word_lives n d o (Waits Denied ∷ k) cs (q ++ r.0) deep
-      (λ y b. denied_waits n d k cs not_word (q ++ r.0) (record { front = t.front; parts = ap (λ (v : List ℕ). v ++ r.0) t.parts ∙ assoc t.front w r.0 ∙ ap (λ (v : List ℕ). t.front ++ v) r.1; entry = t.entry }) (g a.0) not_same y b))
+      (λ y b. denied_waits n d k cs not_word (q ++ r.0) (record { front = t.front; parts = ap (λ (v : List ℕ). v ++ r.0) t.parts ∙ append_assoc t.front w r.0 ∙ ap (λ (v : List ℕ). t.front ++ v) r.1; entry = t.entry }) (g a.0) not_same y b))
 ]
 
 -- ---- keys
@@ -245,24 +242,24 @@ whole_tail = refl
 abbrev Steady : Place → Type 0
 Steady place = (b : ℕ) → 128 ≤ b → key.step place b ≡ Some place
 
-stay : (place : Place) → Steady place → (b : ℕ) (bs : List ℕ) → 128 ≤ b → key.after (Some place) bs ≡ Some place → key.after (Some place) (b ∷ bs) ≡ Some place
-unfolding key.after
-stay place g b bs h e = ap (λ (o : Option Place). key.after o bs) (g b h) ∙ e
+stay : (place : Place) → Steady place → (b : ℕ) (bs : List ℕ) → 128 ≤ b → run key.step (Some place) bs ≡ Some place → run key.step (Some place) (b ∷ bs) ≡ Some place
+unfolding run
+stay place g b bs h e = ap (λ (o : Option Place). run key.step o bs) (g b h) ∙ e
 
-tail_stays : (place : Place) (u : Within) → Steady place → key.after (Some place) (tail u) ≡ Some place
-unfolding key.after
+tail_stays : (place : Place) (u : Character) → Steady place → run key.step (Some place) (tail u) ≡ Some place
+unfolding run
 tail_stays place Whole g = refl
 tail_stays place One g = stay place g 128 [] (omega arith) refl
 tail_stays place Two g = stay place g 128 (128 ∷ []) (omega arith) (stay place g 128 [] (omega arith) refl)
 tail_stays place Three g = stay place g 128 (128 ∷ 128 ∷ []) (omega arith) (stay place g 128 (128 ∷ []) (omega arith) (stay place g 128 [] (omega arith) refl))
-tail_stays place HighOfTwo g = stay place g 160 (128 ∷ []) (omega arith) (stay place g 128 [] (omega arith) refl)
-tail_stays place LowOfTwo g = stay place g 128 (128 ∷ []) (omega arith) (stay place g 128 [] (omega arith) refl)
-tail_stays place HighOfThree g = stay place g 144 (128 ∷ 128 ∷ []) (omega arith) (stay place g 128 (128 ∷ []) (omega arith) (stay place g 128 [] (omega arith) refl))
-tail_stays place LowOfThree g = stay place g 128 (128 ∷ 128 ∷ []) (omega arith) (stay place g 128 (128 ∷ []) (omega arith) (stay place g 128 [] (omega arith) refl))
+tail_stays place BehindE0 g = stay place g 160 (128 ∷ []) (omega arith) (stay place g 128 [] (omega arith) refl)
+tail_stays place BehindEd g = stay place g 128 (128 ∷ []) (omega arith) (stay place g 128 [] (omega arith) refl)
+tail_stays place BehindF0 g = stay place g 144 (128 ∷ 128 ∷ []) (omega arith) (stay place g 128 (128 ∷ []) (omega arith) (stay place g 128 [] (omega arith) refl))
+tail_stays place BehindF4 g = stay place g 128 (128 ∷ 128 ∷ []) (omega arith) (stay place g 128 (128 ∷ []) (omega arith) (stay place g 128 [] (omega arith) refl))
 
 -- what completes a key is of ASCII
-finish_runs : (place : Place) → characters (Some Whole) (key.finish place) ≡ Some Whole
-unfolding characters
+finish_runs : (place : Place) → run follow (Some Whole) (key.finish place) ≡ Some Whole
+unfolding run
 finish_runs Start = refl
 finish_runs Name = refl
 finish_runs (Param within.Before) = refl
@@ -278,29 +275,29 @@ finish_runs (Listed within.Behind) = refl
 finish_runs Closed = refl
 finish_runs Ended = refl
 
-key_characters : (t : List ℕ) (u : Within) (place : Place) → characters (Some Whole) t ≡ Some u → IsUtf8 (t ++ (tail u ++ key.finish place))
-key_characters t u place e = runs_utf (t ++ (tail u ++ key.finish place)) (run_append (Some Whole) t (tail u ++ key.finish place) ∙ ap (λ (o : Option Within). characters o (tail u ++ key.finish place)) e ∙ run_append (Some u) (tail u) (key.finish place) ∙ ap (λ (o : Option Within). characters o (key.finish place)) (tail_runs u) ∙ finish_runs place)
+key_characters : (t : List ℕ) (u : Character) (place : Place) → run follow (Some Whole) t ≡ Some u → IsUtf8 (t ++ (tail u ++ key.finish place))
+key_characters t u place e = taken_text (t ++ (tail u ++ key.finish place)) (run_append follow (Some Whole) t (tail u ++ key.finish place) ∙ ap (λ (o : Option Character). run follow o (tail u ++ key.finish place)) e ∙ run_append follow (Some u) (tail u) (key.finish place) ∙ ap (λ (o : Option Character). run follow o (key.finish place)) (tail_runs u) ∙ finish_runs place)
 
-steady_run : (place : Place) (u : Within) (t : List ℕ) → key.place_of t ≡ Some place → (u ≡ Whole) ⊎ ((b : ℕ) → 128 ≤ b → key.step place b ≡ Some place) → key.place_of (t ++ tail u) ≡ Some place
-steady_run place u t e (inl w) = subst (λ (v : Within). key.place_of (t ++ tail v) ≡ Some place) (sym w) (subst (λ (v : List ℕ). key.place_of v ≡ Some place) (sym (ap (λ (v : List ℕ). t ++ v) whole_tail ∙ nothing_behind t)) e)
-steady_run place u t e (inr g) = key_runs.after_append (Some Start) t (tail u) ∙ ap (λ (o : Option Place). key.after o (tail u)) e ∙ tail_stays place u g
+steady_run : (place : Place) (u : Character) (t : List ℕ) → key.place_of t ≡ Some place → (u ≡ Whole) ⊎ ((b : ℕ) → 128 ≤ b → key.step place b ≡ Some place) → key.place_of (t ++ tail u) ≡ Some place
+steady_run place u t e (inl w) = subst (λ (v : Character). key.place_of (t ++ tail v) ≡ Some place) (sym w) (subst (λ (v : List ℕ). key.place_of v ≡ Some place) (sym (ap (λ (v : List ℕ). t ++ v) whole_tail ∙ append-nil t)) e)
+steady_run place u t e (inr g) = run_append key.step (Some Start) t (tail u) ∙ ap (λ (o : Option Place). run key.step o (tail u)) e ∙ tail_stays place u g
 
-key_lives : (n d o : ℕ) (k : List Pending) (cs : List Call) (f : Fun) (h t q : List ℕ) (place : Place) (u : Within) → d + o ≡ 32 → n ≡ length q → InKey n d k cs f h t place u q → Lives n q
+key_lives : (n d o : ℕ) (k : List Pending) (cs : List Call) (f : Fun) (h t q : List ℕ) (place : Place) (u : Character) → d + o ≡ 32 → n ≡ length q → InKey n d k cs f h t place u q → Lives n q
 key_lives n d o k cs f h t q place u deep len w =
     let x : List ℕ = w.front ++ (name_of f ++ 40 ∷ 47 ∷ (h ++ 47 ∷ [])) in
     let z : List ℕ = tail u ++ key.finish place in
     let p = steady_run place u t w.place_is w.steady in
     let a : IsKeyText ((t ++ tail u) ++ key.finish place) = meanings.completes place (t ++ tail u) p in
-    let b : IsKeyText (t ++ (tail u ++ key.finish place)) = subst IsKeyText (assoc t (tail u) (key.finish place)) a in
+    let b : IsKeyText (t ++ (tail u ++ key.finish place)) = subst IsKeyText (append_assoc t (tail u) (key.finish place)) a in
     let c = key_characters t u place w.characters_are in
-    let l1 = list_length (w.front ++ (name_of f ++ 40 ∷ 47 ∷ (h ++ 47 ∷ []))) t in
+    let l1 = length-append (w.front ++ (name_of f ++ 40 ∷ 47 ∷ (h ++ 47 ∷ []))) t in
     let l2 : length q ≡ length ((w.front ++ (name_of f ++ 40 ∷ 47 ∷ (h ++ 47 ∷ []))) ++ t) = ap (λ (v : List ℕ). length v) w.parts in
     let l3 = held_behind (beginning n) (w.front ++ (name_of f ++ 40 ∷ 47 ∷ (h ++ 47 ∷ []))) in
     let fits : length (take (at n (w.front ++ (name_of f ++ 40 ∷ 47 ∷ (h ++ 47 ∷ [])))).held (t ++ (tail u ++ key.finish place))) ≤ 2048 = subst (λ (v : List ℕ). length v ≤ 2048) (sym (take_short (at n (w.front ++ (name_of f ++ 40 ∷ 47 ∷ (h ++ 47 ∷ [])))).held t (tail u ++ key.finish place) (omega arith))) w.fits in
     further n q (tail u ++ key.finish place)
     (moved n (q ++ (tail u ++ key.finish place)) (w.front ++ (name_of f ++ 40 ∷ 47 ∷ (h ++ 47 ∷ (t ++ (tail u ++ key.finish place)))))
-    (ap (λ (v : List ℕ). v ++ (tail u ++ key.finish place)) w.parts ∙ assoc (w.front ++ (name_of f ++ 40 ∷ 47 ∷ (h ++ 47 ∷ []))) t (tail u ++ key.finish place) ∙ assoc w.front (name_of f ++ 40 ∷ 47 ∷ (h ++ 47 ∷ [])) (t ++ (tail u ++ key.finish place))
-    ∙ ap (λ (v : List ℕ). w.front ++ v) (assoc (name_of f) (40 ∷ 47 ∷ (h ++ 47 ∷ [])) (t ++ (tail u ++ key.finish place)) ∙ ap (λ (v : List ℕ). name_of f ++ 40 ∷ 47 ∷ v) (assoc h (47 ∷ []) (t ++ (tail u ++ key.finish place)))))
+    (ap (λ (v : List ℕ). v ++ (tail u ++ key.finish place)) w.parts ∙ append_assoc (w.front ++ (name_of f ++ 40 ∷ 47 ∷ (h ++ 47 ∷ []))) t (tail u ++ key.finish place) ∙ append_assoc w.front (name_of f ++ 40 ∷ 47 ∷ (h ++ 47 ∷ [])) (t ++ (tail u ++ key.finish place))
+    ∙ ap (λ (v : List ℕ). w.front ++ v) (append_assoc (name_of f) (40 ∷ 47 ∷ (h ++ 47 ∷ [])) (t ++ (tail u ++ key.finish place)) ∙ ap (λ (v : List ℕ). name_of f ++ 40 ∷ 47 ∷ v) (append_assoc h (47 ∷ []) (t ++ (tail u ++ key.finish place)))))
     (item_lives n d o k cs w.front f h (t ++ (tail u ++ key.finish place)) deep w.entry w.room w.looks w.host b c fits))
 
 -- ---- each state
@@ -312,11 +309,11 @@ mode_lives n d o (Word nots t) k cs q deep len w = begun_lives n d o k cs nots t
 mode_lives n d o (Number f) k cs q deep len w =
     let r = number_lives greatest_number f w.1 in
     let t = w.0 in
-    further n q r.more (moved n (q ++ r.more) (t.front ++ (figures_text f ++ r.more)) (ap (λ (v : List ℕ). v ++ r.more) t.parts ∙ assoc t.front (figures_text f) r.more)
+    further n q r.more (moved n (q ++ r.more) (t.front ++ (figures_text f ++ r.more)) (ap (λ (v : List ℕ). v ++ r.more) t.parts ∙ append_assoc t.front (figures_text f) r.more)
     (closing n d o k (constant (pos r.n)) (t.front ++ (figures_text f ++ r.more)) (cs ++ []) deep (token_holds n d k (constant (pos r.n)) t.front (figures_text f ++ r.more) cs [] t.entry.stack t.entry.clear (number r.n r.is))))
 mode_lives n d o (Slash f) k cs q deep len w =
     let t = w.0 in
-    further n q (47 ∷ []) (moved n (q ++ 47 ∷ []) (t.front ++ (name_of f ++ 40 ∷ 47 ∷ [])) (ap (λ (v : List ℕ). v ++ 47 ∷ []) t.parts ∙ assoc t.front (name_of f ++ 40 ∷ []) (47 ∷ []) ∙ ap (λ (v : List ℕ). t.front ++ v) (assoc (name_of f) (40 ∷ []) (47 ∷ [])))
+    further n q (47 ∷ []) (moved n (q ++ 47 ∷ []) (t.front ++ (name_of f ++ 40 ∷ 47 ∷ [])) (ap (λ (v : List ℕ). v ++ 47 ∷ []) t.parts ∙ append_assoc t.front (name_of f ++ 40 ∷ []) (47 ∷ []) ∙ ap (λ (v : List ℕ). t.front ++ v) (append_assoc (name_of f) (40 ∷ []) (47 ∷ [])))
     (host_token n d o k cs t.front f [] deep t.entry w.1 w.2 no_bytes (omega arith)))
 mode_lives n d o (Host f h) k cs q deep len w = let t = w.0 in moved n q (t.front ++ (name_of f ++ 40 ∷ 47 ∷ h)) t.parts (host_token n d o k cs t.front f h deep t.entry w.1 w.2 w.3 w.4)
 mode_lives n d o (Key f h t place u) k cs q deep len w = key_lives n d o k cs f h t q place u deep len w

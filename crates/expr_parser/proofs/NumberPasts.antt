@@ -1,11 +1,11 @@
 -- What has come of a number.
-use Rattle.std.proofs.Common.{◌≡◌, ℕ, ◌*◌, ◌≤◌, List, [], ◌∷◌, ◌++◌, refl, ap, sym, ◌∙◌, nat_le, ◌==◌, arith, Option, Some, None, inl, inr, subst}
+use Rattle.std.proofs.Common.{◌≡◌, ℕ, ◌*◌, ◌≤◌, List, [], ◌∷◌, ◌++◌, refl, ap, sym, ◌∙◌, nat_le, ◌==◌, arith, Option, Some, None, inl, inr, subst, append_assoc, append-nil}
 use Rattle.expr_parser.specs.declared.figures.Figures.{Figures}
 use Rattle.expr_parser.specs.declared.figures.Figures.TheVariants.{Integral, Pointed, Fraction, Suffixed}
 use Rattle.expr_parser.specs.Bytes.{is_digit, AreDigits}
 use Rattle.expr_parser.specs.Numbers.{millionths, IsDecimal, whole, pointed, IsNumber, decimal, suffixed, number_factor}
 use Rattle.expr_parser.specs.Figures.{figures_text, figures_value, is_at_most, held_to, scaled, first_figure, figure}
-use Rattle.expr_parser.proofs.Lists.{assoc, nothing_behind, way, some_is, none_some, le_true, are_snoc, are_one, eq_true}
+use Rattle.expr_parser.proofs.Lists.{way, some_is, none_some, le_true, are_snoc, are_one, eq_true}
 use Rattle.expr_parser.proofs.Amounts.{Bounded, test_bounded, bounded_zero}
 
 -- the text so far begins a number
@@ -52,11 +52,11 @@ figure_past most (Integral w) g b p h = elim (way (is_digit b) _ _ (Some g) h) [
   ]
 ]
 figure_past most (Pointed w) g b p h = elim (way (is_digit b) _ _ (Some g) h) [
-  | inl z ↦ held_past most (w ++ b ∷ []) (Fraction (w ++ b ∷ [])) g (w ++ b ∷ []) z.1 (λ r. (p.0, p.1, b, [], ap (λ (v : List ℕ). v ++ b ∷ []) p.2 ∙ assoc (p.0 ∷ p.1) (46 ∷ []) (b ∷ []), p.3, are_one b z.0, r)) refl
+  | inl z ↦ held_past most (w ++ b ∷ []) (Fraction (w ++ b ∷ [])) g (w ++ b ∷ []) z.1 (λ r. (p.0, p.1, b, [], ap (λ (v : List ℕ). v ++ b ∷ []) p.2 ∙ append_assoc (p.0 ∷ p.1) (46 ∷ []) (b ∷ []), p.3, are_one b z.0, r)) refl
   | inr z ↦ none_some g z.1
 ]
 figure_past most (Fraction w) g b p h = elim (way (is_digit b) _ _ (Some g) h) [
-  | inl z ↦ held_past most (w ++ b ∷ []) (Fraction (w ++ b ∷ [])) g (w ++ b ∷ []) z.1 (λ r. (p.0, p.1, p.2, p.3 ++ b ∷ [], ap (λ (v : List ℕ). v ++ b ∷ []) p.4 ∙ assoc (p.0 ∷ p.1) (46 ∷ p.2 ∷ p.3) (b ∷ []), p.5, are_snoc (p.2 ∷ p.3) b p.6 z.0, r)) refl
+  | inl z ↦ held_past most (w ++ b ∷ []) (Fraction (w ++ b ∷ [])) g (w ++ b ∷ []) z.1 (λ r. (p.0, p.1, p.2, p.3 ++ b ∷ [], ap (λ (v : List ℕ). v ++ b ∷ []) p.4 ∙ append_assoc (p.0 ∷ p.1) (46 ∷ p.2 ∷ p.3) (b ∷ []), p.5, are_snoc (p.2 ∷ p.3) b p.6 z.0, r)) refl
   | inr z ↦ scaled_past most w b (millionths w) (number_factor b) g (pointed p.0 p.2 p.1 p.3 p.5 p.6 p.4) refl p.7 refl z.1
 ]
 figure_past most (Suffixed w n) g b p h = none_some g h
@@ -77,7 +77,7 @@ pub record NumberLives (most : ℕ) (t : List ℕ) : Type 0 where
   pub is : IsNumber most (t ++ more) n
 
 now : (most n : ℕ) (t : List ℕ) → IsNumber most t n → NumberLives most t
-now most n t h = record { more = []; n = n; is = subst (λ (v : List ℕ). IsNumber most v n) (sym (nothing_behind t)) h }
+now most n t h = record { more = []; n = n; is = subst (λ (v : List ℕ). IsNumber most v n) (sym (append-nil t)) h }
 
 one_zero : AreDigits (48 ∷ [])
 unfolding AreDigits
@@ -87,7 +87,7 @@ pub number_lives : (most : ℕ) (f : Figures) → NumberPast most f → NumberLi
 number_lives most (Integral w) p = now most p.4.n w (number_ends most (Integral w) p.4.n p p.4.is)
 number_lives most (Pointed w) p =
     let r = bounded_zero most p.0 p.1 p.3 p.4 in
-    let e : w ++ 48 ∷ [] ≡ (p.0 ∷ p.1) ++ 46 ∷ 48 ∷ [] = ap (λ (v : List ℕ). v ++ 48 ∷ []) p.2 ∙ assoc (p.0 ∷ p.1) (46 ∷ []) (48 ∷ []) in
+    let e : w ++ 48 ∷ [] ≡ (p.0 ∷ p.1) ++ 46 ∷ 48 ∷ [] = ap (λ (v : List ℕ). v ++ 48 ∷ []) p.2 ∙ append_assoc (p.0 ∷ p.1) (46 ∷ []) (48 ∷ []) in
     record { more = 48 ∷ []; n = r.n; is = decimal (pointed p.0 48 p.1 [] p.3 one_zero e) (ap (λ (v : List ℕ). millionths v) e ∙ r.is) r.small }
 number_lives most (Fraction w) p = now most p.7.n w (number_ends most (Fraction w) p.7.n p p.7.is)
 number_lives most (Suffixed w n) p = now most n w p

@@ -1,12 +1,12 @@
 -- Runs over numbers.
-use Rattle.std.proofs.Common.{◌≡◌, ℕ, ◌*◌, ◌≤◌, List, [], ◌∷◌, ◌++◌, refl, ap, sym, ◌∙◌, Bool, true, false, ◌==◌, arith, Some, if◌then◌else◌, subst}
+use Rattle.std.proofs.Common.{◌≡◌, ℕ, ◌*◌, ◌≤◌, List, [], ◌∷◌, ◌++◌, refl, ap, sym, ◌∙◌, Bool, true, false, ◌==◌, arith, Some, if◌then◌else◌, subst, append_assoc, append-nil}
 use Rattle.std.proofs.lemmas.Bool.Decides.{nat_tests}
 use Rattle.expr_parser.specs.declared.figures.Figures.{Figures}
 use Rattle.expr_parser.specs.declared.figures.Figures.TheVariants.{Integral, Fraction, Suffixed}
 use Rattle.expr_parser.specs.Bytes.{is_digit, AreDigits}
 use Rattle.expr_parser.specs.Numbers.{millionths, IsDecimal, whole, pointed, IsNumber, decimal, suffixed, number_factor}
 use Rattle.expr_parser.specs.Figures.{figures_text, figures_value, held_to, scaled, first_figure, figure, is_figure}
-use Rattle.expr_parser.proofs.Lists.{assoc, nothing_behind, snoc, le_test, are_snoc, are_one}
+use Rattle.expr_parser.proofs.Lists.{snoc, le_test, are_snoc, are_one}
 use Rattle.expr_parser.proofs.Amounts.{Bounded, bounded_test, bounded_front, bounded_point, bounded_whole}
 
 -- the bytes lead from one place to another
@@ -27,7 +27,7 @@ held most w f r = rw (bounded_test most (millionths w) r) refl
 -- digits in front of the point
 whole_path : (most b : ℕ) (bs cs : List ℕ) → AreDigits (b ∷ bs) → AreDigits cs → Bounded most (millionths (b ∷ (bs ++ cs))) → Bounded most (millionths (b ∷ bs)) × Path most (Integral (b ∷ bs)) cs (Integral (b ∷ (bs ++ cs)))
 unfolding AreDigits
-whole_path most b bs [] h g r = let e = nothing_behind bs in (subst (λ (v : List ℕ). Bounded most (millionths (b ∷ v))) e r, subst (λ (v : List ℕ). Path most (Integral (b ∷ bs)) [] (Integral (b ∷ v))) (sym e) here)
+whole_path most b bs [] h g r = let e = append-nil bs in (subst (λ (v : List ℕ). Bounded most (millionths (b ∷ v))) e r, subst (λ (v : List ℕ). Path most (Integral (b ∷ bs)) [] (Integral (b ∷ v))) (sym e) here)
 whole_path most b bs (c ∷ cs) h g r =
     let e = snoc bs c cs in
     let q = whole_path most b (bs ++ c ∷ []) cs (are_snoc (b ∷ bs) c h g.0) g.1 (subst (λ (v : List ℕ). Bounded most (millionths (b ∷ v))) e r) in (
@@ -36,13 +36,13 @@ whole_path most b bs (c ∷ cs) h g r =
     )
 
 regroup : (b : ℕ) (bs ds : List ℕ) (c : ℕ) → ((b ∷ bs) ++ 46 ∷ ds) ++ c ∷ [] ≡ (b ∷ bs) ++ 46 ∷ (ds ++ c ∷ [])
-regroup b bs ds c = assoc (b ∷ bs) (46 ∷ ds) (c ∷ [])
+regroup b bs ds c = append_assoc (b ∷ bs) (46 ∷ ds) (c ∷ [])
 
 -- digits behind it
 point_path : (most b : ℕ) (bs ds cs : List ℕ) → AreDigits (b ∷ bs) → AreDigits ds → AreDigits cs → Bounded most (millionths ((b ∷ bs) ++ 46 ∷ (ds ++ cs)))
     → Bounded most (millionths ((b ∷ bs) ++ 46 ∷ ds)) × Path most (Fraction ((b ∷ bs) ++ 46 ∷ ds)) cs (Fraction ((b ∷ bs) ++ 46 ∷ (ds ++ cs)))
 unfolding AreDigits
-point_path most b bs ds [] h k g r = let e = nothing_behind ds in
+point_path most b bs ds [] h k g r = let e = append-nil ds in
     (subst (λ (v : List ℕ). Bounded most (millionths ((b ∷ bs) ++ 46 ∷ v))) e r, subst (λ (v : List ℕ). Path most (Fraction ((b ∷ bs) ++ 46 ∷ ds)) [] (Fraction ((b ∷ bs) ++ 46 ∷ v))) (sym e) here)
 point_path most b bs ds (c ∷ cs) h k g r =
     let e = snoc ds c cs in

@@ -1,11 +1,11 @@
 -- From each place in an argument some bytes complete it.
-use Rattle.std.proofs.Common.{◌≡◌, ℕ, zero, suc, ◌*◌, ◌≤◌, List, [], ◌∷◌, ◌++◌, refl, ap, sym, ◌∙◌, Bool, true, false, ◌==◌, arith, Option, Some, inl, inr, if◌then◌else◌, subst}
+use Rattle.std.proofs.Common.{◌≡◌, ℕ, zero, suc, ◌*◌, ◌≤◌, List, [], ◌∷◌, ◌++◌, refl, ap, sym, ◌∙◌, Bool, true, false, ◌==◌, arith, Option, Some, inl, inr, if◌then◌else◌, subst, append_assoc, append-nil}
 use Rattle.std.proofs.lemmas.Bool.Decides.{nat_tests}
 use Rattle.std.proofs.lemmas.Bool.{cases_lt}
 use Rattle.zbx_types.specs.declared.calls.Range.{Range}
 use Rattle.zbx_types.specs.declared.calls.Range.TheVariants.{Count, Period}
-use Rattle.expr_parser.specs.declared.characters.Within.{Within}
-use Rattle.expr_parser.specs.declared.characters.Within.TheVariants.{Whole, One, Two, Three, HighOfTwo, LowOfTwo, HighOfThree, LowOfThree}
+use Rattle.byte_grammar.specs.declared.characters.Character.{Character}
+use Rattle.byte_grammar.specs.declared.characters.Character.TheVariants.{Whole, One, Two, Three, BehindE0, BehindEd, BehindF0, BehindF4}
 use Rattle.expr_parser.specs.declared.slots.Words.{Words}
 use Rattle.expr_parser.specs.declared.slots.Slot.{Slot}
 use Rattle.expr_parser.specs.declared.slots.Slot.TheVariants.{Newest, Span, MaybeSpan, Silence, Word, Percent, Free}
@@ -19,12 +19,15 @@ use Rattle.expr_parser.specs.Bytes.{Digits, AreDigits}
 use Rattle.expr_parser.specs.Numbers.{IsNumber, decimal, whole, seconds, suffixed_period}
 use Rattle.expr_parser.specs.Functions.{takes_count, least_period, word_list}
 use Rattle.expr_parser.specs.Calls.{is_one_of, is_same, number_limit, longest_period, greatest_percent, IsRange, latest, span, IsQuoted, nothing, plain, backslash, IsPart, absent, ranged, shifted, word, number, quoted_number, quoted}
-use Rattle.expr_parser.specs.Characters.{characters}
 use Rattle.expr_parser.specs.Figures.{figures_text}
 use Rattle.expr_parser.specs.Parts.{is_front, begins_one}
-use Rattle.expr_parser.proofs.Lists.{assoc, nothing_behind, way, eq_true, digits_snoc}
+use Rattle.expr_parser.proofs.Lists.{way, eq_true, digits_snoc}
 use Rattle.expr_parser.proofs.Amounts.{whole_is}
-use Rattle.expr_parser.proofs.Utf.{runs_utf, run_append}
+use Rattle.byte_grammar.specs.Utf8.{follow, rest_of as tail}
+use Rattle.byte_grammar.specs.Runs.{run}
+use Rattle.byte_grammar.proofs.Utf8Meaning.{rest_run as tail_runs}
+use Rattle.byte_grammar.proofs.Utf8Texts.{taken_text}
+use Rattle.byte_grammar.proofs.Runs.{run_append}
 use Rattle.expr_parser.proofs.NumberPasts.{NumberLives, number_lives}
 use Rattle.expr_parser.proofs.PartPasts.{Past, gone, QuotedSo, SlashSo}
 
@@ -35,7 +38,7 @@ pub record PartLives (s : Slot) (t : List ℕ) : Type 0 where
   pub is : IsPart s (t ++ more) value
 
 now : (s : Slot) (t : List ℕ) (v : Value) → IsPart s t v → PartLives s t
-now s t v h = record { more = []; value = v; is = subst (λ (x : List ℕ). IsPart s x v) (sym (nothing_behind t)) h }
+now s t v h = record { more = []; value = v; is = subst (λ (x : List ℕ). IsPart s x v) (sym (append-nil t)) h }
 
 -- ---- an argument of each kind
 
@@ -110,7 +113,7 @@ least_small Percent m h = absurd cc
 least_small Free m h = absurd cc
 
 thirty_more : (b : ℕ) (bs : List ℕ) → Digits 0 (b ∷ bs) 0 → Digits 0 (b ∷ (bs ++ 51 ∷ 48 ∷ [])) 30
-thirty_more b bs d = subst (λ (v : List ℕ). Digits 0 (b ∷ v) 30) (assoc bs (51 ∷ []) (48 ∷ [])) (digits_snoc (b ∷ (bs ++ 51 ∷ [])) 48 0 3 (digits_snoc (b ∷ bs) 51 0 0 d refl) refl)
+thirty_more b bs d = subst (λ (v : List ℕ). Digits 0 (b ∷ v) 30) (append_assoc bs (51 ∷ []) (48 ∷ [])) (digits_snoc (b ∷ (bs ++ 51 ∷ [])) 48 0 3 (digits_snoc (b ∷ bs) 51 0 0 d refl) refl)
 
 seconds_live : (s : Slot) (v b : ℕ) (bs : List ℕ) (m : ℕ) → Digits 0 (b ∷ bs) v → v ≤ longest_period → least_period s ≡ Some m → PartLives s (b ∷ bs)
 seconds_live s zero b bs m d l e = let g = least_small s m e in
@@ -149,32 +152,10 @@ back_live : (s : Slot) (a : Ahead) (r : Range) (t u : List ℕ) → t ≡ u ++ g
 back_live s a r t u e i c = record {
   more = rest_of a;
   value = Ranged r 0;
-  is = shifted u (48 ∷ []) i c (seconds 48 [] nought_is (omega arith) (omega arith)) (ap (λ (v : List ℕ). v ++ rest_of a) e ∙ assoc u (gone a) (rest_of a) ∙ ap (λ (v : List ℕ). u ++ v) (all_of a));
+  is = shifted u (48 ∷ []) i c (seconds 48 [] nought_is (omega arith) (omega arith)) (ap (λ (v : List ℕ). v ++ rest_of a) e ∙ append_assoc u (gone a) (rest_of a) ∙ ap (λ (v : List ℕ). u ++ v) (all_of a));
 }
 
 -- ---- texts
-
--- what completes a character
-abbrev pub tail : Within → List ℕ
-tail Whole = []
-tail One = 128 ∷ []
-tail Two = 128 ∷ 128 ∷ []
-tail Three = 128 ∷ 128 ∷ 128 ∷ []
-tail HighOfTwo = 160 ∷ 128 ∷ []
-tail LowOfTwo = 128 ∷ 128 ∷ []
-tail HighOfThree = 144 ∷ 128 ∷ 128 ∷ []
-tail LowOfThree = 128 ∷ 128 ∷ 128 ∷ []
-
-pub tail_runs : (u : Within) → characters (Some u) (tail u) ≡ Some Whole
-unfolding characters
-tail_runs Whole = refl
-tail_runs One = refl
-tail_runs Two = refl
-tail_runs Three = refl
-tail_runs HighOfTwo = refl
-tail_runs LowOfTwo = refl
-tail_runs HighOfThree = refl
-tail_runs LowOfThree = refl
 
 end_text : IsQuoted [] []
 end_text = nothing refl refl
@@ -182,46 +163,46 @@ end_text = nothing refl refl
 byte_text : (b : ℕ) (t : List ℕ) → (b == 34) ≡ false → (b == 92) ≡ false → IsQuoted t t → IsQuoted (b ∷ t) (b ∷ t)
 byte_text b t h g i = plain b t t h g i refl refl
 
-tail_text : (u : Within) → IsQuoted (tail u) (tail u)
+tail_text : (u : Character) → IsQuoted (tail u) (tail u)
 tail_text Whole = end_text
 tail_text One = byte_text 128 [] refl refl end_text
 tail_text Two = byte_text 128 (128 ∷ []) refl refl (byte_text 128 [] refl refl end_text)
 tail_text Three = byte_text 128 (128 ∷ 128 ∷ []) refl refl (byte_text 128 (128 ∷ []) refl refl (byte_text 128 [] refl refl end_text))
-tail_text HighOfTwo = byte_text 160 (128 ∷ []) refl refl (byte_text 128 [] refl refl end_text)
-tail_text LowOfTwo = byte_text 128 (128 ∷ []) refl refl (byte_text 128 [] refl refl end_text)
-tail_text HighOfThree = byte_text 144 (128 ∷ 128 ∷ []) refl refl (byte_text 128 (128 ∷ []) refl refl (byte_text 128 [] refl refl end_text))
-tail_text LowOfThree = byte_text 128 (128 ∷ 128 ∷ []) refl refl (byte_text 128 (128 ∷ []) refl refl (byte_text 128 [] refl refl end_text))
+tail_text BehindE0 = byte_text 160 (128 ∷ []) refl refl (byte_text 128 [] refl refl end_text)
+tail_text BehindEd = byte_text 128 (128 ∷ []) refl refl (byte_text 128 [] refl refl end_text)
+tail_text BehindF0 = byte_text 144 (128 ∷ 128 ∷ []) refl refl (byte_text 128 (128 ∷ []) refl refl (byte_text 128 [] refl refl end_text))
+tail_text BehindF4 = byte_text 128 (128 ∷ 128 ∷ []) refl refl (byte_text 128 (128 ∷ []) refl refl (byte_text 128 [] refl refl end_text))
 
-text_live : (x v t : List ℕ) (u : Within) → t ≡ 34 ∷ x → QuotedSo x v → characters (Some Whole) v ≡ Some u → PartLives Free t
+text_live : (x v t : List ℕ) (u : Character) → t ≡ 34 ∷ x → QuotedSo x v → run follow (Some Whole) v ≡ Some u → PartLives Free t
 text_live x v t u e g c = record {
   more = tail u ++ 34 ∷ [];
   value = Said (v ++ tail u);
-  is = quoted (x ++ tail u) (v ++ tail u) (g (tail u) (tail u) (tail_text u)) (runs_utf (v ++ tail u) (run_append (Some Whole) v (tail u) ∙ ap (λ (o : Option Within). characters o (tail u)) c ∙ tail_runs u))
-      (ap (λ (w : List ℕ). w ++ (tail u ++ 34 ∷ [])) e ∙ ap (λ (w : List ℕ). 34 ∷ w) (sym (assoc x (tail u) (34 ∷ []))));
+  is = quoted (x ++ tail u) (v ++ tail u) (g (tail u) (tail u) (tail_text u)) (taken_text (v ++ tail u) (run_append follow (Some Whole) v (tail u) ∙ ap (λ (o : Option Character). run follow o (tail u)) c ∙ tail_runs u))
+      (ap (λ (w : List ℕ). w ++ (tail u ++ 34 ∷ [])) e ∙ ap (λ (w : List ℕ). 34 ∷ w) (sym (append_assoc x (tail u) (34 ∷ []))));
 }
 
-slash_runs : characters (Some Whole) (92 ∷ 97 ∷ []) ≡ Some Whole
-unfolding characters
+slash_runs : run follow (Some Whole) (92 ∷ 97 ∷ []) ≡ Some Whole
+unfolding run
 slash_runs = refl
 
-slash_live : (x v t : List ℕ) → t ≡ 34 ∷ (x ++ 92 ∷ []) → SlashSo x v → characters (Some Whole) v ≡ Some Whole → PartLives Free t
+slash_live : (x v t : List ℕ) → t ≡ 34 ∷ (x ++ 92 ∷ []) → SlashSo x v → run follow (Some Whole) v ≡ Some Whole → PartLives Free t
 slash_live x v t e g c = record {
   more = 97 ∷ 34 ∷ [];
   value = Said (v ++ 92 ∷ 97 ∷ []);
   is = quoted (x ++ 92 ∷ 97 ∷ []) (v ++ 92 ∷ 97 ∷ []) (g (97 ∷ []) (92 ∷ 97 ∷ []) (backslash 97 [] (97 ∷ []) refl (byte_text 97 [] refl refl end_text) refl refl))
-      (runs_utf (v ++ 92 ∷ 97 ∷ []) (run_append (Some Whole) v (92 ∷ 97 ∷ []) ∙ ap (λ (o : Option Within). characters o (92 ∷ 97 ∷ [])) c ∙ slash_runs))
-      (ap (λ (w : List ℕ). w ++ 97 ∷ 34 ∷ []) e ∙ ap (λ (w : List ℕ). 34 ∷ w) (assoc x (92 ∷ []) (97 ∷ 34 ∷ []) ∙ sym (assoc x (92 ∷ 97 ∷ []) (34 ∷ []))));
+      (taken_text (v ++ 92 ∷ 97 ∷ []) (run_append follow (Some Whole) v (92 ∷ 97 ∷ []) ∙ ap (λ (o : Option Character). run follow o (92 ∷ 97 ∷ [])) c ∙ slash_runs))
+      (ap (λ (w : List ℕ). w ++ 97 ∷ 34 ∷ []) e ∙ ap (λ (w : List ℕ). 34 ∷ w) (append_assoc x (92 ∷ []) (97 ∷ 34 ∷ []) ∙ sym (append_assoc x (92 ∷ 97 ∷ []) (34 ∷ []))));
 }
 
 letters_live : (ws : Words) (w t : List ℕ) → t ≡ 34 ∷ w → begins_one (word_list ws) w ≡ true → PartLives (Word ws) t
 letters_live ws w t e h = let r = word_rest (word_list ws) w h in
-    record { more = r.0 ++ 34 ∷ []; value = Said (w ++ r.0); is = word (w ++ r.0) r.1 (ap (λ (v : List ℕ). v ++ (r.0 ++ 34 ∷ [])) e ∙ ap (λ (v : List ℕ). 34 ∷ v) (sym (assoc w r.0 (34 ∷ [])))) }
+    record { more = r.0 ++ 34 ∷ []; value = Said (w ++ r.0); is = word (w ++ r.0) r.1 (ap (λ (v : List ℕ). v ++ (r.0 ++ 34 ∷ [])) e ∙ ap (λ (v : List ℕ). 34 ∷ v) (sym (append_assoc w r.0 (34 ∷ [])))) }
 
 number_live : (s : Slot) (most : ℕ) (t u : List ℕ) → t ≡ u → number_limit s ≡ Some most → NumberLives most u → PartLives s t
 number_live s most t u e h r = record { more = r.more; value = Said (t ++ r.more); is = number most r.n h (subst (λ (v : List ℕ). IsNumber most (v ++ r.more) r.n) (sym e) r.is) }
 
 quoted_live : (t u : List ℕ) → t ≡ 34 ∷ u → NumberLives greatest_percent u → PartLives Percent t
-quoted_live t u e r = record { more = r.more ++ 34 ∷ []; value = Said (u ++ r.more); is = quoted_number (u ++ r.more) r.n r.is (ap (λ (v : List ℕ). v ++ (r.more ++ 34 ∷ [])) e ∙ ap (λ (v : List ℕ). 34 ∷ v) (sym (assoc u r.more (34 ∷ [])))) }
+quoted_live t u e r = record { more = r.more ++ 34 ∷ []; value = Said (u ++ r.more); is = quoted_number (u ++ r.more) r.n r.is (ap (λ (v : List ℕ). v ++ (r.more ++ 34 ∷ [])) e ∙ ap (λ (v : List ℕ). 34 ∷ v) (sym (append_assoc u r.more (34 ∷ [])))) }
 
 at_slot : (s r : Slot) (t : List ℕ) → s ≡ r → PartLives r t → PartLives s t
 at_slot s r t e h = subst (λ (v : Slot). PartLives v t) (sym e) h

@@ -1,9 +1,9 @@
 -- What has come of an argument.
-use Rattle.std.proofs.Common.{◌≡◌, ℕ, zero, suc, ◌+◌, ◌-◌, ◌*◌, ◌≤◌, List, [], ◌∷◌, ◌++◌, refl, ap, sym, ◌∙◌, Bool, true, false, nat_le, ◌==◌, arith, Option, Some, None, inl, inr, if◌then◌else◌, subst, option_map}
+use Rattle.std.proofs.Common.{◌≡◌, ℕ, zero, suc, ◌+◌, ◌-◌, ◌*◌, ◌≤◌, List, [], ◌∷◌, ◌++◌, refl, ap, sym, ◌∙◌, Bool, true, false, nat_le, ◌==◌, arith, Option, Some, None, inl, inr, if◌then◌else◌, subst, option_map, append_assoc, append-nil}
 use Rattle.zbx_types.specs.declared.calls.Range.{Range}
 use Rattle.zbx_types.specs.declared.calls.Range.TheVariants.{Count, Period}
-use Rattle.expr_parser.specs.declared.characters.Within.{Within}
-use Rattle.expr_parser.specs.declared.characters.Within.TheVariants.{Whole}
+use Rattle.byte_grammar.specs.declared.characters.Character.{Character}
+use Rattle.byte_grammar.specs.declared.characters.Character.TheVariants.{Whole}
 use Rattle.expr_parser.specs.declared.figures.Figures.{Figures}
 use Rattle.expr_parser.specs.declared.slots.Words.{Words}
 use Rattle.expr_parser.specs.declared.slots.Words.TheVariants.{Operators, Directions, Strengths}
@@ -19,11 +19,13 @@ use Rattle.expr_parser.specs.Bytes.{is_digit, Digits}
 use Rattle.expr_parser.specs.Numbers.{period_factor, IsPeriod, seconds, suffixed_period}
 use Rattle.expr_parser.specs.Functions.{takes_count, least_period, word_list}
 use Rattle.expr_parser.specs.Calls.{number_limit, is_one_of, longest_period, greatest_percent, IsRange, latest, span, IsQuoted, nothing, quote, backslash, plain, IsPart, absent, ranged, shifted, word, number, quoted_number, quoted}
-use Rattle.expr_parser.specs.Characters.{character, characters, is_whole}
+use Rattle.byte_grammar.specs.Utf8.{follow, is_whole}
+use Rattle.byte_grammar.specs.Runs.{run}
 use Rattle.expr_parser.specs.Figures.{figure, first_figure, figures_text, figures_value}
 use Rattle.expr_parser.specs.Parts.{begins_one, grown, lasting, part, part_value, latest_range, latest_byte, first_second, first_range, first_part, first_number, more_number, end_number, more_text, text_byte, slash_byte, colon, colon_of, second, letter, awaited, back, shift_byte, hash_byte, opened_byte, quoted_byte, seconds_value, ranged_value, number_value}
-use Rattle.expr_parser.proofs.Lists.{assoc, nothing_behind, snoc, way, some_is, none_some, le_true, digits_snoc, one_digit, eq_true}
-use Rattle.expr_parser.proofs.Utf.{runs_utf, run_append, run_one}
+use Rattle.expr_parser.proofs.Lists.{snoc, way, some_is, none_some, le_true, digits_snoc, one_digit, eq_true}
+use Rattle.byte_grammar.proofs.Utf8Texts.{taken_text}
+use Rattle.byte_grammar.proofs.Runs.{run_append, grown as grown_run}
 use Rattle.expr_parser.proofs.NumberPasts.{NumberPast, first_past, figure_past, number_ends}
 
 -- whatever follows in the quotes, the text so far stands for these bytes in front of it
@@ -55,8 +57,8 @@ Past s (Letters w) t = (ws : Words) × (s ≡ Word ws) × (t ≡ 34 ∷ w) × (b
 Past s (Number f) t = (most : ℕ) × (number_limit s ≡ Some most) × (t ≡ figures_text f) × NumberPast most f
 Past s Opened t = (s ≡ Percent) × (t ≡ 34 ∷ [])
 Past s (Quoted f) t = (s ≡ Percent) × (t ≡ 34 ∷ figures_text f) × NumberPast greatest_percent f
-Past s (Text v u) t = (x : List ℕ) × (s ≡ Free) × (t ≡ 34 ∷ x) × QuotedSo x v × (characters (Some Whole) v ≡ Some u)
-Past s (Slash v) t = (x : List ℕ) × (s ≡ Free) × (t ≡ 34 ∷ (x ++ 92 ∷ [])) × SlashSo x v × (characters (Some Whole) v ≡ Some Whole)
+Past s (Text v u) t = (x : List ℕ) × (s ≡ Free) × (t ≡ 34 ∷ x) × QuotedSo x v × (run follow (Some Whole) v ≡ Some u)
+Past s (Slash v) t = (x : List ℕ) × (s ≡ Free) × (t ≡ 34 ∷ (x ++ 92 ∷ [])) × SlashSo x v × (run follow (Some Whole) v ≡ Some Whole)
 Past s (Closed v) t = IsPart s t (Said v)
 
 -- the place that a step answers
@@ -166,7 +168,7 @@ begins_all ws = at ws
     at Strengths = refl
 
 first_part_past : (s : Slot) (b : ℕ) (q : Part) → first_part s b ≡ Some q → Past s q (b ∷ [])
-unfolding characters
+unfolding run
 first_part_past Newest b q h = first_range_past Newest b q h
 first_part_past Span b q h = first_range_past Span b q h
 first_part_past MaybeSpan b q h = first_range_past MaybeSpan b q h
@@ -215,47 +217,47 @@ quoted_past f t b q e p h = elim (way (b == 34) _ _ (Some q) h) [
       as_part _ _ q (refl, ap (λ (v : List ℕ). v ++ b ∷ []) e ∙ ap (λ (v : List ℕ). 34 ∷ v) (sym g.text), g.past) m.2
 ]
 
-is_whole_so : (u : Within) → is_whole u ≡ true → u ≡ Whole
+is_whole_so : (u : Character) → is_whole u ≡ true → u ≡ Whole
 is_whole_so Whole h = refl
 is_whole_so _ h = absurd cc
 
-more_text_past : (x v : List ℕ) (o : Option Within) (q : Part) → QuotedSo x v → characters (Some Whole) v ≡ o → more_text v o ≡ Some q → Past Free q (34 ∷ x)
+more_text_past : (x v : List ℕ) (o : Option Character) (q : Part) → QuotedSo x v → run follow (Some Whole) v ≡ o → more_text v o ≡ Some q → Past Free q (34 ∷ x)
 more_text_past x v None q g e h = none_some q h
 more_text_past x v (Some u) q g e h = as_part _ _ q (x, refl, refl, g, e) h
 
 plain_so : (x v : List ℕ) (b : ℕ) → QuotedSo x v → (b == 34) ≡ false → (b == 92) ≡ false → QuotedSo (x ++ b ∷ []) (v ++ b ∷ [])
 plain_so x v b g h k r w i = subst (λ (z : List ℕ). IsQuoted z ((v ++ b ∷ []) ++ w)) (snoc x b r) (subst (λ (z : List ℕ). IsQuoted (x ++ b ∷ r) z) (snoc v b w) (g (b ∷ r) (b ∷ w) (plain b r w h k i refl refl)))
 
-one_more : (v : List ℕ) (b : ℕ) (u : Within) → characters (Some Whole) v ≡ Some u → characters (Some Whole) (v ++ b ∷ []) ≡ character u b
-one_more v b u h = run_append (Some Whole) v (b ∷ []) ∙ ap (λ (o : Option Within). characters o (b ∷ [])) h ∙ run_one u b
+one_more : (v : List ℕ) (b : ℕ) (u : Character) → run follow (Some Whole) v ≡ Some u → run follow (Some Whole) (v ++ b ∷ []) ≡ follow u b
+one_more v b u h = grown_run follow (Some Whole) u v b h
 
-text_past : (x v : List ℕ) (u : Within) (b : ℕ) (q : Part) → QuotedSo x v → characters (Some Whole) v ≡ Some u → text_byte v u b ≡ Some q → Past Free q (34 ∷ (x ++ b ∷ []))
+text_past : (x v : List ℕ) (u : Character) (b : ℕ) (q : Part) → QuotedSo x v → run follow (Some Whole) v ≡ Some u → text_byte v u b ≡ Some q → Past Free q (34 ∷ (x ++ b ∷ []))
 text_past x v u b q g c h = elim (way (b == 34) _ _ (Some q) h) [
   | inl z ↦ elim (way (is_whole u) _ _ (Some q) z.1) [
     | inl y ↦ let i : IsQuoted (x ++ []) (v ++ []) = g [] [] (nothing refl refl) in
-        as_part _ _ q (quoted x v (subst (λ (w : List ℕ). IsQuoted x w) (nothing_behind v) (subst (λ (w : List ℕ). IsQuoted w (v ++ [])) (nothing_behind x) i)) (runs_utf v (c ∙ ap (λ (w : Within). Some w) (is_whole_so u y.0))) (ap (λ (d : ℕ). 34 ∷ (x ++ d ∷ [])) (eq_true b 34 z.0))) y.1
+        as_part _ _ q (quoted x v (subst (λ (w : List ℕ). IsQuoted x w) (append-nil v) (subst (λ (w : List ℕ). IsQuoted w (v ++ [])) (append-nil x) i)) (taken_text v (c ∙ ap (λ (w : Character). Some w) (is_whole_so u y.0))) (ap (λ (d : ℕ). 34 ∷ (x ++ d ∷ [])) (eq_true b 34 z.0))) y.1
     | inr y ↦ none_some q y.1
   ]
   | inr z ↦ elim (way (b == 92) _ _ (Some q) z.1) [
     | inl y ↦ elim (way (is_whole u) _ _ (Some q) y.1) [
-      | inl w ↦ as_part _ _ q (x, refl, ap (λ (d : ℕ). 34 ∷ (x ++ d ∷ [])) (eq_true b 92 y.0), (λ r w i. g (92 ∷ r) w i), c ∙ ap (λ (w : Within). Some w) (is_whole_so u w.0)) w.1
+      | inl w ↦ as_part _ _ q (x, refl, ap (λ (d : ℕ). 34 ∷ (x ++ d ∷ [])) (eq_true b 92 y.0), (λ r w i. g (92 ∷ r) w i), c ∙ ap (λ (w : Character). Some w) (is_whole_so u w.0)) w.1
       | inr w ↦ none_some q w.1
     ]
-    | inr y ↦ more_text_past (x ++ b ∷ []) (v ++ b ∷ []) (character u b) q (plain_so x v b g z.0 y.0) (one_more v b u c) y.1
+    | inr y ↦ more_text_past (x ++ b ∷ []) (v ++ b ∷ []) (follow u b) q (plain_so x v b g z.0 y.0) (one_more v b u c) y.1
   ]
 ]
 
-two_more : (v : List ℕ) (b : ℕ) → characters (Some Whole) v ≡ Some Whole → characters (Some Whole) (v ++ 92 ∷ b ∷ []) ≡ character Whole b
-unfolding characters
-two_more v b h = run_append (Some Whole) v (92 ∷ b ∷ []) ∙ ap (λ (o : Option Within). characters o (92 ∷ b ∷ [])) h
+two_more : (v : List ℕ) (b : ℕ) → run follow (Some Whole) v ≡ Some Whole → run follow (Some Whole) (v ++ 92 ∷ b ∷ []) ≡ follow Whole b
+unfolding run
+two_more v b h = run_append follow (Some Whole) v (92 ∷ b ∷ []) ∙ ap (λ (o : Option Character). run follow o (92 ∷ b ∷ [])) h
 
-slash_past : (x v : List ℕ) (b : ℕ) (q : Part) → SlashSo x v → characters (Some Whole) v ≡ Some Whole → slash_byte v b ≡ Some q → Past Free q (34 ∷ (x ++ 92 ∷ b ∷ []))
+slash_past : (x v : List ℕ) (b : ℕ) (q : Part) → SlashSo x v → run follow (Some Whole) v ≡ Some Whole → slash_byte v b ≡ Some q → Past Free q (34 ∷ (x ++ 92 ∷ b ∷ []))
 slash_past x v b q g c h = elim (way (b == 34) _ _ (Some q) h) [
   | inl z ↦ as_part _ _ q (
     x ++ 92 ∷ 34 ∷ [],
     refl,
     ap (λ (d : ℕ). 34 ∷ (x ++ 92 ∷ d ∷ [])) (eq_true b 34 z.0),
-    (λ r w i. subst (λ (y : List ℕ). IsQuoted y ((v ++ 34 ∷ []) ++ w)) (sym (assoc x (92 ∷ 34 ∷ []) r)) (subst (λ (y : List ℕ). IsQuoted (x ++ 92 ∷ 34 ∷ r) y) (snoc v 34 w) (g (34 ∷ r) (34 ∷ w) (quote r w i refl refl)))),
+    (λ r w i. subst (λ (y : List ℕ). IsQuoted y ((v ++ 34 ∷ []) ++ w)) (sym (append_assoc x (92 ∷ 34 ∷ []) r)) (subst (λ (y : List ℕ). IsQuoted (x ++ 92 ∷ 34 ∷ r) y) (snoc v 34 w) (g (34 ∷ r) (34 ∷ w) (quote r w i refl refl)))),
     one_more v 34 Whole c,
   ) z.1
   | inr z ↦ elim (way (b == 92) _ _ (Some q) z.1) [
@@ -266,15 +268,15 @@ slash_past x v b q g c h = elim (way (b == 34) _ _ (Some q) h) [
       (λ r w i. subst (λ (y : List ℕ). IsQuoted y ((v ++ 92 ∷ []) ++ w)) (snoc x 92 (92 ∷ r)) (subst (λ (y : List ℕ). IsQuoted (x ++ 92 ∷ 92 ∷ r) y) (snoc v 92 w) (g (92 ∷ r) (92 ∷ w) (backslash 92 r w refl i refl refl)))),
       one_more v 92 Whole c,
     ) y.1
-    | inr y ↦ more_text_past (x ++ 92 ∷ b ∷ []) (v ++ 92 ∷ b ∷ []) (character Whole b) q
-        (λ r w i. subst (λ (y : List ℕ). IsQuoted y ((v ++ 92 ∷ b ∷ []) ++ w)) (sym (assoc x (92 ∷ b ∷ []) r)) (subst (λ (y : List ℕ). IsQuoted (x ++ 92 ∷ b ∷ r) y) (sym (assoc v (92 ∷ b ∷ []) w)) (g (b ∷ r) (92 ∷ b ∷ w) (backslash b r (b ∷ w) z.0 (plain b r w z.0 y.0 i refl refl) refl refl))))
+    | inr y ↦ more_text_past (x ++ 92 ∷ b ∷ []) (v ++ 92 ∷ b ∷ []) (follow Whole b) q
+        (λ r w i. subst (λ (y : List ℕ). IsQuoted y ((v ++ 92 ∷ b ∷ []) ++ w)) (sym (append_assoc x (92 ∷ b ∷ []) r)) (subst (λ (y : List ℕ). IsQuoted (x ++ 92 ∷ b ∷ r) y) (sym (append_assoc v (92 ∷ b ∷ []) w)) (g (b ∷ r) (92 ∷ b ∷ w) (backslash b r (b ∷ w) z.0 (plain b r w z.0 y.0 i refl refl) refl refl))))
         (two_more v b c) y.1
   ]
 ]
 
 awaited_past : (s : Slot) (want : ℕ) (a z : Ahead) (r : Range) (t u : List ℕ) (b : ℕ) (q : Part) → t ≡ u ++ gone a → gone z ≡ gone a ++ want ∷ [] → IsRange s u r → takes_count s ≡ true → awaited want z r b ≡ Some q → Past s q (t ++ b ∷ [])
 awaited_past s want a z r t u b q e f i c h = elim (way (b == want) _ _ (Some q) h) [
-  | inl y ↦ as_part _ _ q (u, ap (λ (v : List ℕ). v ++ b ∷ []) e ∙ assoc u (gone a) (b ∷ []) ∙ ap (λ (d : ℕ). u ++ (gone a ++ d ∷ [])) (eq_true b want y.0) ∙ ap (λ (v : List ℕ). u ++ v) (sym f), i, c) y.1
+  | inl y ↦ as_part _ _ q (u, ap (λ (v : List ℕ). v ++ b ∷ []) e ∙ append_assoc u (gone a) (b ∷ []) ∙ ap (λ (d : ℕ). u ++ (gone a ++ d ∷ [])) (eq_true b want y.0) ∙ ap (λ (v : List ℕ). u ++ v) (sym f), i, c) y.1
   | inr y ↦ none_some q y.1
 ]
 
@@ -284,16 +286,16 @@ back_past s Ow r t b q p h = awaited_past s 111 Ow W r t p.0 b q p.1 refl p.2 p.
 back_past s W r t b q p h = awaited_past s 119 W Dash r t p.0 b q p.1 refl p.2 p.3 h
 back_past s Dash r t b q p h = awaited_past s 45 Dash Figured r t p.0 b q p.1 refl p.2 p.3 h
 back_past s Figured r t b q p h = elim (way (is_digit b) _ _ (Some q) h) [
-  | inl z ↦ let g = grown_some longest_period 0 b (Shift r) q z.1 in as_part _ _ q (p.0, b, [], ap (λ (v : List ℕ). v ++ b ∷ []) p.1 ∙ assoc p.0 (58 ∷ 110 ∷ 111 ∷ 119 ∷ 45 ∷ []) (b ∷ []), p.2, p.3, one_digit b z.0, g.0) g.1
+  | inl z ↦ let g = grown_some longest_period 0 b (Shift r) q z.1 in as_part _ _ q (p.0, b, [], ap (λ (v : List ℕ). v ++ b ∷ []) p.1 ∙ append_assoc p.0 (58 ∷ 110 ∷ 111 ∷ 119 ∷ 45 ∷ []) (b ∷ []), p.2, p.3, one_digit b z.0, g.0) g.1
   | inr z ↦ none_some q z.1
 ]
 
 shift_past : (s : Slot) (r : Range) (v : ℕ) (t : List ℕ) (b : ℕ) (q : Part) → Past s (Shift r v) t → shift_byte r v b ≡ Some q → Past s q (t ++ b ∷ [])
 shift_past s r v t b q p h = elim (way (is_digit b) _ _ (Some q) h) [
   | inl z ↦ let g = grown_some longest_period v b (Shift r) q z.1 in
-      as_part _ _ q (p.0, p.1, p.2 ++ b ∷ [], ap (λ (x : List ℕ). x ++ b ∷ []) p.3 ∙ assoc p.0 (58 ∷ 110 ∷ 111 ∷ 119 ∷ 45 ∷ p.1 ∷ p.2) (b ∷ []), p.4, p.5, digits_snoc (p.1 ∷ p.2) b 0 v p.6 z.0, g.0) g.1
+      as_part _ _ q (p.0, p.1, p.2 ++ b ∷ [], ap (λ (x : List ℕ). x ++ b ∷ []) p.3 ∙ append_assoc p.0 (58 ∷ 110 ∷ 111 ∷ 119 ∷ 45 ∷ p.1 ∷ p.2) (b ∷ []), p.4, p.5, digits_snoc (p.1 ∷ p.2) b 0 v p.6 z.0, g.0) g.1
   | inr z ↦ let g = lasting_some 0 v (period_factor b) (Shifted r) q z.1 in
-      as_part _ _ {p = Shifted r (v * g.factor)} q (shifted p.0 ((p.1 ∷ p.2) ++ b ∷ []) p.4 p.5 (suffixed_period p.1 p.2 b v g.factor p.6 g.is refl g.long g.short refl) (ap (λ (x : List ℕ). x ++ b ∷ []) p.3 ∙ assoc p.0 (58 ∷ 110 ∷ 111 ∷ 119 ∷ 45 ∷ p.1 ∷ p.2) (b ∷ []))) g.place
+      as_part _ _ {p = Shifted r (v * g.factor)} q (shifted p.0 ((p.1 ∷ p.2) ++ b ∷ []) p.4 p.5 (suffixed_period p.1 p.2 b v g.factor p.6 g.is refl g.long g.short refl) (ap (λ (x : List ℕ). x ++ b ∷ []) p.3 ∙ append_assoc p.0 (58 ∷ 110 ∷ 111 ∷ 119 ∷ 45 ∷ p.1 ∷ p.2) (b ∷ []))) g.place
 ]
 
 opened_past : (b : ℕ) (q : Part) → opened_byte b ≡ Some q → Past Percent q (34 ∷ b ∷ [])
@@ -317,7 +319,7 @@ part_past s (Number f) q t b p h = more_number_past s f t b q (number_limit s) p
 part_past s Opened q t b p h = at_slot q s Percent (t ++ b ∷ []) (34 ∷ b ∷ []) p.0 (ap (λ (v : List ℕ). v ++ b ∷ []) p.1) (opened_past b q h)
 part_past s (Quoted f) q t b p h = at_slot q s Percent (t ++ b ∷ []) (t ++ b ∷ []) p.0 refl (quoted_past f t b q p.1 p.2 h)
 part_past s (Text v u) q t b p h = at_slot q s Free (t ++ b ∷ []) (34 ∷ (p.0 ++ b ∷ [])) p.1 (ap (λ (x : List ℕ). x ++ b ∷ []) p.2) (text_past p.0 v u b q p.3 p.4 h)
-part_past s (Slash v) q t b p h = at_slot q s Free (t ++ b ∷ []) (34 ∷ (p.0 ++ 92 ∷ b ∷ [])) p.1 (ap (λ (x : List ℕ). x ++ b ∷ []) p.2 ∙ ap (λ (x : List ℕ). 34 ∷ x) (assoc p.0 (92 ∷ []) (b ∷ []))) (slash_past p.0 v b q p.3 p.4 h)
+part_past s (Slash v) q t b p h = at_slot q s Free (t ++ b ∷ []) (34 ∷ (p.0 ++ 92 ∷ b ∷ [])) p.1 (ap (λ (x : List ℕ). x ++ b ∷ []) p.2 ∙ ap (λ (x : List ℕ). 34 ∷ x) (append_assoc p.0 (92 ∷ []) (b ∷ []))) (slash_past p.0 v b q p.3 p.4 h)
 part_past s (Closed v) q t b p h = none_some q h
 
 -- ---- where it may end

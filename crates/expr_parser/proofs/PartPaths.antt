@@ -1,33 +1,25 @@
 -- Runs over arguments.
-use Rattle.std.proofs.Common.{◌≡◌, ℕ, zero, suc, ◌+◌, ◌-◌, ◌*◌, ◌≤◌, ◌<◌, List, [], ◌∷◌, ◌++◌, refl, ap, sym, ◌∙◌, Bool, true, false, nat_le, ◌==◌, arith, Option, Some, None, inl, inr, if◌then◌else◌, subst, option_map, le-mul_of_pos_right}
+use Rattle.std.proofs.Common.{◌≡◌, ℕ, zero, suc, ◌+◌, ◌-◌, ◌*◌, ◌≤◌, ◌<◌, List, [], ◌∷◌, ◌++◌, refl, ap, sym, ◌∙◌, Bool, true, false, nat_le, ◌==◌, arith, Option, Some, inl, inr, if◌then◌else◌, subst, option_map, le-mul_of_pos_right, append-nil}
 use Rattle.std.proofs.lemmas.Bool.Decides.{nat_tests}
-use Rattle.std.specs.Str.{IsUtf8}
 use Rattle.zbx_types.specs.declared.calls.Range.{Range}
 use Rattle.zbx_types.specs.declared.calls.Range.TheVariants.{Count, Period}
-use Rattle.expr_parser.specs.declared.characters.Within.{Within}
-use Rattle.expr_parser.specs.declared.characters.Within.TheVariants.{Whole, One, Two, Three, HighOfTwo, LowOfTwo, HighOfThree, LowOfThree}
 use Rattle.expr_parser.specs.declared.figures.Figures.{Figures}
 use Rattle.expr_parser.specs.declared.slots.Words.{Words}
 use Rattle.expr_parser.specs.declared.slots.Words.TheVariants.{Operators, Directions, Strengths}
 use Rattle.expr_parser.specs.declared.slots.Slot.{Slot}
 use Rattle.expr_parser.specs.declared.slots.Slot.TheVariants.{Newest, Span, MaybeSpan, Silence, Word, Percent, Free}
-use Rattle.expr_parser.specs.declared.parts.Value.{Value}
-use Rattle.expr_parser.specs.declared.parts.Value.TheVariants.{Ranged, Said}
-use Rattle.expr_parser.specs.declared.parts.Ahead.TheVariants.{Now, Ow, W, Dash, Digits as Figured}
+use Rattle.expr_parser.specs.declared.parts.Value.TheVariants.{Ranged}
+use Rattle.expr_parser.specs.declared.parts.Ahead.TheVariants.{Now, Digits as Figured}
 use Rattle.expr_parser.specs.declared.parts.Part.{Part}
-use Rattle.expr_parser.specs.declared.parts.Part.TheVariants.{Before, Hash, Latest, Seconds, Spanned, Back, Shift, Shifted, Letters, Number, Opened, Quoted, Text, Slash, Closed}
+use Rattle.expr_parser.specs.declared.parts.Part.TheVariants.{Before, Hash, Latest, Seconds, Spanned, Back, Shift, Shifted, Letters, Number, Quoted}
 use Rattle.expr_parser.specs.Bytes.{is_digit, Digits}
-use Rattle.expr_parser.specs.declared.figures.Figures.TheVariants.{Integral, Pointed, Fraction, Suffixed}
-use Rattle.expr_parser.specs.Numbers.{period_factor, number_factor, millionths, IsPeriod, seconds, suffixed_period}
+use Rattle.expr_parser.specs.Numbers.{period_factor, IsPeriod, seconds, suffixed_period}
 use Rattle.expr_parser.specs.Functions.{takes_count, least_period, word_list}
-use Rattle.expr_parser.specs.Calls.{absent_value, number_limit, is_one_of, is_same, longest_period, greatest_percent, greatest_number, IsRange, latest, span, IsQuoted, nothing, quote, backslash, plain, IsPart, absent, ranged, shifted, word, number, quoted_number, quoted}
-use Rattle.expr_parser.specs.Characters.{character, characters}
-use Rattle.expr_parser.specs.Figures.{scaled, figure, first_figure, is_figure}
-use Rattle.expr_parser.specs.Machine.{is_delimiter}
-use Rattle.expr_parser.specs.Parts.{colon, second, first_part, more_number, is_front, begins_one, grown, lasting, part, part_value, more_text, latest_range}
-use Rattle.expr_parser.proofs.Lists.{assoc, nothing_behind, snoc, way, some_is, none_some, le_test, le_true, digit_bounds, digits_le, eq_true, either_way}
-use Rattle.expr_parser.proofs.NumberPaths.{Path, here, there, NumberRun, number_path}
-use Rattle.expr_parser.proofs.Utf.{run_none, utf_runs, runs_utf}
+use Rattle.expr_parser.specs.Calls.{number_limit, is_one_of, is_same, longest_period, greatest_percent, greatest_number, IsRange, latest, span}
+use Rattle.expr_parser.specs.Figures.{first_figure, is_figure}
+use Rattle.expr_parser.specs.Parts.{is_front, begins_one, grown, lasting, part, part_value, latest_range}
+use Rattle.expr_parser.proofs.Lists.{snoc, way, some_is, none_some, le_test, le_true, digit_bounds, digits_le, eq_true}
+use Rattle.expr_parser.proofs.NumberPaths.{Path, here, there}
 
 -- the bytes lead from one place to another
 unfoldable pub Steps : Slot → Part → List ℕ → Part → Type 0
@@ -262,7 +254,7 @@ plain_first b bs h = elim (way (b == 34) false (if nat_le b 127 then no_quote bs
 ]
 
 pub letter_steps : (ws : Words) (bs w : List ℕ) → no_quote bs ≡ true → is_one_of (word_list ws) (w ++ bs) ≡ true → Steps (Word ws) (Letters w) bs (Letters (w ++ bs))
-letter_steps ws [] w h g = subst (λ (v : List ℕ). Steps (Word ws) (Letters w) [] (Letters v)) (sym (nothing_behind w)) (none (Word ws) (Letters w))
+letter_steps ws [] w h g = subst (λ (v : List ℕ). Steps (Word ws) (Letters w) [] (Letters v)) (sym (append-nil w)) (none (Word ws) (Letters w))
 letter_steps ws (b ∷ bs) w h g =
     let k = plain_first b bs h in
     let e = snoc w b bs in

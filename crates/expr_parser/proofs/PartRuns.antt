@@ -1,33 +1,32 @@
 -- Runs over whole arguments, and what ends them.
-use Rattle.std.proofs.Common.{◌≡◌, ℕ, zero, suc, ◌+◌, ◌-◌, ◌*◌, ◌≤◌, ◌<◌, List, [], ◌∷◌, ◌++◌, refl, ap, sym, ◌∙◌, Bool, true, false, nat_le, ◌==◌, arith, Option, Some, None, inl, inr, if◌then◌else◌, subst, option_map, le-mul_of_pos_right}
+use Rattle.std.proofs.Common.{◌≡◌, ℕ, zero, suc, List, [], ◌∷◌, ◌++◌, refl, sym, true, false, nat_le, ◌==◌, arith, Option, Some, None, inl, inr, subst}
 use Rattle.std.proofs.lemmas.Bool.Decides.{nat_tests}
 use Rattle.std.specs.Str.{IsUtf8}
 use Rattle.zbx_types.specs.declared.calls.Range.{Range}
-use Rattle.zbx_types.specs.declared.calls.Range.TheVariants.{Count, Period}
-use Rattle.expr_parser.specs.declared.characters.Within.{Within}
-use Rattle.expr_parser.specs.declared.characters.Within.TheVariants.{Whole, One, Two, Three, HighOfTwo, LowOfTwo, HighOfThree, LowOfThree}
+use Rattle.zbx_types.specs.declared.calls.Range.TheVariants.{Count}
+use Rattle.byte_grammar.specs.declared.characters.Character.TheVariants.{Whole}
 use Rattle.expr_parser.specs.declared.figures.Figures.{Figures}
 use Rattle.expr_parser.specs.declared.slots.Words.{Words}
-use Rattle.expr_parser.specs.declared.slots.Words.TheVariants.{Operators, Directions, Strengths}
 use Rattle.expr_parser.specs.declared.slots.Slot.{Slot}
 use Rattle.expr_parser.specs.declared.slots.Slot.TheVariants.{Newest, Span, MaybeSpan, Silence, Word, Percent, Free}
 use Rattle.expr_parser.specs.declared.parts.Value.{Value}
 use Rattle.expr_parser.specs.declared.parts.Value.TheVariants.{Ranged, Said}
 use Rattle.expr_parser.specs.declared.parts.Ahead.TheVariants.{Now, Ow, W, Dash, Digits as Figured}
 use Rattle.expr_parser.specs.declared.parts.Part.{Part}
-use Rattle.expr_parser.specs.declared.parts.Part.TheVariants.{Before, Hash, Latest, Seconds, Spanned, Back, Shift, Shifted, Letters, Number, Opened, Quoted, Text, Slash, Closed}
-use Rattle.expr_parser.specs.Bytes.{is_digit, Digits}
+use Rattle.expr_parser.specs.declared.parts.Part.TheVariants.{Before, Latest, Seconds, Spanned, Back, Shift, Shifted, Letters, Number, Opened, Quoted, Text, Closed}
+use Rattle.expr_parser.specs.Bytes.{is_digit}
 use Rattle.expr_parser.specs.declared.figures.Figures.TheVariants.{Integral, Pointed, Fraction, Suffixed}
-use Rattle.expr_parser.specs.Numbers.{period_factor, number_factor, millionths, IsPeriod, seconds, suffixed_period}
+use Rattle.expr_parser.specs.Numbers.{period_factor, number_factor, millionths, IsPeriod}
 use Rattle.expr_parser.specs.Functions.{takes_count, least_period, word_list}
-use Rattle.expr_parser.specs.Calls.{absent_value, number_limit, is_one_of, is_same, longest_period, greatest_percent, greatest_number, IsRange, latest, span, IsQuoted, nothing, quote, backslash, plain, IsPart, absent, ranged, shifted, word, number, quoted_number, quoted}
-use Rattle.expr_parser.specs.Characters.{character, characters}
+use Rattle.expr_parser.specs.Calls.{absent_value, number_limit, is_one_of, longest_period, greatest_percent, IsQuoted, IsPart, absent, ranged, shifted, word, number, quoted_number, quoted}
+use Rattle.byte_grammar.specs.Utf8.{follow}
+use Rattle.byte_grammar.specs.Runs.{run}
 use Rattle.expr_parser.specs.Figures.{scaled, figure, first_figure, is_figure}
 use Rattle.expr_parser.specs.Machine.{is_delimiter}
-use Rattle.expr_parser.specs.Parts.{colon, second, first_part, more_number, is_front, begins_one, grown, lasting, part, part_value, more_text, latest_range}
-use Rattle.expr_parser.proofs.Lists.{assoc, nothing_behind, snoc, way, some_is, none_some, le_test, le_true, digit_bounds, digits_le, eq_true, either_way}
+use Rattle.expr_parser.specs.Parts.{colon, second, first_part, more_number, part, part_value}
+use Rattle.expr_parser.proofs.Lists.{way, lt_test, eq_true}
 use Rattle.expr_parser.proofs.NumberPaths.{Path, here, there, NumberRun, number_path}
-use Rattle.expr_parser.proofs.Utf.{run_none, utf_runs, runs_utf}
+use Rattle.byte_grammar.proofs.Utf8Texts.{text_taken, taken_text}
 use Rattle.expr_parser.proofs.PartPaths.{Steps, steps_append, one, more, none, range_run, shift_run, figure_not_quote, number_steps, quoted_steps, begin_number, no_quote, words_plain, word_plain, plain_first, letter_steps, RangeRun}
 use Rattle.expr_parser.proofs.TextPaths.{text_steps}
 
@@ -84,7 +83,7 @@ text_run u v q h =
     record {
       place = Closed v;
       steps = more Free 34 (u ++ 34 ∷ []) Before (Text [] Whole) (Closed v) refl
-          (steps_append Free u (34 ∷ []) (Text [] Whole) (Text v Whole) (Closed v) (c.0 [] Whole Whole (utf_runs v h)) (one Free 34 (Text v Whole) (Closed v) refl));
+          (steps_append Free u (34 ∷ []) (Text [] Whole) (Text v Whole) (Closed v) (c.0 [] Whole Whole (text_taken v h)) (one Free 34 (Text v Whole) (Closed v) refl));
       value = refl;
     }
 
@@ -99,10 +98,10 @@ part_run (quoted {t} u v q h e) = subst (λ (z : List ℕ). PartRun Free z (Said
 
 -- ---- what an argument says is characters
 
-low_runs : (bs : List ℕ) → no_quote bs ≡ true → characters (Some Whole) bs ≡ Some Whole
-unfolding characters
+low_runs : (bs : List ℕ) → no_quote bs ≡ true → run follow (Some Whole) bs ≡ Some Whole
+unfolding run
 low_runs [] h = refl
-low_runs (b ∷ bs) h = let k = plain_first b bs h in rw (le_test b 127 k.1) (low_runs bs k.2)
+low_runs (b ∷ bs) h = let k = plain_first b bs h in let l = k.1 in rw (lt_test b 128 (omega arith)) (low_runs bs k.2)
 
 figure_low : (b : ℕ) → is_figure b ≡ true → nat_le b 127 ≡ true
 figure_low b h = grind (arith, nat_tests)
@@ -129,15 +128,15 @@ SaysUtf8 (Ranged r n) = Unit {0}
 
 absent_says : (s : Slot) (v : Value) → absent_value s ≡ Some v → SaysUtf8 v
 absent_says s (Ranged r n) h = tt
-absent_says s (Said v) h = runs_utf v (rw (absent_text s v h) (low_runs [] refl))
+absent_says s (Said v) h = taken_text v (rw (absent_text s v h) (low_runs [] refl))
 
 part_says : {s : Slot} {t : List ℕ} {v : Value} → IsPart s t v → SaysUtf8 v
 part_says (absent {s} {v} e) = absent_says s v e
 part_says (ranged g) = tt
 part_says (shifted u w g c p e) = tt
-part_says (word {t} {ws} w h e) = runs_utf w (low_runs w (word_plain (word_list ws) w (words_plain ws) h))
-part_says (number {s} {t} most n e h) = runs_utf t (low_runs t (number_plain most t n (number_path h)))
-part_says (quoted_number {t} u n h e) = runs_utf u (low_runs u (number_plain greatest_percent u n (number_path h)))
+part_says (word {t} {ws} w h e) = taken_text w (low_runs w (word_plain (word_list ws) w (words_plain ws) h))
+part_says (number {s} {t} most n e h) = taken_text t (low_runs t (number_plain most t n (number_path h)))
+part_says (quoted_number {t} u n h e) = taken_text u (low_runs u (number_plain greatest_percent u n (number_path h)))
 part_says (quoted u v q h e) = h
 
 pub part_utf8 : {s : Slot} {t : List ℕ} (v : List ℕ) → IsPart s t (Said v) → IsUtf8 v

@@ -1,5 +1,5 @@
 -- Runs over parts of expressions.
-use Rattle.std.proofs.Common.{◌≡◌, ℕ, ◌+◌, ◌≤◌, ◌<◌, List, [], ◌∷◌, ◌++◌, length, refl, ap, sym, ◌∙◌, Option, Some, None, Bool, true, false, arith, nat_le, ◌==◌, subst, inl, inr, if◌then◌else◌, pos}
+use Rattle.std.proofs.Common.{◌≡◌, ℕ, ◌+◌, ◌≤◌, ◌<◌, List, [], ◌∷◌, ◌++◌, length, refl, ap, sym, ◌∙◌, Option, Some, None, Bool, true, false, arith, nat_le, ◌==◌, subst, inl, inr, if◌then◌else◌, pos, append-nil}
 use Rattle.std.proofs.lemmas.Bool.Decides.{nat_tests}
 use Rattle.zbx_types.specs.Tree.{Tree, constant}
 use Rattle.zbx_types.specs.declared.calls.Call.{Call}
@@ -12,7 +12,7 @@ use Rattle.expr_parser.specs.Functions.{name_of}
 use Rattle.expr_parser.specs.Calls.{greatest_number}
 use Rattle.expr_parser.specs.Figures.{figures_value, first_figure, is_figure}
 use Rattle.expr_parser.specs.Machine.{floor, reduced, Mode, Operand, Word, Number, Done, State, state, has_room, is_begun, operand, behind as behind_operand, move, numbered, number_end, calling, go, is_zero, after, constant_of, held}
-use Rattle.expr_parser.proofs.Lists.{nothing_behind, snoc, behind_append, behind_one, way, le_test, lt_test, some_is, none_some, digit_le, digit_ge}
+use Rattle.expr_parser.proofs.Lists.{snoc, behind_append, behind_one, way, le_test, lt_test, some_is, none_some, digit_le, digit_ge}
 use Rattle.expr_parser.proofs.NumberPaths.{Path, here, there, number_path}
 use Rattle.expr_parser.proofs.Words.{named, front_begins, are_letters, letters_first}
 
@@ -97,18 +97,6 @@ abbrev pub Claim : Point → ℕ → ℕ → ℕ → List ℕ → Tree → List 
 Claim p d c l t e ks = (m : Mode) (o : ℕ) (k0 k : List Pending) (cs : List Call) → d + o ≡ 32 → length cs ≡ c → floor k ≤ l → On m p.last o k0 k cs t
     → Leads (after p.held (Some (state m p.last o k0 cs)) t) (behind p t).last o (cs ++ ks) k l e
 
-pub calls_none : (cs : List Call) → cs ++ [] ≡ cs
-calls_none [] = refl
-calls_none (c ∷ cs) = ap (λ (v : List Call). c ∷ v) (calls_none cs)
-
-pub calls_assoc : (a b c : List Call) → (a ++ b) ++ c ≡ a ++ (b ++ c)
-calls_assoc [] b c = refl
-calls_assoc (x ∷ a) b c = ap (λ (v : List Call). x ∷ v) (calls_assoc a b c)
-
-pub calls_length : (a b : List Call) → length (a ++ b) ≡ length a + length b
-calls_length [] b = omega arith
-calls_length (x ∷ a) b = let e = calls_length a b in omega arith
-
 -- ---- numbers
 
 pub path_run : {f g : Figures} {bs : List ℕ} (p : Point) (o : ℕ) (k : List Pending) (cs : List Call) → Path greatest_number f bs g → after p.held (Some (state (Number f) p.last o k cs)) bs ≡ Some (state (Number g) (behind p bs).last o k cs)
@@ -137,7 +125,7 @@ do_number p d c t n h m o k0 k cs deep len low on =
       is = ap (λ (v : List ℕ). after p.held (Some (state m p.last o k0 cs)) v) r.is
           ∙ (stepped p m o k0 cs r.first r.more (Some (state (Number r.begin) r.first o k cs)) first ∙ path_run (onward p r.first) o k cs r.path)
           ∙ ap (λ (v : ℕ). Some (state (Number r.place) v o k cs)) (ap (λ (q : Point). q.last) (sym (onward_behind p r.first r.more)) ∙ ap (λ (v : List ℕ). (behind p v).last) (sym r.is))
-          ∙ ap (λ (v : List Call). Some (state (Number r.place) (behind p t).last o k v)) (sym (calls_none cs));
+          ∙ ap (λ (v : List Call). Some (state (Number r.place) (behind p t).last o k v)) (sym (append-nil cs));
       holds = rw (r.value, le_test n greatest_number (number_small h)) refl;
       folds = λ a b. refl;
     }
@@ -151,7 +139,7 @@ letter_bounds b h = (grind (arith, nat_tests), grind (arith, nat_tests), grind (
 pub word_run : (nots : Bool) (bs w n : List ℕ) (p : Point) (o : ℕ) (k : List Pending) (cs : List Call) → are_letters bs ≡ true → w ++ bs ≡ n → ((a b : List ℕ) → a ++ b ≡ n → is_begun nots (has_room cs) a ≡ true)
     → after p.held (Some (state (Word nots w) p.last o k cs)) bs ≡ Some (state (Word nots n) (behind p bs).last o k cs)
 unfolding after behind
-word_run nots [] w n p o k cs h e g = ap (λ (v : List ℕ). Some (state (Word nots v) p.last o k cs)) (sym (nothing_behind w) ∙ e)
+word_run nots [] w n p o k cs h e g = ap (λ (v : List ℕ). Some (state (Word nots v) p.last o k cs)) (sym (append-nil w) ∙ e)
 word_run nots (b ∷ bs) w n p o k cs h e g =
     let l = letters_first b bs h in
     let q = letter_bounds b l.0 in

@@ -1,5 +1,5 @@
 -- What the machine takes, the grammar says: each byte keeps what a state says of the text so far.
-use Rattle.std.proofs.Common.{◌≡◌, ℕ, suc, zero, ◌+◌, ◌≤◌, List, [], ◌∷◌, ◌++◌, refl, ap, sym, ◌∙◌, Option, Some, None, Bool, true, false, arith, nat_le, ◌==◌, subst, inl, inr, if◌then◌else◌, pos}
+use Rattle.std.proofs.Common.{◌≡◌, ℕ, suc, zero, ◌+◌, ◌≤◌, List, [], ◌∷◌, ◌++◌, refl, ap, sym, ◌∙◌, Option, Some, None, Bool, true, false, arith, nat_le, ◌==◌, subst, inl, inr, if◌then◌else◌, pos, append_assoc, append-nil}
 use Rattle.zbx_types.specs.Tree.{Tree, constant}
 use Rattle.zbx_types.specs.declared.expr.Op.{Op}
 use Rattle.zbx_types.specs.declared.expr.Op.TheVariants.{Or, And, Eq, Ne, Lt, Le, Gt, Ge, Add, Sub, Mul, Div}
@@ -19,10 +19,9 @@ use Rattle.expr_parser.specs.Calls.{Arguments, no_more, another, plain_call, IsC
 use Rattle.expr_parser.specs.Figures.{figure, first_figure, figures_text, figures_value, is_figure}
 use Rattle.expr_parser.specs.Grammar.{op_text, op_level, is_word, number}
 use Rattle.expr_parser.specs.Machine.{floor, reduced, Operand, Word, Number, Slash, Close, Done, Less, Greater, Joint, State, state, has_room, is_begun, not_word, is_not, function_in, first_functions, second_functions, either_function, function_of, word_byte, numbered, operand, blank_or, behind_word, with_op, shut, simple_op, joint, behind_other, behind, behind_less, behind_greater, joint_on, joint_byte, denied, calling, called as called_word, word, number_end, number as number_byte}
-use Rattle.expr_parser.proofs.Lists.{assoc, nothing_behind, snoc, last_snoc, way, either_way, eq_true, le_true, some_is, none_some, no_blanks, one_blank, more_blanks, blanks_append, blank_gap}
+use Rattle.expr_parser.proofs.Lists.{snoc, last_snoc, way, either_way, eq_true, le_true, some_is, none_some, no_blanks, one_blank, more_blanks, blanks_append, blank_gap}
 use Rattle.expr_parser.proofs.NumberPasts.{NumberPast, first_past, figure_past, number_ends}
 use Rattle.expr_parser.proofs.PartPaths.{same_is}
-use Rattle.expr_parser.proofs.Runs.{calls_none}
 use Rattle.expr_parser.proofs.Stacks.{at, gap_clear, Stack, Holds, holds_moved, Folded, fold, negated_stack, denied_stack, op_stack, close_holds, token_holds, floor_le}
 use Rattle.expr_parser.proofs.Stands.{Entry, Token, Behind, Waiting, left_of, InJoint, Stands, stays, push}
 
@@ -33,7 +32,7 @@ token n d k cs q t e = record { front = q; parts = refl; entry = e }
 
 -- a token with more of its text
 abbrev pub token_on : (n d : ℕ) (k : List Pending) (cs : List Call) (q t r u : List ℕ) → t ++ r ≡ u → Token n d k cs q t → Token n d k cs (q ++ r) u
-token_on n d k cs q t r u e h = record { front = h.front; parts = ap (λ (v : List ℕ). v ++ r) h.parts ∙ assoc h.front t r ∙ ap (λ (v : List ℕ). h.front ++ v) e; entry = h.entry }
+token_on n d k cs q t r u e h = record { front = h.front; parts = ap (λ (v : List ℕ). v ++ r) h.parts ∙ append_assoc h.front t r ∙ ap (λ (v : List ℕ). h.front ++ v) e; entry = h.entry }
 
 number_sound : (n d o : ℕ) (k : List Pending) (cs : List Call) (q t : List ℕ) (b : ℕ) (g : Option Figures) (s : State) → d + o ≡ 32 → ((f : Figures) → g ≡ Some f → Token n d k cs (q ++ b ∷ []) (figures_text f) × NumberPast greatest_number f) → numbered g b o k cs ≡ Some s → Stands n (q ++ b ∷ []) s
 number_sound n d o k cs q t b None s deep w h = none_some s h
@@ -64,14 +63,14 @@ operand_sound n d l o k cs q b s deep last e h = elim (way (nat_le b 57) _ _ (So
       ]
     ]
   ]
-  | inr z ↦ word_sound n d o k cs (if is_gap l then nat_le (floor k) 6 else false) [] q b s deep (record { front = q; parts = sym (nothing_behind q); entry = e })
+  | inr z ↦ word_sound n d o k cs (if is_gap l then nat_le (floor k) 6 else false) [] q b s deep (record { front = q; parts = sym (append-nil q); entry = e })
       (λ i. let w = both_true (is_gap l) (nat_le (floor k) 6) i in (le_true (floor k) 6 w.1, subst (λ (v : ℕ). is_gap v ≡ true) last w.0)) z.1
 ]
 
 -- ---- words
 
 pub waiting_entry : (n d : ℕ) (k : List Pending) (cs : List Call) (q : List ℕ) → Waiting n d k cs q → Entry n d k cs q
-waiting_entry n d k cs q w = record { stack = subst (λ (v : List ℕ). Stack n k d v cs) (nothing_behind q) (w.0 [] no_blanks); clear = w.1 }
+waiting_entry n d k cs q w = record { stack = subst (λ (v : List ℕ). Stack n k d v cs) (append-nil q) (w.0 [] no_blanks); clear = w.1 }
 
 -- a blank more in front of an operand
 waiting_on : (n d : ℕ) (k : List Pending) (cs : List Call) (q : List ℕ) (b : ℕ) → is_blank b ≡ true → ((y : List ℕ) → AreBlanks y → Stack n k d (q ++ b ∷ y) cs) → Waiting n d k cs (q ++ b ∷ [])
@@ -91,7 +90,7 @@ behind_word_sound : (n d o : ℕ) (k : List Pending) (cs : List Call) (q : List 
 behind_word_sound n d o k cs q b s deep w h = elim (way (is_blank b) _ _ (Some s) h) [
   | inl z ↦ stays n q d o b Operand k cs s deep (waiting_on n d k cs q b z.0 (λ y a. w (b ∷ y) (more_blanks b y z.0 a))) z.1
   | inr z ↦ elim (way (b == 40) _ _ (Some s) z.1) [
-    | inl y ↦ rw (eq_true b 40 y.0) (push n q d o k cs s deep (subst (λ (v : List ℕ). Stack n k d v cs) (nothing_behind q) (w [] no_blanks)) y.1)
+    | inl y ↦ rw (eq_true b 40 y.0) (push n q d o k cs s deep (subst (λ (v : List ℕ). Stack n k d v cs) (append-nil q) (w [] no_blanks)) y.1)
     | inr y ↦ none_some s y.1
   ]
 ]
@@ -117,13 +116,13 @@ room_function false w f h = none_some f h
 -- `not` waits
 pub denied_waits : (n d : ℕ) (k : List Pending) (cs : List Call) (w q : List ℕ) (t : Token n d k cs q w) → (floor k ≤ 6) × (is_gap (at n t.front).last ≡ true) → is_not w ≡ true → (y : List ℕ) → AreBlanks y → Stack n (Waits Denied ∷ k) d (q ++ y) cs
 denied_waits n d k cs w q t g e y a =
-    let i : q ++ y ≡ t.front ++ (110 ∷ 111 ∷ 116 ∷ y) = ap (λ (v : List ℕ). v ++ y) (t.parts ∙ ap (λ (v : List ℕ). t.front ++ v) (same_is w not_word e)) ∙ assoc t.front not_word y in
+    let i : q ++ y ≡ t.front ++ (110 ∷ 111 ∷ 116 ∷ y) = ap (λ (v : List ℕ). v ++ y) (t.parts ∙ ap (λ (v : List ℕ). t.front ++ v) (same_is w not_word e)) ∙ append_assoc t.front not_word y in
     subst (λ (v : List ℕ). Stack n (Waits Denied ∷ k) d v cs) (sym i) (denied_stack n d k t.front y cs t.entry.stack t.entry.clear g.0 g.1 a)
 
 denied_sound : (n d o : ℕ) (k : List Pending) (cs : List Call) (nots : Bool) (w q : List ℕ) (s : State) → d + o ≡ 32 → (t : Token n d k cs q w) → (nots ≡ true → (floor k ≤ 6) × (is_gap (at n t.front).last ≡ true)) → denied w nots o k cs ≡ Some s → Stands n (q ++ 40 ∷ []) s
 denied_sound n d o k cs nots w q s deep t g h = elim (way nots _ _ (Some s) h) [
   | inl z ↦ elim (way (is_not w) _ _ (Some s) z.1) [
-    | inl y ↦ push n q d o (Waits Denied ∷ k) cs s deep (subst (λ (v : List ℕ). Stack n (Waits Denied ∷ k) d v cs) (nothing_behind q) (denied_waits n d k cs w q t (g z.0) y.0 [] no_blanks)) y.1
+    | inl y ↦ push n q d o (Waits Denied ∷ k) cs s deep (subst (λ (v : List ℕ). Stack n (Waits Denied ∷ k) d v cs) (append-nil q) (denied_waits n d k cs w q t (g z.0) y.0 [] no_blanks)) y.1
     | inr y ↦ none_some s y.1
   ]
   | inr z ↦ none_some s z.1
@@ -143,7 +142,7 @@ nothing_more (another x t r a i w e) h = absurd cc
 closes_so : (n : ℕ) (f : Fun) (p x : List ℕ) (e : Call) → is_dated f ≡ true → Arguments [] (plain_call f [] []) x e → IsCall (at n p) ((name_of f ++ 40 ∷ []) ++ (x ++ 41 ∷ [])) e
 closes_so n f p x e z a =
     let m = nothing_more a refl in
-    subst (λ (v : Call). IsCall (at n p) ((name_of f ++ 40 ∷ []) ++ (x ++ 41 ∷ [])) v) m.1 (dated f z (ap (λ (v : List ℕ). (name_of f ++ 40 ∷ []) ++ (v ++ 41 ∷ [])) m.0 ∙ assoc (name_of f) (40 ∷ []) (41 ∷ [])))
+    subst (λ (v : Call). IsCall (at n p) ((name_of f ++ 40 ∷ []) ++ (x ++ 41 ∷ [])) v) m.1 (dated f z (ap (λ (v : List ℕ). (name_of f ++ 40 ∷ []) ++ (v ++ 41 ∷ [])) m.0 ∙ append_assoc (name_of f) (40 ∷ []) (41 ∷ [])))
 
 -- the name of a function and its parenthesis
 calling_sound : (n d o : ℕ) (k : List Pending) (cs : List Call) (f : Fun) (q : List ℕ) (s : State) → d + o ≡ 32 → Token n d k cs q (name_of f) → has_room cs ≡ true → Some (calling f o k cs) ≡ Some s → Stands n (q ++ 40 ∷ []) s
@@ -151,7 +150,7 @@ calling_sound n d o k cs f q s deep t r h = elim (either_way (is_dated f)) [
   | inl z ↦ stays n q d o 40 (Close (plain_call f [] [])) k cs s deep (record {
     front = t.front;
     text = name_of f ++ 40 ∷ [];
-    parts = ap (λ (v : List ℕ). v ++ 40 ∷ []) t.parts ∙ assoc t.front (name_of f) (40 ∷ []);
+    parts = ap (λ (v : List ℕ). v ++ 40 ∷ []) t.parts ∙ append_assoc t.front (name_of f) (40 ∷ []);
     entry = t.entry;
     room = r;
     goes_on = λ x e a. closes_so n f t.front x e z a;
@@ -187,7 +186,7 @@ words_sound n d o k cs nots w q b s deep t g h = elim (way (b == 40) _ _ (Some s
 -- an operator behind an operand and blanks
 pub op_waits : (n d : ℕ) (k : List Pending) (cs : List Call) (e : Tree) (op : Op) (q : List ℕ) → Behind n d k cs e q → (is_word op ≡ true → is_gap (at n q).last ≡ true) → (y : List ℕ) → AreBlanks y → Stack n (with_op op e k) d (q ++ (op_text op ++ y)) cs
 op_waits n d k cs e op q b g y a =
-    let i : q ++ (op_text op ++ y) ≡ b.w ++ (b.y ++ (op_text op ++ y)) = ap (λ (v : List ℕ). v ++ (op_text op ++ y)) b.parts ∙ assoc b.w b.y (op_text op ++ y) in
+    let i : q ++ (op_text op ++ y) ≡ b.w ++ (b.y ++ (op_text op ++ y)) = ap (λ (v : List ℕ). v ++ (op_text op ++ y)) b.parts ∙ append_assoc b.w b.y (op_text op ++ y) in
     subst (λ (v : List ℕ). Stack n (with_op op e k) d v cs) (sym i)
     (op_stack n d op k e 8 b.w b.y y cs (floor_le k) (level_le op) b.holds b.blanks a (λ w. subst (λ (v : List ℕ). is_gap (at n v).last ≡ true) b.parts (g w)))
   where
@@ -208,7 +207,7 @@ op_waits n d k cs e op q b g y a =
 -- an operator that is no word
 plain_waiting : (n d : ℕ) (k : List Pending) (cs : List Call) (e : Tree) (op : Op) (q r : List ℕ) → is_word op ≡ false → Behind n d k cs e q → r ≡ q ++ op_text op → Waiting n d (with_op op e k) cs r
 plain_waiting n d k cs e op q r i b m = (
-  (λ y a. subst (λ (v : List ℕ). Stack n (with_op op e k) d v cs) (sym (ap (λ (v : List ℕ). v ++ y) m ∙ assoc q (op_text op) y)) (op_waits n d k cs e op q b (λ w. absurd cc) y a)),
+  (λ y a. subst (λ (v : List ℕ). Stack n (with_op op e k) d v cs) (sym (ap (λ (v : List ℕ). v ++ y) m ∙ append_assoc q (op_text op) y)) (op_waits n d k cs e op q b (λ w. absurd cc) y a)),
   (λ w. absurd cc),
 )
 
@@ -261,12 +260,12 @@ shut_sound n d o ([], e) cs w y q s deep p a f h = none_some s h
 shut_sound n d o (Waits x ∷ k, e) cs w y q s deep p a f h = none_some s h
 shut_sound n d zero (Open ∷ k, e) cs w y q s deep p a f h = none_some s h
 shut_sound n d (suc o) (Open ∷ k, e) cs w y q s deep p a f h =
-    let i : q ++ 41 ∷ [] ≡ w ++ (y ++ 41 ∷ []) = ap (λ (v : List ℕ). v ++ 41 ∷ []) p ∙ assoc w y (41 ∷ []) in
-    stays n q (suc d) o 41 (Done e) k cs s (omega arith) (record { w = q ++ 41 ∷ []; y = []; parts = sym (nothing_behind (q ++ 41 ∷ [])); blanks = no_blanks; holds = holds_moved n (suc d) k e 8 (w ++ (y ++ 41 ∷ [])) (q ++ 41 ∷ []) cs (sym i) (close_holds n d k e w y cs f.holds a) }) h
+    let i : q ++ 41 ∷ [] ≡ w ++ (y ++ 41 ∷ []) = ap (λ (v : List ℕ). v ++ 41 ∷ []) p ∙ append_assoc w y (41 ∷ []) in
+    stays n q (suc d) o 41 (Done e) k cs s (omega arith) (record { w = q ++ 41 ∷ []; y = []; parts = sym (append-nil (q ++ 41 ∷ [])); blanks = no_blanks; holds = holds_moved n (suc d) k e 8 (w ++ (y ++ 41 ∷ [])) (q ++ 41 ∷ []) cs (sym i) (close_holds n d k e w y cs f.holds a) }) h
 
 pub behind_sound : (n d l o : ℕ) (k : List Pending) (cs : List Call) (e : Tree) (q : List ℕ) (b : ℕ) (s : State) → d + o ≡ 32 → l ≡ (at n q).last → Behind n d k cs e q → behind e l o k cs b ≡ Some s → Stands n (q ++ b ∷ []) s
 behind_sound n d l o k cs e q b s deep last w h = elim (way (is_blank b) _ _ (Some s) h) [
-  | inl z ↦ stays n q d o b (Done e) k cs s deep (record { w = w.w; y = w.y ++ b ∷ []; parts = ap (λ (v : List ℕ). v ++ b ∷ []) w.parts ∙ assoc w.w w.y (b ∷ []); blanks = blanks_append w.y (b ∷ []) w.blanks (one_blank b z.0); holds = w.holds }) z.1
+  | inl z ↦ stays n q d o b (Done e) k cs s deep (record { w = w.w; y = w.y ++ b ∷ []; parts = ap (λ (v : List ℕ). v ++ b ∷ []) w.parts ∙ append_assoc w.w w.y (b ∷ []); blanks = blanks_append w.y (b ∷ []) w.blanks (one_blank b z.0); holds = w.holds }) z.1
   | inr z ↦ elim (way (b == 41) _ _ (Some s) z.1) [
     | inl y ↦ rw (eq_true b 41 y.0) (shut_sound n d o (reduced 0 k e) cs w.w w.y q s deep w.parts w.blanks (fold n d 0 k e 8 w.w cs (floor_le k) (omega arith) w.holds) y.1)
     | inr y ↦ other_sound n d l o k cs e q b (simple_op b) s deep last w refl y.1
@@ -274,7 +273,7 @@ behind_sound n d l o k cs e q b s deep last w h = elim (way (is_blank b) _ _ (So
 ]
 
 two_bytes : (q w : List ℕ) (a b : ℕ) → q ≡ w ++ a ∷ [] → q ++ b ∷ [] ≡ w ++ a ∷ b ∷ []
-two_bytes q w a b e = ap (λ (v : List ℕ). v ++ b ∷ []) e ∙ assoc w (a ∷ []) (b ∷ [])
+two_bytes q w a b e = ap (λ (v : List ℕ). v ++ b ∷ []) e ∙ append_assoc w (a ∷ []) (b ∷ [])
 
 pub less_sound : (n d l o : ℕ) (k : List Pending) (cs : List Call) (e : Tree) (q w : List ℕ) (b : ℕ) (s : State) → d + o ≡ 32 → l ≡ (at n q).last → q ≡ w ++ 60 ∷ [] → Behind n d k cs e w → behind_less e l o k cs b ≡ Some s → Stands n (q ++ b ∷ []) s
 less_sound n d l o k cs e q w b s deep last i v h = elim (way (b == 61) _ _ (Some s) h) [
@@ -297,7 +296,7 @@ joint_on_sound n d o want rest next k cs e op q b s deep i w h = elim (way (b ==
   | inl z ↦ stays n q d o b (Joint op next e) k cs s deep (record {
     operand = w.operand;
     x = w.x ++ b ∷ [];
-    parts = ap (λ (v : List ℕ). v ++ b ∷ []) w.parts ∙ assoc w.operand w.x (b ∷ []);
+    parts = ap (λ (v : List ℕ). v ++ b ∷ []) w.parts ∙ append_assoc w.operand w.x (b ∷ []);
     letters = ap (λ (c : ℕ). (w.x ++ c ∷ []) ++ left_of next) (eq_true b want z.0) ∙ sym (snoc w.x want (left_of next)) ∙ ap (λ (v : List ℕ). w.x ++ v) (sym i) ∙ w.letters;
     word = w.word;
     gap = w.gap;
@@ -310,8 +309,8 @@ joints_sound n d o k cs e op Nd q b s deep w h = joint_on_sound n d o 110 Nd D k
 joints_sound n d o k cs e op D q b s deep w h = joint_on_sound n d o 100 D Nothing k cs e op q b s deep refl w h
 joints_sound n d o k cs e op R q b s deep w h = joint_on_sound n d o 114 R Nothing k cs e op q b s deep refl w h
 joints_sound n d o k cs e op Nothing q b s deep w h =
-    let i : q ≡ w.operand ++ op_text op = w.parts ∙ ap (λ (v : List ℕ). w.operand ++ v) (sym (nothing_behind w.x) ∙ w.letters) in
-    behind_word_sound n d o (with_op op e k) cs q b s deep (λ y a. subst (λ (v : List ℕ). Stack n (with_op op e k) d v cs) (sym (ap (λ (v : List ℕ). v ++ y) i ∙ assoc w.operand (op_text op) y)) (op_waits n d k cs e op w.operand w.is (λ x. w.gap) y a)) h
+    let i : q ≡ w.operand ++ op_text op = w.parts ∙ ap (λ (v : List ℕ). w.operand ++ v) (sym (append-nil w.x) ∙ w.letters) in
+    behind_word_sound n d o (with_op op e k) cs q b s deep (λ y a. subst (λ (v : List ℕ). Stack n (with_op op e k) d v cs) (sym (ap (λ (v : List ℕ). v ++ y) i ∙ append_assoc w.operand (op_text op) y)) (op_waits n d k cs e op w.operand w.is (λ x. w.gap) y a)) h
 
 -- ---- numbers
 
@@ -319,9 +318,9 @@ pub number_behind : (n d : ℕ) (k : List Pending) (cs : List Call) (f : Figures
 number_behind n d k cs f m q t p e = record {
   w = q;
   y = [];
-  parts = sym (nothing_behind q);
+  parts = sym (append-nil q);
   blanks = no_blanks;
-  holds = subst (λ (v : List Call). Holds n d k (constant (pos m)) 8 q v) (calls_none cs) (holds_moved n d k (constant (pos m)) 8 (t.front ++ figures_text f) q (cs ++ []) (sym t.parts) (token_holds n d k (constant (pos m)) t.front (figures_text f) cs [] t.entry.stack t.entry.clear (number m (number_ends greatest_number f m p e))));
+  holds = subst (λ (v : List Call). Holds n d k (constant (pos m)) 8 q v) (append-nil cs) (holds_moved n d k (constant (pos m)) 8 (t.front ++ figures_text f) q (cs ++ []) (sym t.parts) (token_holds n d k (constant (pos m)) t.front (figures_text f) cs [] t.entry.stack t.entry.clear (number m (number_ends greatest_number f m p e))));
 }
 
 number_end_sound : (n d l o : ℕ) (k : List Pending) (cs : List Call) (f : Figures) (q : List ℕ) (b : ℕ) (g : Option ℕ) (s : State) → d + o ≡ 32 → l ≡ (at n q).last → Token n d k cs q (figures_text f) → NumberPast greatest_number f → figures_value f ≡ g → number_end g l o k cs b ≡ Some s → Stands n (q ++ b ∷ []) s

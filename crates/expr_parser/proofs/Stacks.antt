@@ -1,5 +1,5 @@
 -- What waits, and an operand behind it, in the words of the grammar.
-use Rattle.std.proofs.Common.{◌≡◌, ℕ, suc, zero, ◌+◌, ◌-◌, ◌≤◌, ◌<◌, List, [], ◌∷◌, ◌++◌, length, refl, ap, sym, ◌∙◌, Bool, true, false, arith, nat_le, subst, inl, inr, ◌⊎◌}
+use Rattle.std.proofs.Common.{◌≡◌, ℕ, suc, zero, ◌+◌, ◌-◌, ◌≤◌, ◌<◌, List, [], ◌∷◌, ◌++◌, length, refl, ap, sym, ◌∙◌, Bool, true, false, arith, nat_le, subst, inl, inr, ◌⊎◌, append_assoc, append-nil, length-append}
 use Rattle.zbx_types.specs.Tree.{Tree}
 use Rattle.zbx_types.specs.declared.expr.Op.{Op}
 use Rattle.zbx_types.specs.declared.expr.Op.TheVariants.{Or, And, Eq, Ne, Lt, Le, Gt, Ge, Add, Sub, Mul, Div}
@@ -11,8 +11,7 @@ use Rattle.expr_parser.specs.declared.pending.Pending.TheVariants.{Open, Waits}
 use Rattle.expr_parser.specs.Bytes.{is_gap, ends_word, AreBlanks, first_byte, Point, behind, beginning}
 use Rattle.expr_parser.specs.Grammar.{op_text, op_level, is_word, Spells, paren, minus, denied, tighter, joined}
 use Rattle.expr_parser.specs.Machine.{half_level, applied, floor, reduced, with_op}
-use Rattle.expr_parser.proofs.Lists.{assoc, behind_append, last_snoc, either_way, le_true, le_false, blank_first, blank_ends, first_kept, first_more}
-use Rattle.expr_parser.proofs.Runs.{calls_none, calls_assoc, calls_length}
+use Rattle.expr_parser.proofs.Lists.{behind_append, last_snoc, either_way, le_true, le_false, blank_first, blank_ends, first_kept, first_more}
 use Rattle.expr_parser.proofs.Complete.{begins_with}
 
 -- the point behind a front of the text
@@ -126,8 +125,8 @@ apply n d h k e l q cs i g =
       text = s.1 ++ g.text;
       before = s.2;
       own = s.3 ++ g.own;
-      parts = g.parts ∙ ap (λ (v : List ℕ). v ++ g.text) s.4 ∙ assoc s.0 s.1 g.text;
-      calls = g.calls ∙ ap (λ (v : List Call). v ++ g.own) s.5 ∙ calls_assoc s.2 s.3 g.own;
+      parts = g.parts ∙ ap (λ (v : List ℕ). v ++ g.text) s.4 ∙ append_assoc s.0 s.1 g.text;
+      calls = g.calls ∙ ap (λ (v : List Call). v ++ g.own) s.5 ∙ append_assoc s.2 s.3 g.own;
       stack = s.6;
       spells = s.10 g.text e g.own sp fi;
       fits = parted_first k (at n s.0).last s.1 (s.1 ++ g.text) (first_kept s.1 g.text s.9) s.8;
@@ -144,7 +143,7 @@ fold n d m (Waits w ∷ k) e l q cs f i h = elim (either_way (nat_le m (half_lev
 -- ---- what comes to wait
 
 pub open_stack : (n d : ℕ) (k : List Pending) (q x : List ℕ) (cs : List Call) → Stack n k (suc d) q cs → AreBlanks x → Stack n (Open ∷ k) d ((q ++ 40 ∷ []) ++ x) cs
-open_stack n d k q x cs s a = (q, x, assoc q (40 ∷ []) x, a, s)
+open_stack n d k q x cs s a = (q, x, append_assoc q (40 ∷ []) x, a, s)
 
 pub negated_stack : (n d : ℕ) (k : List Pending) (q x : List ℕ) (cs : List Call) → Stack n k d q cs → Clear k (at n q).last → floor k ≤ 7 → AreBlanks x → Stack n (Waits Negated ∷ k) d ((q ++ 45 ∷ []) ++ x) cs
 negated_stack n d k q x cs s c f a = (
@@ -152,13 +151,13 @@ negated_stack n d k q x cs s c f a = (
   45 ∷ x,
   cs,
   [],
-  assoc q (45 ∷ []) x,
-  sym (calls_none cs),
+  append_assoc q (45 ∷ []) x,
+  sym (append-nil cs),
   s,
   f,
   clear_parted k (at n q).last (45 ∷ x) c,
   omega arith,
-  (λ u e js sp i. minus x u a (subst (λ (v : Point). Spells v d (length cs) 8 u e js) (sym (at_append n q (45 ∷ x))) (subst (λ (v : List Call). Spells (at n (q ++ 45 ∷ x)) d (length v) 8 u e js) (calls_none cs) sp)) refl),
+  (λ u e js sp i. minus x u a (subst (λ (v : Point). Spells v d (length cs) 8 u e js) (sym (at_append n q (45 ∷ x))) (subst (λ (v : List Call). Spells (at n (q ++ 45 ∷ x)) d (length v) 8 u e js) (append-nil cs) sp)) refl),
 )
 
 -- a word's last letter is no gap
@@ -174,23 +173,23 @@ denied_stack n d k q x cs s c f g a = (
   cs,
   [],
   refl,
-  sym (calls_none cs),
+  sym (append-nil cs),
   s,
   f,
   clear_parted k (at n q).last (110 ∷ 111 ∷ 116 ∷ x) c,
   omega arith,
   (λ u e js sp i. denied x u g a
-      (word_apart n (q ++ 110 ∷ 111 ∷ []) 116 x u refl a (subst (λ (v : List ℕ). (is_gap (at n v).last ≡ true) ⊎ (first_byte u ≡ 40)) (sym (assoc q (110 ∷ 111 ∷ []) (116 ∷ x))) (i refl)))
-      (subst (λ (v : Point). Spells v d (length cs) 7 u e js) (sym (at_append n q (110 ∷ 111 ∷ 116 ∷ x))) (subst (λ (v : List Call). Spells (at n (q ++ 110 ∷ 111 ∷ 116 ∷ x)) d (length v) 7 u e js) (calls_none cs) sp)) refl),
+      (word_apart n (q ++ 110 ∷ 111 ∷ []) 116 x u refl a (subst (λ (v : List ℕ). (is_gap (at n v).last ≡ true) ⊎ (first_byte u ≡ 40)) (sym (append_assoc q (110 ∷ 111 ∷ []) (116 ∷ x))) (i refl)))
+      (subst (λ (v : Point). Spells v d (length cs) 7 u e js) (sym (at_append n q (110 ∷ 111 ∷ 116 ∷ x))) (subst (λ (v : List Call). Spells (at n (q ++ 110 ∷ 111 ∷ 116 ∷ x)) d (length v) 7 u e js) (append-nil cs) sp)) refl),
 )
 
 op_word_apart : (n : ℕ) (op : Op) (q y u : List ℕ) → is_word op ≡ true → AreBlanks y → (is_gap (at n (q ++ (op_text op ++ y))).last ≡ true) ⊎ (first_byte u ≡ 40) → ends_word (first_byte (y ++ u)) ≡ true
-op_word_apart n Or q y u w a i = word_apart n (q ++ 111 ∷ []) 114 y u refl a (subst (λ (v : List ℕ). (is_gap (at n v).last ≡ true) ⊎ (first_byte u ≡ 40)) (sym (assoc q (111 ∷ []) (114 ∷ y))) i)
-op_word_apart n And q y u w a i = word_apart n (q ++ 97 ∷ 110 ∷ []) 100 y u refl a (subst (λ (v : List ℕ). (is_gap (at n v).last ≡ true) ⊎ (first_byte u ≡ 40)) (sym (assoc q (97 ∷ 110 ∷ []) (100 ∷ y))) i)
+op_word_apart n Or q y u w a i = word_apart n (q ++ 111 ∷ []) 114 y u refl a (subst (λ (v : List ℕ). (is_gap (at n v).last ≡ true) ⊎ (first_byte u ≡ 40)) (sym (append_assoc q (111 ∷ []) (114 ∷ y))) i)
+op_word_apart n And q y u w a i = word_apart n (q ++ 97 ∷ 110 ∷ []) 100 y u refl a (subst (λ (v : List ℕ). (is_gap (at n v).last ≡ true) ⊎ (first_byte u ≡ 40)) (sym (append_assoc q (97 ∷ 110 ∷ []) (100 ∷ y))) i)
 op_word_apart n _ q y u w a i = absurd cc
 
 regroup : (t y o z u : List ℕ) → (t ++ (y ++ (o ++ z))) ++ u ≡ t ++ (y ++ (o ++ (z ++ u)))
-regroup t y o z u = assoc t (y ++ (o ++ z)) u ∙ ap (λ (v : List ℕ). t ++ v) (assoc y (o ++ z) u ∙ ap (λ (v : List ℕ). y ++ v) (assoc o z u))
+regroup t y o z u = append_assoc t (y ++ (o ++ z)) u ∙ ap (λ (v : List ℕ). t ++ v) (append_assoc y (o ++ z) u ∙ ap (λ (v : List ℕ). y ++ v) (append_assoc o z u))
 
 -- an operator behind an operand and blanks, with blanks behind it
 pub op_stack : (n d : ℕ) (op : Op) (k : List Pending) (e : Tree) (l : ℕ) (w y z : List ℕ) (cs : List Call) → floor k ≤ l → op_level op ≤ l → Holds n d k e l w cs → AreBlanks y → AreBlanks z → (is_word op ≡ true → is_gap (at n (w ++ y)).last ≡ true)
@@ -200,8 +199,8 @@ op_stack n d op k e l w y z cs f i h ay az g =
     let H : Holds n d (reduced (op_level op) k e).0 (reduced (op_level op) k e).1 (op_level op) w cs = r.holds in
     let T : List ℕ = H.text ++ (y ++ (op_text op ++ z)) in
     let first = begins_with H.spells in
-    let front_y : H.front ++ (H.text ++ y) ≡ w ++ y = sym (assoc H.front H.text y) ∙ ap (λ (v : List ℕ). v ++ y) (sym H.parts) in
-    let q_is : w ++ (y ++ (op_text op ++ z)) ≡ H.front ++ (H.text ++ (y ++ (op_text op ++ z))) = ap (λ (v : List ℕ). v ++ (y ++ (op_text op ++ z))) H.parts ∙ assoc H.front H.text (y ++ (op_text op ++ z)) in (
+    let front_y : H.front ++ (H.text ++ y) ≡ w ++ y = sym (append_assoc H.front H.text y) ∙ ap (λ (v : List ℕ). v ++ y) (sym H.parts) in
+    let q_is : w ++ (y ++ (op_text op ++ z)) ≡ H.front ++ (H.text ++ (y ++ (op_text op ++ z))) = ap (λ (v : List ℕ). v ++ (y ++ (op_text op ++ z))) H.parts ∙ append_assoc H.front H.text (y ++ (op_text op ++ z)) in (
       H.front,
       H.text ++ (y ++ (op_text op ++ z)),
       H.before,
@@ -215,9 +214,9 @@ op_stack n d op k e l w y z cs f i h ay az g =
       (λ u b js sp apart. joined op H.text y z u refl H.spells ay az
           (λ word. (
             subst (λ (v : Point). is_gap v.last ≡ true) (sym (at_append n H.front (H.text ++ y) ∙ ap (λ (v : List ℕ). at n v) front_y)) (g word),
-            op_word_apart n op (w ++ y) z u word az (subst (λ (v : List ℕ). (is_gap (at n v).last ≡ true) ⊎ (first_byte u ≡ 40)) (sym q_is ∙ sym (assoc w y (op_text op ++ z))) (apart word)),
+            op_word_apart n op (w ++ y) z u word az (subst (λ (v : List ℕ). (is_gap (at n v).last ≡ true) ⊎ (first_byte u ≡ 40)) (sym q_is ∙ sym (append_assoc w y (op_text op ++ z))) (apart word)),
           ))
-          (subst (λ (v : ℕ). Spells (behind (at n H.front) (H.text ++ (y ++ (op_text op ++ z)))) d v (suc (op_level op)) u b js) (calls_length H.before H.own)
+          (subst (λ (v : ℕ). Spells (behind (at n H.front) (H.text ++ (y ++ (op_text op ++ z)))) d v (suc (op_level op)) u b js) (length-append H.before H.own)
           (subst (λ (v : Point). Spells v d (length (H.before ++ H.own)) (suc (op_level op)) u b js) (sym (at_append n H.front (H.text ++ (y ++ (op_text op ++ z))))) sp))
           (regroup H.text y (op_text op) z u)),
     )
@@ -226,7 +225,7 @@ op_stack n d op k e l w y z cs f i h ay az g =
 pub close_holds : (n d : ℕ) (k : List Pending) (e : Tree) (w y : List ℕ) (cs : List Call) → Holds n d (Open ∷ k) e 0 w cs → AreBlanks y → Holds n (suc d) k e 8 (w ++ (y ++ 41 ∷ [])) cs
 close_holds n d k e w y cs h a =
     let s = h.stack in
-    let q_is : w ++ (y ++ 41 ∷ []) ≡ s.0 ++ 40 ∷ (s.1 ++ (h.text ++ (y ++ 41 ∷ []))) = ap (λ (v : List ℕ). v ++ (y ++ 41 ∷ [])) (h.parts ∙ ap (λ (v : List ℕ). v ++ h.text) s.2) ∙ assoc (s.0 ++ 40 ∷ s.1) h.text (y ++ 41 ∷ []) ∙ assoc s.0 (40 ∷ s.1) (h.text ++ (y ++ 41 ∷ [])) in
+    let q_is : w ++ (y ++ 41 ∷ []) ≡ s.0 ++ 40 ∷ (s.1 ++ (h.text ++ (y ++ 41 ∷ []))) = ap (λ (v : List ℕ). v ++ (y ++ 41 ∷ [])) (h.parts ∙ ap (λ (v : List ℕ). v ++ h.text) s.2) ∙ append_assoc (s.0 ++ 40 ∷ s.1) h.text (y ++ 41 ∷ []) ∙ append_assoc s.0 (40 ∷ s.1) (h.text ++ (y ++ 41 ∷ [])) in
     record {
       front = s.0;
       text = 40 ∷ (s.1 ++ (h.text ++ (y ++ 41 ∷ [])));

@@ -6,8 +6,8 @@ use Rattle.zbx_types.specs.declared.calls.Call.{Call}
 use Rattle.zbx_types.specs.declared.calls.Fun.{Fun}
 use Rattle.item_key.specs.declared.places.Place.{Place}
 use Rattle.item_key.specs.Machine as key
-use Rattle.expr_parser.specs.declared.characters.Within.{Within}
-use Rattle.expr_parser.specs.declared.characters.Within.TheVariants.{Whole}
+use Rattle.byte_grammar.specs.declared.characters.Character.{Character}
+use Rattle.byte_grammar.specs.declared.characters.Character.TheVariants.{Whole}
 use Rattle.expr_parser.specs.declared.slots.Slot.{Slot}
 use Rattle.expr_parser.specs.declared.parts.Part.{Part}
 use Rattle.expr_parser.specs.declared.parts.Part.TheVariants.{Before}
@@ -19,7 +19,8 @@ use Rattle.expr_parser.specs.Bytes.{is_gap, AreBlanks, beginning}
 use Rattle.expr_parser.specs.Functions.{name_of}
 use Rattle.zbx_types.specs.Operators.{is_dated}
 use Rattle.expr_parser.specs.Calls.{AreHostBytes, IsHost, Arguments, IsCall, greatest_number}
-use Rattle.expr_parser.specs.Characters.{characters}
+use Rattle.byte_grammar.specs.Utf8.{follow}
+use Rattle.byte_grammar.specs.Runs.{run}
 use Rattle.expr_parser.specs.Figures.{figures_text}
 use Rattle.expr_parser.specs.Grammar.{op_text, is_word}
 use Rattle.expr_parser.specs.Machine.{floor, Mode, Begin, Operand, Word, Number, Slash, Host, Key, Argument, Close, Done, Less, Greater, Joint, State, state, opened, has_room, is_begun}
@@ -69,7 +70,7 @@ pub record InJoint (n d : ℕ) (k : List Pending) (cs : List Call) (e : Tree) (o
   pub is : Behind n d k cs e operand
 
 -- a key behind a host
-pub record InKey (n d : ℕ) (k : List Pending) (cs : List Call) (f : Fun) (h t : List ℕ) (place : Place) (u : Within) (q : List ℕ) : Type 0 where
+pub record InKey (n d : ℕ) (k : List Pending) (cs : List Call) (f : Fun) (h t : List ℕ) (place : Place) (u : Character) (q : List ℕ) : Type 0 where
   pub front : List ℕ
   pub parts : q ≡ (front ++ (name_of f ++ 40 ∷ 47 ∷ (h ++ 47 ∷ []))) ++ t
   pub entry : Entry n d k cs front
@@ -77,7 +78,7 @@ pub record InKey (n d : ℕ) (k : List Pending) (cs : List Call) (f : Fun) (h t 
   pub looks : is_dated f ≡ false
   pub host : IsHost h
   pub place_is : key.place_of t ≡ Some place
-  pub characters_are : characters (Some Whole) t ≡ Some u
+  pub characters_are : run follow (Some Whole) t ≡ Some u
   pub fits : length (take (at n (front ++ (name_of f ++ 40 ∷ 47 ∷ (h ++ 47 ∷ [])))).held t) ≤ 2048
   pub steady : (u ≡ Whole) ⊎ ((b : ℕ) → 128 ≤ b → key.step place b ≡ Some place)
 

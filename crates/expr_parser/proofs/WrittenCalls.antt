@@ -1,5 +1,5 @@
 -- Written calls are calls of the grammar.
-use Rattle.std.proofs.Common.{◌≡◌, ℕ, zero, suc, ◌≤◌, ◌<◌, List, [], ◌∷◌, ◌++◌, length, take, refl, ap, sym, subst, ◌∙◌, Bool, true, false, ◌==◌, arith, Some, inl, inr, ◌⊎◌, if◌then◌else◌, length-append}
+use Rattle.std.proofs.Common.{◌≡◌, ℕ, zero, suc, ◌≤◌, ◌<◌, List, [], ◌∷◌, ◌++◌, length, take, refl, ap, sym, subst, ◌∙◌, Bool, true, false, ◌==◌, arith, Some, inl, inr, ◌⊎◌, if◌then◌else◌, length-append, append_assoc, append-nil}
 use Rattle.std.specs.Fmt.{decimal}
 use Rattle.std.specs.Str.{IsUtf8}
 use Rattle.item_key.specs.Grammar.{longest_key}
@@ -20,7 +20,7 @@ use Rattle.expr_parser.specs.Functions.{name_of, slots, default_range, takes_cou
 use Rattle.zbx_types.specs.Operators.{is_dated}
 use Rattle.expr_parser.specs.Calls.{absent_value, number_limit, is_one_of, is_same, longest_period, greatest_percent, IsRange, latest, span, IsQuoted, nothing, quote, backslash, plain, IsPart, absent, ranged, shifted, word, number, quoted_number, quoted, put, all_absent, may_be_absent, Arguments, no_more, another, plain_call, IsCall, dated, of_item}
 use Rattle.expr_parser.specs.Written.{escaped, quoted_text, written_range, written_shift, range_argument, last_arguments, written_call}
-use Rattle.expr_parser.proofs.Lists.{assoc, nothing_behind, no_blanks, way, either_way, eq_true, held_behind, some_is, none_some}
+use Rattle.expr_parser.proofs.Lists.{no_blanks, way, either_way, eq_true, held_behind, some_is, none_some}
 use Rattle.expr_parser.proofs.NumberPaths.{number_path}
 use Rattle.expr_parser.proofs.PartPaths.{same_is}
 use Rattle.expr_parser.proofs.WrittenNumbers.{decimal_is, is_plain, number_plain, number_utf8}
@@ -149,7 +149,7 @@ range_again {s} (latest {n = n} b bs c d p h e) = count_again s n c p h
 range_again (span m l p) = span m l (period_again (omega arith) p)
 
 ranged_again : (s : Slot) (r : Range) → IsRange s (written_range r) r → Again s (Ranged r 0)
-ranged_again s r g = subst (λ (z : List ℕ). IsPart s z (Ranged r 0)) (sym (nothing_behind (written_range r))) (ranged g)
+ranged_again s r g = subst (λ (z : List ℕ). IsPart s z (Ranged r 0)) (sym (append-nil (written_range r))) (ranged g)
 
 shifted_again : (s : Slot) (r : Range) (n : ℕ) (w : List ℕ) → IsRange s (written_range r) r → takes_count s ≡ true → IsPeriod 0 longest_period w n → Again s (Ranged r n)
 shifted_again s r n w g c p = elim (either_way (n == 0)) [
@@ -315,7 +315,7 @@ one_again s f h k r n [] puts e g = no_more (rw e refl)
 one_again s f h k r n (b ∷ bs) puts e g =
     another [] (quoted_text (b ∷ bs)) [] no_blanks g
     (subst (λ (c : Call). Arguments [] c [] (item_call f h k r n (b ∷ bs) [])) (sym (puts (b ∷ bs))) (no_more refl))
-    (ap (λ (z : List ℕ). 44 ∷ z) (sym (nothing_behind (quoted_text (b ∷ bs)))))
+    (ap (λ (z : List ℕ). 44 ∷ z) (sym (append-nil (quoted_text (b ∷ bs)))))
 
 one_tail : (s : Slot) (f : Fun) (h k : List ℕ) (r : Range) (n : ℕ) (x : List ℕ) (d : Call) → is_range s ≡ false → ((z : List ℕ) → put s (Said z) (item_call f h k r n [] []) ≡ item_call f h k r n z [])
     → Arguments (s ∷ []) (item_call f h k r n [] []) x d → Tail (s ∷ []) f h k r n d
@@ -333,14 +333,14 @@ two_again : (ws : Words) (f : Fun) (h k : List ℕ) (r : Range) (n : ℕ) (o a :
     → Arguments (Word ws ∷ Free ∷ []) (item_call f h k r n [] []) (last_arguments o a) (item_call f h k r n o a)
 two_again ws f h k r n [] [] p q = no_more refl
 two_again ws f h k r n (b ∷ bs) [] p q =
-    another [] (quoted_text (b ∷ bs)) [] no_blanks p (no_more refl) (ap (λ (z : List ℕ). 44 ∷ z) (sym (nothing_behind (quoted_text (b ∷ bs)))))
+    another [] (quoted_text (b ∷ bs)) [] no_blanks p (no_more refl) (ap (λ (z : List ℕ). 44 ∷ z) (sym (append-nil (quoted_text (b ∷ bs)))))
 two_again ws f h k r n [] (c ∷ cs) p q =
     another [] [] (44 ∷ quoted_text (c ∷ cs)) no_blanks p
-    (another [] (quoted_text (c ∷ cs)) [] no_blanks q (no_more refl) (ap (λ (z : List ℕ). 44 ∷ z) (sym (nothing_behind (quoted_text (c ∷ cs)))))) refl
+    (another [] (quoted_text (c ∷ cs)) [] no_blanks q (no_more refl) (ap (λ (z : List ℕ). 44 ∷ z) (sym (append-nil (quoted_text (c ∷ cs)))))) refl
 two_again ws f h k r n (b ∷ bs) (c ∷ cs) p q =
     another [] (quoted_text (b ∷ bs)) (44 ∷ quoted_text (c ∷ cs)) no_blanks p
-    (another [] (quoted_text (c ∷ cs)) [] no_blanks q (no_more refl) (ap (λ (z : List ℕ). 44 ∷ z) (sym (nothing_behind (quoted_text (c ∷ cs))))))
-    (ap (λ (z : List ℕ). 44 ∷ z) (assoc (quoted_text (b ∷ bs)) (44 ∷ []) (quoted_text (c ∷ cs))))
+    (another [] (quoted_text (c ∷ cs)) [] no_blanks q (no_more refl) (ap (λ (z : List ℕ). 44 ∷ z) (sym (append-nil (quoted_text (c ∷ cs))))))
+    (ap (λ (z : List ℕ). 44 ∷ z) (append_assoc (quoted_text (b ∷ bs)) (44 ∷ []) (quoted_text (c ∷ cs))))
 
 two_tail : (ws : Words) (f : Fun) (h k : List ℕ) (r : Range) (n : ℕ) (x : List ℕ) (d : Call) → Arguments (Word ws ∷ Free ∷ []) (item_call f h k r n [] []) x d → Tail (Word ws ∷ Free ∷ []) f h k r n d
 two_tail ws f h k r n x d m = elim (inverse m) [
@@ -469,7 +469,7 @@ key_fits p name h k r w fit =
     subst (λ (z : List ℕ). length z ≤ longest_key) (take_all _ k within) fit
 
 joined_again : (name h k r : List ℕ) → ((((name ++ 40 ∷ 47 ∷ []) ++ h) ++ 47 ∷ []) ++ k) ++ r ++ 41 ∷ [] ≡ name ++ 40 ∷ 47 ∷ (h ++ 47 ∷ (k ++ (r ++ 41 ∷ [])))
-joined_again name h k r = simp assoc refl
+joined_again name h k r = simp append_assoc refl
 
 -- a call is written as a call
 pub call_again : {p : Point} {text : List ℕ} {c : Call} → IsCall p text c → length text ≤ p.held → (q : Point) → IsCall q (written_call c) c

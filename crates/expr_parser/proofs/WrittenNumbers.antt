@@ -1,5 +1,5 @@
 -- Written numbers are numbers of the grammar, and their texts have neither quotes nor backslashes.
-use Rattle.std.proofs.Common.{◌≡◌, ℕ, zero, suc, ◌+◌, ◌-◌, ◌*◌, ◌/◌, ◌%◌, ◌^◌, ◌≤◌, ◌<◌, List, [], ◌∷◌, ◌++◌, length, refl, ap, sym, subst, ◌∙◌, Bool, true, false, ◌==◌, arith, option_map, codes, pos, unsigned_abs, if◌then◌else◌}
+use Rattle.std.proofs.Common.{◌≡◌, ℕ, zero, suc, ◌+◌, ◌-◌, ◌*◌, ◌/◌, ◌%◌, ◌^◌, ◌≤◌, ◌<◌, List, [], ◌∷◌, ◌++◌, length, refl, ap, sym, subst, ◌∙◌, Bool, true, false, ◌==◌, arith, option_map, codes, pos, unsigned_abs, if◌then◌else◌, append_assoc}
 use Rattle.std.specs.Fmt.{decimal}
 use Rattle.std.specs.Str.{IsAscii, IsUtf8}
 use Rattle.std.proofs.lemmas.Str.{IsUtf8-from_ascii}
@@ -16,7 +16,7 @@ use Rattle.expr_parser.specs.Bytes.{is_digit, AreDigits, Digits}
 use Rattle.expr_parser.specs.Figures.{is_figure}
 use Rattle.expr_parser.specs.Numbers.{IsDecimal, whole, pointed, IsNumber, decimal as plain_number, suffixed}
 use Rattle.expr_parser.specs.Calls.{greatest_number}
-use Rattle.expr_parser.proofs.Lists.{assoc, one_digit, digits_snoc, are_one, are_snoc}
+use Rattle.expr_parser.proofs.Lists.{one_digit, digits_snoc, are_one, are_snoc}
 use Rattle.expr_parser.proofs.NumberPaths.{Path, here, there, NumberRun, number_path}
 
 digit_byte : (d : ℕ) → d < 10 → is_digit (48 + d) ≡ true
@@ -86,7 +86,7 @@ by_fraction : (none : Bool) (w : ℕ) (t ds : List ℕ) → Decimal w t → AreD
 by_fraction true w t ds d a some = subst IsDecimal (sym d.is) (whole d.first d.rest d.digits)
 by_fraction false w t [] d a some = absurd (let z = some refl in omega (arith, z))
 by_fraction false w t (c ∷ cs) d a some =
-    pointed d.first c d.rest cs d.digits a (assoc t (46 ∷ []) (c ∷ cs) ∙ ap (λ (u : List ℕ). u ++ 46 ∷ c ∷ cs) d.is)
+    pointed d.first c d.rest cs d.digits a (append_assoc t (46 ∷ []) (c ∷ cs) ∙ ap (λ (u : List ℕ). u ++ 46 ∷ c ∷ cs) d.is)
 
 pub is_decimal : (n : ℕ) → n ≤ greatest_number → IsDecimal (written (pos n))
 unfolding written

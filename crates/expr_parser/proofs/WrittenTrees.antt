@@ -8,7 +8,7 @@ use Rattle.expr_parser.specs.Bytes.{is_gap, first_byte, AreBlanks, Point, behind
 use Rattle.expr_parser.specs.Calls.{IsCall, greatest_number}
 use Rattle.expr_parser.specs.Grammar.{op_text, op_level, StandsApart, Spells, number, called, paren, minus, denied, tighter, joined, IsExpr}
 use Rattle.expr_parser.specs.Written.{written_call, is_simple, as_operand, written_of, operand_nesting, nesting}
-use Rattle.expr_parser.proofs.Lists.{assoc, no_blanks, one_blank, last_snoc, held_behind, behind_one}
+use Rattle.expr_parser.proofs.Lists.{no_blanks, one_blank, last_snoc, held_behind, behind_one}
 use Rattle.expr_parser.proofs.WrittenNumbers.{constant_again, number_fits}
 use Rattle.expr_parser.proofs.WrittenCalls.{call_again}
 
@@ -77,7 +77,7 @@ apart : (op : Op) (q : Point) (t u : List ℕ) → StandsApart op (behind q (t +
 apart op q t u = λ h. (ap is_gap (last_snoc q t 32), refl)
 
 joined_text : (t op u : List ℕ) → (((t ++ 32 ∷ []) ++ op) ++ 32 ∷ []) ++ u ≡ t ++ ((32 ∷ []) ++ (op ++ ((32 ∷ []) ++ u)))
-joined_text t op u = simp assoc refl
+joined_text t op u = simp append_assoc refl
 
 -- ---- expressions
 
@@ -128,7 +128,7 @@ reads (tighter s) w all pre post is at = reads s w all pre post is at
 reads {p} {c = c} (joined {a = a} {b = b} {ks = ks} {js = js} op t x y u level s ax ay apart r h) w all pre post is at =
     let w' = subst (λ (v : List ℕ). length v ≤ p.held) h w in
     let front = t ++ (x ++ (op_text op ++ y)) in
-    let again : t ++ (x ++ (op_text op ++ (y ++ u))) ≡ front ++ u = simp assoc refl in
+    let again : t ++ (x ++ (op_text op ++ (y ++ u))) ≡ front ++ u = simp append_assoc refl in
     joined_reads op a b all ks js c
     (reads s (omega (arith, w', length-append t (x ++ (op_text op ++ (y ++ u))))) all pre (js ++ post) (is ∙ ap (λ (v : List Call). pre ++ v) (append_assoc ks js post)) at)
     (reads r (end_held p front u (subst (λ (v : List ℕ). length v ≤ p.held) again w')) all (pre ++ ks) post

@@ -4,7 +4,6 @@ pub mod Numbers
 pub mod Functions
 pub mod Calls
 pub mod Grammar
-pub mod Characters
 pub mod Figures
 pub mod Parts
 pub mod Machine

@@ -10,8 +10,8 @@ use Rattle.zbx_types.specs.declared.calls.Fun.TheVariants as fun
 use Rattle.item_key.specs.declared.places.Place.{Place}
 use Rattle.item_key.specs.declared.places.Place.TheVariants.{Start}
 use Rattle.item_key.specs.Machine as key
-use Rattle.expr_parser.specs.declared.characters.Within.{Within}
-use Rattle.expr_parser.specs.declared.characters.Within.TheVariants.{Whole}
+use Rattle.byte_grammar.specs.declared.characters.Character.{Character}
+use Rattle.byte_grammar.specs.declared.characters.Character.TheVariants.{Whole}
 use Rattle.expr_parser.specs.Bytes.{is_blank, is_gap, one_less}
 use Rattle.expr_parser.specs.declared.figures.Figures.{Figures}
 use Rattle.expr_parser.specs.declared.slots.Slot.{Slot}
@@ -29,7 +29,7 @@ use Rattle.expr_parser.specs.Functions.{name_of, slots}
 use Rattle.zbx_types.specs.Operators.{is_dated}
 use Rattle.expr_parser.specs.Calls.{is_host_byte, put, put_range, all_absent, plain_call, is_same, greatest_number}
 use Rattle.expr_parser.specs.Grammar.{op_level}
-use Rattle.expr_parser.specs.Characters.{character}
+use Rattle.byte_grammar.specs.Utf8.{follow}
 use Rattle.expr_parser.specs.Figures.{first_figure, figure, figures_value, is_figure}
 use Rattle.expr_parser.specs.Parts.{part, part_value, begins_one, is_front}
 
@@ -69,7 +69,7 @@ pub data Mode : Type 0 where
   Number : (f : Figures) → Mode
   Slash : (f : Fun) → Mode
   Host : (f : Fun) (h : List ℕ) → Mode
-  Key : (f : Fun) (h k : List ℕ) (place : Place) (u : Within) → Mode
+  Key : (f : Fun) (h k : List ℕ) (place : Place) (u : Character) → Mode
   Argument : (fresh : Bool) (c : Call) (s : Slot) (ss : List Slot) (p : Part) → Mode
   Close : (c : Call) → Mode
   Done : (e : Tree) → Mode
@@ -274,22 +274,22 @@ delivered c ss o k cs b =
 abbrev pub is_delimiter : ℕ → Bool
 is_delimiter b = if b == 44 then true else b == 41
 
-abbrev pub key_more : Fun → List ℕ → List ℕ → Option Place → Option Within → ℕ → List Pending → List Call → ℕ → Option State
+abbrev pub key_more : Fun → List ℕ → List ℕ → Option Place → Option Character → ℕ → List Pending → List Call → ℕ → Option State
 key_more f h t None u o k cs b = None
 key_more f h t (Some place) None o k cs b = None
 key_more f h t (Some place) (Some u) o k cs b = Some (state (Key f h (t ++ b ∷ []) place u) b o k cs)
 
 -- one byte more of a key; the limit isn't looked at where the byte is free of it
-abbrev pub key_on : Bool → Fun → List ℕ → List ℕ → Place → Within → ℕ → List Pending → List Call → ℕ → Option State
+abbrev pub key_on : Bool → Fun → List ℕ → List ℕ → Place → Character → ℕ → List Pending → List Call → ℕ → Option State
 key_on free f h t place u o k cs b =
-    if free then key_more f h t (key.step place b) (character u b) o k cs b
-    else if nat_lt (length t) 2048 then key_more f h t (key.step place b) (character u b) o k cs b else None
+    if free then key_more f h t (key.step place b) (follow u b) o k cs b
+    else if nat_lt (length t) 2048 then key_more f h t (key.step place b) (follow u b) o k cs b else None
 
 -- what stands behind the key, where host and key are characters
 abbrev pub key_end : Fun → List ℕ → List ℕ → ℕ → List Pending → List Call → ℕ → Option State
 key_end f h t o k cs b = if is_utf8 h then (if is_utf8 t then delivered (plain_call f h t) (slots f) o k cs b else None) else None
 
-abbrev pub key_byte : Bool → Fun → List ℕ → List ℕ → Place → Within → ℕ → List Pending → List Call → ℕ → Option State
+abbrev pub key_byte : Bool → Fun → List ℕ → List ℕ → Place → Character → ℕ → List Pending → List Call → ℕ → Option State
 key_byte free f h t place u o k cs b =
     if is_delimiter b then (if key.ends place then key_end f h t o k cs b else key_on free f h t place u o k cs b)
     else key_on free f h t place u o k cs b

@@ -3,8 +3,8 @@ use Rattle.std.specs.Prelude.{ℕ, zero, suc, ◌+◌, ◌*◌, ◌-◌, List, [
 use Rattle.std.specs.Option.{option_map}
 use Rattle.zbx_types.specs.declared.calls.Range.{Range}
 use Rattle.zbx_types.specs.declared.calls.Range.TheVariants.{Count, Period}
-use Rattle.expr_parser.specs.declared.characters.Within.{Within}
-use Rattle.expr_parser.specs.declared.characters.Within.TheVariants.{Whole}
+use Rattle.byte_grammar.specs.declared.characters.Character.{Character}
+use Rattle.byte_grammar.specs.declared.characters.Character.TheVariants.{Whole}
 use Rattle.expr_parser.specs.declared.figures.Figures.{Figures}
 use Rattle.expr_parser.specs.declared.slots.Slot.{Slot}
 use Rattle.expr_parser.specs.declared.slots.Slot.TheVariants.{Newest, Span, MaybeSpan, Silence, Word, Percent, Free}
@@ -18,7 +18,7 @@ use Rattle.expr_parser.specs.Bytes.{is_digit}
 use Rattle.expr_parser.specs.Numbers.{period_factor}
 use Rattle.expr_parser.specs.Functions.{takes_count, least_period, word_list}
 use Rattle.expr_parser.specs.Calls.{absent_value, number_limit, is_one_of, longest_period, greatest_percent}
-use Rattle.expr_parser.specs.Characters.{character, is_whole}
+use Rattle.byte_grammar.specs.Utf8.{follow, is_whole}
 use Rattle.expr_parser.specs.Figures.{first_figure, figure, figures_text, figures_value}
 
 -- a text begins another
@@ -94,23 +94,23 @@ abbrev pub end_number : Option ℕ → List ℕ → Option Part
 end_number None w = None
 end_number (Some n) w = Some (Closed w)
 
-abbrev pub more_text : List ℕ → Option Within → Option Part
+abbrev pub more_text : List ℕ → Option Character → Option Part
 more_text v None = None
 more_text v (Some u) = Some (Text v u)
 
 -- a byte in a text in quotes
-abbrev pub text_byte : List ℕ → Within → ℕ → Option Part
+abbrev pub text_byte : List ℕ → Character → ℕ → Option Part
 text_byte v u b =
     if b == 34 then (if is_whole u then Some (Closed v) else None)
     else if b == 92 then (if is_whole u then Some (Slash v) else None)
-    else more_text (v ++ b ∷ []) (character u b)
+    else more_text (v ++ b ∷ []) (follow u b)
 
 -- a byte behind a backslash in it
 abbrev pub slash_byte : List ℕ → ℕ → Option Part
 slash_byte v b =
     if b == 34 then Some (Text (v ++ 34 ∷ []) Whole)
     else if b == 92 then Some (Slash (v ++ 92 ∷ []))
-    else more_text (v ++ 92 ∷ b ∷ []) (character Whole b)
+    else more_text (v ++ 92 ∷ b ∷ []) (follow Whole b)
 
 -- the range of a `#n`, none for `#0`
 abbrev pub latest_range : ℕ → Option Range

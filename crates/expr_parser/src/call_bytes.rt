@@ -13,11 +13,11 @@ ghost use Rattle.expr_parser.specs.declared.pending.Pending.TheVariants.{Waits};
 ghost use Rattle.zbx_types.specs.Tree as trees;
 ghost use Rattle.zbx_types.specs.Trees.{tree_of};
 
-use crate::characters::{Within, next_of};
 use crate::figures::longer;
 use crate::parts::{Part, Value, may_end_part, part_on, part_value};
 use crate::slots::{Slot, Slots, all_absent, default_range, slots_of};
 use crate::states::{Base, Mode, State, blank};
+use byte_grammar::Character;
 use item_key::{Place, may_end, next};
 use std::alloc::Global;
 use zbx_types::{Bytes, Call, Expr, Fun, OutOfMemory, Range, Text};
@@ -56,7 +56,7 @@ pub(crate) fn host(
         }
     } else if byte == b'/' && text.len() > 0 {
         Ok(Some(State {
-            mode: Mode::Key(fun, text, Bytes::new(alloc), Place::Start, Within::Whole),
+            mode: Mode::Key(fun, text, Bytes::new(alloc), Place::Start, Character::Whole),
             last: byte,
             base,
         }))
@@ -124,11 +124,11 @@ pub(crate) fn delimiter(byte: u8) -> bool
 pub(crate) fn key_on(
     names: (Fun, Bytes, Bytes),
     place: Place,
-    within: Within,
+    character: Character,
     base: Base,
     byte: u8,
 ) -> Result<Option<State>, OutOfMemory>
-    ensures { IfOk result (λ r. option_map state r ≡ machine.key_on false names.0 names.1 names.2 place within base.open_ones (reverse base.stack.items) base.calls byte) }
+    ensures { IfOk result (λ r. option_map state r ≡ machine.key_on false names.0 names.1 names.2 place character base.open_ones (reverse base.stack.items) base.calls byte) }
 {
     let (fun, host, key) = names;
     if key.len() >= 2048 {
@@ -137,10 +137,10 @@ pub(crate) fn key_on(
     let key = longer(key, byte)?;
     match next(place, byte) {
         None => Ok(None),
-        Some(place) => match next_of(within, byte) {
+        Some(place) => match byte_grammar::next(character, byte) {
             None => Ok(None),
-            Some(within) => Ok(Some(State {
-                mode: Mode::Key(fun, host, key, place, within),
+            Some(character) => Ok(Some(State {
+                mode: Mode::Key(fun, host, key, place, character),
                 last: byte,
                 base,
             })),
@@ -183,16 +183,16 @@ pub(crate) fn key_byte(
     alloc: Global,
     names: (Fun, Bytes, Bytes),
     place: Place,
-    within: Within,
+    character: Character,
     base: Base,
     byte: u8,
 ) -> Result<Option<State>, OutOfMemory>
-    ensures { IfOk result (λ r. option_map state r ≡ machine.key_byte false names.0 names.1 names.2 place within base.open_ones (reverse base.stack.items) base.calls byte) }
+    ensures { IfOk result (λ r. option_map state r ≡ machine.key_byte false names.0 names.1 names.2 place character base.open_ones (reverse base.stack.items) base.calls byte) }
 {
     if delimiter(byte) && may_end(place) {
         key_end(alloc, names, base, byte)
     } else {
-        key_on(names, place, within, base, byte)
+        key_on(names, place, character, base, byte)
     }
 }
 

@@ -29,7 +29,6 @@
 
 mod call_bytes;
 mod call_text;
-mod characters;
 mod figures;
 mod moves;
 mod names;

@@ -34,8 +34,8 @@ pub(crate) fn move_on(alloc: Global, s: State, byte: u8) -> Result<Option<State>
         Mode::Number(figures) => number(alloc, figures, last, base, byte),
         Mode::Slash(fun) => Ok(slash(fun, alloc, base, byte)),
         Mode::Host(fun, text) => host(alloc, fun, text, base, byte),
-        Mode::Key(fun, host, key, place, within) => {
-            key_byte(alloc, (fun, host, key), place, within, base, byte)
+        Mode::Key(fun, host, key, place, character) => {
+            key_byte(alloc, (fun, host, key), place, character, base, byte)
         }
         Mode::Argument(fresh, call, slot, slots, place) => {
             argument(alloc, fresh, place, call, slot, slots, base, byte)

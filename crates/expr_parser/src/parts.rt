@@ -9,12 +9,12 @@ ghost use Rattle.expr_parser.specs.Parts as parts;
 ghost use Rattle.expr_parser.specs.Figures as figures;
 ghost use Rattle.expr_parser.specs.declared.parts.Part.TheVariants.{Seconds, Shift, Latest};
 
-use crate::characters::{Within, next_of, whole};
 use crate::figures::{Figures, figure, first_figure, longer, text_of, value};
 use crate::range_bytes::{
     back, colon, first_range, hash_byte, latest_byte, latest_range, second, shift_byte,
 };
 use crate::slots::{Slot, begins_word, least_period, number_limit, one_of};
+use byte_grammar::{Character, is_whole, next};
 use std::alloc::Global;
 use zbx_types::{Bytes, OutOfMemory, Range};
 
@@ -73,7 +73,7 @@ pub(crate) enum Part {
     /// In a number in quotes.
     Quoted(Figures),
     /// In a text in quotes, and in a character.
-    Text(Bytes, Within),
+    Text(Bytes, Character),
     /// Behind a backslash in a text in quotes.
     Slash(Bytes),
     /// Behind the quote that ends a text.
@@ -112,7 +112,7 @@ fn first_part(alloc: Global, slot: Slot, byte: u8) -> Result<Option<Part>, OutOf
         }
         Slot::Free => {
             if byte == b'"' {
-                Ok(Some(Part::Text(Bytes::new(alloc), Within::Whole)))
+                Ok(Some(Part::Text(Bytes::new(alloc), Character::Whole)))
             } else {
                 first_number(alloc, slot, byte)
             }
@@ -185,32 +185,32 @@ fn opened_number(alloc: Global, byte: u8) -> Result<Option<Part>, OutOfMemory>
     }
 }
 
-fn more_text(text: Bytes, within: Option<Within>) -> Option<Part>
-    ensures { result ≡ parts.more_text text within }
+fn more_text(text: Bytes, character: Option<Character>) -> Option<Part>
+    ensures { result ≡ parts.more_text text character }
 {
-    match within {
+    match character {
         Some(place) => Some(Part::Text(text, place)),
         None => None,
     }
 }
 
-fn text_byte(text: Bytes, within: Within, byte: u8) -> Result<Option<Part>, OutOfMemory>
-    ensures { IfOk result (λ made. made ≡ parts.text_byte text within byte) }
+fn text_byte(text: Bytes, character: Character, byte: u8) -> Result<Option<Part>, OutOfMemory>
+    ensures { IfOk result (λ made. made ≡ parts.text_byte text character byte) }
 {
     if byte == b'"' {
-        if whole(within) {
+        if is_whole(character) {
             Ok(Some(Part::Closed(text)))
         } else {
             Ok(None)
         }
     } else if byte == b'\\' {
-        if whole(within) {
+        if is_whole(character) {
             Ok(Some(Part::Slash(text)))
         } else {
             Ok(None)
         }
     } else {
-        Ok(more_text(longer(text, byte)?, next_of(within, byte)))
+        Ok(more_text(longer(text, byte)?, next(character, byte)))
     }
 }
 
@@ -218,13 +218,13 @@ fn slash_byte(text: Bytes, byte: u8) -> Result<Option<Part>, OutOfMemory>
     ensures { IfOk result (λ made. made ≡ parts.slash_byte text byte) }
 {
     if byte == b'"' {
-        Ok(Some(Part::Text(longer(text, b'"')?, Within::Whole)))
+        Ok(Some(Part::Text(longer(text, b'"')?, Character::Whole)))
     } else if byte == b'\\' {
         Ok(Some(Part::Slash(longer(text, b'\\')?)))
     } else {
         let mut text = text;
         text.extend(&[b'\\', byte])?;
-        Ok(more_text(text, next_of(Within::Whole, byte)))
+        Ok(more_text(text, next(Character::Whole, byte)))
     }
 }
 
@@ -250,7 +250,7 @@ pub(crate) fn part_on(
         Part::Number(figures) => more_number(slot, figures, byte),
         Part::Opened => opened_number(alloc, byte),
         Part::Quoted(figures) => quoted_number(figures, byte),
-        Part::Text(text, within) => text_byte(text, within, byte),
+        Part::Text(text, character) => text_byte(text, character, byte),
         Part::Slash(text) => slash_byte(text, byte),
         Part::Closed(_) => Ok(None),
     }

@@ -13,11 +13,11 @@ ghost use Rattle.expr_parser.specs.declared.pending.Pending.TheVariants.{Waits};
 ghost use Rattle.zbx_types.specs.Tree as trees;
 ghost use Rattle.zbx_types.specs.Trees.{tree_of};
 
-use crate::characters::Within;
 use crate::figures::Figures;
 use crate::parts::Part;
 use crate::pending::{Half, Pending, Rest};
 use crate::slots::{Slot, Slots};
+use byte_grammar::Character;
 use item_key::Place;
 use zbx_types::{Bytes, Call, Expr, Fun, Many, Op, OutOfMemory};
 
@@ -37,7 +37,7 @@ pub(crate) enum Mode {
     /// In a host.
     Host(Fun, Bytes),
     /// In a key behind a host, and in its character.
-    Key(Fun, Bytes, Bytes, Place, Within),
+    Key(Fun, Bytes, Bytes, Place, Character),
     /// In an argument, or still before it where the first part says so; with the arguments behind it.
     Argument(bool, Call, Slot, Slots, Part),
     /// Before the parenthesis that ends a call.

@@ -1,17 +1,16 @@
 -- The machine takes each key of the grammar.
-use Rattle.std.proofs.Common.{◌≡◌, ℕ, List, [], ◌∷◌, ◌++◌, refl, ap, ◌∙◌, Option, Some, Bool, true, false, ◌==◌, if◌then◌else◌}
+use Rattle.std.proofs.Common.{◌≡◌, ℕ, List, [], ◌∷◌, ◌++◌, refl, ap, sym, ◌∙◌, append_assoc, Option, Some, Bool, true, false, ◌==◌, if◌then◌else◌}
 use Rattle.item_key.specs.declared.places.Within.{Within}
 use Rattle.item_key.specs.declared.places.Within.TheVariants.{Before, Bare, Quoted as InQuoted, Escaped, Behind}
 use Rattle.item_key.specs.declared.places.Place.{Place}
 use Rattle.item_key.specs.declared.places.Place.TheVariants.{Start, Name, Param, Listed, Closed, Done}
 use Rattle.item_key.specs.declared.places.Turn.{Turn}
 use Rattle.item_key.specs.declared.places.Turn.TheVariants.{Stay, Comma, Close, Open}
-use Rattle.item_key.specs.Machine.{turn, outer, inner, step, after, ends_at, place_of}
-use Rattle.item_key.specs.Grammar.{is_name_byte, Each, is_space, is_bare, begins_bare, Quoted, IsPlain, nothing, bare, quoted, AreMany, last, more, IsParam, one, list, IsKeyText, name, with_params}
-use Rattle.item_key.proofs.Runs.{after_append}
-
-joined : (s t : Option Place) (a b : List ℕ) → after s a ≡ t → after s (a ++ b) ≡ after t b
-joined s t a b e = after_append s a b ∙ ap (λ (o : Option Place). after o b) e
+use Rattle.item_key.specs.Machine.{turn, outer, inner, step, ends_at, place_of}
+use Rattle.item_key.specs.Grammar.{is_name_byte, is_space, is_bare, begins_bare, Quoted, IsPlain, nothing, bare, quoted, AreMany, last, more, IsParam, one, list, IsKeyText, name, with_params}
+use Rattle.byte_grammar.specs.Bytes.{Each}
+use Rattle.byte_grammar.specs.Runs.{run}
+use Rattle.byte_grammar.proofs.Runs.{joined, stays, byte_on, run_end}
 
 -- the place of a parameter, in the key or in a list
 abbrev Steps : (Within → Place) → (Turn → Option Place) → Type 0
@@ -65,61 +64,49 @@ bare_begins b h = at (b == 32) (b == 34) (b == 91) (b == 44) (b == 93) h
     at false false false false false h = refl
 
 regroup : (s y : List ℕ) → s ++ 34 ∷ y ≡ (s ++ 34 ∷ []) ++ y
-regroup [] y = refl
-regroup (b ∷ s) y = ap (λ (v : List ℕ). b ∷ v) (regroup s y)
-
-nothing_more : (p : Place) → after (Some p) [] ≡ Some p
-unfolding after
-nothing_more p = refl
+regroup s y = sym (append_assoc s (34 ∷ []) y)
 
 module _ (P : Within → Place) (O : Turn → Option Place) (on : Steps P O) where
-  one_step : (w v : Within) (b : ℕ) (bs : List ℕ) → turn w b ≡ Stay v → after (Some (P w)) (b ∷ bs) ≡ after (Some (P v)) bs
-  unfolding after
-  one_step w v b bs e = ap (λ (o : Option Place). after o bs) (on.0 w b ∙ ap O e ∙ on.1 v)
+  one_step : (w v : Within) (b : ℕ) (bs : List ℕ) → turn w b ≡ Stay v → run step (Some (P w)) (b ∷ bs) ≡ run step (Some (P v)) bs
+  one_step w v b bs e = byte_on step (P w) (P v) b bs (on.0 w b ∙ ap O e ∙ on.1 v)
 
-  each_stays : (w : Within) (t : ℕ → Bool) → ((b : ℕ) → t b ≡ true → turn w b ≡ Stay w) → (x : List ℕ) → Each t x → after (Some (P w)) x ≡ Some (P w)
-  unfolding after Each
-  each_stays w t h [] e = refl
-  each_stays w t h (b ∷ x) e = one_step w w b x (h b e.0) ∙ each_stays w t h x e.1
+  each_stays : (w : Within) (t : ℕ → Bool) → ((b : ℕ) → t b ≡ true → turn w b ≡ Stay w) → (x : List ℕ) → Each t x → run step (Some (P w)) x ≡ Some (P w)
+  each_stays w t h x e = stays step (P w) t (λ b g. on.0 w b ∙ ap O (h b g) ∙ on.1 w) x e
 
-  quoted_run : (s : List ℕ) (before : ℕ) → Quoted before s → after (Some (P (in_quotes before))) (s ++ 34 ∷ []) ≡ Some (P Behind)
-  unfolding after Quoted
+  quoted_run : (s : List ℕ) (before : ℕ) → Quoted before s → run step (Some (P (in_quotes before))) (s ++ 34 ∷ []) ≡ Some (P Behind)
+  unfolding run Quoted
   quoted_run [] before h = rw h (one_step InQuoted Behind 34 [] refl)
   quoted_run (b ∷ s) before h = one_step (in_quotes before) (in_quotes b) b (s ++ 34 ∷ []) (quote_turn (before == 92) b h.0) ∙ quoted_run s b h.1
 
-  plain_run : {t : List ℕ} → IsPlain t → (p : Place) × (after (Some (P Before)) t ≡ Some p) × (step p 44 ≡ O Comma) × (step p 93 ≡ O Close)
-  unfolding after
+  plain_run : {t : List ℕ} → IsPlain t → (p : Place) × (run step (Some (P Before)) t ≡ Some p) × (step p 44 ≡ O Comma) × (step p 93 ≡ O Close)
+  unfolding run
   plain_run (nothing x s) = (P Before, each_stays Before is_space space_before x s, on.0 Before 44, on.0 Before 93)
   plain_run (bare x b bs s h e q) = (
     P Bare,
-    ap (λ (v : List ℕ). after (Some (P Before)) v) q ∙ joined (Some (P Before)) (Some (P Before)) x (b ∷ bs) (each_stays Before is_space space_before x s)
+    ap (λ (v : List ℕ). run step (Some (P Before)) v) q ∙ joined step (Some (P Before)) (Some (P Before)) x (b ∷ bs) (each_stays Before is_space space_before x s)
         ∙ one_step Before Bare b bs (bare_begins b h) ∙ each_stays Bare is_bare bare_stays bs e,
     on.0 Bare 44,
     on.0 Bare 93,
   )
   plain_run (quoted x s y e h g q) = (
     P Behind,
-    ap (λ (v : List ℕ). after (Some (P Before)) v) q ∙ joined (Some (P Before)) (Some (P Before)) x (34 ∷ (s ++ 34 ∷ y)) (each_stays Before is_space space_before x e)
-        ∙ one_step Before InQuoted 34 (s ++ 34 ∷ y) refl ∙ ap (λ (v : List ℕ). after (Some (P InQuoted)) v) (regroup s y)
-        ∙ joined (Some (P InQuoted)) (Some (P Behind)) (s ++ 34 ∷ []) y (quoted_run s 34 h) ∙ each_stays Behind is_space space_behind y g,
+    ap (λ (v : List ℕ). run step (Some (P Before)) v) q ∙ joined step (Some (P Before)) (Some (P Before)) x (34 ∷ (s ++ 34 ∷ y)) (each_stays Before is_space space_before x e)
+        ∙ one_step Before InQuoted 34 (s ++ 34 ∷ y) refl ∙ ap (λ (v : List ℕ). run step (Some (P InQuoted)) v) (regroup s y)
+        ∙ joined step (Some (P InQuoted)) (Some (P Behind)) (s ++ 34 ∷ []) y (quoted_run s 34 h) ∙ each_stays Behind is_space space_behind y g,
     on.0 Behind 44,
     on.0 Behind 93,
   )
 
-take_step : (p q : Place) (b : ℕ) (bs : List ℕ) → step p b ≡ Some q → after (Some p) (b ∷ bs) ≡ after (Some q) bs
-unfolding after
-take_step p q b bs e = ap (λ (o : Option Place). after o bs) e
-
 -- a run from p to a place where a comma leads to p again, and a bracket to c
 abbrev Ends : Place → Place → List ℕ → Type 0
-Ends p c t = (q : Place) × (after (Some p) t ≡ Some q) × (step q 44 ≡ Some p) × (step q 93 ≡ Some c)
+Ends p c t = (q : Place) × (run step (Some p) t ≡ Some q) × (step q 44 ≡ Some p) × (step q 93 ≡ Some c)
 
 many_run : (Q : List ℕ → Type 0) (p c : Place) → ((t : List ℕ) → Q t → Ends p c t) → {t : List ℕ} → AreMany Q t → Ends p c t
 many_run Q p c h (last {t} s) = h t s
 many_run Q p c h (more {t} u v s r q) =
     let a = h u s in
     let b = many_run Q p c h r in
-    (b.0, ap (λ (w : List ℕ). after (Some p) w) q ∙ joined (Some p) (Some a.0) u (44 ∷ v) a.1 ∙ take_step a.0 p 44 v a.2 ∙ b.1, b.2, b.3)
+    (b.0, ap (λ (w : List ℕ). run step (Some p) w) q ∙ joined step (Some p) (Some a.0) u (44 ∷ v) a.1 ∙ byte_on step a.0 p 44 v a.2 ∙ b.1, b.2, b.3)
 
 param_run : (t : List ℕ) → IsParam t → Ends (Param Before) Done t
 param_run t s = at s
@@ -129,22 +116,20 @@ param_run t s = at s
     at (list x v e r q) =
         let b = many_run IsPlain (Listed Before) Closed (λ t z. plain_run Listed inner listed_steps z) r in (
           Closed,
-          ap (λ (w : List ℕ). after (Some (Param Before)) w) q ∙ joined (Some (Param Before)) (Some (Param Before)) x (91 ∷ (v ++ 93 ∷ [])) (each_stays Param outer param_steps Before is_space space_before x e)
-              ∙ take_step (Param Before) (Listed Before) 91 (v ++ 93 ∷ []) refl ∙ joined (Some (Listed Before)) (Some b.0) v (93 ∷ []) b.1 ∙ take_step b.0 Closed 93 [] b.3 ∙ nothing_more Closed,
+          ap (λ (w : List ℕ). run step (Some (Param Before)) w) q ∙ joined step (Some (Param Before)) (Some (Param Before)) x (91 ∷ (v ++ 93 ∷ [])) (each_stays Param outer param_steps Before is_space space_before x e)
+              ∙ byte_on step (Param Before) (Listed Before) 91 (v ++ 93 ∷ []) refl ∙ joined step (Some (Listed Before)) (Some b.0) v (93 ∷ []) b.1 ∙ byte_on step b.0 Closed 93 [] b.3 ∙ run_end step (Some Closed),
           refl,
           refl,
         )
 
-name_run : (bs : List ℕ) → Each is_name_byte bs → after (Some Name) bs ≡ Some Name
-unfolding after Each
-name_run [] e = refl
-name_run (b ∷ bs) e = take_step Name Name b bs (rw e.0 refl) ∙ name_run bs e.1
+name_run : (bs : List ℕ) → Each is_name_byte bs → run step (Some Name) bs ≡ Some Name
+name_run bs e = stays step Name is_name_byte (λ b h. rw h refl) bs e
 
 -- each key of the grammar is one of the machine
 pub taken : {t : List ℕ} → IsKeyText t → ends_at (place_of t) ≡ true
-taken (name b bs h e) = ap (λ (o : Option Place). ends_at o) (take_step Start Name b bs (rw h refl) ∙ name_run bs e)
+taken (name b bs h e) = ap (λ (o : Option Place). ends_at o) (byte_on step Start Name b bs (rw h refl) ∙ name_run bs e)
 taken (with_params b bs v h e r q) =
     let m = many_run IsParam (Param Before) Done param_run r in
-    ap (λ (w : List ℕ). ends_at (after (Some Start) w)) q
-    ∙ ap (λ (o : Option Place). ends_at o) (take_step Start Name b (bs ++ 91 ∷ (v ++ 93 ∷ [])) (rw h refl) ∙ joined (Some Name) (Some Name) bs (91 ∷ (v ++ 93 ∷ [])) (name_run bs e)
-    ∙ take_step Name (Param Before) 91 (v ++ 93 ∷ []) refl ∙ joined (Some (Param Before)) (Some m.0) v (93 ∷ []) m.1 ∙ take_step m.0 Done 93 [] m.3 ∙ nothing_more Done)
+    ap (λ (w : List ℕ). ends_at (run step (Some Start) w)) q
+    ∙ ap (λ (o : Option Place). ends_at o) (byte_on step Start Name b (bs ++ 91 ∷ (v ++ 93 ∷ [])) (rw h refl) ∙ joined step (Some Name) (Some Name) bs (91 ∷ (v ++ 93 ∷ [])) (name_run bs e)
+    ∙ byte_on step Name (Param Before) 91 (v ++ 93 ∷ []) refl ∙ joined step (Some (Param Before)) (Some m.0) v (93 ∷ []) m.1 ∙ byte_on step m.0 Done 93 [] m.3 ∙ run_end step (Some Done))

@@ -1,8 +1,11 @@
 -- What is read, from the longest end among the bytes within the limit.
 use Rattle.std.proofs.Common.{◌≡◌, ℕ, suc, zero, ◌<◌, ◌≤◌, List, [], ◌∷◌, ◌++◌, length, take, refl, ap, arith, None, true, false, inl, inr, ◌⊎◌, length-take}
-use Rattle.item_key.specs.Grammar.{is_name_byte, Each, IsKeyText, name, IsKey, longest_key}
-use Rattle.item_key.specs.Machine.{ends_at, after, place_of, IsLongestEnd}
-use Rattle.item_key.specs.Fault.{IsFault, HasNoLonger, HasNone, IsViable}
+use Rattle.item_key.specs.Grammar.{is_name_byte, IsKeyText, name, IsKey, longest_key}
+use Rattle.item_key.specs.Machine.{ends_at, place_of, IsLongestEnd}
+use Rattle.byte_grammar.specs.Bytes.{Each}
+use Rattle.byte_grammar.specs.Runs.{run}
+use Rattle.byte_grammar.specs.Fault.{IsFaultUpTo, IsViable}
+use Rattle.item_key.specs.Fault.{HasNoLonger, HasNone}
 use Rattle.item_key.proofs.Sound.{sound}
 use Rattle.item_key.proofs.Complete.{taken}
 use Rattle.item_key.proofs.Meanings.{no_key}
@@ -35,7 +38,7 @@ found text len h e =
     )
 
 start_ends : ends_at (place_of []) ≡ false
-unfolding after
+unfolding run
 start_ends = refl
 
 pub none : (text : List ℕ) → IsLongestEnd (take longest_key text) 0 → HasNone IsKey text
@@ -53,7 +56,7 @@ either : (b : ℕ) → (is_name_byte b ≡ true) ⊎ (is_name_byte b ≡ false)
 either b = elim (is_name_byte b) as (λ t. (t ≡ true) ⊎ (t ≡ false)) [ true ↦ inl refl | false ↦ inr refl ]
 
 begins_none : (b : ℕ) → is_name_byte b ≡ false → place_of (b ∷ []) ≡ None
-unfolding after
+unfolding run
 begins_none b h = rw h refl
 
 stops_at : (b : ℕ) (bs : List ℕ) → HasNone IsKey (b ∷ bs) → (n : ℕ) → 0 < n → n ≤ length (b ∷ bs) → IsViable IsKeyText (take n (b ∷ bs)) → ⊥
@@ -63,7 +66,7 @@ stops_at b bs h (suc n) a c v = elim (either b) [
   | inr e ↦ no_key (b ∷ []) (take n bs ++ v.0) (begins_none b e) v.1
 ]
 
-pub place : (text : List ℕ) → HasNone IsKey text → IsFault IsKeyText longest_key text 0
+pub place : (text : List ℕ) → HasNone IsKey text → IsFaultUpTo IsKeyText longest_key text 0
 place [] h = record { within = omega arith; fits = omega arith; goes_on = (97 ∷ [], one_byte 97 refl); stops = λ n a b l v. absurd (omega arith) }
 place (b ∷ bs) h = record {
   within = omega arith;

@@ -3,16 +3,17 @@ use Rattle.std.proofs.Common.{◌≡◌, ℕ, List, [], ◌∷◌, ◌++◌, ref
 use Rattle.item_key.specs.declared.places.Within.TheVariants.{Before, Bare, Quoted, Escaped, Behind}
 use Rattle.item_key.specs.declared.places.Place.{Place}
 use Rattle.item_key.specs.declared.places.Place.TheVariants.{Start, Name, Param, Listed, Closed, Done}
-use Rattle.item_key.specs.Machine.{step, ends, after, ends_at, place_of, finish}
+use Rattle.item_key.specs.Machine.{step, ends, ends_at, place_of, finish}
 use Rattle.item_key.specs.Grammar.{IsKeyText}
 use Rattle.item_key.specs.Meaning.{TellsKeys, GoesOn, Completes}
-use Rattle.item_key.proofs.Runs.{after_append, after_none}
+use Rattle.byte_grammar.specs.Runs.{run}
+use Rattle.byte_grammar.proofs.Runs.{run_none, joined, grown}
 use Rattle.item_key.proofs.Sound.{sound}
 use Rattle.item_key.proofs.Complete.{taken}
 
 -- the machine ends a key behind the bytes that complete a place
-pub finishes : (p : Place) → ends_at (after (Some p) (finish p)) ≡ true
-unfolding after
+pub finishes : (p : Place) → ends_at (run step (Some p) (finish p)) ≡ true
+unfolding run
 finishes Start = refl
 finishes Name = refl
 finishes (Param Before) = refl
@@ -29,7 +30,7 @@ finishes Closed = refl
 finishes Done = refl
 
 pub completes : (p : Place) → Completes p (finish p)
-completes p front e = sound (front ++ finish p) (ap (λ (o : Option Place). ends_at o) (after_append (Some Start) front (finish p) ∙ ap (λ (o : Option Place). after o (finish p)) e) ∙ finishes p)
+completes p front e = sound (front ++ finish p) (ap (λ (o : Option Place). ends_at o) (joined step (Some Start) (Some p) front (finish p) e) ∙ finishes p)
 
 pub tells_keys : (p : Place) → TellsKeys p (ends p)
 tells_keys p = record {
@@ -40,13 +41,12 @@ tells_keys p = record {
 -- no key goes on where there is no place
 pub no_key : (front more : List ℕ) → place_of front ≡ None → IsKeyText (front ++ more) → ⊥
 no_key front more e k =
-    let f : ends_at (place_of (front ++ more)) ≡ false = ap (λ (o : Option Place). ends_at o) (after_append (Some Start) front more ∙ ap (λ (o : Option Place). after o more) e ∙ after_none more) in
+    let f : ends_at (place_of (front ++ more)) ≡ false = ap (λ (o : Option Place). ends_at o) (joined step (Some Start) None front more e ∙ run_none step more) in
     let t : ends_at (place_of (front ++ more)) ≡ true = taken k in
     cc
 
 pub behind_one : (front : List ℕ) (p : Place) (b : ℕ) → place_of front ≡ Some p → place_of (front ++ b ∷ []) ≡ step p b
-unfolding after
-behind_one front p b e = after_append (Some Start) front (b ∷ []) ∙ ap (λ (o : Option Place). after o (b ∷ [])) e
+behind_one front p b e = grown step (Some Start) p front b e
 
 pub goes_on : (p : Place) (b : ℕ) → GoesOn p b (step p b)
 goes_on p b = record {

@@ -1,32 +1,9 @@
 -- How the place moves with the front.
-use Rattle.std.proofs.Common.{◌≡◌, ℕ, suc, zero, ◌+◌, ◌<◌, ◌≤◌, List, [], ◌∷◌, ◌++◌, length, get_or, take, refl, arith, add-one, Option, Some, None, true, false, IsTrue, inl, inr, ◌⊎◌}
+use Rattle.std.proofs.Common.{◌≡◌, ℕ, ◌+◌, ◌<◌, ◌≤◌, List, length, get_or, take, refl, arith, add-one, Some, None, true, false, IsTrue, inl, inr, ◌⊎◌}
 use Rattle.item_key.specs.declared.places.Place.{Place}
 use Rattle.item_key.specs.declared.places.Place.TheVariants.{Start}
-use Rattle.item_key.specs.Machine.{step, ends, ends_at, go, after, place_of, IsLongestEnd}
-
-pub after_none : (bs : List ℕ) → after None bs ≡ None
-unfolding after
-after_none [] = refl
-after_none (b ∷ bs) = after_none bs
-
-pub after_append : (p : Option Place) (a b : List ℕ) → after p (a ++ b) ≡ after (after p a) b
-unfolding after
-after_append p [] b = refl
-after_append p (x ∷ xs) b = after_append (go p x) xs b
-
-pub after_more : (p : Option Place) (bs : List ℕ) (i : ℕ) → i < length bs → after p (take (suc i) bs) ≡ go (after p (take i bs)) (get_or bs i 0)
-unfolding after
-after_more p [] i h = absurd (omega arith)
-after_more p (b ∷ bs) zero h = refl
-after_more p (b ∷ bs) (suc i) h = after_more (go p b) bs i (omega arith)
-
-pub none_on : (p : Option Place) (bs : List ℕ) (m n : ℕ) → m ≤ n → after p (take m bs) ≡ None → after p (take n bs) ≡ None
-unfolding after
-none_on p bs zero n h e = rw e (after_none (take n bs))
-none_on p [] (suc m) zero h e = e
-none_on p [] (suc m) (suc n) h e = e
-none_on p (b ∷ bs) (suc m) zero h e = absurd (omega arith)
-none_on p (b ∷ bs) (suc m) (suc n) h e = none_on (go p b) bs m n (omega arith) e
+use Rattle.byte_grammar.proofs.Runs.{run_more, none_on}
+use Rattle.item_key.specs.Machine.{step, ends, ends_at, place_of, IsLongestEnd}
 
 -- the longest front of those up to i that ends a key
 pub record Seen (text : List ℕ) (i len : ℕ) : Type 0 where
@@ -35,7 +12,7 @@ pub record Seen (text : List ℕ) (i len : ℕ) : Type 0 where
   pub longest : (n : ℕ) → len < n → n ≤ i → ends_at (place_of (take n text)) ≡ false
 
 pub moved : (text : List ℕ) (i : ℕ) (p q : Place) → i < length text → place_of (take i text) ≡ Some p → step p (get_or text i 0) ≡ Some q → place_of (take (i + 1) text) ≡ Some q
-moved text i p q h e s = rw add-one (rw (after_more (Some Start) text i h) (rw e s))
+moved text i p q h e s = rw add-one (rw (run_more step (Some Start) text i h) (rw e s))
 
 le_or_lt : (n i : ℕ) → (n ≤ i) ⊎ (i < n)
 le_or_lt n i = grind arith
@@ -64,11 +41,11 @@ pub seen_stops : (text : List ℕ) (i len : ℕ) → i < length text → Seen te
 seen_stops text i len k s e = record {
   within = let w = s.within in omega arith;
   is = s.is;
-  longest = λ n a b. elim (le_or_lt n i) [ inl h ↦ s.longest n a h | inr h ↦ rw (none_on (Some Start) text (i + 1) n (omega arith) e) refl ];
+  longest = λ n a b. elim (le_or_lt n i) [ inl h ↦ s.longest n a h | inr h ↦ rw (none_on step (Some Start) text (i + 1) n (omega arith) e) refl ];
 }
 
 pub seen_all : (text : List ℕ) (len : ℕ) → Seen text (length text) len → IsLongestEnd text len
 seen_all text len s = record { within = s.within; is = s.is; longest = s.longest }
 
 pub stopped : (text : List ℕ) (i : ℕ) (p : Place) → i < length text → place_of (take i text) ≡ Some p → step p (get_or text i 0) ≡ None → place_of (take (i + 1) text) ≡ None
-stopped text i p h e s = rw add-one (rw (after_more (Some Start) text i h) (rw e s))
+stopped text i p h e s = rw add-one (rw (run_more step (Some Start) text i h) (rw e s))

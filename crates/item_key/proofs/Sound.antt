@@ -1,30 +1,20 @@
 -- What the machine takes is a key of the grammar: each place promises what the grammar says once the rest has come.
-use Rattle.std.proofs.Common.{◌≡◌, ℕ, List, [], ◌∷◌, ◌++◌, refl, ap, sym, ◌∙◌, Option, Some, None, Bool, true, false, arith, ◌==◌, if◌then◌else◌, subst, inl, inr, ◌⊎◌}
+use Rattle.std.proofs.Common.{◌≡◌, ℕ, List, [], ◌∷◌, ◌++◌, refl, ap, sym, ◌∙◌, Option, Some, None, Bool, true, false, arith, ◌==◌, if◌then◌else◌, subst, inl, inr, ◌⊎◌, append_assoc, append-nil}
 use Rattle.std.proofs.lemmas.Bool.Decides.{nat_tests}
+use Rattle.byte_grammar.specs.Bytes.{Each}
+use Rattle.byte_grammar.specs.Runs.{run, move}
+use Rattle.byte_grammar.proofs.Bytes.{each_none, each_snoc}
 use Rattle.item_key.specs.declared.places.Within.{Within}
 use Rattle.item_key.specs.declared.places.Within.TheVariants.{Before, Bare, Quoted as InQuoted, Escaped, Behind}
 use Rattle.item_key.specs.declared.places.Place.{Place}
 use Rattle.item_key.specs.declared.places.Place.TheVariants.{Start, Name, Param, Listed, Closed, Done}
 use Rattle.item_key.specs.declared.places.Turn.{Turn}
 use Rattle.item_key.specs.declared.places.Turn.TheVariants.{Stay, Comma, Close, Open, Wrong}
-use Rattle.item_key.specs.Machine.{turn, outer, inner, step, go, after, ends, ends_at, place_of}
-use Rattle.item_key.specs.Grammar.{is_name_byte, Each, is_space, is_bare, begins_bare, Quoted, IsPlain, nothing, bare, quoted, AreMany, last, more, IsParam, one, list, IsKeyText, name, with_params}
-
-assoc : (a b c : List ℕ) → (a ++ b) ++ c ≡ a ++ (b ++ c)
-assoc [] b c = refl
-assoc (x ∷ a) b c = ap (λ (r : List ℕ). x ∷ r) (assoc a b c)
+use Rattle.item_key.specs.Machine.{turn, outer, inner, step, ends, ends_at, place_of}
+use Rattle.item_key.specs.Grammar.{is_name_byte, is_space, is_bare, begins_bare, Quoted, IsPlain, nothing, bare, quoted, AreMany, last, more, IsParam, one, list, IsKeyText, name, with_params}
 
 snoc : (q : List ℕ) (b : ℕ) (r : List ℕ) → q ++ b ∷ r ≡ (q ++ b ∷ []) ++ r
-snoc q b r = sym (assoc q (b ∷ []) r)
-
-nothing_behind : (a : List ℕ) → a ++ [] ≡ a
-nothing_behind [] = refl
-nothing_behind (x ∷ a) = ap (λ (r : List ℕ). x ∷ r) (nothing_behind a)
-
-each_snoc : (t : ℕ → Bool) (x : List ℕ) (b : ℕ) → Each t x → t b ≡ true → Each t (x ++ b ∷ [])
-unfolding Each
-each_snoc t [] b e h = (h, tt)
-each_snoc t (c ∷ x) b e h = (e.0, each_snoc t x b e.1 h)
+snoc q b r = sym (append_assoc q (b ∷ []) r)
 
 -- a parameter without a list, so far
 abbrev PlainIn : Within → List ℕ → Type 0
@@ -47,8 +37,8 @@ split false a b s h = inr (refl, h)
 plain_whole : (w : Within) (p : List ℕ) (b : ℕ) (t : Turn) → (t ≡ Comma) ⊎ (t ≡ Close) → PlainIn w p → turn w b ≡ t → IsPlain p
 unfolding Each
 plain_whole Before p b t k w h = nothing p w
-plain_whole Bare p b t k w h = moved (p ++ []) p (nothing_behind p) (w [] tt)
-plain_whole Behind p b t k w h = moved (p ++ []) p (nothing_behind p) (w [] tt)
+plain_whole Bare p b t k w h = moved (p ++ []) p (append-nil p) (w [] tt)
+plain_whole Behind p b t k w h = moved (p ++ []) p (append-nil p) (w [] tt)
 plain_whole InQuoted p b t k w h = absurd (none (b == 34) (b == 92) k h)
   where
     none : (c d : Bool) → (t ≡ Comma) ⊎ (t ≡ Close) → (if c then Stay Behind else if d then Stay Escaped else Stay InQuoted) ≡ t → ⊥
@@ -180,7 +170,7 @@ WithinKey Done q = IsKeyText q
 
 -- (u ++ c ∷ v) ++ z in front of a
 pull : (a u : List ℕ) (c : ℕ) (v z : List ℕ) → a ++ ((u ++ c ∷ v) ++ z) ≡ (a ++ (u ++ c ∷ [])) ++ (v ++ z)
-pull a u c v z = ap (λ (r : List ℕ). a ++ r) (assoc u (c ∷ v) z ∙ snoc u c (v ++ z)) ∙ sym (assoc a (u ++ c ∷ []) (v ++ z))
+pull a u c v z = ap (λ (r : List ℕ). a ++ r) (append_assoc u (c ∷ v) z ∙ snoc u c (v ++ z)) ∙ sym (append_assoc a (u ++ c ∷ []) (v ++ z))
 
 params_comma : (a r : List ℕ) → Params a → IsParam r → Params (a ++ (r ++ 44 ∷ []))
 params_comma a r m h v s = subst IsKeyText (pull a r 44 v (93 ∷ [])) (m (r ++ 44 ∷ v) (more r v h s refl))
@@ -195,35 +185,31 @@ no_place : {A : Type 0} (w : Place) → None ≡ Some w → A
 no_place w h = absurd cc
 
 longer : (q a p : List ℕ) (b : ℕ) → q ≡ a ++ p → q ++ b ∷ [] ≡ a ++ (p ++ b ∷ [])
-longer q a p b e = ap (λ (v : List ℕ). v ++ b ∷ []) e ∙ assoc a p (b ∷ [])
-
-spaces_none : Each is_space []
-unfolding Each
-spaces_none = tt
+longer q a p b e = ap (λ (v : List ℕ). v ++ b ∷ []) e ∙ append_assoc a p (b ∷ [])
 
 in_param : (w : Within) (q : List ℕ) (b : ℕ) (s : Place) → WithinKey (Param w) q → (t : Turn) → turn w b ≡ t → outer t ≡ Some s → WithinKey s (q ++ b ∷ [])
 in_param w q b s h (Stay v) e g = as_place (Param v) s (q ++ b ∷ []) (h.0, h.1 ++ b ∷ [], longer q h.0 h.1 b h.2, h.3, plain_stay w v h.1 b h.4 e) g
 in_param w q b s h Comma e g = as_place (Param Before) s (q ++ b ∷ [])
-    (h.0 ++ (h.1 ++ 44 ∷ []), [], ap (λ (c : ℕ). q ++ c ∷ []) (comma_byte w b e) ∙ longer q h.0 h.1 44 h.2 ∙ sym (nothing_behind (h.0 ++ (h.1 ++ 44 ∷ []))), params_comma h.0 h.1 h.3 (one (plain_whole w h.1 b Comma (inl refl) h.4 e)), spaces_none) g
+    (h.0 ++ (h.1 ++ 44 ∷ []), [], ap (λ (c : ℕ). q ++ c ∷ []) (comma_byte w b e) ∙ longer q h.0 h.1 44 h.2 ∙ sym (append-nil (h.0 ++ (h.1 ++ 44 ∷ []))), params_comma h.0 h.1 h.3 (one (plain_whole w h.1 b Comma (inl refl) h.4 e)), (each_none is_space)) g
 in_param w q b s h Close e g = as_place Done s (q ++ b ∷ [])
     (subst IsKeyText (sym (ap (λ (c : ℕ). q ++ c ∷ []) (close_byte w b e) ∙ longer q h.0 h.1 93 h.2)) (h.3 h.1 (last (one (plain_whole w h.1 b Close (inr refl) h.4 e))))) g
 in_param w q b s h Open e g = let o = open_byte w h.1 b h.4 e in as_place (Listed Before) s (q ++ b ∷ []) (
   h.0,
   h.1 ++ 91 ∷ [],
   [],
-  ap (λ (c : ℕ). q ++ c ∷ []) o.0 ∙ longer q h.0 h.1 91 h.2 ∙ ap (λ (v : List ℕ). h.0 ++ v) (sym (nothing_behind (h.1 ++ 91 ∷ []))),
+  ap (λ (c : ℕ). q ++ c ∷ []) o.0 ∙ longer q h.0 h.1 91 h.2 ∙ ap (λ (v : List ℕ). h.0 ++ v) (sym (append-nil (h.1 ++ 91 ∷ []))),
   h.3,
   (λ v z. subst IsParam (snoc h.1 91 (v ++ 93 ∷ [])) (list h.1 v o.1 z refl)),
-  spaces_none,
+  (each_none is_space),
 ) g
 in_param w q b s h Wrong e g = no_place s g
 
 in_list : (w : Within) (q : List ℕ) (b : ℕ) (s : Place) → WithinKey (Listed w) q → (t : Turn) → turn w b ≡ t → inner t ≡ Some s → WithinKey s (q ++ b ∷ [])
-in_list w q b s h (Stay v) e g = as_place (Listed v) s (q ++ b ∷ []) (h.0, h.1, h.2 ++ b ∷ [], longer q h.0 (h.1 ++ h.2) b h.3 ∙ ap (λ (v : List ℕ). h.0 ++ v) (assoc h.1 h.2 (b ∷ [])), h.4, h.5, plain_stay w v h.2 b h.6 e) g
+in_list w q b s h (Stay v) e g = as_place (Listed v) s (q ++ b ∷ []) (h.0, h.1, h.2 ++ b ∷ [], longer q h.0 (h.1 ++ h.2) b h.3 ∙ ap (λ (v : List ℕ). h.0 ++ v) (append_assoc h.1 h.2 (b ∷ [])), h.4, h.5, plain_stay w v h.2 b h.6 e) g
 in_list w q b s h Comma e g = as_place (Listed Before) s (q ++ b ∷ [])
-    (h.0, h.1 ++ (h.2 ++ 44 ∷ []), [], ap (λ (c : ℕ). q ++ c ∷ []) (comma_byte w b e) ∙ longer q h.0 (h.1 ++ h.2) 44 h.3 ∙ ap (λ (v : List ℕ). h.0 ++ v) (assoc h.1 h.2 (44 ∷ []) ∙ sym (nothing_behind (h.1 ++ (h.2 ++ 44 ∷ [])))), h.4, items_comma h.1 h.2 h.5 (plain_whole w h.2 b Comma (inl refl) h.6 e), spaces_none) g
+    (h.0, h.1 ++ (h.2 ++ 44 ∷ []), [], ap (λ (c : ℕ). q ++ c ∷ []) (comma_byte w b e) ∙ longer q h.0 (h.1 ++ h.2) 44 h.3 ∙ ap (λ (v : List ℕ). h.0 ++ v) (append_assoc h.1 h.2 (44 ∷ []) ∙ sym (append-nil (h.1 ++ (h.2 ++ 44 ∷ [])))), h.4, items_comma h.1 h.2 h.5 (plain_whole w h.2 b Comma (inl refl) h.6 e), (each_none is_space)) g
 in_list w q b s h Close e g = as_place Closed s (q ++ b ∷ [])
-    (h.0, h.1 ++ (h.2 ++ 93 ∷ []), ap (λ (c : ℕ). q ++ c ∷ []) (close_byte w b e) ∙ longer q h.0 (h.1 ++ h.2) 93 h.3 ∙ ap (λ (v : List ℕ). h.0 ++ v) (assoc h.1 h.2 (93 ∷ [])), h.4, h.5 h.2 (last (plain_whole w h.2 b Close (inr refl) h.6 e))) g
+    (h.0, h.1 ++ (h.2 ++ 93 ∷ []), ap (λ (c : ℕ). q ++ c ∷ []) (close_byte w b e) ∙ longer q h.0 (h.1 ++ h.2) 93 h.3 ∙ ap (λ (v : List ℕ). h.0 ++ v) (append_assoc h.1 h.2 (93 ∷ [])), h.4, h.5 h.2 (last (plain_whole w h.2 b Close (inr refl) h.6 e))) g
 in_list w q b s h Open e g = no_place s g
 in_list w q b s h Wrong e g = no_place s g
 
@@ -239,7 +225,7 @@ step_sound Name q b s h e = elim (split (is_name_byte b) _ _ _ e) [
     | inl y ↦ as_place (Param Before) s (q ++ b ∷ []) (
       q ++ b ∷ [],
       [],
-      sym (nothing_behind (q ++ b ∷ [])),
+      sym (append-nil (q ++ b ∷ [])),
       (λ v r. with_params h.0 h.1 v h.3 h.4 r (ap (λ (c : ℕ). (q ++ c ∷ []) ++ (v ++ 93 ∷ [])) (eq_true b 91 y.0) ∙ ap (λ (w : List ℕ). (w ++ 91 ∷ []) ++ (v ++ 93 ∷ [])) h.2 ∙ sym (snoc (h.0 ∷ h.1) 91 (v ++ 93 ∷ [])))),
       tt,
     ) y.1
@@ -249,7 +235,7 @@ step_sound Name q b s h e = elim (split (is_name_byte b) _ _ _ e) [
 step_sound (Param w) q b s h e = in_param w q b s h (turn w b) refl e
 step_sound (Listed w) q b s h e = in_list w q b s h (turn w b) refl e
 step_sound Closed q b s h e = elim (split (b == 44) _ _ _ e) [
-  | inl z ↦ as_place (Param Before) s (q ++ b ∷ []) (h.0 ++ (h.1 ++ 44 ∷ []), [], ap (λ (c : ℕ). q ++ c ∷ []) (eq_true b 44 z.0) ∙ longer q h.0 h.1 44 h.2 ∙ sym (nothing_behind (h.0 ++ (h.1 ++ 44 ∷ []))), params_comma h.0 h.1 h.3 h.4, tt) z.1
+  | inl z ↦ as_place (Param Before) s (q ++ b ∷ []) (h.0 ++ (h.1 ++ 44 ∷ []), [], ap (λ (c : ℕ). q ++ c ∷ []) (eq_true b 44 z.0) ∙ longer q h.0 h.1 44 h.2 ∙ sym (append-nil (h.0 ++ (h.1 ++ 44 ∷ []))), params_comma h.0 h.1 h.3 h.4, tt) z.1
   | inr z ↦ elim (split (b == 93) _ _ _ z.1) [
     | inl y ↦ as_place Done s (q ++ b ∷ []) (subst IsKeyText (sym (ap (λ (c : ℕ). q ++ c ∷ []) (eq_true b 93 y.0) ∙ longer q h.0 h.1 93 h.2)) (h.3 h.1 (last h.4))) y.1
     | inr y ↦ no_place s y.1
@@ -257,14 +243,14 @@ step_sound Closed q b s h e = elim (split (b == 44) _ _ _ e) [
 ]
 step_sound Done q b s h e = no_place s e
 
-go_sound : (q : List ℕ) (b : ℕ) (o : Option Place) → ((s : Place) → o ≡ Some s → WithinKey s q) → (t : Place) → go o b ≡ Some t → WithinKey t (q ++ b ∷ [])
+go_sound : (q : List ℕ) (b : ℕ) (o : Option Place) → ((s : Place) → o ≡ Some s → WithinKey s q) → (t : Place) → move step o b ≡ Some t → WithinKey t (q ++ b ∷ [])
 go_sound q b None h t e = no_place t e
 go_sound q b (Some r) h t e = step_sound r q b t (h r refl) e
 
-run_sound : (bs q : List ℕ) (o : Option Place) → ((s : Place) → o ≡ Some s → WithinKey s q) → (t : Place) → after o bs ≡ Some t → WithinKey t (q ++ bs)
-unfolding after
-run_sound [] q o h t e = subst (λ (v : List ℕ). WithinKey t v) (sym (nothing_behind q)) (h t e)
-run_sound (b ∷ bs) q o h t e = subst (λ (v : List ℕ). WithinKey t v) (sym (snoc q b bs)) (run_sound bs (q ++ b ∷ []) (go o b) (go_sound q b o h) t e)
+run_sound : (bs q : List ℕ) (o : Option Place) → ((s : Place) → o ≡ Some s → WithinKey s q) → (t : Place) → run step o bs ≡ Some t → WithinKey t (q ++ bs)
+unfolding run
+run_sound [] q o h t e = subst (λ (v : List ℕ). WithinKey t v) (sym (append-nil q)) (h t e)
+run_sound (b ∷ bs) q o h t e = subst (λ (v : List ℕ). WithinKey t v) (sym (snoc q b bs)) (run_sound bs (q ++ b ∷ []) (move step o b) (go_sound q b o h) t e)
 
 end_sound : (p : Place) (q : List ℕ) → WithinKey p q → ends p ≡ true → IsKeyText q
 end_sound Name q h e = subst IsKeyText (sym h.2) (name h.0 h.1 h.3 h.4)

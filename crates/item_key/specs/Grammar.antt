@@ -1,5 +1,6 @@
 -- Keys by their grammar (the Zabbix 6.0 manual, "Item key format").
 use Rattle.std.specs.Prelude.{◌≡◌, ◌≤◌, ℕ, List, [], ◌∷◌, ◌++◌, length, nat_le, Bool, true, false, ◌==◌, if◌then◌else◌}
+use Rattle.byte_grammar.specs.Bytes.{Each}
 
 -- the most bytes of a key (this project's own)
 abbrev pub longest_key : ℕ
@@ -8,11 +9,6 @@ longest_key = 2048
 -- a letter, a digit, `_`, `-` or `.`
 abbrev pub is_name_byte : ℕ → Bool
 is_name_byte b = if nat_le 97 b then nat_le b 122 else if nat_le 65 b then (if nat_le b 90 then true else b == 95) else if nat_le 48 b then nat_le b 57 else if b == 45 then true else b == 46
-
--- each byte passes the test
-unfoldable pub Each : (ℕ → Bool) → List ℕ → Type 0
-Each t [] = Unit {0}
-Each t (b ∷ bs) = (t b ≡ true) × Each t bs
 
 -- the byte of a space
 abbrev pub is_space : ℕ → Bool

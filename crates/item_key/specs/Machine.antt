@@ -1,5 +1,6 @@
 -- Keys byte by byte: the place in a key behind each front of it.
 use Rattle.std.specs.Prelude.{ℕ, List, [], ◌∷◌, ◌++◌, ◌≤◌, ◌<◌, ◌≡◌, take, Option, Some, None, Bool, true, false, ◌==◌, length, IsTrue, if◌then◌else◌}
+use Rattle.byte_grammar.specs.Runs.{run}
 use Rattle.item_key.specs.Grammar.{is_name_byte}
 use Rattle.item_key.specs.declared.places.Within.{Within}
 use Rattle.item_key.specs.declared.places.Within.TheVariants.{Before, Bare, Quoted, Escaped, Behind}
@@ -50,16 +51,6 @@ ends (Listed w) = false
 ends Closed = false
 ends Done = true
 
--- the same behind bytes with which perhaps no key begins
-abbrev pub go : Option Place → ℕ → Option Place
-go None b = None
-go (Some p) b = step p b
-
--- the place behind some bytes more
-unfoldable pub after : Option Place → List ℕ → Option Place
-after p [] = p
-after p (b ∷ bs) = after (go p b) bs
-
 -- there is a place, and a key may end there
 abbrev pub ends_at : Option Place → Bool
 ends_at None = false
@@ -67,7 +58,7 @@ ends_at (Some p) = ends p
 
 -- the place behind a text, none where no key begins so
 abbrev pub place_of : List ℕ → Option Place
-place_of text = after (Some Start) text
+place_of text = run step (Some Start) text
 
 -- what completes a key in a parameter, up to the bracket behind it
 abbrev pub finish_parameter : Within → List ℕ

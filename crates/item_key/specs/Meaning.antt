@@ -1,7 +1,7 @@
 -- What the places mean in the words of the grammar.
 use Rattle.std.specs.Prelude.{◌≡◌, ℕ, List, [], ◌∷◌, ◌++◌, Option, Some, None, Bool, true}
 use Rattle.item_key.specs.Grammar.{IsKeyText}
-use Rattle.item_key.specs.Fault.{IsViable}
+use Rattle.byte_grammar.specs.Fault.{IsViable}
 use Rattle.item_key.specs.Machine.{place_of}
 use Rattle.item_key.specs.declared.places.Place.{Place}
 

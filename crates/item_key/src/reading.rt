@@ -1,7 +1,8 @@
 //! Reading of keys at the beginning of texts.
 
 ghost use Rattle.std.specs.Prelude.{◌≡◌, ◌≤◌, length, take, IfOk, IfErr};
-ghost use Rattle.item_key.specs.Fault.{IsFault, HasNoLonger, HasNone};
+ghost use Rattle.byte_grammar.specs.Fault.{IsFaultUpTo};
+ghost use Rattle.item_key.specs.Fault.{HasNoLonger, HasNone};
 ghost use Rattle.item_key.specs.Grammar.{IsKey, IsKeyText, longest_key};
 ghost use Rattle.item_key.specs.Machine.{IsLongestEnd};
 
@@ -50,7 +51,7 @@ fn front(text: &[u8]) -> &[u8]
 pub fn read(text: &[u8]) -> Result<u32, u32>
     ensures key { IfOk result (λ n. IsKey (take n text.now) × (n ≤ length text.now) × (n ≤ longest_key)) }
     ensures longest { IfOk result (λ n. HasNoLonger IsKey text.now n) }
-    ensures place { IfErr result (λ at. HasNone IsKey text.now × IsFault IsKeyText longest_key text.now at) }
+    ensures place { IfErr result (λ at. HasNone IsKey text.now × IsFaultUpTo IsKeyText longest_key text.now at) }
 {
     let length = longest(front(text));
     if length == 0 { Err(0) } else { Ok(length) }

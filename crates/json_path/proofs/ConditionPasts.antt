@@ -13,11 +13,13 @@ use Rattle.json_path.specs.declared.conditions.Checking.{Checking}
 use Rattle.json_path.specs.declared.conditions.Checking.TheVariants as at
 use Rattle.json_path.specs.declared.conditions.Checked.{Checked}
 use Rattle.json_path.specs.declared.conditions.Checked.TheVariants.{Open, Met, Wrong}
-use Rattle.json_path.specs.Grammar.{Each, is_space, is_name_byte, mark, IsQuoted, quoted, IsNumber, Spaced, behind_spaces, with_space, IsMember, root, named, bracketed, space_behind, symbol, IsLiteral, words, number, IsCondition, compares}
+use Rattle.byte_grammar.specs.Bytes.{Each}
+use Rattle.json_path.specs.Grammar.{is_space, is_name_byte, mark, IsQuoted, quoted, IsNumber, Spaced, behind_spaces, with_space, IsMember, root, named, bracketed, space_behind, symbol, IsLiteral, words, number, IsCondition, compares}
 use Rattle.json_path.specs.Tokens.{spell, unspelt, quotation, checked, begin_quote, may_end, numbering, numeral, whole_number}
 use Rattle.json_path.specs.Machine.{check, behind_member, name_goes, name_ends, bracket_begins, bracket_goes, operand, literal_begins, number_begins, behind_literal, words_go, number_goes, number_ends}
 use Rattle.json_path.proofs.Checked.{checked_is}
-use Rattle.json_path.proofs.TokenPasts.{either, eq_true, each_snoc, each_none, IsSpelt, spells, unspelt_spelt, NamePast, name_more, name_whole, QuotePast, QuoteBehind, goes, ends, wrong, quote_starts, quote_behind, NumberPast, PartBehind, in_part, no_part, part_behind, number_start, number_whole}
+use Rattle.byte_grammar.proofs.Bytes.{each_snoc, each_none}
+use Rattle.json_path.proofs.TokenPasts.{either, eq_true, IsSpelt, spells, unspelt_spelt, NamePast, name_more, name_whole, QuotePast, QuoteBehind, goes, ends, wrong, quote_starts, quote_behind, NumberPast, PartBehind, in_part, no_part, part_behind, number_start, number_whole}
 
 -- a condition so far
 abbrev pub CheckPast : Checking → List ℕ → Type 0

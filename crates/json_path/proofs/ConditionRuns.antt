@@ -1,7 +1,7 @@
 -- The machine takes the conditions of the grammar.
 use Rattle.std.proofs.Common.{◌≡◌, ℕ, List, [], ◌∷◌, ◌++◌, refl, ap, sym, ◌∙◌, Option, Some, None, Bool, true, false, ◌==◌, arith, append_assoc, inl, inr, ◌⊎◌}
 use Rattle.std.proofs.lemmas.Bool.Decides.{nat_tests}
-use Rattle.json_path.specs.declared.characters.Character.TheVariants.{Whole}
+use Rattle.byte_grammar.specs.declared.characters.Character.TheVariants.{Whole}
 use Rattle.json_path.specs.declared.numbers.Part.{Part}
 use Rattle.json_path.specs.declared.numbers.Part.TheVariants.{Minus, Zero, Integer, Point, Fraction, Letter, Sign, Exponent}
 use Rattle.json_path.specs.declared.path.Condition.{Condition}
@@ -13,12 +13,14 @@ use Rattle.json_path.specs.declared.conditions.Checking.{Checking}
 use Rattle.json_path.specs.declared.conditions.Checking.TheVariants as at
 use Rattle.json_path.specs.declared.conditions.Checked.{Checked}
 use Rattle.json_path.specs.declared.conditions.Checked.TheVariants.{Open, Met, Wrong}
-use Rattle.json_path.specs.Grammar.{Each, is_space, is_name_byte, mark, quoted, IsWhole, zero_part, whole_part, IsMinus, absent, present, is_first_digit, IsDecimal, no_fraction, fraction, IsNumber, no_exponent, exponent, Spaced, behind_spaces, with_space, IsMember, root, named, bracketed, space_behind, symbol, IsLiteral, words, number, IsCondition, compares}
+use Rattle.byte_grammar.specs.Bytes.{Each}
+use Rattle.json_path.specs.Grammar.{is_space, is_name_byte, mark, quoted, IsWhole, zero_part, whole_part, IsMinus, absent, present, is_first_digit, IsDecimal, no_fraction, fraction, IsNumber, no_exponent, exponent, Spaced, behind_spaces, with_space, IsMember, root, named, bracketed, space_behind, symbol, IsLiteral, words, number, IsCondition, compares}
 use Rattle.json_path.specs.Tokens.{quotation, checked, part, begin_part, whole_number}
 use Rattle.json_path.specs.Machine.{check, behind_member, name_ends, behind_literal, number_ends}
 use Rattle.json_path.proofs.Checked.{utf8_checked}
 use Rattle.json_path.proofs.TextRuns.{Skips, Names, name_run, Quotes, quoted_run, quoted_spaced, ascii_number}
-use Rattle.json_path.proofs.Runs.{run, one_on, joined, grown, stays, byte_on, byte_end}
+use Rattle.byte_grammar.specs.Runs.{run}
+use Rattle.byte_grammar.proofs.Runs.{one_on, joined, grown, stays, byte_on, byte_end}
 use Rattle.json_path.proofs.TokenRuns.{spelling, numeral_so, Numbers, number_run}
 
 -- a condition that isn't over

@@ -1,6 +1,6 @@
 -- From each state of a path, some bytes lead to the end of one.
 use Rattle.std.proofs.Common.{◌≡◌, ℕ, List, [], ◌∷◌, ◌++◌, refl, ap, Some, None, Bool, true, false, arith}
-use Rattle.json_path.specs.declared.characters.Character.TheVariants.{Whole}
+use Rattle.byte_grammar.specs.declared.characters.Character.TheVariants.{Whole}
 use Rattle.json_path.specs.declared.tokens.Spelling.{Spelling}
 use Rattle.json_path.specs.declared.tokens.Quotation.{Quotation}
 use Rattle.json_path.specs.declared.numbers.Part.TheVariants.{Zero}
@@ -23,17 +23,20 @@ use Rattle.json_path.specs.Grammar.{is_space}
 use Rattle.json_path.specs.Tokens.{unspelt, quotation, checked, integer}
 use Rattle.json_path.specs.Machine.{condition_goes, selector_goes, state, segment, step, ends}
 use Rattle.json_path.proofs.Checked.{utf8_checked}
-use Rattle.json_path.proofs.Utf8Texts.{one_byte}
-use Rattle.json_path.proofs.Runs.{run, lifted_all}
+use Rattle.byte_grammar.proofs.Utf8Texts.{one_byte}
+use Rattle.byte_grammar.specs.Runs.{run}
+use Rattle.byte_grammar.proofs.Runs.{lifted_all}
 use Rattle.json_path.proofs.TokenRuns.{spelling, digits_so, numeral_so}
 use Rattle.json_path.proofs.ConditionRuns.{check_step, condition_of, condition_met, point_names, bracket_quotes, operand_quotes, operand_numbers}
 use Rattle.json_path.proofs.SelectorRuns.{open_choice, choose_step, said, closes, next_quotes, next_integers, bound_integers, in_condition}
 use Rattle.json_path.proofs.PathRuns.{inside_on, member_names, pointed}
-use Rattle.json_path.proofs.TokenPasts.{each_none, IsSpelt}
+use Rattle.byte_grammar.proofs.Bytes.{each_none}
+use Rattle.json_path.proofs.TokenPasts.{IsSpelt}
 use Rattle.json_path.proofs.ConditionPasts.{CheckPast}
 use Rattle.json_path.proofs.SelectorPasts.{ChoicePast}
 use Rattle.json_path.proofs.PathPasts.{PlacePast}
-use Rattle.json_path.proofs.Finishing.{rest_of, name_done, Leads, here, by_way, by_byte, quote_done, digits_done, number_done}
+use Rattle.byte_grammar.specs.Utf8.{rest_of}
+use Rattle.json_path.proofs.Finishing.{name_done, Leads, here, by_way, by_byte, quote_done, digits_done, number_done}
 
 -- a whole condition
 abbrev Conditional : Checking → Type 0

@@ -1,58 +1,25 @@
 -- From whatever has come of a path, some bytes lead to its end.
-use Rattle.std.proofs.Common.{◌≡◌, ℕ, ◌+◌, ◌-◌, ◌*◌, ◌≤◌, List, [], ◌∷◌, ◌++◌, refl, ap, ◌∙◌, Option, Some, None, Bool, true, false, ◌==◌, nat_le, append_assoc, append-nil, subst, IsUtf8, arith}
+use Rattle.std.proofs.Common.{◌≡◌, ℕ, ◌+◌, ◌-◌, ◌*◌, ◌≤◌, List, [], ◌∷◌, ◌++◌, refl, ap, ◌∙◌, Option, Some, None, Bool, true, false, ◌==◌, append_assoc, append-nil, subst, arith}
 use Rattle.std.proofs.lemmas.Bool.Decides.{nat_tests}
-use Rattle.json_path.specs.declared.characters.Character.{Character}
-use Rattle.json_path.specs.declared.characters.Character.TheVariants.{Whole, One, Two, Three, BehindE0, BehindEd, BehindF0, BehindF4}
+use Rattle.byte_grammar.specs.declared.characters.Character.{Character}
+use Rattle.byte_grammar.specs.declared.characters.Character.TheVariants.{Whole, One, Two, Three, BehindE0, BehindEd, BehindF0, BehindF4}
 use Rattle.json_path.specs.declared.tokens.Spelling.{Spelling}
 use Rattle.json_path.specs.declared.tokens.Quotation.{Quotation}
 use Rattle.json_path.specs.declared.integers.Digits.{Digits}
 use Rattle.json_path.specs.declared.numbers.Part.{Part}
 use Rattle.json_path.specs.declared.numbers.Part.TheVariants.{Minus, Zero, Integer, Point, Fraction, Letter, Sign, Exponent}
 use Rattle.json_path.specs.declared.numbers.Numeral.{Numeral}
-use Rattle.json_path.specs.Grammar.{Each, is_name_byte, is_digit, mark}
-use Rattle.json_path.specs.Tokens.{follow, spell, quote, checked, part, may_end, digit, farthest}
+use Rattle.byte_grammar.specs.Bytes.{Each}
+use Rattle.json_path.specs.Grammar.{is_name_byte, is_digit, mark}
+use Rattle.byte_grammar.specs.Utf8.{follow, rest_of}
+use Rattle.json_path.specs.Tokens.{spell, quote, checked, part, may_end, digit, farthest}
 use Rattle.json_path.proofs.Checked.{utf8_checked}
-use Rattle.json_path.proofs.Utf8Texts.{taken_text}
-use Rattle.json_path.proofs.Runs.{run, run_none, run_end, joined, grown, lifted, lifted_all, byte_end}
+use Rattle.byte_grammar.proofs.Utf8Meaning.{rest_run, is_high, rest_high, whole_text}
+use Rattle.byte_grammar.specs.Runs.{run}
+use Rattle.byte_grammar.proofs.Runs.{run_none, run_end, joined, grown, lifted, lifted_all, byte_end}
 use Rattle.json_path.proofs.TokenRuns.{spelling, spelt, quote_step, quoted_so, digits_so, fits, numeral_so, Numbers}
 use Rattle.json_path.proofs.TextRuns.{Names, Quotes, opened, closed_by, ascii_number}
 use Rattle.json_path.proofs.TokenPasts.{IsSpelt, DigitsPast, DigitsSo, NumberPast, number_whole, PartBehind, in_part, part_behind}
-
--- the bytes that make a character whole
-abbrev pub rest_of : Character → List ℕ
-rest_of Whole = []
-rest_of One = 128 ∷ []
-rest_of Two = 128 ∷ 128 ∷ []
-rest_of Three = 128 ∷ 128 ∷ 128 ∷ []
-rest_of BehindE0 = 160 ∷ 128 ∷ []
-rest_of BehindEd = 128 ∷ 128 ∷ []
-rest_of BehindF0 = 144 ∷ 128 ∷ 128 ∷ []
-rest_of BehindF4 = 128 ∷ 128 ∷ 128 ∷ []
-
-rest_run : (c : Character) → run follow (Some c) (rest_of c) ≡ Some Whole
-unfolding run
-rest_run Whole = refl
-rest_run One = refl
-rest_run Two = refl
-rest_run Three = refl
-rest_run BehindE0 = refl
-rest_run BehindEd = refl
-rest_run BehindF0 = refl
-rest_run BehindF4 = refl
-
-abbrev is_high : ℕ → Bool
-is_high b = nat_le 128 b
-
-rest_high : (c : Character) → Each is_high (rest_of c)
-unfolding Each
-rest_high Whole = tt
-rest_high One = (refl, tt)
-rest_high Two = (refl, (refl, tt))
-rest_high Three = (refl, (refl, (refl, tt)))
-rest_high BehindE0 = (refl, (refl, tt))
-rest_high BehindEd = (refl, (refl, tt))
-rest_high BehindF0 = (refl, (refl, (refl, tt)))
-rest_high BehindF4 = (refl, (refl, (refl, tt)))
 
 high_names : (bs : List ℕ) → Each is_high bs → Each is_name_byte bs
 unfolding Each
@@ -61,10 +28,6 @@ high_names (b ∷ bs) e = (named b e.0, high_names bs e.1)
   where
     named : (b : ℕ) → is_high b ≡ true → is_name_byte b ≡ true
     named b h = grind (arith, nat_tests)
-
--- the text is UTF-8 with them
-pub whole_text : (w : List ℕ) (c : Character) → run follow (Some Whole) w ≡ Some c → IsUtf8 (w ++ rest_of c)
-whole_text w c e = taken_text (w ++ rest_of c) (joined follow (Some Whole) (Some c) w (rest_of c) e ∙ rest_run c)
 
 -- a name is made whole
 pub name_done : {S : Type 0} (outer : S → ℕ → Option S) (s : S) (f : Spelling → S) → Names outer s f → (p : Spelling) → IsSpelt p → (run outer (Some (f p)) (rest_of p.character) ≡ Some (f (spelling (p.bytes ++ rest_of p.character) Whole))) × (checked (p.bytes ++ rest_of p.character) ≡ Some (p.bytes ++ rest_of p.character))

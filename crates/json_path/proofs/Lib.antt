@@ -1,6 +1,4 @@
 mod Checked
-mod Runs
-mod Utf8Texts
 mod TokenRuns
 mod TextRuns
 mod ConditionRuns

@@ -12,11 +12,14 @@ use Rattle.json_path.specs.declared.brackets.Chosen.{Chosen}
 use Rattle.json_path.specs.declared.places.Place.{Place}
 use Rattle.json_path.specs.declared.places.Place.TheVariants.{Start, Behind, Point, Points, Name, Inside, Call, Called}
 use Rattle.json_path.specs.declared.places.State.{State}
-use Rattle.json_path.specs.Grammar.{Each, is_space, is_name_byte, dots, opening, member, members, selected, AreSegments, document, segment as with_segment, function_name, IsPath, selection, with_function}
+use Rattle.byte_grammar.specs.Bytes.{Each}
+use Rattle.json_path.specs.Grammar.{is_space, is_name_byte, dots, opening, member, members, selected, AreSegments, document, segment as with_segment, function_name, IsPath, selection, with_function}
 use Rattle.json_path.specs.Tokens.{spell, unspelt, checked}
 use Rattle.json_path.specs.Machine.{state, segment, behind_segment, member_goes, member_ends, function_of, call_begins, behind_name, selector_goes, behind_points, step_from, step, named_path, ends_from, start}
-use Rattle.json_path.proofs.Runs.{run, run_none}
-use Rattle.json_path.proofs.TokenPasts.{either, eq_true, each_none, IsSpelt, spells, unspelt_spelt, NamePast, name_more, name_whole}
+use Rattle.byte_grammar.specs.Runs.{run}
+use Rattle.byte_grammar.proofs.Runs.{run_none}
+use Rattle.byte_grammar.proofs.Bytes.{each_none}
+use Rattle.json_path.proofs.TokenPasts.{either, eq_true, IsSpelt, spells, unspelt_spelt, NamePast, name_more, name_whole}
 use Rattle.json_path.proofs.SelectorPasts.{ChoicePast, ChoiceBehind, open_in, closed_in, wrong_in, choice_behind}
 
 -- a path so far

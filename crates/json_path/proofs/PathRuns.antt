@@ -1,7 +1,7 @@
 -- The machine takes the paths of the grammar, each as the path that it is.
 use Rattle.std.proofs.Common.{◌≡◌, ℕ, List, [], ◌∷◌, ◌++◌, refl, ap, sym, ◌∙◌, Option, Some, None, Bool, true, false, ◌==◌, if◌then◌else◌, arith}
 use Rattle.std.proofs.lemmas.Bool.Decides.{nat_tests}
-use Rattle.json_path.specs.declared.characters.Character.TheVariants.{Whole}
+use Rattle.byte_grammar.specs.declared.characters.Character.TheVariants.{Whole}
 use Rattle.json_path.specs.declared.path.Path.{Path}
 use Rattle.json_path.specs.declared.path.Segment.{Segment}
 use Rattle.json_path.specs.declared.path.Selector.TheVariants.{Names, All}
@@ -17,7 +17,8 @@ use Rattle.json_path.specs.declared.places.State.{State}
 use Rattle.json_path.specs.Grammar.{is_name_byte, dots, opening, IsSegment, member, members, selected, AreSegments, document, segment as with_segment, function_name, IsPath, selection, with_function}
 use Rattle.json_path.specs.Tokens.{checked}
 use Rattle.json_path.specs.Machine.{choose, state, segment, behind_segment, member_ends, selector_goes, step, path_of, named_path, ends, start}
-use Rattle.json_path.proofs.Runs.{run, joined, grown, lifted_all, byte_on, byte_end}
+use Rattle.byte_grammar.specs.Runs.{run}
+use Rattle.byte_grammar.proofs.Runs.{joined, grown, lifted_all, byte_on, byte_end}
 use Rattle.json_path.proofs.TokenRuns.{spelling}
 use Rattle.json_path.proofs.TextRuns.{Names as NamesAt, name_run}
 use Rattle.json_path.proofs.SelectorRuns.{open_choice, choose_step, closes, selector_run}

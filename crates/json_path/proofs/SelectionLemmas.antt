@@ -1,15 +1,13 @@
 -- What is still to be added of a list.
-use Rattle.std.proofs.Common.{◌≡◌, ℕ, ℤ, pos, zero, suc, ◌+◌, ◌<◌, ◌≤◌, List, [], ◌∷◌, ◌++◌, length, drop, get_or, map, refl, ap, sym, ◌∙◌, Option, Some, None, Bool, true, false, ◌&&◌, if◌then◌else◌, negsuc, ◌^◌, ◌≤ℤ◌, ◌<ℤ◌, slice_get, arith, add-one, append_assoc, append-nil, subst, inl, inr, ◌⊎◌, flat_map, filter, int_le, int_lt}
-use Rattle.std.specs.Option.{option_to_list, option_map}
-use Rattle.json_text.specs.Json.{Json, Items, no_items, item, item_list, Members, no_members, member, member_list, json_size, items_size, members_size}
+use Rattle.std.proofs.Common.{◌≡◌, ℕ, ℤ, pos, zero, suc, ◌+◌, ◌<◌, ◌≤◌, List, [], ◌∷◌, ◌++◌, length, drop, get_or, refl, ap, sym, ◌∙◌, Some, None, Bool, true, false, negsuc, ◌^◌, ◌≤ℤ◌, ◌<ℤ◌, slice_get, arith, add-one, append_assoc, append-nil, inl, inr, flat_map}
+use Rattle.json_text.specs.Json.{Items, item_list, Members, no_members, member, json_size, items_size, members_size}
 use Rattle.json_text.specs.Trees.{json_of, items_of, members_of}
 use Rattle.json_text.specs.declared.tree.Tree.{Tree}
 use Rattle.json_text.specs.declared.tree.Member.{Member}
 use Rattle.json_text.specs.Written.{items_written, more_items}
-use Rattle.json_path.specs.Contents.{all_within, within_items, within_members, member_values}
 use Rattle.std.proofs.lemmas.Int.{ints}
 use Rattle.std.proofs.lemmas.Bool.{cases_lt}
-use Rattle.json_path.specs.Selecting.{elements_between, element_from_front}
+use Rattle.json_path.specs.Selecting.{element_from_front}
 use Rattle.json_path.specs.Seen.{seen}
 use denote.Ref.{Bor}
 

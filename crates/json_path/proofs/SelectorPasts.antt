@@ -11,10 +11,12 @@ use Rattle.json_path.specs.declared.brackets.Within.{Within}
 use Rattle.json_path.specs.declared.brackets.Within.TheVariants as within
 use Rattle.json_path.specs.declared.brackets.Chosen.{Chosen}
 use Rattle.json_path.specs.declared.brackets.Chosen.TheVariants.{Open, Closed, Wrong}
-use Rattle.json_path.specs.Grammar.{Each, is_space, is_digit, mark, IsQuoted, quoted, IsInteger, Spaced, behind_spaces, with_space, AreListed, first, next, IsBound, no_bound, bound, IsSelector, names, indexes, slice, all, condition, padded}
+use Rattle.byte_grammar.specs.Bytes.{Each}
+use Rattle.json_path.specs.Grammar.{is_space, is_digit, mark, IsQuoted, quoted, IsInteger, Spaced, behind_spaces, with_space, AreListed, first, next, IsBound, no_bound, bound, IsSelector, names, indexes, slice, all, condition, padded}
 use Rattle.json_path.specs.Tokens.{quotation, digit, begin_integer, integer}
 use Rattle.json_path.specs.Machine.{choose, behind_selector, behind_integers, colon, quote_begins, quote_goes, integer_goes, bound_goes, condition_goes, selector_begins}
-use Rattle.json_path.proofs.TokenPasts.{either, eq_true, each_snoc, each_none, QuotePast, QuoteBehind, goes, ends, wrong, quote_starts, quote_behind, DigitsPast, digits_start, digits_go, digits_whole}
+use Rattle.byte_grammar.proofs.Bytes.{each_snoc, each_none}
+use Rattle.json_path.proofs.TokenPasts.{either, eq_true, QuotePast, QuoteBehind, goes, ends, wrong, quote_starts, quote_behind, DigitsPast, digits_start, digits_go, digits_whole}
 use Rattle.json_path.proofs.ConditionPasts.{CheckPast, CheckBehind, open_so, met_so, wrong_so, check_behind}
 
 -- what stands before an element of a list

@@ -15,7 +15,8 @@ use Rattle.json_path.specs.declared.brackets.Chosen.TheVariants.{Open, Closed, W
 use Rattle.json_path.specs.Grammar.{is_space, is_digit, mark, IsQuoted, IsInteger, plus, minus, Spaced, behind_spaces, with_space, AreListed, first, next, IsBound, no_bound, bound, IsSelector, names, indexes, slice, all, condition, padded}
 use Rattle.json_path.specs.Tokens.{quotation, digit, begin_integer, integer}
 use Rattle.json_path.specs.Machine.{check, choose, behind_selector, behind_integers, condition_goes}
-use Rattle.json_path.proofs.Runs.{run, joined, grown, lifted_all, stays, byte_on, byte_end}
+use Rattle.byte_grammar.specs.Runs.{run}
+use Rattle.byte_grammar.proofs.Runs.{joined, grown, lifted_all, stays, byte_on, byte_end}
 use Rattle.json_path.proofs.TokenRuns.{digits_so, fits, Counts, digits_run}
 use Rattle.json_path.proofs.TextRuns.{Skips, Quotes, quoted_spaced}
 use Rattle.json_path.proofs.ConditionRuns.{open_check, check_step, condition_run, condition_met}

@@ -2,16 +2,18 @@
 use Rattle.std.proofs.Common.{◌≡◌, ℕ, ◌<◌, List, [], ◌∷◌, ◌++◌, length, refl, ap, ◌∙◌, Option, Some, None, Bool, true, false, ◌==◌, if◌then◌else◌, IsUtf8, arith}
 use Rattle.std.proofs.lemmas.Bool.Decides.{nat_tests}
 use Rattle.std.proofs.lemmas.Str.{IsUtf8-append, IsUtf8-nil}
-use Rattle.json_path.specs.declared.characters.Character.TheVariants.{Whole}
+use Rattle.byte_grammar.specs.declared.characters.Character.TheVariants.{Whole}
 use Rattle.json_path.specs.declared.tokens.Spelling.{Spelling}
 use Rattle.json_path.specs.declared.tokens.Quotation.{Quotation}
 use Rattle.json_path.specs.declared.tokens.Quoting.{Quoting}
 use Rattle.json_path.specs.declared.tokens.Quoting.TheVariants.{Open, Closed, Wrong}
-use Rattle.json_path.specs.Grammar.{Each, is_space, is_digit, is_first_digit, is_name_byte, mark, IsName, name, IsQuoted, quoted, Spaced, behind_spaces, with_space, IsMinus, absent, present, IsSign, no_sign, plus_sign, minus_sign, IsWhole, zero_part, whole_part, IsDecimal, no_fraction, fraction, IsNumber, no_exponent, exponent}
+use Rattle.byte_grammar.specs.Bytes.{Each}
+use Rattle.json_path.specs.Grammar.{is_space, is_digit, is_first_digit, is_name_byte, mark, IsName, name, IsQuoted, quoted, Spaced, behind_spaces, with_space, IsMinus, absent, present, IsSign, no_sign, plus_sign, minus_sign, IsWhole, zero_part, whole_part, IsDecimal, no_fraction, fraction, IsNumber, no_exponent, exponent}
 use Rattle.json_path.specs.Tokens.{spell, unspelt, quotation, quote, checked}
 use Rattle.json_path.proofs.Checked.{utf8_checked}
-use Rattle.json_path.proofs.Utf8Texts.{text_taken, one_byte}
-use Rattle.json_path.proofs.Runs.{run, run_none, joined, grown, lifted, lifted_all, stays, byte_on, byte_end}
+use Rattle.byte_grammar.proofs.Utf8Texts.{text_taken, one_byte}
+use Rattle.byte_grammar.specs.Runs.{run}
+use Rattle.byte_grammar.proofs.Runs.{run_none, joined, grown, lifted, lifted_all, stays, byte_on, byte_end}
 use Rattle.json_path.proofs.TokenRuns.{spelling, spelt, open_quote, quote_step, quoted_so, escapes_run}
 
 -- a space changes nothing here

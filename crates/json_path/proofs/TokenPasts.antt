@@ -1,8 +1,8 @@
 -- What has come of a name, a quoted text, an integer or a number, in the words of the grammar.
 use Rattle.std.proofs.Common.{◌≡◌, ℕ, ◌+◌, ◌-◌, ◌*◌, ◌^◌, ◌<◌, ◌≤◌, List, [], ◌∷◌, ◌++◌, length, refl, ap, sym, ◌∙◌, Option, Some, None, Bool, true, false, ◌==◌, nat_le, if◌then◌else◌, IsUtf8, arith, append_assoc, subst, length-append}
 use Rattle.std.proofs.lemmas.Bool.Decides.{nat_tests}
-use Rattle.json_path.specs.declared.characters.Character.{Character}
-use Rattle.json_path.specs.declared.characters.Character.TheVariants.{Whole}
+use Rattle.byte_grammar.specs.declared.characters.Character.{Character}
+use Rattle.byte_grammar.specs.declared.characters.Character.TheVariants.{Whole}
 use Rattle.json_path.specs.declared.tokens.Spelling.{Spelling}
 use Rattle.json_path.specs.declared.tokens.Quotation.{Quotation}
 use Rattle.json_path.specs.declared.tokens.Quoting.{Quoting}
@@ -10,10 +10,14 @@ use Rattle.json_path.specs.declared.tokens.Quoting.TheVariants.{Open, Closed, Wr
 use Rattle.json_path.specs.declared.integers.Digits.{Digits}
 use Rattle.json_path.specs.declared.numbers.Part.{Part}
 use Rattle.json_path.specs.declared.numbers.Part.TheVariants.{Minus, Zero, Integer, Point, Fraction, Letter, Sign, Exponent}
-use Rattle.json_path.specs.Grammar.{Each, is_digit, is_first_digit, is_name_byte, mark, IsName, name, Escapes, nothing, plain, escaped, AreDigits, one, more, IsInteger, plus, minus, SomeDigits, IsMinus, absent, present, IsSign, no_sign, plus_sign, minus_sign, IsWhole, zero_part, whole_part, IsDecimal, no_fraction, fraction, IsNumber, no_exponent, exponent}
-use Rattle.json_path.specs.Tokens.{follow, spell, spell_to, unspelt, checked, quotation, quoting, quote, closing, farthest, digit, begin_integer, integer, part, begin_part, may_end, is_letter}
+use Rattle.byte_grammar.specs.Bytes.{Each}
+use Rattle.json_path.specs.Grammar.{is_digit, is_first_digit, is_name_byte, mark, IsName, name, Escapes, nothing, plain, escaped, AreDigits, one, more, IsInteger, plus, minus, SomeDigits, IsMinus, absent, present, IsSign, no_sign, plus_sign, minus_sign, IsWhole, zero_part, whole_part, IsDecimal, no_fraction, fraction, IsNumber, no_exponent, exponent}
+use Rattle.byte_grammar.specs.Utf8.{follow}
+use Rattle.json_path.specs.Tokens.{spell, spell_to, unspelt, checked, quotation, quoting, quote, closing, farthest, digit, begin_integer, integer, part, begin_part, may_end, is_letter}
+use Rattle.byte_grammar.proofs.Bytes.{each_none, each_one, each_snoc}
 use Rattle.json_path.proofs.Checked.{checked_is}
-use Rattle.json_path.proofs.Runs.{run, run_end, grown}
+use Rattle.byte_grammar.specs.Runs.{run}
+use Rattle.byte_grammar.proofs.Runs.{run_end, grown}
 use Rattle.json_path.proofs.TokenRuns.{spelling, digits_so}
 use Rattle.json_path.proofs.SelectorRuns.{plus_is, minus_is}
 
@@ -24,19 +28,6 @@ either P false x y h k = k refl
 
 pub eq_true : (a b : ℕ) → (a == b) ≡ true → a ≡ b
 eq_true a b h = grind (arith, nat_tests)
-
-pub each_snoc : (t : ℕ → Bool) (x : List ℕ) (b : ℕ) → Each t x → t b ≡ true → Each t (x ++ b ∷ [])
-unfolding Each
-each_snoc t [] b e h = (h, tt)
-each_snoc t (c ∷ x) b e h = (e.0, each_snoc t x b e.1 h)
-
-pub each_none : (t : ℕ → Bool) → Each t []
-unfolding Each
-each_none t = tt
-
-pub each_one : (t : ℕ → Bool) (b : ℕ) → t b ≡ true → Each t (b ∷ [])
-unfolding Each
-each_one t b h = (h, tt)
 
 -- the bytes may be the beginning of a text in UTF-8, and ask this of the next one
 abbrev pub IsSpelt : Spelling → Type 0

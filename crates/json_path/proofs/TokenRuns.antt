@@ -1,8 +1,8 @@
 -- The machine takes the names, quoted texts, integers and numbers of the grammar.
 use Rattle.std.proofs.Common.{◌≡◌, ℕ, ◌+◌, ◌-◌, ◌*◌, ◌≤◌, List, [], ◌∷◌, ◌++◌, refl, ap, ◌∙◌, Option, Some, None, Bool, true, false, ◌==◌, nat_le, if◌then◌else◌, arith, append_assoc, append-nil, subst}
 use Rattle.std.proofs.lemmas.Bool.Decides.{nat_tests}
-use Rattle.json_path.specs.declared.characters.Character.{Character}
-use Rattle.json_path.specs.declared.characters.Character.TheVariants.{Whole}
+use Rattle.byte_grammar.specs.declared.characters.Character.{Character}
+use Rattle.byte_grammar.specs.declared.characters.Character.TheVariants.{Whole}
 use Rattle.json_path.specs.declared.tokens.Spelling.{Spelling}
 use Rattle.json_path.specs.declared.tokens.Quotation.{Quotation}
 use Rattle.json_path.specs.declared.tokens.Quoting.{Quoting}
@@ -11,9 +11,12 @@ use Rattle.json_path.specs.declared.integers.Digits.{Digits}
 use Rattle.json_path.specs.declared.numbers.Part.{Part}
 use Rattle.json_path.specs.declared.numbers.Part.TheVariants.{Minus, Zero, Integer, Point, Fraction, Letter, Sign, Exponent}
 use Rattle.json_path.specs.declared.numbers.Numeral.{Numeral}
-use Rattle.json_path.specs.Grammar.{Each, is_digit, is_first_digit, mark, Escapes, nothing, plain, escaped, AreDigits, one, more, SomeDigits, IsMinus, absent, present, IsSign, no_sign, plus_sign, minus_sign, IsWhole, zero_part, whole_part, IsDecimal, no_fraction, fraction, IsNumber, no_exponent, exponent}
-use Rattle.json_path.specs.Tokens.{follow, spell, spell_to, quotation, quote, farthest, digit, part, begin_part, may_end, is_letter}
-use Rattle.json_path.proofs.Runs.{run, run_none, run_end, one_on, joined, grown, before}
+use Rattle.byte_grammar.specs.Bytes.{Each}
+use Rattle.json_path.specs.Grammar.{is_digit, is_first_digit, mark, Escapes, nothing, plain, escaped, AreDigits, one, more, SomeDigits, IsMinus, absent, present, IsSign, no_sign, plus_sign, minus_sign, IsWhole, zero_part, whole_part, IsDecimal, no_fraction, fraction, IsNumber, no_exponent, exponent}
+use Rattle.byte_grammar.specs.Utf8.{follow}
+use Rattle.json_path.specs.Tokens.{spell, spell_to, quotation, quote, farthest, digit, part, begin_part, may_end, is_letter}
+use Rattle.byte_grammar.specs.Runs.{run}
+use Rattle.byte_grammar.proofs.Runs.{run_none, run_end, one_on, joined, grown, before}
 
 -- a spelling of these bytes
 abbrev pub spelling : List ℕ → Character → Spelling

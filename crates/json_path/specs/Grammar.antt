@@ -1,5 +1,6 @@
 -- Paths by their grammar (the Zabbix 6.0 manual, "JSONPath functionality"), with what each text says.
 use Rattle.std.specs.Prelude.{◌≡◌, ◌<◌, ◌≤◌, ◌+◌, ◌-◌, ◌*◌, ◌^◌, ℕ, ℤ, pos, neg_ℤ, List, [], ◌∷◌, ◌++◌, length, nat_le, Bool, true, false, ◌==◌, if◌then◌else◌, Option, Some, None, IsUtf8, codes}
+use Rattle.byte_grammar.specs.Bytes.{Each}
 use Rattle.json_path.specs.declared.path.Path.{Path}
 use Rattle.json_path.specs.declared.path.Segment.{Segment}
 use Rattle.json_path.specs.declared.path.Selector.{Selector}
@@ -11,11 +12,6 @@ use Rattle.json_path.specs.declared.path.Literal.{Literal}
 use Rattle.json_path.specs.declared.path.Literal.TheVariants.{Words, Number}
 use Rattle.json_path.specs.declared.path.Function.{Function}
 use Rattle.json_path.specs.declared.path.Function.TheVariants.{Length, First, Min, Max, Sum, Avg}
-
--- each byte passes the test
-unfoldable pub Each : (ℕ → Bool) → List ℕ → Type 0
-Each t [] = Unit {0}
-Each t (b ∷ bs) = (t b ≡ true) × Each t bs
 
 -- the byte of a space
 abbrev pub is_space : ℕ → Bool

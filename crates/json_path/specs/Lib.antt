@@ -1,4 +1,3 @@
-pub mod Fault
 pub mod Grammar
 pub mod Tokens
 pub mod Machine

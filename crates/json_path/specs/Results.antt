@@ -1,5 +1,5 @@
 -- What a path gives: the text of what it selects, or of what its function makes of that.
-use Rattle.std.specs.Prelude.{◌≡◌, ℕ, ℤ, pos, int_div, Bool, true, false, ◌&&◌, List, [], ◌∷◌, length, Option, Some, None, Result, Ok, Err, if◌then◌else◌, option_and_then, option_map}
+use Rattle.std.specs.Prelude.{◌≡◌, ℕ, ℤ, pos, int_div, Bool, true, false, List, [], ◌∷◌, length, Option, Some, None, Result, Ok, Err, if◌then◌else◌, option_and_then, option_map}
 use Rattle.std.specs.List.{list_all}
 use Rattle.std.specs.Fmt.{decimal}
 use Rattle.zbx_types.specs.Numerals.{read_number}

@@ -1,9 +1,10 @@
 -- Names, quoted texts, integers and numbers byte by byte.
 use Rattle.std.specs.Prelude.{ℕ, ℤ, pos, negsuc, neg_ℤ, List, [], ◌∷◌, ◌++◌, ◌+◌, ◌-◌, ◌*◌, ◌^◌, Option, Some, None, Bool, true, false, ◌==◌, nat_le, nat_lt, if◌then◌else◌}
 use Rattle.std.specs.Str.{is_utf8}
+use Rattle.byte_grammar.specs.Utf8.{follow}
 use Rattle.json_path.specs.Grammar.{mark, is_digit, is_first_digit}
-use Rattle.json_path.specs.declared.characters.Character.{Character}
-use Rattle.json_path.specs.declared.characters.Character.TheVariants.{Whole, One, Two, Three, BehindE0, BehindEd, BehindF0, BehindF4}
+use Rattle.byte_grammar.specs.declared.characters.Character.{Character}
+use Rattle.byte_grammar.specs.declared.characters.Character.TheVariants.{Whole}
 use Rattle.json_path.specs.declared.tokens.Spelling.{Spelling}
 use Rattle.json_path.specs.declared.tokens.Quotation.{Quotation}
 use Rattle.json_path.specs.declared.tokens.Quoting.{Quoting}
@@ -14,21 +15,6 @@ use Rattle.json_path.specs.declared.numbers.Part.TheVariants.{Minus, Zero, Integ
 use Rattle.json_path.specs.declared.numbers.Numeral.{Numeral}
 use Rattle.json_path.specs.declared.numbers.Numbering.{Numbering}
 use Rattle.json_path.specs.declared.numbers.Numbering.TheVariants.{Going, Ended}
-
--- the byte lies between these two
-abbrev pub between : ℕ → ℕ → ℕ → Bool
-between low high b = if nat_le low b then nat_le b high else false
-
--- what a text in UTF-8 asks behind one byte more, none where it isn't UTF-8 with it
-abbrev pub follow : Character → ℕ → Option Character
-follow Whole b = if nat_lt b 128 then Some Whole else if nat_lt b 194 then None else if nat_lt b 224 then Some One else if b == 224 then Some BehindE0 else if b == 237 then Some BehindEd else if nat_lt b 240 then Some Two else if b == 240 then Some BehindF0 else if nat_lt b 244 then Some Three else if b == 244 then Some BehindF4 else None
-follow One b = if between 128 191 b then Some Whole else None
-follow Two b = if between 128 191 b then Some One else None
-follow Three b = if between 128 191 b then Some Two else None
-follow BehindE0 b = if between 160 191 b then Some One else None
-follow BehindEd b = if between 128 159 b then Some One else None
-follow BehindF0 b = if between 144 191 b then Some Two else None
-follow BehindF4 b = if between 128 143 b then Some Two else None
 
 -- the text without bytes
 abbrev pub unspelt : Spelling

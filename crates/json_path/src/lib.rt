@@ -29,7 +29,6 @@
 #![tactic(auto)]
 
 mod brackets;
-mod characters;
 mod comparing;
 mod conditions;
 mod contents;

@@ -1,7 +1,7 @@
 //! Reading of paths.
 
 ghost use Rattle.std.specs.Prelude.{◌≡◌, ◌≤◌, ℕ, length, IfOk, IfErr};
-ghost use Rattle.json_path.specs.Fault.{IsFault};
+ghost use Rattle.byte_grammar.specs.Fault.{IsFault};
 ghost use Rattle.json_path.specs.Grammar.{IsPath, IsPathText};
 
 use crate::path::{Path, PathError};

@@ -4,7 +4,7 @@ ghost use Rattle.std.specs.Prelude.{◌≡◌, IfOk, if◌then◌else◌};
 ghost use Rattle.json_path.specs.Grammar.{is_name_byte, mark};
 ghost use Rattle.json_path.specs.Tokens.{unspelt, spell, checked, quotation, quoting, closing, quote, begin_quote};
 
-use crate::characters::{Character, followed};
+use byte_grammar::{Character, next};
 use std::alloc::Global;
 use zbx_types::{Bytes, OutOfMemory, Text};
 
@@ -65,7 +65,7 @@ pub fn nothing(alloc: Global) -> Spelling
 pub fn spelled(spelling: Spelling, byte: u8) -> Result<Option<Spelling>, OutOfMemory>
     ensures { IfOk result (λ now. now ≡ spell spelling byte) }
 {
-    match followed(spelling.character, byte) {
+    match next(spelling.character, byte) {
         Some(character) => {
             let mut bytes = spelling.bytes;
             bytes.extend(&[byte])?;

@@ -1,7 +1,8 @@
 -- What is written of a value that was read is the value again.
 use Rattle.std.proofs.Common.{◌≡◌, ◌≢◌, ℕ, suc, List, [], ◌∷◌, ◌++◌, refl, ap, sym, ◌∙◌, Bool, true, false, append_assoc, append-nil, subst, if◌then◌else◌, bytes_eq}
 use Rattle.std.proofs.lemmas.Slice.Eq.{bytes_eq-Decides}
-use Rattle.json_text.specs.Bytes.{AreBlanks, Each}
+use Rattle.byte_grammar.specs.Bytes.{Each}
+use Rattle.json_text.specs.Bytes.{AreBlanks}
 use Rattle.json_text.specs.Json.{Json, object, Items, no_items, item, add, Members, no_members, member, put}
 use Rattle.json_text.specs.Grammar.{IsString, IsName, IsValue, is_null, is_true, is_false, is_number, is_words, empty_list, is_list, empty_object, is_object, IsElement, element, AreItems, no_item, next_item, AreMembers, no_member, next_member, IsJson}
 use Rattle.json_text.specs.Written.{in_quotes, json_written, items_written, more_items, members_written}

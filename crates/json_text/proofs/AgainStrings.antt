@@ -1,16 +1,14 @@
 -- What is written of a text in quotes stands for the text.
-use Rattle.std.proofs.Common.{◌≡◌, ◌≢◌, ℕ, ◌/◌, ◌%◌, ◌≤◌, ◌<◌, ◌==◌, List, [], ◌∷◌, ◌++◌, refl, ap, sym, ◌∙◌, Some, true, false, arith, nat_lt, inl, inr, append_assoc}
+use Rattle.std.proofs.Common.{◌≡◌, ◌≢◌, ℕ, ◌/◌, ◌%◌, ◌≤◌, ◌<◌, ◌==◌, List, [], ◌∷◌, ◌++◌, refl, ap, sym, ◌∙◌, true, false, arith, nat_lt, inl, inr, append_assoc}
 use Rattle.std.proofs.lemmas.Bool.Decides.{nat_tests}
 use Rattle.std.proofs.lemmas.Str.{encode_ascii}
 use Rattle.std.specs.Char.{IsScalar, encode_utf8, digit_char}
 use Rattle.json_text.specs.Bytes.{is_hex, hex_value, hex_code}
 use Rattle.json_text.specs.Grammar.{IsChar, plain, short, code, AreChars, no_chars, more_chars, IsString}
-use Rattle.json_text.specs.Tokens.{rest_step, is_between}
+use Rattle.byte_grammar.specs.Bytes.{Each}
+use Rattle.byte_grammar.proofs.Utf8Meaning.{is_high, encode_high}
 use Rattle.json_text.specs.Written.{escaped_byte, escaped, in_quotes}
-use Rattle.json_text.specs.declared.string.Rest.{Rest}
-use Rattle.json_text.specs.declared.string.Rest.TheVariants.{One, Two, Three, AfterE0, AfterED, AfterF0, AfterF4}
-use Rattle.json_text.specs.declared.string.InString.{InString}
-use Rattle.json_text.proofs.CharBytes.{Taken, two, three, four, taken, decide}
+use Rattle.json_text.proofs.CharBytes.{decide}
 use Rattle.json_text.proofs.CharCodes.{char_code}
 
 escaped-append : (a b : List ℕ) → escaped (a ++ b) ≡ escaped a ++ escaped b
@@ -27,23 +25,13 @@ stays b h =
     let z : nat_lt b 32 ≡ false = grind (arith, nat_tests) in
     rw (x, y, z) refl
 
-tail_high : (b : ℕ) → is_between 128 191 b ≡ true → nat_lt b 128 ≡ false
-tail_high b e = grind (arith, nat_tests)
-
-rest_high : (r : Rest) (b : ℕ) (p : InString) → rest_step r b ≡ Some p → nat_lt b 128 ≡ false
-rest_high One b p e = grind (arith, nat_tests)
-rest_high Two b p e = grind (arith, nat_tests)
-rest_high Three b p e = grind (arith, nat_tests)
-rest_high AfterE0 b p e = grind (arith, nat_tests)
-rest_high AfterED b p e = grind (arith, nat_tests)
-rest_high AfterF0 b p e = grind (arith, nat_tests)
-rest_high AfterF4 b p e = grind (arith, nat_tests)
-
-wide_stays : (t : List ℕ) → Taken t → escaped t ≡ t
-unfolding escaped
-wide_stays t (two a b n e f) = rw (stays a n, stays b (tail_high b f)) refl
-wide_stays t (three a b c r n e f g) = rw (stays a n, stays b (rest_high r b _ f), stays c (tail_high c g)) refl
-wide_stays t (four a b c d r n e f g h) = rw (stays a n, stays b (rest_high r b _ f), stays c (tail_high c g), stays d (tail_high d h)) refl
+wide_stays : (t : List ℕ) → Each is_high t → escaped t ≡ t
+unfolding escaped Each
+wide_stays [] h = refl
+wide_stays (b ∷ t) h = rw (stays b (not_low b h.0)) (ap (λ (v : List ℕ). b ∷ v) (wide_stays t h.1))
+  where
+    not_low : (b : ℕ) → is_high b ≡ true → nat_lt b 128 ≡ false
+    not_low b e = grind (arith, nat_tests)
 
 -- ---- bytes below 32
 
@@ -84,7 +72,7 @@ code_again c s = elim (decide (nat_lt c 128)) [
   | inl e ↦ let l : c < 128 = grind (arith, nat_tests) in rw (encode_ascii c l) (one_char c l s)
   | inr e ↦
       let l : 128 ≤ c = grind (arith, nat_tests) in
-      rw (wide_stays (encode_utf8 c) (taken c s l)) (plain c s (omega arith) (λ f. omega (arith, l, f)) (λ f. omega (arith, l, f)) refl refl)
+      rw (wide_stays (encode_utf8 c) (encode_high c l)) (plain c s (omega arith) (λ f. omega (arith, l, f)) (λ f. omega (arith, l, f)) refl refl)
 ]
 
 chars_again : {t s : List ℕ} → AreChars t s → AreChars (escaped s) s

@@ -1,7 +1,9 @@
 -- What the grammar says is a value, the machine takes, and makes the same value of it.
 use Rattle.std.proofs.Common.{◌≡◌, ℕ, suc, ◌+◌, ◌≤◌, ◌<◌, ◌==◌, List, [], ◌∷◌, ◌++◌, length, refl, ap, sym, ◌∙◌, Option, Some, None, Bool, true, false, arith, nat_lt, if◌then◌else◌}
 use Rattle.std.proofs.lemmas.Bool.Decides.{nat_tests}
-use Rattle.json_text.specs.Bytes.{is_blank, is_digit, is_e, is_sign, AreBlanks, Each}
+use Rattle.byte_grammar.specs.Bytes.{Each}
+use Rattle.byte_grammar.specs.Runs.{run}
+use Rattle.json_text.specs.Bytes.{is_blank, is_digit, is_e, is_sign, AreBlanks}
 use Rattle.json_text.specs.Json.{Json, null, boolean, number, words, list, object, Items, no_items, add, Members, no_members, put}
 use Rattle.json_text.specs.Grammar.{IsNumber, IsString, IsName, IsValue, is_null, is_true, is_false, is_number, is_words, empty_list, is_list, empty_object, is_object, IsElement, element, AreItems, no_item, next_item, AreMembers, no_member, next_member, IsJson}
 use Rattle.json_text.specs.Tokens.{number_step, number_ends, spot}
@@ -149,15 +151,15 @@ literal_run : (m : Mode) (k k' : List Frame) (b : ℕ) (bs : List ℕ) (j : Json
 literal_run m k k' b bs j on x y e = record { mode = Done j; is = stepped m k b bs (begun k' b) (on b x y) ∙ e; holds = refl }
 
 do_null : (d : ℕ) → ForValue' d (110 ∷ 117 ∷ 108 ∷ 108 ∷ []) null
-unfolding after
+unfolding run
 do_null d m k k' on room = literal_run m k k' 110 (117 ∷ 108 ∷ 108 ∷ []) null on refl refl refl
 
 do_true : (d : ℕ) → ForValue' d (116 ∷ 114 ∷ 117 ∷ 101 ∷ []) (boolean true)
-unfolding after
+unfolding run
 do_true d m k k' on room = literal_run m k k' 116 (114 ∷ 117 ∷ 101 ∷ []) (boolean true) on refl refl refl
 
 do_false : (d : ℕ) → ForValue' d (102 ∷ 97 ∷ 108 ∷ 115 ∷ 101 ∷ []) (boolean false)
-unfolding after
+unfolding run
 do_false d m k k' on room = literal_run m k k' 102 (97 ∷ 108 ∷ 115 ∷ 101 ∷ []) (boolean false) on refl refl refl
 
 do_number : (d : ℕ) (t : List ℕ) → IsNumber t → ForValue' d t (number t)

@@ -1,22 +1,28 @@
 -- What the grammar says is a string, the machine takes, and makes the same text of it.
-use Rattle.std.proofs.Common.{◌≡◌, ◌≢◌, ℕ, ◌≤◌, ◌<◌, ◌==◌, List, [], ◌∷◌, ◌++◌, refl, ap, ◌∙◌, Option, Some, Bool, true, false, arith, nat_le, nat_lt, inl, inr, append_assoc, if◌then◌else◌}
+use Rattle.std.proofs.Common.{◌≡◌, ◌≢◌, ℕ, ◌≤◌, ◌<◌, ◌==◌, List, [], ◌∷◌, ◌++◌, refl, ap, sym, subst, ◌∙◌, Option, Some, Bool, true, false, arith, nat_le, nat_lt, inl, inr, append_assoc, append-nil, if◌then◌else◌}
 use Rattle.std.proofs.lemmas.Bool.Decides.{nat_tests}
-use Rattle.std.proofs.lemmas.Str.{encode_ascii}
+use Rattle.std.proofs.lemmas.Str.{encode_ascii, IsUtf8-encode}
 use Rattle.std.specs.Char.{IsScalar, encode_utf8}
 use Rattle.json_text.specs.Bytes.{is_hex, hex_value, hex_code, is_high, is_low, paired, short_escape}
 use Rattle.json_text.specs.Grammar.{IsChar, plain, short, code, pair, AreChars, no_chars, more_chars}
-use Rattle.json_text.specs.Tokens.{spot, lead, rest_step, is_between}
-use Rattle.json_text.specs.Machine.{state, move, after}
+use Rattle.byte_grammar.specs.Bytes.{Each}
+use Rattle.byte_grammar.specs.Runs.{run}
+use Rattle.byte_grammar.specs.Utf8.{follow}
+use Rattle.byte_grammar.specs.declared.characters.Character.{Character}
+use Rattle.byte_grammar.specs.declared.characters.Character.TheVariants.{Whole, One, Two, Three, BehindE0, BehindEd, BehindF0, BehindF4}
+use Rattle.byte_grammar.proofs.Runs.{run_first, run_end}
+use Rattle.byte_grammar.proofs.Utf8Texts.{text_taken}
+use Rattle.byte_grammar.proofs.Utf8Meaning.{is_high as is_high_byte, encode_high}
+use Rattle.json_text.specs.Tokens.{spot, at_character, character_on}
+use Rattle.json_text.specs.Machine.{state, move, string_on, after}
 use Rattle.json_text.specs.declared.frame.Frame.{Frame}
 use Rattle.json_text.specs.declared.place.Use.{Use}
 use Rattle.json_text.specs.declared.place.Mode.TheVariants.{String}
 use Rattle.json_text.specs.declared.machine.State.{State}
-use Rattle.json_text.specs.declared.string.Rest.{Rest}
-use Rattle.json_text.specs.declared.string.Rest.TheVariants.{One, Two}
 use Rattle.json_text.specs.declared.string.InString.{InString}
-use Rattle.json_text.specs.declared.string.InString.TheVariants.{Between, Within, Hex, Hex2, High2, Low, Low2}
+use Rattle.json_text.specs.declared.string.InString.TheVariants.{Between, Hex, Hex2, High2, Low, Low2}
 use Rattle.json_text.proofs.Runs.{joined, stepped, no_step}
-use Rattle.json_text.proofs.CharBytes.{Taken, two, three, four, taken, decide}
+use Rattle.json_text.proofs.CharBytes.{decide}
 
 abbrev pub in_string : Use → InString → List ℕ → List Frame → Option State
 in_string u p s k = Some (state (String u (spot p s)) k)
@@ -38,41 +44,36 @@ ascii_step u k s c l h e f =
     let y : nat_lt c 128 ≡ true = grind (arith, nat_tests) in
     rw (e, f, x, y) refl
 
-lead_step : (u : Use) (k : List Frame) (s : List ℕ) (a : ℕ) (r : Rest) → nat_lt a 128 ≡ false → lead a ≡ Some r
-    → move (String u (spot Between s)) k a ≡ in_string u (Within r) (s ++ a ∷ []) k
-lead_step u k s a r n e =
-    let w : (a == 34) ≡ false = grind (arith, nat_tests) in
-    let v : (a == 92) ≡ false = grind (arith, nat_tests) in
-    let x : nat_lt a 32 ≡ false = grind (arith, nat_tests) in
-    rw (w, v, x, n, e) refl
+-- a byte of a character of two bytes or more
+high_step : (u : Use) (k : List Frame) (s : List ℕ) (c d : Character) (b : ℕ) → is_high_byte b ≡ true → follow c b ≡ Some d
+    → move (String u (spot (at_character c) s)) k b ≡ in_string u (at_character d) (s ++ b ∷ []) k
+high_step u k s Whole d b h e =
+    let w : (b == 34) ≡ false = grind (arith, nat_tests) in
+    let v : (b == 92) ≡ false = grind (arith, nat_tests) in
+    let x : nat_lt b 32 ≡ false = grind (arith, nat_tests) in
+    rw (w, v, x) (ap (λ o. string_on u (character_on o (s ++ b ∷ [])) k) e)
+high_step u k s One d b h e = ap (λ o. string_on u (character_on o (s ++ b ∷ [])) k) e
+high_step u k s Two d b h e = ap (λ o. string_on u (character_on o (s ++ b ∷ [])) k) e
+high_step u k s Three d b h e = ap (λ o. string_on u (character_on o (s ++ b ∷ [])) k) e
+high_step u k s BehindE0 d b h e = ap (λ o. string_on u (character_on o (s ++ b ∷ [])) k) e
+high_step u k s BehindEd d b h e = ap (λ o. string_on u (character_on o (s ++ b ∷ [])) k) e
+high_step u k s BehindF0 d b h e = ap (λ o. string_on u (character_on o (s ++ b ∷ [])) k) e
+high_step u k s BehindF4 d b h e = ap (λ o. string_on u (character_on o (s ++ b ∷ [])) k) e
 
-rest_to : (u : Use) (k : List Frame) (s : List ℕ) (r : Rest) (b : ℕ) (p : InString) → rest_step r b ≡ Some p
-    → move (String u (spot (Within r) s)) k b ≡ in_string u p (s ++ b ∷ []) k
-rest_to u k s r b p e = rw e refl
+no_bytes : (u : Use) (k : List Frame) (s : List ℕ) (c d : Character) → Some c ≡ Some d → Leads u k (at_character c) s [] (at_character d) (s ++ [])
+no_bytes u k s c d e =
+    let g : c ≡ d = cc in
+    subst (λ (z : Character). Leads u k (at_character c) s [] (at_character z) (s ++ [])) g
+    (subst (λ (v : List ℕ). Leads u k (at_character c) s [] (at_character c) v) (sym (append-nil s)) (no_step (in_string u (at_character c) s k)))
 
-last_byte : (u : Use) (k : List Frame) (s : List ℕ) (b : ℕ) → is_between 128 191 b ≡ true → Leads u k (Within One) s (b ∷ []) Between (s ++ b ∷ [])
-last_byte u k s b e = go_by u k (Within One) s b [] Between (s ++ b ∷ []) (rest_to u k s One b Between (rw e refl)) ∙ no_step _
-
-two_bytes : (u : Use) (k : List Frame) (s : List ℕ) (b c : ℕ) → is_between 128 191 b ≡ true → is_between 128 191 c ≡ true
-    → Leads u k (Within Two) s (b ∷ c ∷ []) Between ((s ++ b ∷ []) ++ c ∷ [])
-two_bytes u k s b c e f =
-    go_by u k (Within Two) s b (c ∷ []) (Within One) (s ++ b ∷ []) (rest_to u k s Two b (Within One) (rw e refl)) ∙ last_byte u k (s ++ b ∷ []) c f
-
-wide_run : (u : Use) (k : List Frame) (s t : List ℕ) → Taken t → Leads u k Between s t Between (s ++ t)
-wide_run u k s t (two a b n e f) =
-    go_by u k Between s a (b ∷ []) (Within One) (s ++ a ∷ []) (lead_step u k s a One n e) ∙ last_byte u k (s ++ a ∷ []) b f
-    ∙ ap (λ (z : List ℕ). in_string u Between z k) (append_assoc s (a ∷ []) (b ∷ []))
-wide_run u k s t (three a b c r n e f g) =
-    go_by u k Between s a (b ∷ c ∷ []) (Within r) (s ++ a ∷ []) (lead_step u k s a r n e)
-    ∙ go_by u k (Within r) (s ++ a ∷ []) b (c ∷ []) (Within One) ((s ++ a ∷ []) ++ b ∷ []) (rest_to u k (s ++ a ∷ []) r b (Within One) f)
-    ∙ last_byte u k ((s ++ a ∷ []) ++ b ∷ []) c g
-    ∙ ap (λ (z : List ℕ). in_string u Between z k) (append_assoc (s ++ a ∷ []) (b ∷ []) (c ∷ []) ∙ append_assoc s (a ∷ []) (b ∷ c ∷ []))
-wide_run u k s t (four a b c d r n e f g h) =
-    go_by u k Between s a (b ∷ c ∷ d ∷ []) (Within r) (s ++ a ∷ []) (lead_step u k s a r n e)
-    ∙ go_by u k (Within r) (s ++ a ∷ []) b (c ∷ d ∷ []) (Within Two) ((s ++ a ∷ []) ++ b ∷ []) (rest_to u k (s ++ a ∷ []) r b (Within Two) f)
-    ∙ two_bytes u k ((s ++ a ∷ []) ++ b ∷ []) c d g h
-    ∙ ap (λ (z : List ℕ). in_string u Between z k)
-    (append_assoc ((s ++ a ∷ []) ++ b ∷ []) (c ∷ []) (d ∷ []) ∙ append_assoc (s ++ a ∷ []) (b ∷ []) (c ∷ d ∷ []) ∙ append_assoc s (a ∷ []) (b ∷ c ∷ d ∷ []))
+wide_run : (u : Use) (k : List Frame) (bs s : List ℕ) (c d : Character) → Each is_high_byte bs → run follow (Some c) bs ≡ Some d → Leads u k (at_character c) s bs (at_character d) (s ++ bs)
+unfolding Each
+wide_run u k [] s c d h e = no_bytes u k s c d (sym (run_end follow (Some c)) ∙ e)
+wide_run u k (b ∷ bs) s c d h e =
+    let f = run_first follow c d b bs e in
+    go_by u k (at_character c) s b bs (at_character f.0) (s ++ b ∷ []) (high_step u k s c f.0 b h.0 f.1)
+    ∙ wide_run u k bs (s ++ b ∷ []) f.0 d h.1 f.2
+    ∙ ap (λ (z : List ℕ). in_string u (at_character d) z k) (append_assoc s (b ∷ []) bs)
 
 no_eq : (c n : ℕ) → c ≢ n → (c == n) ≡ false
 no_eq c n h = elim (decide (c == n)) [
@@ -84,7 +85,7 @@ plain_run : (u : Use) (k : List Frame) (s : List ℕ) (c : ℕ) → IsScalar c �
 plain_run u k s c x l e f = elim (decide (nat_lt c 128)) [
   | inl y ↦ let h : c < 128 = grind (arith, nat_tests) in
       rw (encode_ascii c h) (go_by u k Between s c [] Between (s ++ c ∷ []) (ascii_step u k s c l h (no_eq c 34 e) (no_eq c 92 f)) ∙ no_step _)
-  | inr y ↦ wide_run u k s (encode_utf8 c) (taken c x (grind (arith, nat_tests)))
+  | inr y ↦ wide_run u k (encode_utf8 c) s Whole Whole (encode_high c (grind (arith, nat_tests))) (text_taken (encode_utf8 c) (IsUtf8-encode c x))
 ]
 
 -- ---- escapes
@@ -93,13 +94,13 @@ no_u : (b c : ℕ) → short_escape b ≡ Some c → (b == 117) ≡ false
 no_u b c e = grind (arith, nat_tests)
 
 short_run : (u : Use) (k : List Frame) (s : List ℕ) (b c : ℕ) → short_escape b ≡ Some c → Leads u k Between s (92 ∷ b ∷ []) Between (s ++ c ∷ [])
-unfolding after
+unfolding run
 short_run u k s b c e = rw (no_u b c e, e) refl
 
 -- two digits that begin no surrogate
 two_digits : (u : Use) (k : List Frame) (s : List ℕ) (a b : ℕ) → is_hex a ≡ true → is_hex b ≡ true → is_high a b ≡ false → is_low a b ≡ false
     → Leads u k Hex s (a ∷ b ∷ []) (Hex2 a b) s
-unfolding after
+unfolding run
 two_digits u k s a b x y h l = elim (decide (hex_value a == 13)) [
   | inl e ↦ let g : nat_lt (hex_value b) 8 ≡ true = small (hex_value a == 13) (hex_value b) e h l in rw (x, e, g, y) refl
   | inr e ↦ rw (x, e, y) refl
@@ -111,7 +112,7 @@ two_digits u k s a b x y h l = elim (decide (hex_value a == 13)) [
 
 -- two digits that begin a high one
 high_digits : (u : Use) (k : List Frame) (s : List ℕ) (a b : ℕ) → is_hex a ≡ true → is_high a b ≡ true → Leads u k Hex s (a ∷ b ∷ []) (High2 a b) s
-unfolding after
+unfolding run
 high_digits u k s a b x h = elim (decide (hex_value a == 13)) [
   | inl e ↦ let g = eight (hex_value a == 13) (hex_value b) h in rw (x, e, g.0, g.1) refl
   | inr e ↦ absurd (none (hex_value a == 13) _ e h)
@@ -126,7 +127,7 @@ high_digits u k s a b x h = elim (decide (hex_value a == 13)) [
     none false c e h = cc
 
 low_digits : (u : Use) (k : List Frame) (s : List ℕ) (h a b : ℕ) → is_low a b ≡ true → Leads u k (Low h) s (a ∷ b ∷ []) (Low2 h a b) s
-unfolding after
+unfolding run
 low_digits u k s h a b l = elim (decide (hex_value a == 13)) [
   | inl e ↦ let g = twelve (hex_value a == 13) (hex_value b) l in rw (e, g) refl
   | inr e ↦ absurd (none (hex_value a == 13) _ e l)
@@ -141,22 +142,22 @@ low_digits u k s h a b l = elim (decide (hex_value a == 13)) [
     none false c e h = cc
 
 begun_escape : (u : Use) (k : List Frame) (s t : List ℕ) → after (in_string u Between s k) (92 ∷ 117 ∷ t) ≡ after (in_string u Hex s k) t
-unfolding after
+unfolding run
 begun_escape u k s t = refl
 
 last_two : (u : Use) (k : List Frame) (s : List ℕ) (a b c d : ℕ) → is_hex c ≡ true → is_hex d ≡ true
     → Leads u k (Hex2 a b) s (c ∷ d ∷ []) Between (s ++ encode_utf8 (hex_code a b c d))
-unfolding after
+unfolding run
 last_two u k s a b c d x y = rw (x, y) refl
 
 high_two : (u : Use) (k : List Frame) (s t : List ℕ) (a b c d : ℕ) → is_hex c ≡ true → is_hex d ≡ true
     → after (in_string u (High2 a b) s k) (c ∷ d ∷ 92 ∷ 117 ∷ t) ≡ after (in_string u (Low (hex_code a b c d)) s k) t
-unfolding after
+unfolding run
 high_two u k s t a b c d x y = rw (x, y) refl
 
 low_two : (u : Use) (k : List Frame) (s : List ℕ) (h a b c d : ℕ) → is_hex c ≡ true → is_hex d ≡ true
     → Leads u k (Low2 h a b) s (c ∷ d ∷ []) Between (s ++ encode_utf8 (paired h (hex_code a b c d)))
-unfolding after
+unfolding run
 low_two u k s h a b c d x y = rw (x, y) refl
 
 code_run : (u : Use) (k : List Frame) (s : List ℕ) (a b c d : ℕ) → is_hex a ≡ true → is_hex b ≡ true → is_hex c ≡ true → is_hex d ≡ true → is_high a b ≡ false → is_low a b ≡ false

@@ -1,12 +1,14 @@
 -- From each state some bytes lead to the end of a text.
 use Rattle.std.proofs.Common.{◌≡◌, ℕ, List, [], ◌∷◌, ◌++◌, refl, Option, Some, true}
+use Rattle.byte_grammar.specs.Runs.{run}
 use Rattle.json_text.specs.Json.{Json, add, put, number, words, list, object}
 use Rattle.json_text.specs.Tokens.{number_ends, spot}
 use Rattle.json_text.specs.Machine.{state, after, ends_at}
 use Rattle.json_text.specs.declared.number.InNumber.{InNumber}
 use Rattle.json_text.specs.declared.number.InNumber.TheVariants.{Minus, Zero, Whole, Point, Fraction, Exponent, Signed, Digits}
-use Rattle.json_text.specs.declared.string.Rest.{Rest}
-use Rattle.json_text.specs.declared.string.Rest.TheVariants.{One, Two, Three, AfterE0, AfterED, AfterF0, AfterF4}
+use Rattle.byte_grammar.specs.Utf8.{rest_of}
+use Rattle.byte_grammar.specs.declared.characters.Character.{Character}
+use Rattle.byte_grammar.specs.declared.characters.Character.TheVariants as character
 use Rattle.json_text.specs.declared.string.InString.{InString}
 use Rattle.json_text.specs.declared.string.InString.TheVariants.{Between, Within, Escaped, Hex, Hex1, HexD, Hex2, Hex3, High2, High3, High, HighSlash, Low, LowD, Low2, Low3}
 use Rattle.json_text.specs.declared.place.InLiteral.{InLiteral}
@@ -30,13 +32,13 @@ closers (Array js ∷ k) = 93 ∷ closers k
 closers (Object ms name ∷ k) = 125 ∷ closers k
 
 close_done : (k : List Frame) (j : Json) → Ends (after (Some (state (Done j) k)) (closers k))
-unfolding after
+unfolding run
 close_done [] j = (j, refl)
 close_done (Array js ∷ k) j = close_done k (list (add js j))
 close_done (Object ms name ∷ k) j = close_done k (object (put name j ms))
 
 close_number : (n : InNumber) → number_ends n ≡ true → (k : List Frame) (s : List ℕ) → Ends (after (Some (state (Number n s) k)) (closers k))
-unfolding after
+unfolding run
 close_number Zero e [] s = (number s, refl)
 close_number Whole e [] s = (number s, refl)
 close_number Fraction e [] s = (number s, refl)
@@ -64,7 +66,7 @@ number_rest Signed = 48 ∷ []
 number_rest Digits = []
 
 finish_number : (n : InNumber) (s : List ℕ) (k : List Frame) → Ends (after (Some (state (Number n s) k)) (number_rest n ++ closers k))
-unfolding after
+unfolding run
 finish_number Minus s k = close_number Zero refl k (s ++ 48 ∷ [])
 finish_number Zero s k = close_number Zero refl k s
 finish_number Whole s k = close_number Whole refl k s
@@ -74,19 +76,21 @@ finish_number Exponent s k = close_number Digits refl k (s ++ 48 ∷ [])
 finish_number Signed s k = close_number Digits refl k (s ++ 48 ∷ [])
 finish_number Digits s k = close_number Digits refl k s
 
-abbrev rest_rest : Rest → List ℕ
-rest_rest One = 128 ∷ []
-rest_rest Two = 128 ∷ 128 ∷ []
-rest_rest Three = 128 ∷ 128 ∷ 128 ∷ []
-rest_rest AfterE0 = 160 ∷ 128 ∷ []
-rest_rest AfterED = 128 ∷ 128 ∷ []
-rest_rest AfterF0 = 144 ∷ 128 ∷ 128 ∷ []
-rest_rest AfterF4 = 128 ∷ 128 ∷ 128 ∷ []
+-- what ends a character in a string, with one more where it is whole
+abbrev character_rest : Character → List ℕ
+character_rest character.Whole = 97 ∷ []
+character_rest character.One = rest_of character.One
+character_rest character.Two = rest_of character.Two
+character_rest character.Three = rest_of character.Three
+character_rest character.BehindE0 = rest_of character.BehindE0
+character_rest character.BehindEd = rest_of character.BehindEd
+character_rest character.BehindF0 = rest_of character.BehindF0
+character_rest character.BehindF4 = rest_of character.BehindF4
 
 -- `\uDC00` behind a high surrogate
 abbrev string_rest : InString → List ℕ
 string_rest Between = []
-string_rest (Within r) = rest_rest r
+string_rest (Within c) = character_rest c
 string_rest Escaped = 110 ∷ []
 string_rest Hex = 48 ∷ 48 ∷ 48 ∷ 48 ∷ []
 string_rest (Hex1 a) = 48 ∷ 48 ∷ 48 ∷ []
@@ -108,24 +112,25 @@ use_rest ForValue k = closers k
 use_rest (ForName ms) k = 58 ∷ 48 ∷ 125 ∷ closers k
 
 finish_quote : (u : Use) (s : List ℕ) (k : List Frame) → Ends (after (Some (state (String u (spot Between s)) k)) (34 ∷ use_rest u k))
-unfolding after
+unfolding run
 finish_quote ForValue s k = close_done k (words s)
 finish_quote (ForName ms) s k = close_done k (object (put s (number (48 ∷ [])) ms))
 
-finish_within : (r : Rest) (u : Use) (s : List ℕ) (k : List Frame) → Ends (after (Some (state (String u (spot (Within r) s)) k)) (rest_rest r ++ 34 ∷ use_rest u k))
-unfolding after
-finish_within One u s k = finish_quote u _ k
-finish_within Two u s k = finish_quote u _ k
-finish_within Three u s k = finish_quote u _ k
-finish_within AfterE0 u s k = finish_quote u _ k
-finish_within AfterED u s k = finish_quote u _ k
-finish_within AfterF0 u s k = finish_quote u _ k
-finish_within AfterF4 u s k = finish_quote u _ k
+finish_within : (c : Character) (u : Use) (s : List ℕ) (k : List Frame) → Ends (after (Some (state (String u (spot (Within c) s)) k)) (character_rest c ++ 34 ∷ use_rest u k))
+unfolding run
+finish_within character.Whole u s k = finish_quote u _ k
+finish_within character.One u s k = finish_quote u _ k
+finish_within character.Two u s k = finish_quote u _ k
+finish_within character.Three u s k = finish_quote u _ k
+finish_within character.BehindE0 u s k = finish_quote u _ k
+finish_within character.BehindEd u s k = finish_quote u _ k
+finish_within character.BehindF0 u s k = finish_quote u _ k
+finish_within character.BehindF4 u s k = finish_quote u _ k
 
 finish_string : (p : InString) (u : Use) (s : List ℕ) (k : List Frame) → Ends (after (Some (state (String u (spot p s)) k)) (string_rest p ++ 34 ∷ use_rest u k))
-unfolding after
+unfolding run
 finish_string Between u s k = finish_quote u s k
-finish_string (Within r) u s k = finish_within r u s k
+finish_string (Within c) u s k = finish_within c u s k
 finish_string _ u s k = finish_quote u _ k
 
 abbrev literal_rest : InLiteral → List ℕ
@@ -141,7 +146,7 @@ literal_rest Nu = 108 ∷ 108 ∷ []
 literal_rest Nul = 108 ∷ []
 
 finish_literal : (l : InLiteral) (k : List Frame) → Ends (after (Some (state (Literal l) k)) (literal_rest l ++ closers k))
-unfolding after
+unfolding run
 finish_literal T k = close_done k _
 finish_literal Tr k = close_done k _
 finish_literal Tru k = close_done k _
@@ -166,7 +171,7 @@ finish (Done j) k = closers k
 
 -- each state leads to the end of a text
 pub finishes : (m : Mode) (k : List Frame) → Ends (after (Some (state m k)) (finish m k))
-unfolding after
+unfolding run
 finishes Value k = close_number Zero refl k (48 ∷ [])
 finishes FirstItem k = close_done k _
 finishes FirstName k = close_done k _

@@ -4,7 +4,9 @@ use Rattle.std.proofs.lemmas.Bool.Decides.{nat_tests}
 use Rattle.std.specs.List.{prefix_len}
 use Rattle.std.specs.Option.{MatchOption, IfSome}
 use Rattle.std.proofs.lemmas.List.{take_more, take_all, length-take-le}
-use Rattle.json_text.specs.Bytes.{is_blank, is_digit, Each}
+use Rattle.byte_grammar.specs.Bytes.{Each}
+use Rattle.byte_grammar.specs.Runs.{run}
+use Rattle.json_text.specs.Bytes.{is_blank, is_digit}
 use Rattle.json_text.specs.Json.{words, no_members}
 use Rattle.json_text.specs.Machine.{state, move, after, step, quoted, unquoted}
 use Rattle.json_text.specs.Moves.{reach, is_plain, keeps, IsQuoted, takes_string, behind_string}
@@ -156,7 +158,7 @@ stayed s t zero bs h e = let g = sym (no_step (Some s)) ∙ e in let f : s ≡ t
 stayed s t (suc n) bs h e = absurd (omega (arith, h))
 
 pub one_step : (s t : State) (bs : List ℕ) → 0 < length bs → step s (get_or bs 0 0) ≡ Some t → after (Some s) (take 1 bs) ≡ Some t
-unfolding after
+unfolding run
 one_step s t [] h e = absurd (omega (arith, h))
 one_step s t (b ∷ bs) h e = e
 

@@ -1,15 +1,16 @@
 -- A text goes on exactly as far as the machine does.
-use Rattle.std.proofs.Math.Seq.{take-length, take-add}
+use Rattle.std.proofs.Math.Seq.{take-add}
 use Rattle.std.proofs.lemmas.List.{get_or-drop, take_all, length-drop}
 use Rattle.std.proofs.lemmas.Str.{encode_ascii, IsUtf8-append, IsUtf8-encode, IsUtf8-nil}
 use Rattle.std.proofs.lemmas.Bool.Decides.{nat_tests}
-use Rattle.std.proofs.Common.{zero, suc, ◌+◌, ◌-◌, ◌<◌, ◌≤◌, length, take, drop, get_or, arith, ◌≡◌, ℕ, List, [], ◌∷◌, ◌++◌, refl, ap, sym, ◌∙◌, Option, Some, None, Bool, true, nat_lt, subst, IsUtf8}
+use Rattle.std.proofs.Common.{◌+◌, ◌-◌, ◌<◌, length, take, drop, get_or, arith, ◌≡◌, ℕ, List, [], ◌∷◌, ◌++◌, refl, ap, sym, ◌∙◌, Some, None, Bool, true, nat_lt, subst, IsUtf8}
 use lib.Utf8.{low_scalar}
-use Rattle.json_text.specs.Bytes.{is_digit, is_e, is_sign, is_nonzero_digit, Each, AreDigits}
+use Rattle.byte_grammar.specs.Bytes.{Each}
+use Rattle.json_text.specs.Bytes.{is_digit, is_e, is_sign, is_nonzero_digit, AreDigits}
 use Rattle.json_text.specs.Json.{Json}
-use Rattle.json_text.specs.Fault.{IsViable, IsFault}
+use Rattle.byte_grammar.specs.Fault.{IsViable, IsFault, EachLength}
 use Rattle.json_text.specs.Grammar.{IsMinus, no_minus, minus, IsWhole, only_zero, whole, IsFraction, no_fraction, fraction, IsExponent, no_exponent, unsigned, signed, IsJson, IsText}
-use Rattle.json_text.specs.Machine.{after, start, step, go, ends, ends_at}
+use Rattle.json_text.specs.Machine.{after, start, step, ends, ends_at}
 use Rattle.json_text.specs.Sane.{IsSane}
 use Rattle.json_text.specs.declared.machine.State.{State}
 use Rattle.json_text.specs.declared.place.Mode.{Mode}
@@ -18,7 +19,10 @@ use Rattle.json_text.specs.declared.place.Use.TheVariants.{ForValue, ForName}
 use Rattle.json_text.specs.declared.number.InNumber.{InNumber}
 use Rattle.json_text.specs.declared.number.InNumber.TheVariants.{Minus, Zero, Whole, Point, Fraction, Exponent, Signed, Digits}
 use Rattle.json_text.specs.declared.string.InString.{InString}
-use Rattle.json_text.proofs.Runs.{joined, after_none}
+use Rattle.byte_grammar.proofs.Runs.{run_none}
+use Rattle.byte_grammar.proofs.Faults as runs
+use Rattle.byte_grammar.proofs.Faults.{Reached, Tells}
+use Rattle.json_text.proofs.Runs.{joined}
 use Rattle.json_text.proofs.Complete.{complete}
 use Rattle.json_text.proofs.Finishing.{finish, finishes}
 use Rattle.json_text.proofs.SoundStrings.{InChars}
@@ -35,72 +39,49 @@ viable p s h =
 pub not_viable : (p : List ℕ) → after (Some start) p ≡ None → IsViable IsText p → ⊥
 not_viable p h v =
     let a = complete (p ++ v.0) v.1.0 v.1.1 in
-    let b = ap ends_at (joined (Some start) None p v.0 h ∙ after_none v.0) in
+    let b = ap ends_at (joined (Some start) None p v.0 h ∙ run_none step v.0) in
     cc
 
-after_more : (p : Option State) (bs : List ℕ) (i : ℕ) → i < length bs → after p (take (suc i) bs) ≡ go (after p (take i bs)) (get_or bs i 0)
-unfolding after
-after_more p [] i h = absurd (omega arith)
-after_more p (b ∷ bs) zero h = refl
-after_more p (b ∷ bs) (suc i) h = after_more (go p b) bs i (omega arith)
+-- the machine lives exactly where a text goes on
+tells : Tells step start (IsViable IsText)
+tells = record { lives = viable; stops = not_viable }
 
-none_on : (p : Option State) (bs : List ℕ) (m n : ℕ) → m ≤ n → after p (take m bs) ≡ None → after p (take n bs) ≡ None
-unfolding after
-none_on p bs zero n h e = rw e (after_none (take n bs))
-none_on p [] (suc m) zero h e = e
-none_on p [] (suc m) (suc n) h e = e
-none_on p (b ∷ bs) (suc m) zero h e = absurd (omega arith)
-none_on p (b ∷ bs) (suc m) (suc n) h e = none_on (go p b) bs m n (omega arith) e
-
--- the state behind the first i bytes
-pub record Reached (text : List ℕ) (i : ℕ) (s : State) : Type 0 where
-  pub is : after (Some start) (take i text) ≡ Some s
-
-pub reached_start : (text : List ℕ) → Reached text 0 start
-unfolding after
-reached_start text = record { is = refl }
+pub reached_start : (text : List ℕ) → Reached step start text 0 start
+reached_start text = runs.reached_start step start text start refl
 
 -- what is left behind the first i bytes
 pub left : (text : List ℕ) (i : ℕ) → take (length text - i) (drop i text) ≡ drop i text
 left text i = take_all (length text - i) (drop i text) (omega (arith, length-drop i text))
 
-pub reached_on : (text : List ℕ) (i n : ℕ) (s t : State) → Reached text i s → after (Some s) (take n (drop i text)) ≡ Some t → Reached text (i + n) t
+pub reached_on : (text : List ℕ) (i n : ℕ) (s t : State) → Reached step start text i s → after (Some s) (take n (drop i text)) ≡ Some t → Reached step start text (i + n) t
 reached_on text i n s t r e = record { is = rw (take-add i n text) (joined (Some start) (Some s) (take i text) (take n (drop i text)) r.is ∙ e) }
 
-stopped : (text : List ℕ) (i : ℕ) (s : State) → i < length text → Reached text i s → step s (get_or (drop i text) 0 0) ≡ None → after (Some start) (take (suc i) text) ≡ None
-stopped text i s h r e =
+-- no state behind the byte there
+none_at : (text : List ℕ) (i : ℕ) (s : State) → step s (get_or (drop i text) 0 0) ≡ None → None ≡ step s (get_or text i 0)
+none_at text i s e =
     let same : get_or text i 0 ≡ get_or (drop i text) 0 0 = ap (λ (j : ℕ). get_or text j 0) (omega arith) ∙ sym (get_or-drop i text 0 0) in
-    rw (after_more (Some start) text i h) (rw (r.is, same) e)
+    rw same (sym e)
 
-pub fault_stop : (text : List ℕ) (i : ℕ) (s : State) → i < length text → Reached text i s → step s (get_or (drop i text) 0 0) ≡ None → IsFault IsText text i
-fault_stop text i s h r e = record {
-  within = omega arith;
-  goes_on = viable (take i text) s r.is;
-  stops = λ n a b. not_viable (take n text) (none_on (Some start) text (suc i) n a (stopped text i s h r e));
-}
+pub fault_stop : (text : List ℕ) (i : ℕ) (s : State) → i < length text → Reached step start text i s → step s (get_or (drop i text) 0 0) ≡ None → IsFault IsText text i
+fault_stop text i s h r e = runs.fault_stop step start (IsViable IsText) EachLength tells text i s h tt r (none_at text i s e)
 
-pub none_stop : (text : List ℕ) (i : ℕ) (s : State) → i < length text → Reached text i s → step s (get_or (drop i text) 0 0) ≡ None → IsText text → ⊥
+pub none_stop : (text : List ℕ) (i : ℕ) (s : State) → i < length text → Reached step start text i s → step s (get_or (drop i text) 0 0) ≡ None → IsText text → ⊥
 none_stop text i s h r e t =
-    let n = none_on (Some start) text (suc i) (length text) h (stopped text i s h r e) in
-    let m : after (Some start) text ≡ None = rw (take-length text) at n in
     let a = complete text t.0 t.1 in
-    let b : ends_at (after (Some start) text) ≡ None = rw m refl in
+    let b : ends_at (after (Some start) text) ≡ None = rw (runs.stopped_whole step start text i s h r (none_at text i s e)) refl in
     cc
 
-whole_text : (text : List ℕ) (i : ℕ) (s : State) → i ≡ length text → Reached text i s → after (Some start) text ≡ Some s
-whole_text text i s e r = let g = r.is in rw (e, take-length text) at g
+pub fault_end : (text : List ℕ) (i : ℕ) (s : State) → i ≡ length text → Reached step start text i s → IsFault IsText text i
+fault_end text i s e r = runs.fault_end step start (IsViable IsText) EachLength tells text i s e tt r
 
-pub fault_end : (text : List ℕ) (i : ℕ) (s : State) → i ≡ length text → Reached text i s → IsFault IsText text i
-fault_end text i s e r = record { within = omega arith; goes_on = viable (take i text) s r.is; stops = λ n a b. absurd (omega arith) }
-
-pub none_end : (text : List ℕ) (i : ℕ) (s : State) → i ≡ length text → Reached text i s → ends s ≡ None → IsText text → ⊥
+pub none_end : (text : List ℕ) (i : ℕ) (s : State) → i ≡ length text → Reached step start text i s → ends s ≡ None → IsText text → ⊥
 none_end text i s e r h t =
     let a = complete text t.0 t.1 in
-    let b : ends_at (after (Some start) text) ≡ None = rw (whole_text text i s e r) h in
+    let b : ends_at (after (Some start) text) ≡ None = rw (runs.whole_text step start text i s e r) h in
     cc
 
-pub found_end : (text : List ℕ) (i : ℕ) (s : State) (j : Json) → i ≡ length text → Reached text i s → ends s ≡ Some j → IsJson text j
-found_end text i s j e r h = sound text j (rw (whole_text text i s e r) h)
+pub found_end : (text : List ℕ) (i : ℕ) (s : State) (j : Json) → i ≡ length text → Reached step start text i s → ends s ≡ Some j → IsJson text j
+found_end text i s j e r h = sound text j (rw (runs.whole_text step start text i s e r) h)
 
 -- ---- texts that are whole are UTF-8
 
@@ -188,5 +169,5 @@ sane_within (String ForValue at) d r w = λ e. chars_utf8 (subst (λ (z : InStri
 sane_within (String (ForName ms) at) d r w = λ e. chars_utf8 (subst (λ (z : InString). InChars z w.1 at.text) e w.3)
 sane_within (Done j) d r w = tt
 
-pub sane : (text : List ℕ) (i : ℕ) (s : State) → Reached text i s → IsSane s.mode
+pub sane : (text : List ℕ) (i : ℕ) (s : State) → Reached step start text i s → IsSane s.mode
 sane text i s r = let w = stands_at (take i text) s r.is in sane_within s.mode w.d w.r w.within

@@ -1,10 +1,11 @@
 -- What the machine makes of a text is what the grammar says of it.
 use Rattle.std.proofs.Common.{◌≡◌, ℕ, suc, ◌==◌, List, [], ◌∷◌, ◌++◌, length, refl, ap, sym, ◌∙◌, Option, Some, None, Bool, true, false, nat_lt, inl, inr, ◌⊎◌, append_assoc, append-nil, subst, if◌then◌else◌}
+use Rattle.byte_grammar.specs.Runs.{run, move as on_move}
 use Rattle.json_text.specs.Bytes.{is_blank, is_digit, AreBlanks}
 use Rattle.json_text.specs.Json.{Json, null, boolean, number, words, list, object, no_items, add, Members, no_members, put}
 use Rattle.json_text.specs.Grammar.{no_chars, IsValue, is_null, is_true, is_false, is_number, is_words, empty_list, is_list, empty_object, is_object, IsElement, element, no_item, next_item, no_member, next_member, IsJson}
 use Rattle.json_text.specs.Tokens.{number_step, number_ends, string_step}
-use Rattle.json_text.specs.Machine.{to, quoted, begun, comma, close_array, close_object, behind, exactly, literal_on, behind_number, number_on, unquoted, string_on, is_end, move, step, go, after, start, held, ends_in, ends_at, json_at}
+use Rattle.json_text.specs.Machine.{to, quoted, begun, comma, close_array, close_object, behind, exactly, literal_on, behind_number, number_on, unquoted, string_on, is_end, move, step, after, start, held, ends_in, ends_at, json_at}
 use Rattle.json_text.specs.declared.frame.Frame.{Frame}
 use Rattle.json_text.specs.declared.frame.Frame.TheVariants.{Array, Object}
 use Rattle.json_text.specs.declared.place.InLiteral.{InLiteral}
@@ -299,14 +300,14 @@ move_sound (Done j) p r d k b s o w h = behind_sound p r d k j b s o w h
 step_sound : (text : List ℕ) (s t : State) (b : ℕ) → Stands text s → step s b ≡ Some t → Stands (text ++ b ∷ []) t
 step_sound text s t b h e = subst (λ (v : List ℕ). Stands v t) (sym (on_text text h.p h.r b h.parts)) (move_sound s.mode h.p h.r h.d s.stack b t h.outer h.within e)
 
-go_sound : (text : List ℕ) (b : ℕ) (o : Option State) → ((s : State) → o ≡ Some s → Stands text s) → (t : State) → go o b ≡ Some t → Stands (text ++ b ∷ []) t
+go_sound : (text : List ℕ) (b : ℕ) (o : Option State) → ((s : State) → o ≡ Some s → Stands text s) → (t : State) → on_move step o b ≡ Some t → Stands (text ++ b ∷ []) t
 go_sound text b None h t e = nowhere _ t e
 go_sound text b (Some r) h t e = step_sound text r t b (h r refl) e
 
 run_sound : (bs text : List ℕ) (o : Option State) → ((s : State) → o ≡ Some s → Stands text s) → (t : State) → after o bs ≡ Some t → Stands (text ++ bs) t
-unfolding after
+unfolding run
 run_sound [] text o h t e = subst (λ (v : List ℕ). Stands v t) (sym (append-nil text)) (h t e)
-run_sound (b ∷ bs) text o h t e = subst (λ (v : List ℕ). Stands v t) (append_assoc text (b ∷ []) bs) (run_sound bs (text ++ b ∷ []) (go o b) (go_sound text b o h) t e)
+run_sound (b ∷ bs) text o h t e = subst (λ (v : List ℕ). Stands v t) (append_assoc text (b ∷ []) bs) (run_sound bs (text ++ b ∷ []) (on_move step o b) (go_sound text b o h) t e)
 
 stands_start : Stands [] start
 stands_start = record { d = 64; p = []; r = []; outer = (refl, refl); parts = refl; within = no_blanks }

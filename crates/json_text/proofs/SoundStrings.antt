@@ -6,12 +6,20 @@ use Rattle.std.specs.Char.{encode_utf8}
 use lib.Utf8.{low_scalar}
 use Rattle.json_text.specs.Bytes.{is_hex, hex_value, hex_code, is_high, is_low, paired, short_escape}
 use Rattle.json_text.specs.Grammar.{IsChar, plain, short, code, pair, AreChars, more_chars}
-use Rattle.json_text.specs.Tokens.{spot, on, if_hex, string_step, lead, within, rest_step, rest_on, escaped_on}
+use Rattle.byte_grammar.specs.Bytes.{Each}
+use Rattle.byte_grammar.specs.Runs.{run}
+use Rattle.byte_grammar.specs.Utf8.{follow, is_whole}
+use Rattle.byte_grammar.specs.declared.characters.Character.{Character}
+use Rattle.byte_grammar.specs.declared.characters.Character.TheVariants.{Whole, One, Two, Three, BehindE0, BehindEd, BehindF0, BehindF4}
+use Rattle.byte_grammar.proofs.Bytes.{each_one, each_snoc}
+use Rattle.byte_grammar.proofs.Runs.{grown, byte_end}
+use Rattle.byte_grammar.proofs.Utf8Texts.{taken_text}
+use Rattle.byte_grammar.proofs.Utf8Meaning.{is_high as is_high_byte, open_high}
+use Rattle.json_text.specs.Tokens.{spot, on, if_hex, string_step, at_character, character_on, escaped_on}
 use Rattle.json_text.specs.declared.string.Spot.{Spot}
-use Rattle.json_text.specs.declared.string.Rest.{Rest}
 use Rattle.json_text.specs.declared.string.InString.{InString}
 use Rattle.json_text.specs.declared.string.InString.TheVariants.{Between, Within, Escaped, Hex, Hex1, HexD, Hex2, Hex3, High2, High3, High, HighSlash, Low, LowD, Low2, Low3}
-use Rattle.json_text.proofs.CharBytes.{IsWide, Wants, Leaves, wants_lead, wants_step, decide}
+use Rattle.json_text.proofs.CharBytes.{wide_text, decide}
 
 pub chosen : {A : Type 0} (c : Bool) (x y z : A) → (if c then x else y) ≡ z → ((c ≡ true) × (x ≡ z)) ⊎ ((c ≡ false) × (y ≡ z))
 chosen true x y z h = inl (refl, h)
@@ -37,20 +45,22 @@ pub record Pairing (h : ℕ) (w q s : List ℕ) : Type 0 where
   pub is : h ≡ hex_code a b c d
   pub behind : Behind (92 ∷ 117 ∷ a ∷ b ∷ c ∷ d ∷ w) q s
 
--- bytes of a character of two or more, with what they want
-pub record Wanting (r : Rest) (q s : List ℕ) : Type 0 where
+-- bytes of characters of two bytes or more, the last of which isn't whole
+pub record Wanting (c : Character) (q s : List ℕ) : Type 0 where
   pub u : List ℕ
-  pub c : List ℕ
+  pub t : List ℕ
   pub p : List ℕ
-  pub chars : AreChars u c
-  pub wants : Wants r p
+  pub chars : AreChars u t
+  pub high : Each is_high_byte p
+  pub leads : run follow (Some Whole) p ≡ Some c
+  pub more : is_whole c ≡ false
   pub parts : q ≡ u ++ p
-  pub text : s ≡ c ++ p
+  pub text : s ≡ t ++ p
 
 -- what stands behind the opening quote, by the place that it leads to and the bytes that it stands for so far
 abbrev pub InChars : InString → List ℕ → List ℕ → Type 0
 InChars Between q s = AreChars q s
-InChars (Within r) q s = Wanting r q s
+InChars (Within c) q s = Wanting c q s
 InChars Escaped q s = Behind (92 ∷ []) q s
 InChars Hex q s = Behind (92 ∷ 117 ∷ []) q s
 InChars (Hex1 a) q s = Behind (92 ∷ 117 ∷ a ∷ []) q s × (is_hex a ≡ true) × ((hex_value a == 13) ≡ false)
@@ -116,9 +126,32 @@ ascii_char b e f g h =
     differ : (b n : ℕ) → (b == n) ≡ false → b ≢ n
     differ b n e = λ f. grind (arith, nat_tests)
 
-lead_landed : (r : Option Rest) (b : ℕ) (q s : List ℕ) (at : Spot) → lead b ≡ r → AreChars q s → within r (s ++ b ∷ []) ≡ Some at → At at (q ++ b ∷ [])
-lead_landed None b q s at e c h = nowhere at (q ++ b ∷ []) h
-lead_landed (Some r) b q s at e c h = landed (Within r) (q ++ b ∷ []) (s ++ b ∷ []) at h (record { u = q; c = s; p = b ∷ []; chars = c; wants = wants_lead b r e; parts = refl; text = refl })
+-- the place that a character leads to, by bytes that are whole characters and those of the last ones
+character_at : (c : Character) (q s u t p : List ℕ) → AreChars u t → Each is_high_byte p → run follow (Some Whole) p ≡ Some c → q ≡ u ++ p → s ≡ t ++ p → InChars (at_character c) q s
+character_at Whole q s u t p w h e f g = rw (f, g) (wide_text p u t (taken_text p e) h w)
+character_at One q s u t p w h e f g = record { u = u; t = t; p = p; chars = w; high = h; leads = e; more = refl; parts = f; text = g }
+character_at Two q s u t p w h e f g = record { u = u; t = t; p = p; chars = w; high = h; leads = e; more = refl; parts = f; text = g }
+character_at Three q s u t p w h e f g = record { u = u; t = t; p = p; chars = w; high = h; leads = e; more = refl; parts = f; text = g }
+character_at BehindE0 q s u t p w h e f g = record { u = u; t = t; p = p; chars = w; high = h; leads = e; more = refl; parts = f; text = g }
+character_at BehindEd q s u t p w h e f g = record { u = u; t = t; p = p; chars = w; high = h; leads = e; more = refl; parts = f; text = g }
+character_at BehindF0 q s u t p w h e f g = record { u = u; t = t; p = p; chars = w; high = h; leads = e; more = refl; parts = f; text = g }
+character_at BehindF4 q s u t p w h e f g = record { u = u; t = t; p = p; chars = w; high = h; leads = e; more = refl; parts = f; text = g }
+
+character_landed : (o : Option Character) (q s : List ℕ) (b : ℕ) (at : Spot) → ((d : Character) → o ≡ Some d → InChars (at_character d) (q ++ b ∷ []) (s ++ b ∷ [])) → character_on o (s ++ b ∷ []) ≡ Some at → At at (q ++ b ∷ [])
+character_landed None q s b at f h = nowhere at (q ++ b ∷ []) h
+character_landed (Some d) q s b at f h = landed (at_character d) (q ++ b ∷ []) (s ++ b ∷ []) at h (f d refl)
+
+ascii_follow : (b : ℕ) → nat_lt b 128 ≡ true → follow Whole b ≡ Some Whole
+ascii_follow b h = rw h refl
+
+ascii_at : (q s : List ℕ) (b : ℕ) (d : Character) → AreChars q s → IsChar (b ∷ []) (b ∷ []) → nat_lt b 128 ≡ true → follow Whole b ≡ Some d → InChars (at_character d) (q ++ b ∷ []) (s ++ b ∷ [])
+ascii_at q s b d c i l e =
+    let f : Some Whole ≡ Some d = sym (ascii_follow b l) ∙ e in
+    let g : Whole ≡ d = cc in
+    subst (λ (z : Character). InChars (at_character z) (q ++ b ∷ []) (s ++ b ∷ [])) g (more_chars q s (b ∷ []) (b ∷ []) c i refl refl)
+
+lead_at : (q s : List ℕ) (b : ℕ) (d : Character) → AreChars q s → nat_lt b 128 ≡ false → follow Whole b ≡ Some d → InChars (at_character d) (q ++ b ∷ []) (s ++ b ∷ [])
+lead_at q s b d c n e = character_at d (q ++ b ∷ []) (s ++ b ∷ []) q s (b ∷ []) c (each_one is_high_byte b (grind (arith, nat_tests))) (byte_end follow Whole d b e) refl refl
 
 between_sound : (q s : List ℕ) (b : ℕ) (at : Spot) → AreChars q s → string_step Between s b ≡ Some at → At at (q ++ b ∷ [])
 between_sound q s b at c h = elim (chosen (b == 34) _ _ (Some at) h) [
@@ -127,35 +160,18 @@ between_sound q s b at c h = elim (chosen (b == 34) _ _ (Some at) h) [
     | inl y ↦ let g : b ≡ 92 = grind (arith, nat_tests, y.0) in rw g (landed Escaped (q ++ 92 ∷ []) s at y.1 (record { u = q; chars = c; parts = refl }))
     | inr y ↦ elim (chosen (nat_lt b 32) _ _ (Some at) y.1) [
       | inl x ↦ nowhere at _ x.1
-      | inr x ↦ elim (chosen (nat_lt b 128) _ _ (Some at) x.1) [
-        | inl w ↦ landed Between (q ++ b ∷ []) (s ++ b ∷ []) at w.1 (more_chars q s (b ∷ []) (b ∷ []) c (ascii_char b z.0 y.0 x.0 w.0) refl refl)
-        | inr w ↦ lead_landed (lead b) b q s at refl c w.1
+      | inr x ↦ elim (decide (nat_lt b 128)) [
+        | inl w ↦ character_landed (follow Whole b) q s b at (λ d e. ascii_at q s b d c (ascii_char b z.0 y.0 x.0 w) w e) x.1
+        | inr w ↦ character_landed (follow Whole b) q s b at (λ d e. lead_at q s b d c w e) x.1
       ]
     ]
   ]
 ]
 
-wide_char : (t : List ℕ) → IsWide t → IsChar t t
-wide_char t w = plain w.c w.is_scalar (omega (arith, w.wide)) (λ e. omega (arith, w.wide, e)) (λ e. omega (arith, w.wide, e)) w.is w.is
-
-left : (p : InString) (r : Rest) (q s : List ℕ) (b : ℕ) → (w : Wanting r q s) → rest_step r b ≡ Some p → Leaves p (w.p ++ b ∷ []) → InChars p (q ++ b ∷ []) (s ++ b ∷ [])
-left Between r q s b w e l =
-    more_chars w.u w.c (w.p ++ b ∷ []) (w.p ++ b ∷ []) w.chars (wide_char _ l)
-    (ap (λ (v : List ℕ). v ++ b ∷ []) w.parts ∙ append_assoc w.u w.p (b ∷ [])) (ap (λ (v : List ℕ). v ++ b ∷ []) w.text ∙ append_assoc w.c w.p (b ∷ []))
-left (Within r') r q s b w e l = record {
-  u = w.u;
-  c = w.c;
-  p = w.p ++ b ∷ [];
-  chars = w.chars;
-  wants = l;
-  parts = ap (λ (v : List ℕ). v ++ b ∷ []) w.parts ∙ append_assoc w.u w.p (b ∷ []);
-  text = ap (λ (v : List ℕ). v ++ b ∷ []) w.text ∙ append_assoc w.c w.p (b ∷ []);
-}
-left _ r q s b w e l = absurd l
-
-rest_landed : (o : Option InString) (r : Rest) (q s : List ℕ) (b : ℕ) (at : Spot) → rest_step r b ≡ o → Wanting r q s → rest_on o (s ++ b ∷ []) ≡ Some at → At at (q ++ b ∷ [])
-rest_landed None r q s b at e w h = nowhere at _ h
-rest_landed (Some p) r q s b at e w h = landed p (q ++ b ∷ []) (s ++ b ∷ []) at h (left p r q s b w e (wants_step r b w.p p w.wants e))
+within_sound : (c : Character) (q s : List ℕ) (b : ℕ) (at : Spot) → Wanting c q s → character_on (follow c b) (s ++ b ∷ []) ≡ Some at → At at (q ++ b ∷ [])
+within_sound c q s b at w h = character_landed (follow c b) q s b at (λ d e.
+    character_at d (q ++ b ∷ []) (s ++ b ∷ []) w.u w.t (w.p ++ b ∷ []) w.chars (each_snoc is_high_byte w.p b w.high (open_high c d b w.more e)) (grown follow (Some Whole) c w.p b w.leads ∙ e)
+    (ap (λ (v : List ℕ). v ++ b ∷ []) w.parts ∙ append_assoc w.u w.p (b ∷ [])) (ap (λ (v : List ℕ). v ++ b ∷ []) w.text ∙ append_assoc w.t w.p (b ∷ []))) h
 
 -- ---- escapes
 
@@ -250,7 +266,7 @@ last_sound h e f g q s b at w i = hex_landed b Between (q ++ b ∷ []) (s ++ enc
 -- one byte more
 pub string_sound : (p : InString) (q s : List ℕ) (b : ℕ) (at : Spot) → InChars p q s → string_step p s b ≡ Some at → InChars at.place (q ++ b ∷ []) at.text
 string_sound Between q s b at w h = between_sound q s b at w h
-string_sound (Within r) q s b at w h = rest_landed (rest_step r b) r q s b at refl w h
+string_sound (Within c) q s b at w h = within_sound c q s b at w h
 string_sound Escaped q s b at w h = escape_sound q s b at w h
 string_sound Hex q s b at w h = hex_landed b (if hex_value b == 13 then HexD b else Hex1 b) (q ++ b ∷ []) s at h (λ x. first_place (hex_value b == 13) b q s refl x w)
 string_sound (Hex1 a) q s b at w h = hex_landed b (Hex2 a b) (q ++ b ∷ []) s at h (λ x. let g = no_d a b w.2 in (more (92 ∷ 117 ∷ a ∷ []) q s b w.0, w.1, x, g.0, g.1))

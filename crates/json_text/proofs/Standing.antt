@@ -1,7 +1,8 @@
 -- Where a text stands behind a front of it, in the words of the grammar.
 use Rattle.std.proofs.Common.{◌≡◌, ℕ, zero, suc, ◌+◌, ◌==◌, List, [], ◌∷◌, ◌++◌, length, refl, ap, sym, ◌∙◌, Some, None, true, arith, nat_lt, append_assoc, append-nil, subst}
 use Rattle.std.proofs.lemmas.Bool.Decides.{nat_tests}
-use Rattle.json_text.specs.Bytes.{is_blank, AreBlanks, Each}
+use Rattle.byte_grammar.specs.Bytes.{Each}
+use Rattle.json_text.specs.Bytes.{is_blank, AreBlanks}
 use Rattle.json_text.specs.Json.{Json, Members}
 use Rattle.json_text.specs.Grammar.{IsName, IsValue, IsElement, element, AreItems, AreMembers}
 use Rattle.json_text.specs.Machine.{state, to}

@@ -1,6 +1,7 @@
 -- Kinds of bytes in JSON texts (RFC 8259, "JSON Grammar", "Numbers" and "Strings").
-use Rattle.std.specs.Prelude.{◌≡◌, ℕ, ◌+◌, ◌*◌, ◌-◌, ◌%◌, List, [], ◌∷◌, Bool, true, false, ◌==◌, nat_le, nat_lt}
+use Rattle.std.specs.Prelude.{ℕ, ◌+◌, ◌*◌, ◌-◌, ◌%◌, List, Bool, true, false, ◌==◌, nat_le, nat_lt}
 use Rattle.std.specs.Prelude.{if◌then◌else◌, Option, Some, None}
+use Rattle.byte_grammar.specs.Bytes.{Each}
 
 -- a space, a tab, a line feed or a carriage return
 abbrev pub is_blank : ℕ → Bool
@@ -54,11 +55,6 @@ short_escape b =
     if b == 34 then Some 34 else if b == 92 then Some 92 else if b == 47 then Some 47 else if b == 98 then Some 8
     else if b == 102 then Some 12 else if b == 110 then Some 10 else if b == 114 then Some 13
     else if b == 116 then Some 9 else None
-
--- each byte passes the test
-unfoldable pub Each : (ℕ → Bool) → List ℕ → Type 0
-Each test [] = Unit {0}
-Each test (b ∷ bs) = (test b ≡ true) × Each test bs
 
 -- each byte is a blank
 abbrev pub AreBlanks : List ℕ → Type 0

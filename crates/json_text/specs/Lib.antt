@@ -1,4 +1,3 @@
-pub mod Fault
 pub mod Json
 pub mod JsonCode
 pub mod Trees

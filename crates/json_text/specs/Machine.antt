@@ -1,6 +1,7 @@
 -- JSON texts byte by byte: where a text stands behind a front of it, and what was read of it.
 use Rattle.std.specs.Prelude.{ℕ, List, [], ◌∷◌, ◌++◌, length, Bool, true, false, ◌==◌, nat_lt, if◌then◌else◌, Option}
 use Rattle.std.specs.Prelude.{Some, None}
+use Rattle.byte_grammar.specs.Runs.{run}
 use Rattle.json_text.specs.Bytes.{is_blank, is_digit}
 use Rattle.json_text.specs.Json.{Json, null, boolean, number, words, list, object, no_items, add, no_members, put}
 use Rattle.json_text.specs.Tokens.{number_step, number_ends, spot, string_step}
@@ -140,15 +141,9 @@ move (Done j) k b = behind j k b
 abbrev pub step : State → ℕ → Option State
 step s b = move s.mode s.stack b
 
--- the same, where a text goes on at all
-abbrev pub go : Option State → ℕ → Option State
-go None b = None
-go (Some s) b = step s b
-
 -- the state behind some bytes more
-unfoldable pub after : Option State → List ℕ → Option State
-after s [] = s
-after s (b ∷ bs) = after (go s b) bs
+abbrev pub after : Option State → List ℕ → Option State
+after s bytes = run step s bytes
 
 -- the state where no byte has come
 abbrev pub start : State

@@ -1,7 +1,7 @@
 -- What a byte leads to, and bytes that lead from a place to itself.
 use Rattle.std.specs.Prelude.{◌≡◌, ◌≤◌, ◌+◌, ℕ, List, [], ◌∷◌, ◌++◌, length, take, Bool, true, false, ◌==◌, nat_le}
 use Rattle.std.specs.Prelude.{nat_lt, if◌then◌else◌, Option, Some, None}
-use Rattle.json_text.specs.Bytes.{Each}
+use Rattle.byte_grammar.specs.Bytes.{Each}
 use Rattle.json_text.specs.Machine.{state, after}
 use Rattle.json_text.specs.declared.frame.Frame.{Frame}
 use Rattle.json_text.specs.Json.{words, no_members}

@@ -1,13 +1,14 @@
 -- Numbers and strings byte by byte: the place in one behind a front of it.
-use Rattle.std.specs.Prelude.{ℕ, List, [], ◌∷◌, ◌++◌, Bool, true, false, ◌==◌, nat_le, nat_lt, if◌then◌else◌, Option}
+use Rattle.std.specs.Prelude.{ℕ, List, [], ◌∷◌, ◌++◌, Bool, true, false, ◌==◌, nat_lt, if◌then◌else◌, Option}
 use Rattle.std.specs.Prelude.{Some, None}
 use Rattle.std.specs.Char.{encode_utf8}
 use Rattle.json_text.specs.Bytes.{is_digit, is_e, is_sign, is_hex, hex_value, hex_code, paired, short_escape}
 use Rattle.json_text.specs.declared.number.InNumber.{InNumber}
 use Rattle.json_text.specs.declared.number.InNumber.TheVariants.{Minus, Zero, Whole, Point, Fraction, Exponent}
 use Rattle.json_text.specs.declared.number.InNumber.TheVariants.{Signed, Digits}
-use Rattle.json_text.specs.declared.string.Rest.{Rest}
-use Rattle.json_text.specs.declared.string.Rest.TheVariants.{One, Two, Three, AfterE0, AfterED, AfterF0, AfterF4}
+use Rattle.byte_grammar.specs.Utf8.{follow}
+use Rattle.byte_grammar.specs.declared.characters.Character.{Character}
+use Rattle.byte_grammar.specs.declared.characters.Character.TheVariants as character
 use Rattle.json_text.specs.declared.string.InString.{InString}
 use Rattle.json_text.specs.declared.string.InString.TheVariants.{Between, Within, Escaped, Hex, Hex1, HexD, Hex2}
 use Rattle.json_text.specs.declared.string.InString.TheVariants.{Hex3, High2, High3, High, HighSlash, Low, LowD, Low2}
@@ -60,37 +61,21 @@ on p s = Some (spot p s)
 abbrev pub if_hex : ℕ → InString → List ℕ → Option Spot
 if_hex b p s = if is_hex b then on p s else None
 
--- the first byte of a character of two bytes or more (RFC 3629, section 4)
-abbrev pub lead : ℕ → Option Rest
-lead b =
-    if nat_lt b 194 then None else if nat_lt b 224 then Some One else if b == 224 then Some AfterE0
-    else if b == 237 then Some AfterED
-    else if nat_lt b 240 then Some Two else if b == 240 then Some AfterF0 else if nat_lt b 244 then Some Three
-    else if b == 244 then Some AfterF4 else None
+-- the place in a string that a character leads to
+abbrev pub at_character : Character → InString
+at_character character.Whole = Between
+at_character character.One = Within character.One
+at_character character.Two = Within character.Two
+at_character character.Three = Within character.Three
+at_character character.BehindE0 = Within character.BehindE0
+at_character character.BehindEd = Within character.BehindEd
+at_character character.BehindF0 = Within character.BehindF0
+at_character character.BehindF4 = Within character.BehindF4
 
--- a place in a character, if there is one
-abbrev pub within : Option Rest → List ℕ → Option Spot
-within None s = None
-within (Some r) s = on (Within r) s
-
--- whether a byte lies in a range, with its ends
-abbrev pub is_between : ℕ → ℕ → ℕ → Bool
-is_between low high b = if nat_le low b then nat_le b high else false
-
--- the place behind one byte more of such a character
-abbrev pub rest_step : Rest → ℕ → Option InString
-rest_step One b = if is_between 128 191 b then Some Between else None
-rest_step Two b = if is_between 128 191 b then Some (Within One) else None
-rest_step Three b = if is_between 128 191 b then Some (Within Two) else None
-rest_step AfterE0 b = if is_between 160 191 b then Some (Within One) else None
-rest_step AfterED b = if is_between 128 159 b then Some (Within One) else None
-rest_step AfterF0 b = if is_between 144 191 b then Some (Within Two) else None
-rest_step AfterF4 b = if is_between 128 143 b then Some (Within Two) else None
-
--- a place in a string, if there is one
-abbrev pub rest_on : Option InString → List ℕ → Option Spot
-rest_on None s = None
-rest_on (Some p) s = on p s
+-- the string goes on there, where the characters do
+abbrev pub character_on : Option Character → List ℕ → Option Spot
+character_on None s = None
+character_on (Some c) s = on (at_character c) s
 
 -- what an escape stands for, if it does
 abbrev pub escaped_on : Option ℕ → List ℕ → Option Spot
@@ -101,8 +86,8 @@ escaped_on (Some c) s = on Between (s ++ c ∷ [])
 abbrev pub string_step : InString → List ℕ → ℕ → Option Spot
 string_step Between s b =
     if b == 34 then None else if b == 92 then on Escaped s else if nat_lt b 32 then None
-    else if nat_lt b 128 then on Between (s ++ b ∷ []) else within (lead b) (s ++ b ∷ [])
-string_step (Within r) s b = rest_on (rest_step r b) (s ++ b ∷ [])
+    else character_on (follow character.Whole b) (s ++ b ∷ [])
+string_step (Within c) s b = character_on (follow c b) (s ++ b ∷ [])
 string_step Escaped s b = if b == 117 then on Hex s else escaped_on (short_escape b) s
 string_step Hex s b = if_hex b (if hex_value b == 13 then HexD b else Hex1 b) s
 string_step (Hex1 a) s b = if_hex b (Hex2 a b) s

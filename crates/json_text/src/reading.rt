@@ -1,7 +1,7 @@
 //! Reading of JSON texts.
 
 ghost use Rattle.std.specs.Prelude.{◌≡◌, IfOk, IfErr, ℕ};
-ghost use Rattle.json_text.specs.Fault.{IsFault};
+ghost use Rattle.byte_grammar.specs.Fault.{IsFault};
 ghost use Rattle.json_text.specs.Grammar.{IsJson, IsText};
 ghost use Rattle.json_text.specs.Json.{Json};
 ghost use Rattle.json_text.specs.declared.reading.ReadError.TheVariants.{At};

@@ -2,39 +2,21 @@
 
 ghost use Rattle.std.specs.Prelude.{◌≡◌, ◌++◌, ◌∷◌, [], ◌<◌, if◌then◌else◌, None, Some, IfOk, OnOk};
 ghost use Rattle.std.specs.Char.{encode_utf8};
-ghost use Rattle.json_text.specs.Tokens.{on, if_hex as hex_on, lead as lead_of, is_between as between_test};
-ghost use Rattle.json_text.specs.Tokens.{rest_step, rest_on, string_step};
+ghost use Rattle.byte_grammar.specs.Utf8.{follow};
+ghost use Rattle.json_text.specs.Tokens.{on, if_hex as hex_on, at_character as place_of, character_on, string_step};
 ghost use Rattle.json_text.specs.declared.string.InString.TheVariants.{Between, Escaped, Hex, HexD};
 
 use crate::kinds::{hex_code, hex_value, is_hex, paired, short_escape_of};
+use byte_grammar::{Character, next};
 use zbx_types::{Bytes, OutOfMemory};
-
-/// In a character of two bytes or more (RFC 3629, section 4): which bytes are still to come.
-#[derive(Clone, Copy)]
-pub(crate) enum Rest {
-    /// One more.
-    One,
-    /// Two more.
-    Two,
-    /// Three more.
-    Three,
-    /// Two more, behind the byte E0.
-    AfterE0,
-    /// Two more, behind the byte ED.
-    AfterED,
-    /// Three more, behind the byte F0.
-    AfterF0,
-    /// Three more, behind the byte F4.
-    AfterF4,
-}
 
 /// A place in a string (RFC 8259, "Strings"): hexadecimal digits so far by their bytes, a high surrogate by its number.
 #[derive(Clone, Copy)]
 pub(crate) enum InString {
     /// Between characters.
     Between,
-    /// In a character of two bytes or more.
-    Within(Rest),
+    /// In a character of two bytes or more (RFC 3629, section 4), never whole.
+    Within(Character),
     /// Behind a backslash.
     Escaped,
     /// Behind `\u`.
@@ -97,71 +79,37 @@ fn push_char(text: &mut Bytes, code: u32) -> Result<(), OutOfMemory>
     }
 }
 
-fn is_between(low: u8, high: u8, byte: u8) -> bool
-    ensures { result ≡ between_test low high byte }
+fn at_character(character: Character) -> InString
+    ensures { result ≡ place_of character }
 {
-    low <= byte && byte <= high
-}
-
-fn lead(byte: u8) -> Option<Rest>
-    ensures { result ≡ lead_of byte }
-{
-    if byte < 194 {
-        None
-    } else if byte < 224 {
-        Some(Rest::One)
-    } else if byte == 224 {
-        Some(Rest::AfterE0)
-    } else if byte == 237 {
-        Some(Rest::AfterED)
-    } else if byte < 240 {
-        Some(Rest::Two)
-    } else if byte == 240 {
-        Some(Rest::AfterF0)
-    } else if byte < 244 {
-        Some(Rest::Three)
-    } else if byte == 244 {
-        Some(Rest::AfterF4)
-    } else {
-        None
+    match character {
+        Character::Whole => InString::Between,
+        Character::One => InString::Within(Character::One),
+        Character::Two => InString::Within(Character::Two),
+        Character::Three => InString::Within(Character::Three),
+        Character::BehindE0 => InString::Within(Character::BehindE0),
+        Character::BehindEd => InString::Within(Character::BehindEd),
+        Character::BehindF0 => InString::Within(Character::BehindF0),
+        Character::BehindF4 => InString::Within(Character::BehindF4),
     }
 }
 
-fn if_between(low: u8, high: u8, byte: u8, to: InString) -> Option<InString>
-    ensures { result ≡ (if between_test low high byte then Some to else None) }
+/// A byte of a text, and the place that it leads to.
+fn put_byte(place: InString, text: Bytes, byte: u8) -> Result<Option<Spot>, OutOfMemory>
+    ensures { IfOk result (λ r. r ≡ on place (text ++ byte ∷ [])) }
 {
-    if is_between(low, high, byte) {
-        Some(to)
-    } else {
-        None
-    }
+    let mut text = text;
+    text.extend(&[byte])?;
+    Ok(Some(Spot { place, text }))
 }
 
-fn next_rest(rest: Rest, byte: u8) -> Option<InString>
-    ensures { result ≡ rest_step rest byte }
+/// A byte of a character, where it leads on.
+fn put_on(character: Option<Character>, text: Bytes, byte: u8) -> Result<Option<Spot>, OutOfMemory>
+    ensures { IfOk result (λ r. r ≡ character_on character (text ++ byte ∷ [])) }
 {
-    match rest {
-        Rest::One => if_between(128, 191, byte, InString::Between),
-        Rest::Two => if_between(128, 191, byte, InString::Within(Rest::One)),
-        Rest::Three => if_between(128, 191, byte, InString::Within(Rest::Two)),
-        Rest::AfterE0 => if_between(160, 191, byte, InString::Within(Rest::One)),
-        Rest::AfterED => if_between(128, 159, byte, InString::Within(Rest::One)),
-        Rest::AfterF0 => if_between(144, 191, byte, InString::Within(Rest::Two)),
-        Rest::AfterF4 => if_between(128, 143, byte, InString::Within(Rest::Two)),
-    }
-}
-
-/// A byte of a character in a place that it leads to.
-fn put_byte(place: Option<InString>, text: Bytes, byte: u8) -> Result<Option<Spot>, OutOfMemory>
-    ensures { IfOk result (λ r. r ≡ rest_on place (text ++ byte ∷ [])) }
-{
-    match place {
+    match character {
         None => Ok(None),
-        Some(place) => {
-            let mut text = text;
-            text.extend(&[byte])?;
-            Ok(Some(Spot { place, text }))
-        }
+        Some(character) => put_byte(at_character(character), text, byte),
     }
 }
 
@@ -187,13 +135,8 @@ fn between(text: Bytes, byte: u8) -> Result<Option<Spot>, OutOfMemory>
             place: InString::Escaped,
             text,
         }))
-    } else if byte < 128 {
-        put_byte(Some(InString::Between), text, byte)
     } else {
-        match lead(byte) {
-            Some(rest) => put_byte(Some(InString::Within(rest)), text, byte),
-            None => Ok(None),
-        }
+        put_on(next(Character::Whole, byte), text, byte)
     }
 }
 
@@ -207,7 +150,7 @@ fn escaped(text: Bytes, byte: u8) -> Result<Option<Spot>, OutOfMemory>
         }));
     }
     match short_escape_of(byte) {
-        Some(char) => put_byte(Some(InString::Between), text, char),
+        Some(char) => put_byte(InString::Between, text, char),
         None => Ok(None),
     }
 }
@@ -268,7 +211,7 @@ pub(crate) fn next_in_string(spot: Spot, byte: u8) -> Result<Option<Spot>, OutOf
     let Spot { place, text } = spot;
     match place {
         InString::Between => between(text, byte),
-        InString::Within(rest) => put_byte(next_rest(rest, byte), text, byte),
+        InString::Within(character) => put_on(next(character, byte), text, byte),
         InString::Escaped => escaped(text, byte),
         InString::Hex => Ok(first_digit(text, byte)),
         InString::Hex1(a) => Ok(if_hex(byte, InString::Hex2(a, byte), text)),

@@ -2,10 +2,11 @@ use Rattle.std.proofs.Common.{arith, refl, ◌≡◌, Some, take, ◌+◌, ◌�
 use Rattle.item_key.proofs.Runs.{seen_start, seen_goes, seen_ends, seen_stops, moved, stopped}
 use Rattle.item_key.proofs.reading.longest.Goals as goal
 use Rattle.item_key.proofs.reading.longest.Goals.{then-may_end, else-may_end}
-use Rattle.item_key.specs.Machine.{after, place_of}
+use Rattle.byte_grammar.specs.Runs.{run}
+use Rattle.item_key.specs.Machine.{place_of}
 
 pub loop-byte-init : goal.loop-byte-init
-unfolding after
+unfolding run
 loop-byte-init c = record { count = refl; place = refl; seen = seen_start c.args.text.now }
 
 pub returns-in-None : goal.returns-in-None

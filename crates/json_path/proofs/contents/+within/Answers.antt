@@ -1,4 +1,4 @@
-use Rattle.std.proofs.Common.{arith, ap, ◌≡◌, ◌<◌}
+use Rattle.std.proofs.Common.{arith, ap}
 use Rattle.json_text.specs.Json.{items_size, members_size}
 use Rattle.json_path.proofs.SelectionLemmas.{item_smaller, member_smaller}
 use Rattle.json_path.proofs.contents.+within.Goals as goal

@@ -1,4 +1,4 @@
-use Rattle.std.proofs.Common.{◌≡◌, ◌++◌, ◌+◌, drop}
+use Rattle.std.proofs.Common.{◌≡◌, ◌++◌, drop}
 use Rattle.json_text.specs.Json.{json_size, items_size, members_size}
 use Rattle.json_text.specs.Trees.{json_of, items_of, members_of}
 use Rattle.json_path.specs.Contents.{within_items, within_members}

@@ -1,4 +1,4 @@
-use Rattle.std.proofs.Common.{◌≡◌, ◌++◌, ℕ, drop}
+use Rattle.std.proofs.Common.{◌≡◌, ◌++◌, drop}
 use Rattle.json_text.specs.Trees.{members_of}
 use Rattle.json_text.specs.Json.{member_list}
 use Rattle.json_path.specs.Contents.{member_values}

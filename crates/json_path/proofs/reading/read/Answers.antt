@@ -1,16 +1,19 @@
 use Rattle.std.proofs.Common.{arith, sym, ◌≡◌, ℕ, subst, ◌∙◌}
 use Rattle.json_path.specs.Grammar.{IsPathText}
-use Rattle.json_path.specs.Fault.{IsFault}
-use Rattle.json_path.proofs.Reaching.{reached_start, reached_next, fault_stop, none_stop, fault_end, none_end, found_end, only_end}
+use Rattle.byte_grammar.specs.Fault.{IsFault}
+use Rattle.byte_grammar.specs.Fault.{IsViable, EachLength}
+use Rattle.byte_grammar.proofs.Faults.{reached_start, reached_next, fault_stop, fault_end}
+use Rattle.json_path.specs.Machine.{step, start}
+use Rattle.json_path.proofs.Reaching.{tells, none_stop, none_end, found_end, only_end}
 use Rattle.json_path.proofs.reading.read.Goals as goal
 
 pub loop-byte-init : goal.loop-byte-init
-loop-byte-init c = record { count = omega arith; reached = reached_start c.args.text.now c.started-state.result c.started-state.ensures }
+loop-byte-init c = record { count = omega arith; reached = reached_start step start c.args.text.now c.started-state.result c.started-state.ensures }
 
 pub loop-byte-preserved : goal.loop-byte-preserved
 loop-byte-preserved c = record {
   count = omega arith;
-  reached = reached_next c.args.text.now c.loop-byte.byte-index c.loop-byte.state c.in-Ok-Some.now (omega arith) c.loop-byte.invariant.reached (rw c.in-Ok-Some.field-0-is at c.in-Ok-Some.ensures);
+  reached = reached_next step start c.args.text.now c.loop-byte.byte-index c.loop-byte.state c.in-Ok-Some.now (omega arith) c.loop-byte.invariant.reached (rw c.in-Ok-Some.field-0-is at c.in-Ok-Some.ensures);
 }
 
 pub returns-in-Ok-None-clause-none : goal.returns-in-Ok-None-clause-none
@@ -21,7 +24,7 @@ pub returns-in-Ok-None-clause-place : goal.returns-in-Ok-None-clause-place
 returns-in-Ok-None-clause-place c = λ at e.
     let f : c.loop-byte.count ≡ at = cc in
     subst (λ (i : ℕ). IsFault IsPathText c.args.text.now i) (sym c.loop-byte.invariant.count ∙ f)
-    (fault_stop c.args.text.now c.loop-byte.byte-index c.loop-byte.state (omega arith) c.loop-byte.invariant.reached (rw c.in-Ok-None.field-0-is at c.in-Ok-None.ensures))
+    (fault_stop step start (IsViable IsPathText) EachLength tells c.args.text.now c.loop-byte.byte-index c.loop-byte.state (omega arith) tt c.loop-byte.invariant.reached (rw c.in-Ok-None.field-0-is at c.in-Ok-None.ensures))
 
 pub returns-in-Ok-Some-ended-clause-found : goal.returns-in-Ok-Some-ended-clause-found
 returns-in-Ok-Some-ended-clause-found c =
@@ -39,4 +42,4 @@ pub returns-in-Ok-None-ended-clause-place : goal.returns-in-Ok-None-ended-clause
 returns-in-Ok-None-ended-clause-place c = λ at e.
     let f : c.loop-byte.count ≡ at = cc in
     subst (λ (i : ℕ). IsFault IsPathText c.args.text.now i) (sym c.loop-byte.invariant.count ∙ f)
-    (fault_end c.args.text.now c.loop-byte.byte-index c.loop-byte.state (omega arith) c.loop-byte.invariant.reached)
+    (fault_end step start (IsViable IsPathText) EachLength tells c.args.text.now c.loop-byte.byte-index c.loop-byte.state (omega arith) tt c.loop-byte.invariant.reached)

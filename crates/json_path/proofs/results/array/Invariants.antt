@@ -1,5 +1,4 @@
 use Rattle.std.proofs.Common.{◌≡◌, ◌++◌, drop}
-use Rattle.json_text.specs.Trees.{json_of, items_of}
 use Rattle.json_path.specs.Seen.{seen}
 use Rattle.json_text.specs.Json.{list}
 use Rattle.json_text.specs.Written.{json_written}

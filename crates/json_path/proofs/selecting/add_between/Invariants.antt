@@ -1,5 +1,5 @@
 use Rattle.std.proofs.Common.{◌≡◌, ◌++◌, drop, pos}
-use Rattle.json_text.specs.Trees.{json_of, items_of}
+use Rattle.json_text.specs.Trees.{items_of}
 use Rattle.json_path.specs.Seen.{seen}
 use Rattle.json_text.specs.Json.{item_list}
 use Rattle.json_path.specs.Selecting.{elements_between}

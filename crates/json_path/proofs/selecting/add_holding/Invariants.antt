@@ -1,5 +1,4 @@
 use Rattle.std.proofs.Common.{◌≡◌, ◌++◌, drop, filter}
-use Rattle.json_text.specs.Trees.{json_of, items_of}
 use Rattle.json_path.specs.Seen.{seen}
 use Rattle.json_path.specs.Comparing.{condition_holds}
 use Rattle.json_path.proofs.selecting.add_holding.Given as goal

@@ -1,6 +1,6 @@
 use Rattle.std.proofs.Common.{◌≡◌, ◌++◌, drop, flat_map}
 use Rattle.std.specs.Option.{option_to_list}
-use Rattle.json_text.specs.Trees.{json_of, items_of}
+use Rattle.json_text.specs.Trees.{items_of}
 use Rattle.json_path.specs.Seen.{seen}
 use Rattle.json_text.specs.Json.{item_list}
 use Rattle.json_path.specs.Selecting.{element_at}

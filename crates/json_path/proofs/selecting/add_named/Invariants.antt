@@ -1,6 +1,6 @@
 use Rattle.std.proofs.Common.{◌≡◌, ◌++◌, drop, flat_map}
 use Rattle.std.specs.Option.{option_to_list}
-use Rattle.json_text.specs.Trees.{json_of, items_of}
+use Rattle.json_text.specs.Trees.{json_of}
 use Rattle.json_path.specs.Seen.{seen}
 use Rattle.json_path.specs.Comparing.{member_named}
 use Rattle.json_path.proofs.selecting.add_named.Given as goal

@@ -1,9 +1,7 @@
-use Rattle.std.proofs.Common.{◌≡◌, ap, sym, ◌∙◌, ℤ, rules, SFits}
+use Rattle.std.proofs.Common.{rules, SFits}
 use Rattle.std.specs.Int.{w128}
 use Rattle.std.proofs.lemmas.Int.{to_z-of_z}
-use Rattle.json_text.specs.Json.{item_list}
-use Rattle.json_text.specs.Trees.{items_of}
-use Rattle.json_path.specs.Selecting.{begins_at, ends_at, slice_of}
+use Rattle.json_path.specs.Selecting.{slice_of}
 use Rattle.json_path.proofs.SelectionLemmas.{as_many}
 use Rattle.json_path.proofs.selecting.add_slice.Goals as goal
 

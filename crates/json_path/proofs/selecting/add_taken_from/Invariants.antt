@@ -1,5 +1,4 @@
 use Rattle.std.proofs.Common.{◌≡◌, ◌++◌, drop, flat_map}
-use Rattle.json_text.specs.Trees.{json_of, items_of}
 use Rattle.json_path.specs.Seen.{seen}
 use Rattle.json_path.specs.Selecting.{taken_by}
 use Rattle.json_path.proofs.selecting.add_taken_from.Given as goal

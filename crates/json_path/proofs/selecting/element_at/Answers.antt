@@ -1,6 +1,6 @@
-use Rattle.std.proofs.Common.{◌≡◌, ap, sym, ◌∙◌, ℕ, ℤ, rules, arith, SFits, w64}
+use Rattle.std.proofs.Common.{ap, sym, ◌∙◌, ℕ, ℤ, rules, SFits, w64}
 use Rattle.std.specs.Int.{w128}
-use Rattle.std.proofs.lemmas.Int.{to_z-of_z, ints}
+use Rattle.std.proofs.lemmas.Int.{to_z-of_z}
 use Rattle.json_text.specs.Json.{item_list}
 use Rattle.json_text.specs.Trees.{items_of}
 use Rattle.json_path.specs.Selecting.{from_front, element_from_front}

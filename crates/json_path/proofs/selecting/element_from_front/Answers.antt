@@ -1,5 +1,5 @@
-use Rattle.std.proofs.Common.{◌≡◌, arith, pos}
-use Rattle.std.proofs.lemmas.Int.{to_z-of_z, ints}
+use Rattle.std.proofs.Common.{arith}
+use Rattle.std.proofs.lemmas.Int.{ints}
 use Rattle.json_path.proofs.SelectionLemmas.{there, not_there, out_of_range}
 use Rattle.json_path.proofs.selecting.element_from_front.Goals as goal
 

@@ -1,5 +1,5 @@
 use Rattle.std.proofs.Common.{◌≡◌, ◌∷◌, [], drop}
-use Rattle.json_text.specs.Trees.{json_of, items_of}
+use Rattle.json_text.specs.Trees.{json_of}
 use Rattle.json_path.specs.Seen.{seen}
 use Rattle.json_path.specs.Selecting.{selected_from}
 use Rattle.json_path.proofs.selecting.selected.Given as goal

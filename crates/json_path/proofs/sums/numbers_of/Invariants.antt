@@ -1,6 +1,5 @@
 use Rattle.std.proofs.Common.{◌≡◌, ◌++◌, drop}
 use Rattle.std.specs.Option.{option_map}
-use Rattle.json_text.specs.Trees.{json_of, items_of}
 use Rattle.json_path.specs.Seen.{seen}
 use Rattle.json_path.specs.Results.{numbers_of}
 use Rattle.json_path.proofs.sums.numbers_of.Given as goal

@@ -1,5 +1,5 @@
 use Rattle.std.proofs.Common.{arith, rules, sym, ◌≡◌, ℕ, subst, length}
-use Rattle.json_text.specs.Fault.{IsFault}
+use Rattle.byte_grammar.specs.Fault.{IsFault}
 use Rattle.json_text.specs.Grammar.{IsText}
 use Rattle.json_text.specs.Trees.{json_of}
 use Rattle.json_text.proofs.Complete.{one_value}

@@ -1,5 +1,5 @@
 use Rattle.std.proofs.Common.{arith}
-use Rattle.json_text.proofs.CharBytes.{encode_two, encode_three, encode_four}
+use Rattle.byte_grammar.proofs.Utf8Texts.{two as encode_two, three as encode_three, four as encode_four}
 use Rattle.json_text.proofs.string.push_char.Goals as goal
 
 pub returns-then-code-lt2048 : goal.returns-then-code-lt2048

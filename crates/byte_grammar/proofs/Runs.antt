@@ -1,16 +1,7 @@
 -- Runs of a machine over bytes, whatever the machine is.
-use Rattle.std.proofs.Common.{◌≡◌, ℕ, List, [], ◌∷◌, ◌++◌, refl, ap, sym, ◌∙◌, Option, Some, None, Bool, true}
-use Rattle.json_path.specs.Grammar.{Each}
-
--- one byte more
-abbrev pub move : {S : Type 0} → (S → ℕ → Option S) → Option S → ℕ → Option S
-move step None b = None
-move step (Some s) b = step s b
-
--- the bytes one by one
-unfoldable pub run : {S : Type 0} → (S → ℕ → Option S) → Option S → List ℕ → Option S
-run step s [] = s
-run step s (b ∷ bs) = run step (move step s b) bs
+use Rattle.std.proofs.Common.{◌≡◌, ℕ, zero, suc, ◌≤◌, ◌<◌, List, [], ◌∷◌, ◌++◌, length, take, get_or, refl, ap, sym, ◌∙◌, Option, Some, None, Bool, true, arith}
+use Rattle.byte_grammar.specs.Bytes.{Each}
+use Rattle.byte_grammar.specs.Runs.{move, run}
 
 pub run_none : {S : Type 0} (step : S → ℕ → Option S) (bs : List ℕ) → run step None bs ≡ None
 unfolding run
@@ -90,3 +81,27 @@ byte_on step s r b bs e = one_on step s b bs ∙ ap (λ o. run step o bs) e
 -- one byte alone
 pub byte_end : {S : Type 0} (step : S → ℕ → Option S) (s r : S) (b : ℕ) → step s b ≡ Some r → run step (Some s) (b ∷ []) ≡ Some r
 byte_end step s r b e = byte_on step s r b [] e ∙ run_end step (Some r)
+
+-- the front with one byte more
+pub run_more : {S : Type 0} (step : S → ℕ → Option S) (s : Option S) (bs : List ℕ) (i : ℕ) → i < length bs → run step s (take (suc i) bs) ≡ move step (run step s (take i bs)) (get_or bs i 0)
+unfolding run
+run_more step s [] i h = absurd (omega arith)
+run_more step s (b ∷ bs) zero h = refl
+run_more step s (b ∷ bs) (suc i) h = run_more step (move step s b) bs i (omega arith)
+
+-- a machine that has stopped doesn't go on
+pub none_on : {S : Type 0} (step : S → ℕ → Option S) (s : Option S) (bs : List ℕ) (m n : ℕ) → m ≤ n → run step s (take m bs) ≡ None → run step s (take n bs) ≡ None
+unfolding run
+none_on step s bs zero n h e = rw e (run_none step (take n bs))
+none_on step s [] (suc m) zero h e = e
+none_on step s [] (suc m) (suc n) h e = e
+none_on step s (b ∷ bs) (suc m) zero h e = absurd (omega arith)
+none_on step s (b ∷ bs) (suc m) (suc n) h e = none_on step (move step s b) bs m n (omega arith) e
+
+-- the first byte of a run, and the rest
+pub run_first : {S : Type 0} (step : S → ℕ → Option S) (s t : S) (b : ℕ) (bs : List ℕ) → run step (Some s) (b ∷ bs) ≡ Some t → (r : S) × (step s b ≡ Some r) × (run step (Some r) bs ≡ Some t)
+run_first {S} step s t b bs h = at (step s b) refl (sym (one_on step s b bs) ∙ h)
+  where
+    at : (o : Option S) → step s b ≡ o → run step o bs ≡ Some t → (r : S) × (step s b ≡ Some r) × (run step (Some r) bs ≡ Some t)
+    at None e g = absurd (let n = run_none step bs in cc)
+    at (Some r) e g = (r, e, g)

@@ -4,10 +4,11 @@ use Rattle.std.proofs.Common.{◌≡◌, ℕ, ◌+◌, ◌-◌, ◌*◌, ◌/◌
 use Rattle.std.proofs.lemmas.Bool.Decides.{nat_tests}
 use Rattle.std.proofs.lemmas.Bool.{and_parts, cases_lt}
 use Rattle.std.proofs.lemmas.Str.{IsUtf8-nil, IsUtf8-append, IsUtf8-encode}
-use Rattle.json_path.specs.declared.characters.Character.{Character}
-use Rattle.json_path.specs.declared.characters.Character.TheVariants.{Whole, One, Two, Three, BehindE0, BehindEd, BehindF0, BehindF4}
-use Rattle.json_path.specs.Tokens.{follow, between}
-use Rattle.json_path.proofs.Runs.{run, run_append, run_none}
+use Rattle.byte_grammar.specs.declared.characters.Character.{Character}
+use Rattle.byte_grammar.specs.declared.characters.Character.TheVariants.{Whole, One, Two, Three, BehindE0, BehindEd, BehindF0, BehindF4}
+use Rattle.byte_grammar.specs.Runs.{run}
+use Rattle.byte_grammar.specs.Utf8.{follow, between}
+use Rattle.byte_grammar.proofs.Runs.{run_append, run_none}
 
 -- a byte behind the first one of a character
 abbrev pub Follows : ℕ → Type 0
@@ -23,15 +24,15 @@ one : (c : ℕ) → c < 128 → encode c ≡ c ∷ []
 unfolding encode
 one c h = below c 128 _ _ h
 
-two : (c : ℕ) → 128 ≤ c → c < 2048 → encode c ≡ (192 + c / 64) ∷ next c ∷ []
+pub two : (c : ℕ) → 128 ≤ c → c < 2048 → encode c ≡ (192 + c / 64) ∷ next c ∷ []
 unfolding encode
 two c l h = above c 128 _ _ l ∙ below c 2048 _ _ h
 
-three : (c : ℕ) → 2048 ≤ c → c < 65536 → encode c ≡ (224 + c / 4096) ∷ next (c / 64) ∷ next c ∷ []
+pub three : (c : ℕ) → 2048 ≤ c → c < 65536 → encode c ≡ (224 + c / 4096) ∷ next (c / 64) ∷ next c ∷ []
 unfolding encode
 three c l h = above c 128 _ _ (omega arith) ∙ above c 2048 _ _ l ∙ below c 65536 _ _ h
 
-four : (c : ℕ) → 65536 ≤ c → encode c ≡ (240 + c / 262144) ∷ next (c / 4096) ∷ next (c / 64) ∷ next c ∷ []
+pub four : (c : ℕ) → 65536 ≤ c → encode c ≡ (240 + c / 262144) ∷ next (c / 4096) ∷ next (c / 64) ∷ next c ∷ []
 unfolding encode
 four c l = above c 128 _ _ (omega arith) ∙ above c 2048 _ _ (omega arith) ∙ above c 65536 _ _ l
 

@@ -1,0 +1,5 @@
+pub mod Bytes
+pub mod Runs
+pub mod Fault
+pub mod Utf8
+pub mod Meaning
