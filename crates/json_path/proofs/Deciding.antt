@@ -4,7 +4,7 @@ use Rattle.json_path.specs.declared.path.Path.{Path}
 use Rattle.json_path.specs.declared.places.State.{State}
 use Rattle.json_path.specs.Grammar.{IsPathText}
 use Rattle.json_path.specs.Machine.{step, ends, start}
-use Rattle.json_path.proofs.Runs.{run}
+use Rattle.byte_grammar.specs.Runs.{run}
 use Rattle.json_path.proofs.PathRuns.{ends_at, taken}
 use Rattle.json_path.proofs.Reaching.{sound}
 
