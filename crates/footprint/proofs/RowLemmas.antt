@@ -1,9 +1,8 @@
 -- Rows.
-use Rattle.std.proofs.Common.{◌≡◌, ◌<◌, ◌≤◌, ◌+◌, ◌∙◌, ℕ, zero, suc, ◌==◌, Bool, true, false, cond, ◌&&◌, ◌||◌, List, [], ◌∷◌, ◌++◌, length, get_or, set, map, filter, refl, sym, ap, subst, arith, eqb-true, eq-eqb, ne_eqb}
-use Rattle.std.specs.Prelude.{nat_le, nat_lt, replicate}
-use Rattle.std.specs.List.{list_any}
+use Rattle.std.proofs.Common.{◌≡◌, ◌<◌, ◌≤◌, ◌+◌, ◌∙◌, ℕ, zero, suc, ◌==◌, Bool, true, false, ◌&&◌, ◌||◌, List, [], ◌∷◌, ◌++◌, length, get_or, set, map, refl, sym, ap, arith, eqb-true, eq-eqb}
+use Rattle.std.specs.Prelude.{nat_lt, replicate}
 use Rattle.std.proofs.lemmas.List.Folds.{list_any-append}
-use Rattle.std.proofs.lemmas.Bool.{le-leb, lt-ltb, ltb-true}
+use Rattle.std.proofs.lemmas.Bool.{lt-ltb, ltb-true}
 use Rattle.zbx_types.specs.Masters.{has_id}
 use Rattle.footprint.specs.Rows.{row_at, those, is_in, is_one, IsNoted, IsTurned}
 use Rattle.footprint.proofs.IdLemmas.{lt_no, and_no, or_no, those_same, those_none}

@@ -1,5 +1,5 @@
 -- Found ids, sorted, and those of a list among them.
-use Rattle.std.proofs.Common.{◌≡◌, ◌<◌, ◌≤◌, ◌+◌, ◌∙◌, ℕ, zero, suc, ◌==◌, Bool, true, false, cond, ◌&&◌, ◌||◌, List, [], ◌∷◌, ◌++◌, length, get_or, filter, refl, sym, ap, subst, arith, eqb-true, eq-eqb, ne_eqb}
+use Rattle.std.proofs.Common.{◌≡◌, ◌<◌, ◌≤◌, ◌+◌, ◌∙◌, ℕ, suc, ◌==◌, Bool, true, false, cond, ◌&&◌, ◌||◌, List, [], ◌∷◌, length, get_or, filter, refl, sym, ap, arith, eqb-true, eq-eqb, ne_eqb}
 use Rattle.std.specs.Prelude.{nat_le, nat_lt}
 use Rattle.std.specs.Ordering.{nat_cmp}
 use Rattle.std.specs.List.{list_any, list_all, flat_map}
@@ -10,7 +10,7 @@ use Rattle.std.proofs.lemmas.Bool.{le-leb, lt-ltb, ltb-true, leb-true}
 use Rattle.zbx_types.specs.Ids.{ids_from}
 use Rattle.zbx_types.specs.Masters.{has_id}
 use Rattle.footprint.specs.Rows.{row_at, those, risen, held_by}
-use Rattle.footprint.proofs.IdLemmas.{lt_no, le_no, those_same, filter_from}
+use Rattle.footprint.proofs.IdLemmas.{lt_no, those_same, filter_from}
 
 -- each id is at most those behind it
 abbrev asc : List ℕ → Bool

@@ -1,6 +1,6 @@
 -- Tables of a configuration.
-use Rattle.std.proofs.Common.{◌≡◌, ◌<◌, ◌≤◌, ◌+◌, ◌-◌, ◌∙◌, ℕ, zero, suc, ◌==◌, Bool, true, false, cond, ◌&&◌, ◌||◌, List, [], ◌∷◌, ◌++◌, length, filter, map, drop, append_assoc, append-nil, Option, Some, None, refl, sym, ap, subst, arith, eqb-true, eq-eqb, ne_eqb}
-use Rattle.std.specs.Prelude.{nat_le, nat_lt, slice_get, is_some}
+use Rattle.std.proofs.Common.{◌≡◌, ◌<◌, ◌+◌, ◌-◌, ◌∙◌, ℕ, zero, suc, ◌==◌, Bool, true, false, cond, ◌&&◌, ◌||◌, List, [], ◌∷◌, ◌++◌, length, filter, map, drop, append_assoc, append-nil, Option, Some, None, refl, sym, ap, arith, eq-eqb, ne_eqb}
+use Rattle.std.specs.Prelude.{nat_lt, slice_get, is_some}
 use Rattle.std.specs.List.{list_any, list_all}
 use Rattle.std.proofs.lemmas.List.Folds.{list_any-append}
 use Rattle.std.proofs.lemmas.Bool.{lt-ltb, ltb-true}
@@ -8,14 +8,13 @@ use Rattle.zbx_types.specs.Ids.{at_id, ids_from}
 use Rattle.zbx_types.specs.Masters.{has_id, is_master, masters_of}
 use Rattle.zbx_types.specs.Reach.{reaches, in_reach}
 use Rattle.zbx_types.specs.declared.conf.Conf.{Conf}
-use Rattle.zbx_types.specs.declared.items.Item.{Item}
 use Rattle.zbx_types.specs.declared.rules.Rule.{Rule}
 use Rattle.zbx_types.specs.declared.triggers.Trigger.{Trigger}
 use Rattle.footprint.specs.Rows.{row_at, those, is_one, held_by, IsTable, RowsRise, rises, rows_from, table_of}
 use Rattle.footprint.specs.Feet.{chain, master_by, calls_by, is_under, under_of, is_of, over_of, is_over, foot_has_item, foot_has_trigger, foot_triggers, reach_by, is_reached, foot_has_mark, foot_marks, share_trigger, foot_meets_mark, Footing, told_by, feet_of}
 use mathlib.Core.Path.{fun_ext}
 use Rattle.footprint.specs.Reaches.{reached_from}
-use Rattle.footprint.proofs.IdLemmas.{those_same, any_same, any_those, any_filter, has_those, those_none, and_no}
+use Rattle.footprint.proofs.IdLemmas.{those_same, any_same, any_those, any_filter, has_those, those_none}
 use Rattle.footprint.proofs.RowLemmas.{row_map}
 
 pub reach_is : (rule : Rule) (trigger : Trigger) → in_reach rule trigger ≡ reaches rule.matching rule trigger.tags

@@ -1,5 +1,5 @@
 -- Rows of ids, and what they have in common.
-use Rattle.std.specs.Prelude.{◌≡◌, ℕ, ◌==◌, Bool, true, false, ◌&&◌, ◌||◌, nat_lt, nat_le, ◌+◌, if◌then◌else◌, List, [], ◌∷◌, filter, length, Option, slice_get}
+use Rattle.std.specs.Prelude.{◌≡◌, ℕ, ◌==◌, Bool, true, false, ◌&&◌, ◌||◌, nat_lt, nat_le, ◌+◌, if◌then◌else◌, List, [], ◌∷◌, filter, length, slice_get}
 use Rattle.std.specs.List.{list_any, list_all}
 use Rattle.std.specs.Option.{unwrap_or}
 use Rattle.zbx_types.specs.Ids.{ids_from}

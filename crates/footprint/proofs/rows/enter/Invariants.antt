@@ -1,6 +1,5 @@
-use Rattle.std.proofs.Common.{◌≡◌, ◌++◌, ◌+◌, drop, take, length, replicate, []}
-use Rattle.std.specs.List.{flat_map}
-use Rattle.footprint.specs.Rows.{row_at, risen, from_id, walk_meets, IsNoted, IsTurned}
+use Rattle.std.proofs.Common.{◌≡◌, take, length}
+use Rattle.footprint.specs.Rows.{IsNoted}
 use Rattle.footprint.proofs.rows.enter.Given as goal
 
 abbrev pub invariant-loop-id : goal.invariant-loop-id

@@ -1,9 +1,4 @@
-use Rattle.std.proofs.Common.{◌≡◌, ◌∙◌, ◌++◌, ◌+◌, ◌-◌, ◌<◌, ◌∷◌, [], ℕ, List, map, drop, take, length, replicate, refl, sym, ap, subst, arith}
-use Rattle.std.specs.Prelude.{IfOk, bytes_eq}
-use Rattle.std.specs.List.{list_any, flat_map}
-use Rattle.zbx_types.specs.Masters.{has_id, masters_of}
-use Rattle.footprint.specs.Rows.{row_at, those, risen, IsNoted, IsTurned, held_by, rows_from, table_of}
-use Rattle.std.proofs.lemmas.List.{length-append}
+use Rattle.std.proofs.Common.{◌∙◌, refl, arith}
 use Rattle.footprint.proofs.RowLemmas.{united_row, united_past}
 use Rattle.footprint.proofs.rows.united_all.Goals as goal
 

@@ -1,10 +1,6 @@
-use Rattle.std.proofs.Common.{◌≡◌, ◌∙◌, ◌++◌, ◌+◌, ◌-◌, ◌<◌, ◌∷◌, [], ℕ, List, map, drop, take, length, replicate, refl, sym, ap, subst, arith}
-use Rattle.zbx_types.specs.Ids.{at_id}
-use Rattle.zbx_types.specs.Masters.{has_id, masters_of}
-use Rattle.footprint.specs.Rows.{row_at, those, held_by, rows_from, table_of}
-use Rattle.footprint.specs.Feet.{chain}
-use Rattle.footprint.specs.Reaches.{reached_from}
-use Rattle.footprint.proofs.TableLemmas.{chain_stops, chain_ends, chain_goes, rows_go, length_rows, under_is, called_is, over_is, foot_items_are, foot_triggers_are, marks_are, met_are}
+use Rattle.std.proofs.Common.{◌∙◌, ◌∷◌, ap, arith}
+use Rattle.zbx_types.specs.Masters.{masters_of}
+use Rattle.footprint.proofs.TableLemmas.{rows_go}
 use Rattle.footprint.proofs.tables.families.Goals as goal
 
 pub loop-place-preserved : goal.loop-place-preserved

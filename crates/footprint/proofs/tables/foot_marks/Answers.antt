@@ -1,7 +1,5 @@
-use Rattle.std.proofs.Common.{◌≡◌, ◌∙◌, ◌++◌, ◌+◌, ◌-◌, ◌<◌, ◌∷◌, [], ℕ, List, map, drop, take, length, replicate, refl, sym, ap, subst, arith}
-use Rattle.footprint.specs.Rows.{row_at, those, held_by}
-use Rattle.footprint.proofs.TableLemmas.{marks_are, met_are, table_rises, feet_are}
-use Rattle.footprint.specs.Feet.{foot_has_item, foot_has_trigger, foot_has_mark, foot_meets_mark}
+use Rattle.std.proofs.Common.{◌∙◌, refl}
+use Rattle.footprint.proofs.TableLemmas.{marks_are, met_are}
 use Rattle.footprint.proofs.tables.foot_marks.Goals as goal
 
 pub returns-clause-own : goal.returns-clause-own
