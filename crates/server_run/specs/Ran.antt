@@ -65,8 +65,8 @@ pub record IsRun (words : List (List ℕ)) (before after : Objects) (began : Boo
   pub size : began ≡ true → SizeIs (course_of s).out before.outbox after.outbox (run_lines entries)
   pub printed : Prints s (run_counts entries) before.printer after.printer
   pub complete : (plan : Plan) (text : List ℕ) (conf : Conf) (all : List WireEvent) → plan_of words ≡ Some plan → before.source ≡ Some text → flat_of text ≡ Ok conf
-    → before.wire.left ≡ Some all → (served conf (start text) (take plan.turns all)).stop ≡ Some stop.Closed → NoneRose before after
-    → (s ≡ status.Ok) ⊎ (s ≡ status.OutOfMemory)
+      → before.wire.left ≡ Some all → (served conf (start text) (take plan.turns all)).stop ≡ Some stop.Closed → NoneRose before after
+      → (s ≡ status.Ok) ⊎ (s ≡ status.OutOfMemory)
 
 -- a status is that of a run over these objects
 abbrev pub IsStatusOf : List (List ℕ) → Objects → Status → Type 0

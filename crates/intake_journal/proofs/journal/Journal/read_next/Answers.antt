@@ -69,6 +69,8 @@ invariant_of-self-in-Ok-Next g c =
     (omega (arith, ensured.within, size), omega (arith, ensured.within, size, count, c.self.invariant.0), c.self.invariant.0.2) in
     let settled = settled_next g.D.Disk.bytes g.D.Disk.images g.D.Disk.moment g.D.Disk.images_since j.disk c.look.new.disk c.look.ensures.before j.state j.at j.entries c.in-Ok-Next.size entries c.self.invariant.1 reading ensured.told in
     let alike : (c.in-Ok-Next.size + 9 ≡ c.from.result + 9) × (length entries ≡ length c.as_slice.result.now) = (omega arith, sym count) in
-    let state = λ (n m : ℕ). IsSettled j.state (g.D.Disk.images c.look.new.disk) (j.at + n) (j.entries + m) (g.D.Disk.bytes c.look.new.disk) in
-    (small, subst (λ (m : ℕ). state (c.from.result + 9) m) alike.1 (subst (λ (n : ℕ). state n (length entries)) alike.0 settled),
-    λ _. subst (λ (o : Option (List ℕ)). IsAhead c.look.new.ahead o) (sym c.look.ensures.before.same) ensured.ahead)
+    let state = λ (n m : ℕ). IsSettled j.state (g.D.Disk.images c.look.new.disk) (j.at + n) (j.entries + m) (g.D.Disk.bytes c.look.new.disk) in (
+      small,
+      subst (λ (m : ℕ). state (c.from.result + 9) m) alike.1 (subst (λ (n : ℕ). state n (length entries)) alike.0 settled),
+      λ _. subst (λ (o : Option (List ℕ)). IsAhead c.look.new.ahead o) (sym c.look.ensures.before.same) ensured.ahead,
+    )
