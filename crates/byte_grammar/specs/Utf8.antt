@@ -1,8 +1,10 @@
 -- Characters in UTF-8 byte by byte.
-use Rattle.std.specs.Prelude.{ℕ, List, [], ◌∷◌, Option, Some, None, Bool, true, false, ◌==◌, nat_le, nat_lt, if◌then◌else◌}
+use Rattle.std.specs.Prelude.{ℕ, List, [], ◌∷◌, Option, Some, None, Bool, true, false, ◌==◌, nat_le, nat_lt}
+use Rattle.std.specs.Prelude.{if◌then◌else◌}
 use Rattle.byte_grammar.specs.Runs.{run}
 use Rattle.byte_grammar.specs.declared.characters.Character.{Character}
-use Rattle.byte_grammar.specs.declared.characters.Character.TheVariants.{Whole, One, Two, Three, BehindE0, BehindEd, BehindF0, BehindF4}
+use Rattle.byte_grammar.specs.declared.characters.Character.TheVariants.{Whole, One, Two, Three, BehindE0, BehindEd}
+use Rattle.byte_grammar.specs.declared.characters.Character.TheVariants.{BehindF0, BehindF4}
 
 -- the byte lies between these two
 abbrev pub between : ℕ → ℕ → ℕ → Bool

@@ -6,11 +6,13 @@ use Rattle.zbx_types.specs.declared.entries.Entry.TheVariants.{Config, Value, Ti
 use Rattle.footprint.specs.Rows.{meet}
 use Rattle.footprint.specs.Feet.{Footing, feet_of}
 
--- The feet of values of two items meet: in an item, in a trigger, or in a trigger that marks of both stand for. The foot
--- of an item that isn't there has that item alone.
+-- The feet of values of two items meet: in an item, in a trigger, or in a trigger that marks of both stand for. The
+-- foot of an item that isn't there has that item alone.
 abbrev pub feet_meet : Footing → ℕ → ℕ → Bool
 feet_meet feet a b =
-    (a == b) || (meet (feet.items a) (feet.items b) || (meet (feet.triggers a) (feet.triggers b) || meet (feet.marks a) (feet.met_marks b)))
+    (a == b)
+    || (meet (feet.items a) (feet.items b)
+    || (meet (feet.triggers a) (feet.triggers b) || meet (feet.marks a) (feet.met_marks b)))
 
 -- two entries conflict by these feet: a Config and a Tick touch everything
 abbrev pub conflict_by : Footing → Entry → Entry → Bool

@@ -1,5 +1,6 @@
 -- Feet: what the work on a value of an item may read or change (this project's own).
-use Rattle.std.specs.Prelude.{ℕ, zero, suc, ◌==◌, Bool, false, ◌&&◌, ◌||◌, List, [], ◌∷◌, Option, Some, None, if◌then◌else◌, length, is_some}
+use Rattle.std.specs.Prelude.{ℕ, zero, suc, ◌==◌, Bool, false, ◌&&◌, ◌||◌, List, [], ◌∷◌, Option, Some, None}
+use Rattle.std.specs.Prelude.{if◌then◌else◌, length, is_some}
 use Rattle.std.specs.List.{list_any}
 use Rattle.zbx_types.specs.Ids.{at_id, ids_from}
 use Rattle.zbx_types.specs.Masters.{has_id, is_master}
@@ -22,7 +23,8 @@ calls_by (Some trigger) = trigger.call_items
 -- an item, its master item, that one's, and so on: no chain without a cycle has more than all items
 unfoldable pub chain : Conf → ℕ → ℕ → List ℕ
 chain conf zero id = []
-chain conf (suc fuel) id = if is_some (at_id conf.items id) then id ∷ chain conf fuel (master_by (at_id conf.items id)) else []
+chain conf (suc fuel) id =
+    if is_some (at_id conf.items id) then id ∷ chain conf fuel (master_by (at_id conf.items id)) else []
 
 -- i is the item, or depends on it through any number of masters
 abbrev pub is_under : Conf → ℕ → ℕ → Bool
@@ -74,7 +76,8 @@ foot_marks conf item = those conf.correlations (foot_has_mark conf item)
 
 -- some trigger is in the reach of two rules
 abbrev pub share_trigger : Conf → ℕ → ℕ → Bool
-share_trigger conf rule other = list_any (λ u. is_reached conf rule u && is_reached conf other u) (ids_from 1 conf.triggers)
+share_trigger conf rule other =
+    list_any (λ u. is_reached conf rule u && is_reached conf other u) (ids_from 1 conf.triggers)
 
 -- the rules that share a trigger with a marked one
 abbrev pub foot_meets_mark : Conf → ℕ → ℕ → Bool
@@ -104,4 +107,9 @@ feet_of conf = record {
 
 -- the feet that tables tell
 abbrev pub told_by : FootTables → Footing
-told_by tables = record { items = row_at tables.items; triggers = row_at tables.triggers; marks = row_at tables.marks; met_marks = row_at tables.met_marks }
+told_by tables = record {
+  items = row_at tables.items;
+  triggers = row_at tables.triggers;
+  marks = row_at tables.marks;
+  met_marks = row_at tables.met_marks;
+}

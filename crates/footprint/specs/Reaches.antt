@@ -7,4 +7,5 @@ use Rattle.zbx_types.specs.declared.triggers.Trigger.{Trigger}
 -- their ids, where the first of these rules has this one
 abbrev pub reached_from : Trigger → ℕ → List Rule → List ℕ
 reached_from trigger id [] = []
-reached_from trigger id (rule ∷ rules) = if in_reach rule trigger then id ∷ reached_from trigger (id + 1) rules else reached_from trigger (id + 1) rules
+reached_from trigger id (rule ∷ rules) =
+    if in_reach rule trigger then id ∷ reached_from trigger (id + 1) rules else reached_from trigger (id + 1) rules

@@ -1,5 +1,6 @@
 -- Rows of ids, and what they have in common.
-use Rattle.std.specs.Prelude.{◌≡◌, ℕ, ◌==◌, Bool, true, false, ◌&&◌, ◌||◌, nat_lt, nat_le, ◌+◌, if◌then◌else◌, List, [], ◌∷◌, filter, length, slice_get}
+use Rattle.std.specs.Prelude.{◌≡◌, ℕ, ◌==◌, Bool, true, false, ◌&&◌, ◌||◌, nat_lt, nat_le, ◌+◌, if◌then◌else◌, List, []}
+use Rattle.std.specs.Prelude.{◌∷◌, filter, length, slice_get}
 use Rattle.std.specs.List.{list_any, list_all}
 use Rattle.std.specs.Option.{unwrap_or}
 use Rattle.zbx_types.specs.Ids.{ids_from}
@@ -73,8 +74,12 @@ walk_meets (x ∷ xs) ys = begins x (from_id x ys) || walk_meets xs (from_id x y
 
 -- one is added to the rows at some ids
 abbrev pub IsNoted : List (List ℕ) → List ℕ → ℕ → List (List ℕ) → Type 0
-IsNoted before ids one rows = (id x : ℕ) → has_id (row_at rows id) x ≡ (has_id (row_at before id) x || (is_in (length before) id && (has_id ids id && (one == x))))
+IsNoted before ids one rows =
+    (id x : ℕ)
+    → has_id (row_at rows id) x
+    ≡ (has_id (row_at before id) x || (is_in (length before) id && (has_id ids id && (one == x))))
 
 -- so many rows hold, of the first rows so many, those that hold their ids
 abbrev pub IsTurned : ℕ → ℕ → List (List ℕ) → List (List ℕ) → Type 0
-IsTurned count known rows turned = (id x : ℕ) → has_id (row_at turned id) x ≡ (is_in count id && (nat_lt x known && has_id (row_at rows x) id))
+IsTurned count known rows turned =
+    (id x : ℕ) → has_id (row_at turned id) x ≡ (is_in count id && (nat_lt x known && has_id (row_at rows x) id))

@@ -13,8 +13,8 @@ use std::alloc::Global;
 use std::marker::Model;
 use zbx_types::{Conf, Entry, Many, OutOfMemory};
 
-/// The feet of a configuration's items: for each item what the work on one of its values may read or change. Contracts see
-/// its tables, and read them by `told_by`: four functions from ids of items to rising ids.
+/// The feet of a configuration's items: for each item what the work on one of its values may read or change. Contracts
+/// see its tables, and read them by `told_by`: four functions from ids of items to rising ids.
 #[derive(Drop)]
 pub struct Feet {
     items: Vec<Many<u32>>,
@@ -37,8 +37,8 @@ impl Model for Feet {
 impl Feet {
     /// The feet of a configuration's items. [`OutOfMemory`] where there is no room for them.
     ///
-    /// Each trigger that one depends on must have a smaller depth, as a configuration without cycles has it. It takes time
-    /// nearly linear in the sum of the feet, and for each trigger with dependencies linear in the triggers.
+    /// Each trigger that one depends on must have a smaller depth, as a configuration without cycles has it. It takes
+    /// time nearly linear in the sum of the feet, and for each trigger with dependencies linear in the triggers.
     pub fn build(alloc: Global, conf: &Conf) -> Result<Feet, OutOfMemory>
         requires { DepthsFall conf.now }
         ensures { IfOk result (λ feet. told_by feet ≡ feet_of conf.now) }
@@ -55,8 +55,8 @@ impl Feet {
         })
     }
 
-    /// The items of an item's foot, rising: the item, its dependents, and the items of the triggers over these. None where
-    /// there is no such item.
+    /// The items of an item's foot, rising: the item, its dependents, and the items of the triggers over these. None
+    /// where there is no such item.
     pub fn items(&self, item: u32) -> &[u32]
         ensures row { result.now ≡ (told_by self.now).items item }
         ensures rising { rises result.now ≡ true }
@@ -88,8 +88,8 @@ impl Feet {
         row_at(self.met_marks.as_slice(), item)
     }
 
-    /// Whether the feet of values of two items meet: the items are the same, or an item, a trigger or a mark of the one is
-    /// one that the other's foot has or meets. Takes no memory; the time of a walk over both feet.
+    /// Whether the feet of values of two items meet: the items are the same, or an item, a trigger or a mark of the one
+    /// is one that the other's foot has or meets. Takes no memory; the time of a walk over both feet.
     pub fn meet(&self, a: u32, b: u32) -> bool
         ensures { result ≡ feet_meet (told_by self.now) a b }
     {

@@ -11,11 +11,11 @@
 //! marks       the rules of global correlation whose reach holds one of these triggers
 //! ```
 //!
-//! A mark stands for all triggers in its rule's reach. So two feet meet in an item, in a trigger, or in marks whose rules
-//! share a trigger. An item that isn't there has only itself in its foot.
+//! A mark stands for all triggers in its rule's reach. So two feet meet in an item, in a trigger, or in marks whose
+//! rules share a trigger. An item that isn't there has only itself in its foot.
 //!
-//! All is worked out once, as rows of rising ids per item. A test of two values then walks over short rows, and takes no
-//! memory; it never looks at all triggers. Building takes time nearly linear in the sum of the feet.
+//! All is worked out once, as rows of rising ids per item. A test of two values then walks over short rows, and takes
+//! no memory; it never looks at all triggers. Building takes time nearly linear in the sum of the feet.
 //!
 //! ```text
 //! let feet = Feet::build(alloc, &conf)?;        // of a configuration whose dependencies don't go in a cycle

@@ -1,6 +1,6 @@
 //! Rows of ids: one row for each id, and an empty one for 0.
 
-ghost use Rattle.std.specs.Prelude.{◌≡◌, ℕ, ◌+◌, ◌&&◌, ◌∷◌, ◌++◌, [], length, map, replicate, IfOk, OnOk};
+ghost use Rattle.std.specs.Prelude.{◌≡◌, ◌+◌, ◌&&◌, ◌∷◌, ◌++◌, [], length, map, replicate, IfOk, OnOk};
 ghost use Rattle.std.specs.List.{flat_map};
 ghost use Rattle.zbx_types.specs.Masters.{has_id};
 ghost use Rattle.footprint.specs.Rows.{row_at, those, is_one, risen, held_by, IsTable, IsNoted, IsTurned};

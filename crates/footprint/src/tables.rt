@@ -4,7 +4,8 @@ ghost use Rattle.std.specs.Prelude.{◌≡◌, [], ◌∷◌, length, map, is_so
 ghost use Rattle.zbx_types.specs.Ids.{at_id};
 ghost use Rattle.zbx_types.specs.Masters.{DepthsFall, masters_of};
 ghost use Rattle.footprint.specs.Rows.{those, table_of, IsTable};
-ghost use Rattle.footprint.specs.Feet.{master_by, chain, calls_by, under_of, over_of, foot_has_item, foot_triggers, foot_marks, foot_meets_mark};
+ghost use Rattle.footprint.specs.Feet.{master_by, chain, calls_by, under_of, over_of, foot_has_item, foot_triggers};
+ghost use Rattle.footprint.specs.Feet.{foot_marks, foot_meets_mark};
 ghost use Rattle.footprint.specs.Reaches.{reached_from};
 
 use crate::reach::reaching;

@@ -8,7 +8,9 @@ longest_key = 2048
 
 -- a letter, a digit, `_`, `-` or `.`
 abbrev pub is_name_byte : ℕ → Bool
-is_name_byte b = if nat_le 97 b then nat_le b 122 else if nat_le 65 b then (if nat_le b 90 then true else b == 95) else if nat_le 48 b then nat_le b 57 else if b == 45 then true else b == 46
+is_name_byte b =
+    if nat_le 97 b then nat_le b 122 else if nat_le 65 b then (if nat_le b 90 then true else b == 95)
+    else if nat_le 48 b then nat_le b 57 else if b == 45 then true else b == 46
 
 -- the byte of a space
 abbrev pub is_space : ℕ → Bool
@@ -30,8 +32,10 @@ Quoted before (b ∷ bs) = ((if b == 34 then before == 92 else true) ≡ true) �
 -- a parameter that is no list, with the spaces around it: nothing, plain bytes, or a text in quotes
 pub data IsPlain : List ℕ → Type 0 where
   nothing : (x : List ℕ) → Each is_space x → IsPlain x
-  bare : {t : List ℕ} (x : List ℕ) (b : ℕ) (bs : List ℕ) → Each is_space x → begins_bare b ≡ true → Each is_bare bs → t ≡ x ++ b ∷ bs → IsPlain t
-  quoted : {t : List ℕ} (x s y : List ℕ) → Each is_space x → Quoted 34 s → Each is_space y → t ≡ x ++ 34 ∷ (s ++ 34 ∷ y) → IsPlain t
+  bare : {t : List ℕ} (x : List ℕ) (b : ℕ) (bs : List ℕ) → Each is_space x → begins_bare b ≡ true → Each is_bare bs
+      → t ≡ x ++ b ∷ bs → IsPlain t
+  quoted : {t : List ℕ} (x s y : List ℕ) → Each is_space x → Quoted 34 s → Each is_space y → t ≡ x ++ 34 ∷ (s ++ 34 ∷ y)
+      → IsPlain t
 
 -- one or more, between commas
 pub data AreMany (P : List ℕ → Type 0) : List ℕ → Type 0 where
@@ -46,7 +50,8 @@ pub data IsParam : List ℕ → Type 0 where
 -- the text of a key, of whatever length: a name, or a name and parameters in brackets
 pub data IsKeyText : List ℕ → Type 0 where
   name : (b : ℕ) (bs : List ℕ) → is_name_byte b ≡ true → Each is_name_byte bs → IsKeyText (b ∷ bs)
-  with_params : {t : List ℕ} (b : ℕ) (bs v : List ℕ) → is_name_byte b ≡ true → Each is_name_byte bs → AreMany IsParam v → t ≡ (b ∷ bs) ++ 91 ∷ (v ++ 93 ∷ []) → IsKeyText t
+  with_params : {t : List ℕ} (b : ℕ) (bs v : List ℕ) → is_name_byte b ≡ true → Each is_name_byte bs → AreMany IsParam v
+      → t ≡ (b ∷ bs) ++ 91 ∷ (v ++ 93 ∷ []) → IsKeyText t
 
 -- a key: its text, within the limit
 abbrev pub IsKey : List ℕ → Type 0

@@ -1,5 +1,6 @@
 -- Keys byte by byte: the place in a key behind each front of it.
-use Rattle.std.specs.Prelude.{ℕ, List, [], ◌∷◌, ◌++◌, ◌≤◌, ◌<◌, ◌≡◌, take, Option, Some, None, Bool, true, false, ◌==◌, length, IsTrue, if◌then◌else◌}
+use Rattle.std.specs.Prelude.{ℕ, List, [], ◌∷◌, ◌++◌, ◌≤◌, ◌<◌, ◌≡◌, take, Option, Some, None, Bool, true, false, ◌==◌}
+use Rattle.std.specs.Prelude.{length, IsTrue, if◌then◌else◌}
 use Rattle.byte_grammar.specs.Runs.{run}
 use Rattle.item_key.specs.Grammar.{is_name_byte}
 use Rattle.item_key.specs.declared.places.Within.{Within}
@@ -11,7 +12,9 @@ use Rattle.item_key.specs.declared.places.Turn.TheVariants.{Stay, Comma, Close, 
 
 -- what a byte does to a parameter
 abbrev pub turn : Within → ℕ → Turn
-turn Before b = if b == 32 then Stay Before else if b == 34 then Stay Quoted else if b == 91 then Open else if b == 44 then Comma else if b == 93 then Close else Stay Bare
+turn Before b =
+    if b == 32 then Stay Before else if b == 34 then Stay Quoted else if b == 91 then Open else if b == 44 then Comma
+    else if b == 93 then Close else Stay Bare
 turn Bare b = if b == 44 then Comma else if b == 93 then Close else Stay Bare
 turn Quoted b = if b == 34 then Stay Behind else if b == 92 then Stay Escaped else Stay Quoted
 turn Escaped b = if b == 92 then Stay Escaped else Stay Quoted

@@ -12,9 +12,12 @@ pub record TellsKeys (place : Place) (answer : Bool) : Type 0 where
 
 -- the answer is none exactly where no key goes on with the byte behind a front that leads to the place
 pub record GoesOn (place : Place) (byte : ℕ) (answer : Option Place) : Type 0 where
-  pub on : (front : List ℕ) (behind : Place) → place_of front ≡ Some place → answer ≡ Some behind → place_of (front ++ byte ∷ []) ≡ Some behind
-  pub viable : (front : List ℕ) (behind : Place) → place_of front ≡ Some place → answer ≡ Some behind → IsViable IsKeyText (front ++ byte ∷ [])
-  pub stops : (front : List ℕ) → place_of front ≡ Some place → answer ≡ None → IsViable IsKeyText (front ++ byte ∷ []) → ⊥
+  pub on : (front : List ℕ) (behind : Place) → place_of front ≡ Some place → answer ≡ Some behind
+      → place_of (front ++ byte ∷ []) ≡ Some behind
+  pub viable : (front : List ℕ) (behind : Place) → place_of front ≡ Some place → answer ≡ Some behind
+      → IsViable IsKeyText (front ++ byte ∷ [])
+  pub stops : (front : List ℕ) → place_of front ≡ Some place → answer ≡ None
+      → IsViable IsKeyText (front ++ byte ∷ []) → ⊥
 
 -- each front that leads to the place is completed to a key by these bytes
 abbrev pub Completes : Place → List ℕ → Type 0

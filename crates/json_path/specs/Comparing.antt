@@ -1,5 +1,6 @@
 -- Conditions (the Zabbix 6.0 manual, "JSONPath functionality", filter expression).
-use Rattle.std.specs.Prelude.{ℕ, ℤ, int_lt, int_le, Bool, false, not, List, [], ◌∷◌, Option, Some, None, option_and_then}
+use Rattle.std.specs.Prelude.{ℕ, ℤ, int_lt, int_le, Bool, false, not, List, [], ◌∷◌, Option, Some, None}
+use Rattle.std.specs.Prelude.{option_and_then}
 use Rattle.std.specs.List.{find}
 use Rattle.std.specs.Option.{option_map, option_map_or}
 use Rattle.std.specs.Ordering.{int_eq}

@@ -1,6 +1,7 @@
 -- What stands inside values.
 use Rattle.std.specs.Prelude.{List, [], ◌∷◌, ◌++◌, map, ℕ}
-use Rattle.json_text.specs.Json.{Json, null, boolean, number, words, list, object, Items, no_items, item, item_list, Members, no_members, member, member_list}
+use Rattle.json_text.specs.Json.{Json, null, boolean, number, words, list, object, Items, no_items, item, item_list}
+use Rattle.json_text.specs.Json.{Members, no_members, member, member_list}
 
 -- the elements of an array, none of any other value
 abbrev pub elements_of : Json → List Json
@@ -38,10 +39,12 @@ abbrev mutual
   all_within (list js) = list js ∷ within_items js
   all_within (object ms) = object ms ∷ within_members ms
 
+  -- all values inside the items of an array, in order
   pub within_items : Items → List Json
   within_items no_items = []
   within_items (item j js) = all_within j ++ within_items js
 
+  -- all values inside the members of an object, in order
   pub within_members : Members → List Json
   within_members no_members = []
   within_members (member k j ms) = all_within j ++ within_members ms

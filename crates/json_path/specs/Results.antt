@@ -1,5 +1,6 @@
 -- What a path gives: the text of what it selects, or of what its function makes of that.
-use Rattle.std.specs.Prelude.{◌≡◌, ℕ, ℤ, pos, int_div, Bool, true, false, List, [], ◌∷◌, length, Option, Some, None, Result, Ok, Err, if◌then◌else◌, option_and_then, option_map}
+use Rattle.std.specs.Prelude.{◌≡◌, ℕ, ℤ, pos, int_div, Bool, true, false, List, [], ◌∷◌, length, Option, Some, None}
+use Rattle.std.specs.Prelude.{Result, Ok, Err, if◌then◌else◌, option_and_then, option_map}
 use Rattle.std.specs.List.{list_all}
 use Rattle.std.specs.Fmt.{decimal}
 use Rattle.zbx_types.specs.Numerals.{read_number}
@@ -24,6 +25,7 @@ is_single [] = false
 is_single (a ∷ []) = true
 is_single (a ∷ b ∷ rest) = false
 
+-- a selector of one name or of one place
 abbrev pub takes_one : Selector → Bool
 takes_one (Names names) = is_single names
 takes_one (Indexes places) = is_single places
@@ -53,7 +55,8 @@ abbrev pub items_from : List Json → Items
 items_from [] = no_items
 items_from (j ∷ js) = item j (items_from js)
 
--- a path without a function: a definite one gives its value, another one the array of its values; without any there is no match
+-- a path without a function: a definite one gives its value, another one the array of its values; without any there is
+-- no match
 abbrev pub plain_result : Bool → List Json → Result (List ℕ) SelectError
 plain_result definite [] = Err NoMatch
 plain_result true (j ∷ js) = Ok (bare_text j)
@@ -68,6 +71,7 @@ number_of (boolean b) = None
 number_of (list js) = None
 number_of (object ms) = None
 
+-- the numbers that all of these values are, none where one of them is no number
 abbrev pub numbers_of : List Json → Option (List ℤ)
 numbers_of [] = Some []
 numbers_of (j ∷ js) = option_and_then (λ z. option_map (λ zs. z ∷ zs) (numbers_of js)) (number_of j)
@@ -89,7 +93,8 @@ sum_result zs = number_result (in_range (total zs))
 -- the sum, in millionths, divided by how many there are, cut towards zero
 abbrev pub mean : List ℤ → Result (List ℕ) SelectError
 mean [] = Err NoMatch
-mean (z ∷ zs) = number_result (option_and_then (λ sum. in_range (int_div sum (pos (length (z ∷ zs))))) (in_range (total (z ∷ zs))))
+mean (z ∷ zs) =
+    number_result (option_and_then (λ sum. in_range (int_div sum (pos (length (z ∷ zs))))) (in_range (total (z ∷ zs))))
 
 -- what is made of the numbers, where each value is one
 abbrev pub of_numbers : (List ℤ → Result (List ℕ) SelectError) → Option (List ℤ) → Result (List ℕ) SelectError
@@ -131,6 +136,7 @@ called_result f definite [] = Err NoMatch
 called_result f true (j ∷ js) = function_of_array f (array_items j)
 called_result f false (j ∷ js) = function_result f (j ∷ js)
 
+-- what is given of the values that a path selects: with its function, or without one
 abbrev pub result_of : Option Function → Bool → List Json → Result (List ℕ) SelectError
 result_of None definite js = plain_result definite js
 result_of (Some f) definite js = called_result f definite js

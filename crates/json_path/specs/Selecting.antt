@@ -1,5 +1,6 @@
 -- What a path selects (the Zabbix 6.0 manual, "JSONPath functionality").
-use Rattle.std.specs.Prelude.{ℕ, ◌+◌, ℤ, pos, negsuc, ◌+ℤ◌, int_le, int_lt, Bool, true, false, ◌&&◌, List, [], ◌∷◌, ◌++◌, length, filter, flat_map, slice_get, Option, Some, None, if◌then◌else◌}
+use Rattle.std.specs.Prelude.{ℕ, ◌+◌, ℤ, pos, negsuc, ◌+ℤ◌, int_le, int_lt, Bool, true, false, ◌&&◌, List, [], ◌∷◌}
+use Rattle.std.specs.Prelude.{◌++◌, length, filter, flat_map, slice_get, Option, Some, None, if◌then◌else◌}
 use Rattle.std.specs.Option.{option_to_list}
 use Rattle.json_text.specs.Json.{Json}
 use Rattle.json_path.specs.Contents.{elements_of, contents_of, all_within}
@@ -27,11 +28,12 @@ element_from_front js (negsuc n) = None
 abbrev pub element_at : List Json → ℤ → Option Json
 element_at js place = element_from_front js (from_front (length js) place)
 
--- where a slice begins and ends
+-- where a slice begins: at the front, where no beginning is written
 abbrev pub begins_at : ℕ → Option ℤ → ℤ
 begins_at count None = pos 0
 begins_at count (Some place) = from_front count place
 
+-- where a slice ends: behind the last element, where no end is written
 abbrev pub ends_at : ℕ → Option ℤ → ℤ
 ends_at count None = pos count
 ends_at count (Some place) = from_front count place

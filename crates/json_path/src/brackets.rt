@@ -1,8 +1,9 @@
 //! What stands in the brackets of a segment, byte by byte.
 
 ghost use Rattle.std.specs.Prelude.{◌≡◌, ◌++◌, ◌∷◌, [], IfOk};
-ghost use Rattle.json_path.specs.Tokens.{quote, begin_quote, digit, begin_integer, integer};
-ghost use Rattle.json_path.specs.Machine.{behind_selector, behind_integers, colon, quote_begins, quote_goes, integer_goes, bound_goes, condition_goes, selector_begins, check, choose};
+ghost use Rattle.json_path.specs.Tokens.{quote, integer};
+ghost use Rattle.json_path.specs.Machine.{behind_selector, behind_integers, colon, quote_begins, quote_goes};
+ghost use Rattle.json_path.specs.Machine.{integer_goes, bound_goes, condition_goes, selector_begins, check, choose};
 
 use crate::conditions::{Checked, Checking, added, checked_on};
 use crate::integers::{Digits, counted, integer_begun, integer_of, is_decimal};

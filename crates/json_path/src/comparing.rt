@@ -1,10 +1,10 @@
 //! Conditions.
 
 ghost use Rattle.std.specs.Prelude.{◌≡◌, option_map};
-ghost use Rattle.zbx_types.specs.Numerals.{read_number};
 ghost use Rattle.json_text.specs.Trees.{json_of, members_of as tree_members_of};
 ghost use Rattle.json_text.specs.Json.{member_list};
-ghost use Rattle.json_path.specs.Comparing.{named_in, member_named, value_at, numbers_compare, known_compare, words_compare, literal_compare, condition_holds};
+ghost use Rattle.json_path.specs.Comparing.{named_in, member_named, value_at, numbers_compare, known_compare};
+ghost use Rattle.json_path.specs.Comparing.{words_compare, literal_compare, condition_holds};
 
 use crate::path::{Comparison, Condition, Literal};
 use json_text::{Member, Tree};

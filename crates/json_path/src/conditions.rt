@@ -1,8 +1,10 @@
 //! Conditions, byte by byte.
 
 ghost use Rattle.std.specs.Prelude.{◌≡◌, ◌++◌, ◌∷◌, [], ◌==◌, if◌then◌else◌, IfOk};
-ghost use Rattle.json_path.specs.Tokens.{quote, begin_quote, number_on, spell, checked};
-ghost use Rattle.json_path.specs.Machine.{behind_member, name_goes, name_ends, bracket_begins, bracket_goes, number_begins, operand, behind_literal, words_go, number_ends, number_goes, check};
+ghost use Rattle.json_path.specs.Tokens.{quote, number_on, spell};
+ghost use Rattle.json_path.specs.Machine.{behind_member, name_goes, name_ends, bracket_goes};
+ghost use Rattle.json_path.specs.Machine.{number_begins, operand, behind_literal, words_go, number_ends, number_goes};
+ghost use Rattle.json_path.specs.Machine.{check};
 
 use crate::numbers::{Numbering, Numeral, number_begun, numbered};
 use crate::path::{Comparison, Condition, Literal};

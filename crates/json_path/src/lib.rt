@@ -18,8 +18,8 @@
 //!
 //! Spaces, and no other blanks, may stand around each part in brackets; `?(` is one part. This project's own limits: a
 //! text has at most 65,535 bytes, and an integer is digits, perhaps behind `-`, for a number of 64 bits with its sign,
-//! so the digit that passes that is the place where no path goes on. The manual's arithmetic, regular expressions, `&&`,
-//! `||`, `!`, and conditions without a comparison or with a path at its right aren't of this grammar.
+//! so the digit that passes that is the place where no path goes on. The manual's arithmetic, regular expressions,
+//! `&&`, `||`, `!`, and conditions without a comparison or with a path at its right aren't of this grammar.
 //!
 //! ```text
 //! let tree = json_text::read(alloc, b"{\"load\": [0.5, 1]}")?;

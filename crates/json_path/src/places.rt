@@ -1,8 +1,10 @@
 //! Paths, byte by byte.
 
 ghost use Rattle.std.specs.Prelude.{◌≡◌, ◌++◌, ◌∷◌, [], ◌==◌, if◌then◌else◌, Some, None, IfOk};
-ghost use Rattle.json_path.specs.Tokens.{spell, checked};
-ghost use Rattle.json_path.specs.Machine.{choose, state, segment, behind_segment, member_goes, member_ends, function_of, call_begins, behind_name, selector_goes, behind_points, step_from, step, path_of, named_path, ends_from, ends, start};
+ghost use Rattle.json_path.specs.Tokens.{spell};
+ghost use Rattle.json_path.specs.Machine.{choose, state, segment, behind_segment, member_goes, member_ends};
+ghost use Rattle.json_path.specs.Machine.{function_of, call_begins, behind_name, selector_goes, behind_points};
+ghost use Rattle.json_path.specs.Machine.{step_from, step, path_of, named_path, ends, start};
 
 use crate::brackets::{Chosen, Within, chosen_on};
 use crate::path::{Function, Path, Segment, Selector};

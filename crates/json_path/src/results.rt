@@ -9,7 +9,10 @@ ghost use Rattle.std.specs.Fmt.{decimal};
 ghost use Rattle.json_text.specs.Json.{list};
 ghost use Rattle.json_text.specs.Trees.{json_of};
 ghost use Rattle.json_text.specs.Written.{json_written, comma_before};
-ghost use Rattle.json_path.specs.Results.{Gives, takes_one, is_definite_segment, is_definite, bare_text, items_from, plain_result, number_result, first_of_numbers, mean, of_numbers, numbers_of, sum_result, first_result, function_result, array_items, function_of_array, called_result, result_of, select_of};
+ghost use Rattle.json_path.specs.Results.{Gives, takes_one, is_definite_segment, is_definite, bare_text, items_from};
+ghost use Rattle.json_path.specs.Results.{plain_result, number_result, first_of_numbers, mean, of_numbers, numbers_of};
+ghost use Rattle.json_path.specs.Results.{sum_result, first_result, function_result, array_items, function_of_array};
+ghost use Rattle.json_path.specs.Results.{called_result, result_of, select_of};
 ghost use Rattle.json_path.specs.Seen.{seen};
 
 use crate::contents::add_items;
@@ -335,15 +338,16 @@ fn selection(alloc: Global, tree: &Tree, path: &Path) -> Result<Bytes, SelectErr
 
 /// What a path gives of a value (the Zabbix 6.0 manual, "JSONPath functionality").
 ///
-/// A path is definite where each segment is one name or one place, without `..`. A definite path gives the compact text of
-/// the value that it selects, a text without quotes; another one gives the compact array of its values. Without any value
-/// it is [`SelectError::NoMatch`], with a function too.
+/// A path is definite where each segment is one name or one place, without `..`. A definite path gives the compact text
+/// of the value that it selects, a text without quotes; another one gives the compact array of its values. Without any
+/// value it is [`SelectError::NoMatch`], with a function too.
 ///
 /// A function works on the elements of the array that a definite path selects ([`SelectError::NoMatch`] where it is no
-/// array), or on the values of another path. `length` gives their number, `first` the first one as a definite path gives
-/// it. `min`, `max`, `sum` and `avg` take numbers and texts that are number texts; where one isn't, or a result is above
-/// 10^24 without its sign, it is [`SelectError::NotNumber`]. Of no elements `length` and `sum` are 0, and the others
-/// [`SelectError::NoMatch`]. `avg` is the sum divided by the number, cut towards zero at six decimals (this project's own).
+/// array), or on the values of another path. `length` gives their number, `first` the first one as a definite path
+/// gives it. `min`, `max`, `sum` and `avg` take numbers and texts that are number texts; where one isn't, or a result
+/// is above 10^24 without its sign, it is [`SelectError::NotNumber`]. Of no elements `length` and `sum` are 0, and the
+/// others [`SelectError::NoMatch`]. `avg` is the sum divided by the number, cut towards zero at six decimals (this
+/// project's own).
 ///
 /// [`SelectError::OutOfMemory`] comes where there is no room, and for sums of more than 10^8 numbers.
 pub fn select(alloc: Global, tree: &Tree, path: &Path) -> Result<Bytes, SelectError>

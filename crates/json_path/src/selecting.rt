@@ -1,12 +1,13 @@
 //! What segments select.
 
-ghost use Rattle.std.specs.Prelude.{◌≡◌, ◌++◌, ◌∷◌, [], OnOk, IfOk, length, flat_map, filter, option_map, ◌+ℤ◌, ℤ, pos};
+ghost use Rattle.std.specs.Prelude.{◌≡◌, ◌++◌, ◌∷◌, [], OnOk, IfOk, flat_map, filter, option_map};
 ghost use Rattle.std.specs.Option.{option_to_list};
 ghost use Rattle.json_text.specs.Trees.{json_of, items_of};
 ghost use Rattle.json_text.specs.Json.{item_list};
-ghost use Rattle.json_path.specs.Contents.{contents_of, elements_of, all_within};
+ghost use Rattle.json_path.specs.Contents.{contents_of, elements_of};
 ghost use Rattle.json_path.specs.Comparing.{member_named, condition_holds};
-ghost use Rattle.json_path.specs.Selecting.{from_front, elements_between, element_from_front, element_at, begins_at, ends_at, slice_of, taken_by, reached_by, selected_by, selected_from};
+ghost use Rattle.json_path.specs.Selecting.{from_front, elements_between, element_from_front, element_at, begins_at};
+ghost use Rattle.json_path.specs.Selecting.{ends_at, slice_of, taken_by, reached_by, selected_by, selected_from};
 ghost use Rattle.json_path.specs.Seen.{seen};
 
 use crate::comparing::{condition_holds, member_named};

@@ -1,6 +1,6 @@
 //! Names and quoted texts, byte by byte.
 
-ghost use Rattle.std.specs.Prelude.{◌≡◌, IfOk, if◌then◌else◌};
+ghost use Rattle.std.specs.Prelude.{◌≡◌, IfOk};
 ghost use Rattle.json_path.specs.Grammar.{is_name_byte, mark};
 ghost use Rattle.json_path.specs.Tokens.{unspelt, spell, checked, quotation, quoting, closing, quote, begin_quote};
 

@@ -51,10 +51,12 @@ abbrev mutual
   json_size (list js) = items_size js + 1
   json_size (object ms) = members_size ms + 1
 
+  -- how many the items of an array are made of
   pub items_size : Items → ℕ
   items_size no_items = 1
   items_size (item j js) = json_size j + items_size js + 1
 
+  -- how many the members of an object are made of
   pub members_size : Members → ℕ
   members_size no_members = 1
   members_size (member k j ms) = json_size j + members_size ms + 1

@@ -79,7 +79,8 @@ member_made k (members ms ∷ ps) = ps
 -- the parts behind a node and those of the nodes after it
 abbrev made : ℕ → List ℕ → List Part → List Part
 made n s ps =
-    cond (n == 0) (value null ∷ ps) (cond (n == 1) (value (boolean false) ∷ ps) (cond (n == 2) (value (boolean true) ∷ ps)
+    cond (n == 0) (value null ∷ ps) (cond (n == 1) (value (boolean false) ∷ ps)
+    (cond (n == 2) (value (boolean true) ∷ ps)
     (cond (n == 3) (value (number s) ∷ ps) (cond (n == 4) (value (words s) ∷ ps) (cond (n == 5) (listed ps)
     (cond (n == 6) (objected ps) (cond (n == 7) (items no_items ∷ ps) (cond (n == 8) (item_made ps)
     (cond (n == 9) (members no_members ∷ ps) (member_made s ps))))))))))
@@ -102,11 +103,13 @@ mutual
 
   items_back : (js : Items) (rest : List Node) → parts (items_nodes js rest) ≡ items js ∷ parts rest
   items_back no_items rest = refl
-  items_back (item j js) rest = ap item_made (parts_back j (items_nodes js rest)) ∙ ap (item_onto j) (items_back js rest)
+  items_back (item j js) rest =
+      ap item_made (parts_back j (items_nodes js rest)) ∙ ap (item_onto j) (items_back js rest)
 
   members_back : (ms : Members) (rest : List Node) → parts (members_nodes ms rest) ≡ members ms ∷ parts rest
   members_back no_members rest = refl
-  members_back (member k j ms) rest = ap (member_made k) (parts_back j (members_nodes ms rest)) ∙ ap (member_onto k j) (members_back ms rest)
+  members_back (member k j ms) rest =
+      ap (member_made k) (parts_back j (members_nodes ms rest)) ∙ ap (member_onto k j) (members_back ms rest)
 
 -- the items in front, or none
 abbrev first_items : List Part → Items
@@ -133,12 +136,15 @@ first_value (value j ∷ ps) = j
 first_value (items js ∷ ps) = null
 first_value (members ms ∷ ps) = null
 
+-- a value comes back from its nodes
 pub value_again : (j : Json) → first_value (parts (nodes j [])) ≡ j
 value_again j = ap first_value (parts_back j [])
 
+-- items come back from theirs
 pub items_again : (js : Items) → first_items (parts (items_nodes js [])) ≡ js
 items_again js = ap first_items (items_back js [])
 
+-- members come back from theirs
 pub members_again : (ms : Members) → first_members (parts (members_nodes ms [])) ≡ ms
 members_again ms = ap first_members (members_back ms [])
 

@@ -30,18 +30,22 @@ abbrev mutual
   json_written (list js) = 91 ∷ items_written js
   json_written (object ms) = 123 ∷ members_written ms
 
+  -- the items behind `[`, with the bracket that closes them
   pub items_written : Items → List ℕ
   items_written no_items = 93 ∷ []
   items_written (item j js) = json_written j ++ more_items js
 
+  -- the items behind the first one, each after a comma
   pub more_items : Items → List ℕ
   more_items no_items = 93 ∷ []
   more_items (item j js) = 44 ∷ (json_written j ++ more_items js)
 
+  -- the members behind `{`, with the bracket that closes them
   pub members_written : Members → List ℕ
   members_written no_members = 125 ∷ []
   members_written (member k j ms) = (in_quotes k ++ 58 ∷ json_written j) ++ more_members ms
 
+  -- the members behind the first one, each after a comma
   pub more_members : Members → List ℕ
   more_members no_members = 125 ∷ []
   more_members (member k j ms) = 44 ∷ ((in_quotes k ++ 58 ∷ json_written j) ++ more_members ms)

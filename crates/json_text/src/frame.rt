@@ -1,6 +1,6 @@
 //! What was read so far: values, and the containers that are open.
 
-ghost use Rattle.std.specs.Prelude.{◌≡◌, ◌∷◌, [], length, Some, None, OnOk, IfOk, option_map};
+ghost use Rattle.std.specs.Prelude.{◌≡◌, ◌∷◌, [], length, OnOk};
 ghost use Rattle.json_text.specs.Parts.{IsPopped};
 ghost use Rattle.json_text.specs.Trees.{json_of};
 

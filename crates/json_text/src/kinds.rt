@@ -1,6 +1,6 @@
 //! Kinds of bytes.
 
-ghost use Rattle.std.specs.Prelude.{◌≡◌, ◌<◌, ◌≤◌, ◌^◌};
+ghost use Rattle.std.specs.Prelude.{◌≡◌, ◌<◌};
 ghost use Rattle.json_text.specs.Bytes.{is_blank as blank_test, is_digit as digit_test, is_e as e_test};
 ghost use Rattle.json_text.specs.Bytes.{is_sign as sign_test, is_hex as hex_test, hex_value as hex_number};
 ghost use Rattle.json_text.specs.Bytes.{hex_code as code_number, paired as pair_number, short_escape};

@@ -28,8 +28,8 @@ pub enum ReadError {
 /// whichever they are.
 ///
 /// `Ok` is the value that the text is, and no other is. At most 64 brackets are open at one place (this project's own);
-/// the 65th has no place. Numbers keep their text, a surrogate escape stands only in a pair of a high and a low one, and
-/// a repeated name puts the later value in the earlier place (this project's own).
+/// the 65th has no place. Numbers keep their text, a surrogate escape stands only in a pair of a high and a low one,
+/// and a repeated name puts the later value in the earlier place (this project's own).
 ///
 /// [`ReadError::At`] comes exactly where the text is no value; [`ReadError::OutOfMemory`] where memory is refused.
 pub fn read(alloc: Global, bytes: &[u8]) -> Result<Tree, ReadError>

@@ -2,7 +2,6 @@
 
 ghost use Rattle.std.specs.Prelude.{◌≡◌, ◌++◌, ◌∷◌, [], ◌<◌, if◌then◌else◌, None, Some, IfOk, OnOk};
 ghost use Rattle.std.specs.Char.{encode_utf8};
-ghost use Rattle.byte_grammar.specs.Utf8.{follow};
 ghost use Rattle.json_text.specs.Tokens.{on, if_hex as hex_on, at_character as place_of, character_on, string_step};
 ghost use Rattle.json_text.specs.declared.string.InString.TheVariants.{Between, Escaped, Hex, HexD};
 

@@ -1,10 +1,10 @@
 //! Writing of JSON texts.
 
-ghost use Rattle.std.specs.Prelude.{◌≡◌, ◌++◌, ◌∷◌, [], ◌<◌, List, ℕ, OnOk, OnErr};
+ghost use Rattle.std.specs.Prelude.{◌≡◌, ◌++◌, ◌∷◌, ◌<◌, List, ℕ, OnOk, OnErr};
 ghost use Rattle.std.specs.Char.{digit_char};
 ghost use Rattle.json_text.specs.Grammar.{IsJson};
 ghost use Rattle.json_text.specs.Parts.{IsGrown};
-ghost use Rattle.json_text.specs.Trees.{json_of, items_of, members_of};
+ghost use Rattle.json_text.specs.Trees.{json_of};
 ghost use Rattle.json_text.specs.Written.{comma_before, escaped_byte, in_quotes, json_written, items_written};
 ghost use Rattle.json_text.specs.Written.{member_written, members_written};
 

@@ -34,11 +34,14 @@ pub record AreNew (conf : Conf) (made : Cells) : Type 0 where
   pub cells : kept_in made ≡ map empty (keeps_of conf)
   pub memories : made.memories.items ≡ map no_marks conf.items
 
--- what some visits make of the cells at a moment: each item that is visited keeps what it stores, and its steps what they
--- remember then; nothing else changes
+-- what some visits make of the cells at a moment: each item that is visited keeps what it stores, and its steps what
+-- they remember then; nothing else changes
 pub record Becomes (now time number : ℕ) (visits : List Visit) (before after : Cells) : Type 0 where
-  pub cells : (id : ℕ) → at_id (kept_in after) id ≡ option_map (kept_after now time number (visit_at visits id)) (at_id (kept_in before) id)
-  pub memories : (id : ℕ) → at_id after.memories.items id ≡ option_map (marks_after (visit_at visits id)) (at_id before.memories.items id)
+  pub cells : (id : ℕ)
+      → at_id (kept_in after) id ≡ option_map (kept_after now time number (visit_at visits id))
+      (at_id (kept_in before) id)
+  pub memories : (id : ℕ)
+      → at_id after.memories.items id ≡ option_map (marks_after (visit_at visits id)) (at_id before.memories.items id)
 
 -- what an entry's value is to leave, over the memories of the cells
 abbrev pub visits_in : Conf → Cells → Arrival → List Visit

@@ -26,15 +26,18 @@ use Rattle.preprocess.specs.declared.chain.Chained.{Chained}
 
 -- what a step of any kind makes of a value that came at a moment, with its memory before it
 abbrev pub made_by : StepKind → StepSpec → StepMemory → List ℕ → ℕ → StepDone
-made_by JsonPath step memory value time = kept memory (selected (found_in (json_in value) (path_in (parameter step.params 0))))
-made_by JsonError step memory value time = kept memory (json_checked (found_in (json_in value) (path_in (parameter step.params 0))) value)
+made_by JsonPath step memory value time =
+    kept memory (selected (found_in (json_in value) (path_in (parameter step.params 0))))
+made_by JsonError step memory value time =
+    kept memory (json_checked (found_in (json_in value) (path_in (parameter step.params 0))) value)
 made_by _ step memory value time = done_of step memory value time
 
 unfoldable pub step_done : StepSpec → StepMemory → List ℕ → ℕ → StepDone
 step_done step memory value time = made_by step.kind step memory value time
 
--- what comes of a failure at the step with this number, counted from 1 (the Zabbix 6.0 manual, "Item value preprocessing",
--- custom on fail): its text behind the step's number, nothing, the step's own text as the value, or as the error
+-- what comes of a failure at the step with this number, counted from 1 (the Zabbix 6.0 manual, "Item value
+-- preprocessing", custom on fail): its text behind the step's number, nothing, the step's own text as the value, or as
+-- the error
 abbrev pub on_failure : OnFail → ℕ → List ℕ → List ℕ → Outcome
 on_failure on_fail.Empty k text why = Fail (codes "step " ++ (decimal k ++ (codes ": " ++ why)))
 on_failure on_fail.Discard k text why = Discard
@@ -73,10 +76,11 @@ unfoldable pub marks_of : List StepSpec → ℕ → (ℕ → StepMemory) → Lis
 marks_of [] k memory value time = []
 marks_of (step ∷ steps) k memory value time =
     (step_done step (memory k) value time).memory
-    ∷ where_on (λ v. marks_of steps (k + 1) memory v time) (unreached steps (k + 1) memory) (settled step k (step_done step (memory k) value time).outcome)
+    ∷ where_on (λ v. marks_of steps (k + 1) memory v time) (unreached steps (k + 1) memory)
+    (settled step k (step_done step (memory k) value time).outcome)
 
--- the last reading of a number item: its value is the number that the text writes between blanks, and its text that number
--- written (this project's own)
+-- the last reading of a number item: its value is the number that the text writes between blanks, and its text that
+-- number written (this project's own)
 abbrev pub number_ended : Option ℤ → Ended
 number_ended None = Failed (codes "value: not a number")
 number_ended (Some z) = Stored (NumberHeld z) (written z)

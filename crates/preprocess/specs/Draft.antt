@@ -1,5 +1,6 @@
 -- What the visits of an entry's value leave.
-use Rattle.std.specs.Prelude.{◌≢◌, ◌<◌, ℕ, ◌==◌, List, [], ◌∷◌, filter_map, Option, Some, None, IfSome, if◌then◌else◌, ⊤}
+use Rattle.std.specs.Prelude.{◌≢◌, ◌<◌, ℕ, ◌==◌, List, [], ◌∷◌, filter_map, Option, Some, None, IfSome, if◌then◌else◌}
+use Rattle.std.specs.Prelude.{⊤}
 use Rattle.std.specs.List.{AllByRecursion}
 use Rattle.zbx_types.specs.Ids.{at_id}
 use Rattle.zbx_types.specs.declared.conf.Conf.{Conf}

@@ -25,7 +25,10 @@ pub record Taken : Type 0 where
 unfoldable pub marks_behind : Conf → List Taken → ℕ → List StepMemory
 marks_behind conf [] id = option_map_or no_marks (at_id conf.items id) []
 marks_behind conf (t ∷ log) id =
-    option_map_or (λ item. marks_after (visit_at (visits_of conf (λ i k. memory_at (marks_behind conf log i) k) t.arrival) id) (marks_behind conf log id)) (at_id conf.items id) []
+    option_map_or (λ item. marks_after
+    (visit_at (visits_of conf (λ i k. memory_at (marks_behind conf log i) k) t.arrival) id)
+    (marks_behind conf log id))
+    (at_id conf.items id) []
 
 abbrev pub memory_behind : Conf → List Taken → ℕ → ℕ → StepMemory
 memory_behind conf log id k = memory_at (marks_behind conf log id) k
@@ -46,16 +49,19 @@ insert_of now (Some stored) = record { stored = stored; now = now } ∷ []
 -- all values that a log stores of an item, each with the moment at which it was stored, the newest first
 unfoldable pub inserts_behind : Conf → List Taken → ℕ → List Insert
 inserts_behind conf [] id = []
-inserts_behind conf (t ∷ log) id = insert_of t.now (stored_of t (visit_behind conf log t id)) ++ inserts_behind conf log id
+inserts_behind conf (t ∷ log) id =
+    insert_of t.now (stored_of t (visit_behind conf log t id)) ++ inserts_behind conf log id
 
 -- what an item keeps behind a log: of these values what later windows can ask for
 abbrev pub kept_behind : Conf → List Taken → ℕ → Kept
-kept_behind conf log id = record { keep = keep_of conf id; values = trimmed_of (keep_of conf id) (inserts_behind conf log id) }
+kept_behind conf log id =
+    record { keep = keep_of conf id; values = trimmed_of (keep_of conf id) (inserts_behind conf log id) }
 
 -- the cells hold, of each item, what the search of the log finds
 pub record HoldLog (conf : Conf) (log : List Taken) (cells : Cells) : Type 0 where
   pub kept : (id : ℕ) → at_id (kept_in cells) id ≡ option_map (λ item. kept_behind conf log id) (at_id conf.items id)
-  pub memories : (id : ℕ) → at_id cells.memories.items id ≡ option_map (λ item. marks_behind conf log id) (at_id conf.items id)
+  pub memories : (id : ℕ)
+      → at_id cells.memories.items id ≡ option_map (λ item. marks_behind conf log id) (at_id conf.items id)
 
 -- new cells hold the log without values
 abbrev pub HoldNothing : Type 0
@@ -64,4 +70,5 @@ HoldNothing = (conf : Conf) (cells : Cells) → AreNew conf cells → HoldLog co
 -- cells that hold a log, behind one more value, hold the log with that value
 abbrev pub HoldOneMore : Type 0
 HoldOneMore = (conf : Conf) (log : List Taken) (t : Taken) (before after : Cells) → HoldLog conf log before
-    → Becomes t.now t.arrival.time t.number (visits_in conf before t.arrival) before after → HoldLog conf (t ∷ log) after
+    → Becomes t.now t.arrival.time t.number (visits_in conf before t.arrival) before after
+    → HoldLog conf (t ∷ log) after

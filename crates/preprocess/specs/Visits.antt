@@ -1,6 +1,7 @@
--- The value of an entry on its way through its item and the items that depend on it: what comes to each item is found by a
--- search up its masters.
-use Rattle.std.specs.Prelude.{ℕ, zero, suc, ◌==◌, List, [], ◌∷◌, length, flat_map, filter_map, Option, Some, None, IfSome, option_map, if◌then◌else◌}
+-- The value of an entry on its way through its item and the items that depend on it: what comes to each item is found
+-- by a search up its masters.
+use Rattle.std.specs.Prelude.{ℕ, zero, suc, ◌==◌, List, [], ◌∷◌, length, flat_map, filter_map, Option, Some, None}
+use Rattle.std.specs.Prelude.{IfSome, option_map, if◌then◌else◌}
 use Rattle.zbx_types.specs.Ids.{at_id}
 use Rattle.zbx_types.specs.Items.{is_trapper_kind}
 use Rattle.zbx_types.specs.declared.conf.Conf.{Conf}
@@ -53,7 +54,10 @@ came_by arrival id given (Some item) =
 unfoldable pub came : Conf → (ℕ → ℕ → StepMemory) → Arrival → ℕ → ℕ → Option (List ℕ)
 came conf memory arrival zero id = came_by arrival id (λ master. None) (at_id conf.items id)
 came conf memory arrival (suc up) id =
-    came_by arrival id (λ master. text_of (chained_by (memory master) arrival.time (at_id conf.items master) (came conf memory arrival up master))) (at_id conf.items id)
+    came_by arrival id
+    (λ master. text_of (chained_by (memory master) arrival.time (at_id conf.items master)
+    (came conf memory arrival up master)))
+    (at_id conf.items id)
 
 -- what an item's chain makes of an entry's value, if it comes to the item
 unfoldable pub result_of : Conf → (ℕ → ℕ → StepMemory) → Arrival → ℕ → Option Chained
@@ -77,7 +81,8 @@ visit_of id chained = record { item = id; outcome = outcome_of chained.end; mark
 -- the visits of an entry's value, in their order: those of the items to which it comes
 unfoldable pub visits_of : Conf → (ℕ → ℕ → StepMemory) → Arrival → List Visit
 visits_of conf memory arrival =
-    filter_map (λ id. option_map (visit_of id) (result_of conf memory arrival id)) (visited conf (length conf.items) arrival.item)
+    filter_map (λ id. option_map (visit_of id) (result_of conf memory arrival id))
+    (visited conf (length conf.items) arrival.item)
 
 -- the pattern of each step of each item is among these
 abbrev pub ArePatternsOf : Conf → List (List ℕ) → Type 0

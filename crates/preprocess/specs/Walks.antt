@@ -1,5 +1,6 @@
 -- The same visits as they are made: a value is carried down to the dependents.
-use Rattle.std.specs.Prelude.{ℕ, zero, suc, Bool, false, List, [], ◌++◌, flat_map, Option, Some, None, option_map, option_to_list}
+use Rattle.std.specs.Prelude.{ℕ, zero, suc, Bool, false, List, [], ◌++◌, flat_map, Option, Some, None, option_map}
+use Rattle.std.specs.Prelude.{option_to_list}
 use Rattle.zbx_types.specs.Ids.{at_id}
 use Rattle.zbx_types.specs.Items.{is_trapper_kind}
 use Rattle.zbx_types.specs.declared.conf.Conf.{Conf}
@@ -27,7 +28,8 @@ unfoldable pub walk : Conf → (ℕ → ℕ → StepMemory) → ℕ → ℕ → 
 walk conf memory time zero id value = own_visit conf memory time id value
 walk conf memory time (suc down) id value =
     own_visit conf memory time id value
-    ++ with_text (λ text. flat_map (λ d. walk conf memory time down d text) (dependents_of conf id)) (given conf memory time id value)
+    ++ with_text (λ text. flat_map (λ d. walk conf memory time down d text) (dependents_of conf id))
+    (given conf memory time id value)
 
 -- a value at some items, one level down
 unfoldable pub walk_below : Conf → (ℕ → ℕ → StepMemory) → ℕ → ℕ → List ℕ → List ℕ → List Visit

@@ -1,5 +1,6 @@
 -- What the steps of a chain are given.
-use Rattle.std.specs.Prelude.{◌≡◌, ℕ, ◌-◌, Bool, true, not, List, Option, None, All, Contains, map, slice_index_or, if◌then◌else◌}
+use Rattle.std.specs.Prelude.{◌≡◌, ℕ, ◌-◌, Bool, true, not, List, Option, None, All, Contains, map, slice_index_or}
+use Rattle.std.specs.Prelude.{if◌then◌else◌}
 use Rattle.zbx_types.specs.Steps.{has_pattern}
 use Rattle.std.specs.List.{list_all}
 use Rattle.zbx_types.specs.declared.items.Item.{Item}

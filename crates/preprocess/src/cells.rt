@@ -2,7 +2,6 @@
 
 ghost use Rattle.std.specs.Prelude.{◌≡◌, IfOk, OnOk, map, option_copied, ℕ};
 ghost use Rattle.zbx_types.specs.Ids.{at_id};
-ghost use Rattle.prep_steps.specs.Outcomes.{unmarked};
 ghost use Rattle.preprocess.specs.Cells.{AreNew, empty, no_marks};
 ghost use Rattle.preprocess.specs.Draft.{kept_of, HasRoom};
 
@@ -54,8 +53,8 @@ fn all_marks(alloc: Global, items: &[Item]) -> Result<Vec<Many<StepMemory>>, Out
 }
 
 impl Cells {
-    /// The cells before the first entry of a configuration: without values, and no step has a mark. Each cell is to keep
-    /// what the calls of the configuration ask for. [`OutOfMemory`] where there is no room for them.
+    /// The cells before the first entry of a configuration: without values, and no step has a mark. Each cell is to
+    /// keep what the calls of the configuration ask for. [`OutOfMemory`] where there is no room for them.
     pub fn new(alloc: Global, conf: &Conf) -> Result<Cells, OutOfMemory>
         ensures { IfOk result (λ cells. AreNew conf.now cells) }
     {

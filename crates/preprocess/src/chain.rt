@@ -1,10 +1,7 @@
 //! One item's chain over one value.
 
 ghost use Rattle.std.specs.Prelude.{◌≡◌, ◌+◌, ◌++◌, IfOk, drop, map, slice_index_or};
-ghost use Rattle.zbx_types.specs.Steps.{has_pattern};
-ghost use Rattle.prep_steps.specs.Outcomes.{kept};
-ghost use Rattle.preprocess.specs.Chain.{ended_as, chain_of, comes_of, marks_of, unreached};
-ghost use Rattle.preprocess.specs.Parsing.{IsParsed};
+ghost use Rattle.preprocess.specs.Chain.{chain_of, comes_of, marks_of, unreached};
 ghost use Rattle.preprocess.specs.Ways.{way_for, memory_at, HavePatterns};
 
 use crate::ended::{Ended, end};
@@ -117,12 +114,12 @@ fn pass_steps(
     })
 }
 
-/// What an item's chain makes of a value that came at a moment (the Zabbix 6.0 manual, "Item value preprocessing"; texts of
-/// failures, the limit of 65,535 bytes and the last reading of a number are this project's own).
+/// What an item's chain makes of a value that came at a moment (the Zabbix 6.0 manual, "Item value preprocessing";
+/// texts of failures, the limit of 65,535 bytes and the last reading of a number are this project's own).
 ///
-/// `memories` is what the steps remember of the item's values so far, in the order of the steps; `ways` are those of the
-/// steps, as [`crate::ways_of`] gives them. A step that discards or fails ends the chain, unless its `on_fail` sets a
-/// value, with which the chain goes on behind it. A step's memory changes as the step says, also where a later step
+/// `memories` is what the steps remember of the item's values so far, in the order of the steps; `ways` are those of
+/// the steps, as [`crate::ways_of`] gives them. A step that discards or fails ends the chain, unless its `on_fail` sets
+/// a value, with which the chain goes on behind it. A step's memory changes as the step says, also where a later step
 /// discards the value or fails. [`OutOfMemory`] where there is no room for the results.
 #[tactic(auto, unfolding(crate::specs::Chain::chain_of))]
 pub fn run_chain(

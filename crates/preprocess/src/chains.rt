@@ -10,8 +10,8 @@ use pattern_set::Patterns;
 use std::alloc::Global;
 use zbx_types::{Conf, Item, Many, OutOfMemory, by_id, id_of};
 
-/// What is found of a configuration's items once, so that no value has to seek or read it: the enabled dependents of each
-/// item, and the ways of its steps.
+/// What is found of a configuration's items once, so that no value has to seek or read it: the enabled dependents of
+/// each item, and the ways of its steps.
 #[derive(Drop)]
 pub struct Chains {
     below: Vec<Many<u32>>,

@@ -1,9 +1,10 @@
 //! What an entry's value is to leave: prepared, and then put in place.
 
-ghost use Rattle.std.specs.Prelude.{◌≡◌, ◌≢◌, IfOk, OnOk, OnErr, map, ℕ};
+ghost use Rattle.std.specs.Prelude.{◌≡◌, IfOk, OnOk, map};
 ghost use Rattle.preprocess.specs.Cells.{AreSame, Becomes, draft_of};
 ghost use Rattle.preprocess.specs.Chains.{AreChainsOf};
-ghost use Rattle.preprocess.specs.Draft.{AreApart, HasRoom, HaveRoom, kept_of, name_of, failure_of, failures_of, stored_id, stored_ids};
+ghost use Rattle.preprocess.specs.Draft.{AreApart, HaveRoom, kept_of, name_of, failure_of, failures_of};
+ghost use Rattle.preprocess.specs.Draft.{stored_id, stored_ids};
 ghost use Rattle.preprocess.specs.Visits.{ArePatternsOf};
 ghost use Rattle.zbx_types.specs.Ids.{at_id};
 
@@ -122,8 +123,8 @@ fn reserve_all(cells: &mut Vec<ItemCell>, visits: &[Visit]) -> Result<(), OutOfM
 /// Finds what an entry's value is to leave, and takes all memory for it; what the cells keep stays as it is.
 ///
 /// The value of the entry with a number comes to an item, and what an item stores comes to its enabled dependents, each
-/// with its own before the next one, with the same time (the Zabbix 6.0 manual, "Dependent items"). A value that an item
-/// discards, or at which it fails, gives its dependents nothing. An item that isn't a trapper item takes no value.
+/// with its own before the next one, with the same time (the Zabbix 6.0 manual, "Dependent items"). A value that an
+/// item discards, or at which it fails, gives its dependents nothing. An item that isn't a trapper item takes no value.
 /// [`OutOfMemory`] where there is no room.
 #[tactic(auto, using(crate::proofs::Apart::visits_apart))]
 pub fn prepare(

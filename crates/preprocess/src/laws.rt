@@ -7,8 +7,8 @@ pub fn hold_nothing()
     ensures { HoldNothing }
 {}
 
-/// Cells that hold what a search of a log finds of each item, hold it of the log with one more value, once that is put in
-/// place: what its steps remember, and what is to be kept of all values that it stored.
+/// Cells that hold what a search of a log finds of each item, hold it of the log with one more value, once that is put
+/// in place: what its steps remember, and what is to be kept of all values that it stored.
 pub fn hold_one_more()
     ensures { HoldOneMore }
 {}

@@ -4,8 +4,8 @@
 //! The public contract: [`run`] leaves in the cells, and tells, exactly what the definition finds by a search up the
 //! masters of each item, over what the steps remembered before; where memory is wanting nothing changes.
 //!
-//! An item's chain takes its steps in order. A step's value goes on, or it is discarded, or the step fails, and then its
-//! `on_fail` decides:
+//! An item's chain takes its steps in order. A step's value goes on, or it is discarded, or the step fails, and then
+//! its `on_fail` decides:
 //!
 //! ```text
 //! empty      a Failure record with the text `step K: ` and the step's own, K counted from 1
@@ -15,13 +15,13 @@
 //! ```
 //!
 //! At the end a number item reads the value as a number; where it is none, it fails with `value: not a number`. What an
-//! item stores goes to its enabled dependents in the order of items, each with its own before the next one, with the same
-//! time: of a number its written form. A value that is discarded or fails gives them nothing. Each step of an item keeps
-//! its own memory, so that no visit changes what another one finds.
+//! item stores goes to its enabled dependents in the order of items, each with its own before the next one, with the
+//! same time: of a number its written form. A value that is discarded or fails gives them nothing. Each step of an item
+//! keeps its own memory, so that no visit changes what another one finds.
 //!
-//! A text is read as JSON once a chain, as long as it stays the same text. A path is read, and the place of a pattern found,
-//! once, at the opening. A caller of many values builds [`Chains`] once, and takes each value in two calls, of which the
-//! second takes no memory:
+//! A text is read as JSON once a chain, as long as it stays the same text. A path is read, and the place of a pattern
+//! found, once, at the opening. A caller of many values builds [`Chains`] once, and takes each value in two calls, of
+//! which the second takes no memory:
 //!
 //! ```text
 //! let chains = Chains::build(alloc, &conf, &patterns)?;

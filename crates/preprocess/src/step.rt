@@ -97,7 +97,8 @@ fn on_failure(
     }
 }
 
-/// What comes of the outcome of the step with a number, counted from 1: a failure becomes what the step's `on_fail` sets.
+/// What comes of the outcome of the step with a number, counted from 1: a failure becomes what the step's `on_fail`
+/// sets.
 pub(crate) fn settle(
     alloc: Global,
     step: &StepSpec,

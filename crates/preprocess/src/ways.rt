@@ -38,8 +38,8 @@ fn way_for(alloc: Global, step: &StepSpec, patterns: &Patterns) -> Result<Way, O
     })
 }
 
-/// The ways of an item's steps, in the order of the steps: of a step that looks into JSON the path that its parameter is,
-/// and of a step that has a pattern its place among `patterns`. [`OutOfMemory`] where there is no room for them.
+/// The ways of an item's steps, in the order of the steps: of a step that looks into JSON the path that its parameter
+/// is, and of a step that has a pattern its place among `patterns`. [`OutOfMemory`] where there is no room for them.
 pub fn ways_of(alloc: Global, item: &Item, patterns: &Patterns) -> Result<Many<Way>, OutOfMemory>
     ensures { IfOk result (λ ways. ways ≡ ways_for patterns.now item.now) }
 {
