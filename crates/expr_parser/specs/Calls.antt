@@ -42,6 +42,15 @@ greatest_percent = 100000000
 abbrev pub greatest_number : ℕ
 greatest_number = 1000000000000000000000000000000
 
+-- a range within its bounds: 1 to 10,000 values, or a period from 1 second to 31 days
+abbrev pub IsBoundedRange : Range → Type 0
+IsBoundedRange (Count n) = (0 < n) × (n ≤ 10000)
+IsBoundedRange (Period n) = (0 < n) × (n ≤ longest_period)
+
+-- a call whose range is within its bounds and whose shift is at most 31 days
+abbrev pub IsBoundedCall : Call → Type 0
+IsBoundedCall c = IsBoundedRange c.range × (c.shift ≤ longest_period)
+
 -- a range without a shift: `#n`, n from 1 to 10,000, or a period up to 31 days
 pub data IsRange : Slot → List ℕ → Range → Type 0 where
   latest : {s : Slot} {t : List ℕ} {n : ℕ} (b : ℕ) (bs : List ℕ) → takes_count s ≡ true → Digits 0 (b ∷ bs) n → 0 < n
