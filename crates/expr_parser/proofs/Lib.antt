@@ -17,6 +17,7 @@ pub mod CallSound
 pub mod Kept
 pub mod PartLives
 pub mod Lives
+pub mod Bounds
 pub mod Places
 pub mod SlotViews
 pub mod Escapes

@@ -1,7 +1,8 @@
 -- The functions of expressions, by name, and the arguments that each takes.
 use Rattle.std.specs.Prelude.{ℕ, List, [], ◌∷◌, Option, Some, None, Bool, true, false, codes}
 use Rattle.zbx_types.specs.declared.calls.Fun.{Fun}
-use Rattle.zbx_types.specs.declared.calls.Fun.TheVariants.{Last, First, Min, Max, Avg, Sum, Change, Count, Find, NoData, Percentile, ChangeCount, MonoInc, MonoDec, Now, Time, Date, DayOfWeek, DayOfMonth}
+use Rattle.zbx_types.specs.declared.calls.Fun.TheVariants.{Last, First, Min, Max, Avg, Sum, Change, Count, Find,
+  NoData, Percentile, ChangeCount, MonoInc, MonoDec, Now, Time, Date, DayOfWeek, DayOfMonth}
 use Rattle.zbx_types.specs.declared.calls.Range.{Range}
 use Rattle.zbx_types.specs.declared.calls.Range.TheVariants.{Count as Latest}
 use Rattle.expr_parser.specs.declared.slots.Words.{Words}
@@ -9,6 +10,7 @@ use Rattle.expr_parser.specs.declared.slots.Words.TheVariants.{Operators, Direct
 use Rattle.expr_parser.specs.declared.slots.Slot.{Slot}
 use Rattle.expr_parser.specs.declared.slots.Slot.TheVariants.{Newest, Span, MaybeSpan, Silence, Word, Percent, Free}
 
+-- the name of a function
 abbrev pub name_of : Fun → List ℕ
 name_of Last = codes "last"
 name_of First = codes "first"
@@ -52,7 +54,9 @@ least_period Free = None
 
 -- the words of an argument; the empty text stands for an absent one
 abbrev pub word_list : Words → List (List ℕ)
-word_list Operators = [] ∷ codes "eq" ∷ codes "ne" ∷ codes "gt" ∷ codes "ge" ∷ codes "lt" ∷ codes "le" ∷ codes "like" ∷ codes "regexp" ∷ codes "iregexp" ∷ []
+word_list Operators =
+    [] ∷ codes "eq" ∷ codes "ne" ∷ codes "gt" ∷ codes "ge" ∷ codes "lt" ∷ codes "le" ∷ codes "like" ∷ codes "regexp"
+    ∷ codes "iregexp" ∷ []
 word_list Directions = [] ∷ codes "all" ∷ codes "inc" ∷ codes "dec" ∷ []
 word_list Strengths = [] ∷ codes "weak" ∷ codes "strict" ∷ []
 

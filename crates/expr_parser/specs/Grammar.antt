@@ -9,6 +9,7 @@ use Rattle.expr_parser.specs.Numbers.{IsNumber}
 use Rattle.zbx_types.specs.Operators.{is_dated}
 use Rattle.expr_parser.specs.Calls.{IsCall, greatest_number}
 
+-- how an operator is written
 abbrev pub op_text : Op → List ℕ
 op_text Or = 111 ∷ 114 ∷ []
 op_text And = 97 ∷ 110 ∷ 100 ∷ []
@@ -38,6 +39,7 @@ op_level Sub = 4
 op_level Mul = 5
 op_level Div = 5
 
+-- the operator is a word
 abbrev pub is_word : Op → Bool
 is_word Or = true
 is_word And = true
@@ -59,16 +61,24 @@ StandsApart op before after = is_word op ≡ true → (is_gap before ≡ true) �
 -- At a point, with so many parentheses still to be opened, behind so many calls, the text is on this level and is this
 -- tree, with these calls.
 pub data Spells : Point → ℕ → ℕ → ℕ → List ℕ → Tree → List Call → Type 0 where
-  number : {p : Point} {d c : ℕ} {text : List ℕ} (n : ℕ) → IsNumber greatest_number text n → Spells p d c 8 text (constant (pos n)) []
-  called : {p : Point} {d c : ℕ} {text : List ℕ} (k : Call) → c < 32 → IsCall p text k → Spells p d c 8 text (call c) (k ∷ [])
-  paren : {p : Point} {d c : ℕ} {text : List ℕ} {e : Tree} {ks : List Call} (x t y : List ℕ) → AreBlanks x → Spells (behind p (40 ∷ x)) d c 0 t e ks → AreBlanks y
+  number : {p : Point} {d c : ℕ} {text : List ℕ} (n : ℕ) → IsNumber greatest_number text n
+      → Spells p d c 8 text (constant (pos n)) []
+  called : {p : Point} {d c : ℕ} {text : List ℕ} (k : Call) → c < 32 → IsCall p text k
+      → Spells p d c 8 text (call c) (k ∷ [])
+  paren : {p : Point} {d c : ℕ} {text : List ℕ} {e : Tree} {ks : List Call} (x t y : List ℕ) → AreBlanks x
+      → Spells (behind p (40 ∷ x)) d c 0 t e ks → AreBlanks y
       → text ≡ 40 ∷ (x ++ (t ++ (y ++ 41 ∷ []))) → Spells p (suc d) c 8 text e ks
-  minus : {p : Point} {d c : ℕ} {text : List ℕ} {e : Tree} {ks : List Call} (x t : List ℕ) → AreBlanks x → Spells (behind p (45 ∷ x)) d c 8 t e ks
+  minus : {p : Point} {d c : ℕ} {text : List ℕ} {e : Tree} {ks : List Call} (x t : List ℕ) → AreBlanks x
+      → Spells (behind p (45 ∷ x)) d c 8 t e ks
       → text ≡ 45 ∷ (x ++ t) → Spells p d c 7 text (negative e) ks
-  denied : {p : Point} {d c : ℕ} {text : List ℕ} {e : Tree} {ks : List Call} (x t : List ℕ) → is_gap p.last ≡ true → AreBlanks x → ends_word (first_byte (x ++ t)) ≡ true
-      → Spells (behind p (110 ∷ 111 ∷ 116 ∷ x)) d c 7 t e ks → text ≡ 110 ∷ 111 ∷ 116 ∷ (x ++ t) → Spells p d c 6 text (negation e) ks
-  tighter : {p : Point} {d c l : ℕ} {text : List ℕ} {e : Tree} {ks : List Call} → Spells p d c (suc l) text e ks → Spells p d c l text e ks
-  joined : {p : Point} {d c l : ℕ} {text : List ℕ} {a b : Tree} {ks js : List Call} (op : Op) (t x y u : List ℕ) → l ≡ op_level op → Spells p d c l t a ks
+  denied : {p : Point} {d c : ℕ} {text : List ℕ} {e : Tree} {ks : List Call} (x t : List ℕ) → is_gap p.last ≡ true
+      → AreBlanks x → ends_word (first_byte (x ++ t)) ≡ true
+      → Spells (behind p (110 ∷ 111 ∷ 116 ∷ x)) d c 7 t e ks → text ≡ 110 ∷ 111 ∷ 116 ∷ (x ++ t)
+      → Spells p d c 6 text (negation e) ks
+  tighter : {p : Point} {d c l : ℕ} {text : List ℕ} {e : Tree} {ks : List Call} → Spells p d c (suc l) text e ks
+      → Spells p d c l text e ks
+  joined : {p : Point} {d c l : ℕ} {text : List ℕ} {a b : Tree} {ks js : List Call} (op : Op) (t x y u : List ℕ)
+      → l ≡ op_level op → Spells p d c l t a ks
       → AreBlanks x → AreBlanks y → StandsApart op (behind p (t ++ x)).last (first_byte (y ++ u))
       → Spells (behind p (t ++ (x ++ (op_text op ++ y)))) d (c + length ks) (suc l) u b js
       → text ≡ t ++ (x ++ (op_text op ++ (y ++ u))) → Spells p d c l text (binary op a b) (ks ++ js)

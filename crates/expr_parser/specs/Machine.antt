@@ -1,5 +1,6 @@
 -- Expressions byte by byte: where an expression stands behind a front of it.
-use Rattle.std.specs.Prelude.{◌≡◌, ℕ, zero, suc, List, [], ◌∷◌, ◌++◌, length, Bool, true, false, ◌==◌, nat_le, nat_lt, if◌then◌else◌, Option, Some, None, pos}
+use Rattle.std.specs.Prelude.{◌≡◌, ℕ, zero, suc, List, [], ◌∷◌, ◌++◌, length, Bool, true, false, ◌==◌, nat_le, nat_lt,
+  if◌then◌else◌, Option, Some, None, pos}
 use Rattle.std.specs.Str.{is_utf8}
 use Rattle.zbx_types.specs.Tree.{Tree, constant, call, negative, negation, binary}
 use Rattle.zbx_types.specs.declared.expr.Op.{Op}
@@ -33,11 +34,13 @@ use Rattle.byte_grammar.specs.Utf8.{follow}
 use Rattle.expr_parser.specs.Figures.{first_figure, figure, figures_value, is_figure}
 use Rattle.expr_parser.specs.Parts.{part, part_value, begins_one, is_front}
 
+-- the level of an operator that waits for its operand
 abbrev pub half_level : Half → ℕ
 half_level (Left op a) = op_level op
 half_level Denied = 6
 half_level Negated = 7
 
+-- the tree that it makes of its operand
 abbrev pub applied : Half → Tree → Tree
 applied (Left op a) e = binary op a e
 applied Denied e = negation e
@@ -59,9 +62,9 @@ reduced m (Waits h ∷ k) e = if nat_le m (half_level h) then reduced m k (appli
 abbrev pub Same : List Pending → Tree → List Pending × Tree → Type 0
 Same k e r = (k ≡ r.0) × (e ≡ r.1)
 
--- A place in a token. The beginning; before an operand; in a word, perhaps `not`; in a number; before the slash of a call;
--- in a host; in a key, in its character; in an argument, perhaps still before it; before the parenthesis that ends a call;
--- behind an operand; behind `<`; behind `>`; in `and` or `or`, of which some bytes are still to come.
+-- A place in a token. The beginning; before an operand; in a word, perhaps `not`; in a number; before the slash of a
+-- call; in a host; in a key, in its character; in an argument, perhaps still before it; before the parenthesis that
+-- ends a call; behind an operand; behind `<`; behind `>`; in `and` or `or`, of which some bytes are still to come.
 pub data Mode : Type 0 where
   Begin : Mode
   Operand : Mode
@@ -85,6 +88,7 @@ pub record State : Type 0 where
   pub stack : List Pending
   pub calls : List Call
 
+-- the state of these parts
 abbrev pub state : Mode → ℕ → ℕ → List Pending → List Call → State
 state m l o k cs = record { mode = m; last = l; open_ones = o; stack = k; calls = cs }
 
@@ -92,22 +96,30 @@ state m l o k cs = record { mode = m; last = l; open_ones = o; stack = k; calls 
 abbrev pub opened : ℕ → List Pending → List Call → Option State
 opened o k cs = if nat_lt o 32 then Some (state Operand 40 (suc o) (Open ∷ k) cs) else None
 
+-- one call more may come
 abbrev pub has_room : List Call → Bool
 has_room cs = nat_lt (length cs) 32
 
+-- the word of a negation
 abbrev pub not_word : List ℕ
 not_word = 110 ∷ 111 ∷ 116 ∷ []
 
+-- the letters are that word
 abbrev pub is_not : List ℕ → Bool
 is_not w = is_same w not_word
 
--- the functions
+-- the functions, in two lists: the first ones
 abbrev pub first_functions : List Fun
-first_functions = fun.Last ∷ fun.First ∷ fun.Min ∷ fun.Max ∷ fun.Avg ∷ fun.Sum ∷ fun.Change ∷ fun.Count ∷ fun.Find ∷ fun.NoData ∷ []
+first_functions =
+    fun.Last ∷ fun.First ∷ fun.Min ∷ fun.Max ∷ fun.Avg ∷ fun.Sum ∷ fun.Change ∷ fun.Count ∷ fun.Find ∷ fun.NoData ∷ []
 
+-- the functions, in two lists: the others
 abbrev pub second_functions : List Fun
-second_functions = fun.Percentile ∷ fun.ChangeCount ∷ fun.MonoInc ∷ fun.MonoDec ∷ fun.Now ∷ fun.Time ∷ fun.Date ∷ fun.DayOfWeek ∷ fun.DayOfMonth ∷ []
+second_functions =
+    fun.Percentile ∷ fun.ChangeCount ∷ fun.MonoInc ∷ fun.MonoDec ∷ fun.Now ∷ fun.Time ∷ fun.Date ∷ fun.DayOfWeek
+    ∷ fun.DayOfMonth ∷ []
 
+-- the names of these functions
 abbrev pub names : List Fun → List (List ℕ)
 names [] = []
 names (f ∷ fs) = name_of f ∷ names fs
@@ -116,24 +128,29 @@ names (f ∷ fs) = name_of f ∷ names fs
 abbrev pub begins_name : List ℕ → Bool
 begins_name w = if begins_one (names first_functions) w then true else begins_one (names second_functions) w
 
--- the function of a name
+-- the first of these functions that has a name
 abbrev pub function_in : List Fun → List ℕ → Option Fun
 function_in [] w = None
 function_in (f ∷ fs) w = if is_same w (name_of f) then Some f else function_in fs w
 
+-- the first of two, where it is there, else the second
 abbrev pub either_function : Option Fun → Option Fun → Option Fun
 either_function (Some f) o = Some f
 either_function None o = o
 
+-- the function of a name
 abbrev pub function_of : List ℕ → Option Fun
 function_of w = either_function (function_in first_functions w) (function_in second_functions w)
 
 -- letters with which `not` or a name begins, where these may stand
 abbrev pub is_begun : Bool → Bool → List ℕ → Bool
-is_begun nots room w = if (if room then begins_name w else false) then true else if nots then is_front w not_word else false
+is_begun nots room w =
+    if (if room then begins_name w else false) then true else if nots then is_front w not_word else false
 
+-- a word with one letter more, where such a word begins so
 abbrev pub word_byte : Bool → List ℕ → ℕ → ℕ → List Pending → List Call → Option State
-word_byte nots w b o k cs = if is_begun nots (has_room cs) (w ++ b ∷ []) then Some (state (Word nots (w ++ b ∷ [])) b o k cs) else None
+word_byte nots w b o k cs =
+    if is_begun nots (has_room cs) (w ++ b ∷ []) then Some (state (Word nots (w ++ b ∷ [])) b o k cs) else None
 
 -- a place in a number
 abbrev pub numbered : Option Figures → ℕ → ℕ → List Pending → List Call → Option State
@@ -154,6 +171,7 @@ operand l o k cs b =
     else None)
     else word_byte (if is_gap l then nat_le (floor k) 6 else false) [] b o k cs
 
+-- a blank before an operand, or its first byte
 abbrev pub blank_or : ℕ → ℕ → List Pending → List Call → ℕ → Option State
 blank_or l o k cs b = if is_blank b then Some (state Operand b o k cs) else operand l o k cs b
 
@@ -161,6 +179,7 @@ blank_or l o k cs b = if is_blank b then Some (state Operand b o k cs) else oper
 abbrev pub behind_word : ℕ → List Pending → List Call → ℕ → Option State
 behind_word o k cs b = if is_blank b then Some (state Operand b o k cs) else if b == 40 then opened o k cs else None
 
+-- an operator that waits on top of what is left, with its left operand
 abbrev pub pushed : Op → List Pending × Tree → List Pending
 pushed op r = Waits (Left op r.1) ∷ r.0
 
@@ -168,6 +187,7 @@ pushed op r = Waits (Left op r.1) ∷ r.0
 abbrev pub with_op : Op → Tree → List Pending → List Pending
 with_op op e k = pushed op (reduced (op_level op) k e)
 
+-- what waits loses its innermost parenthesis, where that is next
 abbrev pub shut : ℕ → List Pending × Tree → List Call → Option State
 shut o ([], e) cs = None
 shut o (Waits h ∷ k, e) cs = None
@@ -178,9 +198,13 @@ shut (suc o) (Open ∷ k, e) cs = Some (state (Done e) 41 o k cs)
 abbrev pub closed : Tree → ℕ → List Pending → List Call → Option State
 closed e o k cs = shut o (reduced 0 k e) cs
 
+-- the operator that is this byte alone and begins no other
 abbrev pub simple_op : ℕ → Option Op
-simple_op b = if b == 43 then Some Add else if b == 45 then Some Sub else if b == 42 then Some Mul else if b == 47 then Some Div else if b == 61 then Some Eq else None
+simple_op b =
+    if b == 43 then Some Add else if b == 45 then Some Sub else if b == 42 then Some Mul else if b == 47 then Some Div
+    else if b == 61 then Some Eq else None
 
+-- the first letter of `and` or `or`, behind a blank or a parenthesis
 abbrev pub joint : ℕ → Op → Rest → Tree → ℕ → ℕ → List Pending → List Call → Option State
 joint l op rest e b o k cs = if is_gap l then Some (state (Joint op rest e) b o k cs) else None
 
@@ -201,17 +225,20 @@ behind e l o k cs b =
     else if b == 41 then closed e o k cs
     else behind_other e l o k cs b (simple_op b)
 
+-- a byte behind `<`
 abbrev pub behind_less : Tree → ℕ → ℕ → List Pending → List Call → ℕ → Option State
 behind_less e l o k cs b =
     if b == 61 then Some (state Operand b o (with_op Le e k) cs)
     else if b == 62 then Some (state Operand b o (with_op Ne e k) cs)
     else blank_or l o (with_op Lt e k) cs b
 
+-- a byte behind `>`
 abbrev pub behind_greater : Tree → ℕ → ℕ → List Pending → List Call → ℕ → Option State
 behind_greater e l o k cs b =
     if b == 61 then Some (state Operand b o (with_op Ge e k) cs)
     else blank_or l o (with_op Gt e k) cs b
 
+-- the letter that is wanted next of `and` or `or`
 abbrev pub joint_on : ℕ → Rest → Op → Tree → ℕ → List Pending → List Call → ℕ → Option State
 joint_on want next op e o k cs b = if b == want then Some (state (Joint op next e) b o k cs) else None
 
@@ -230,6 +257,7 @@ denied w nots o k cs = if nots then (if is_not w then opened o (Waits Denied ∷
 abbrev pub calling : Fun → ℕ → List Pending → List Call → State
 calling f o k cs = if is_dated f then state (Close (plain_call f [] [])) 40 o k cs else state (Slash f) 40 o k cs
 
+-- the parenthesis behind a word: a call, where the word is the name of a function, else perhaps `not`
 abbrev pub called : Option Fun → Bool → List ℕ → ℕ → List Pending → List Call → Option State
 called (Some f) nots w o k cs = Some (calling f o k cs)
 called None nots w o k cs = denied w nots o k cs
@@ -238,17 +266,21 @@ called None nots w o k cs = denied w nots o k cs
 abbrev pub word : Bool → List ℕ → ℕ → List Pending → List Call → ℕ → Option State
 word nots w o k cs b =
     if b == 40 then called (if has_room cs then function_of w else None) nots w o k cs
-    else if is_blank b then (if nots then (if is_not w then Some (state Operand b o (Waits Denied ∷ k) cs) else None) else None)
+    else if is_blank b then
+    (if nots then (if is_not w then Some (state Operand b o (Waits Denied ∷ k) cs) else None) else None)
     else word_byte nots w b o k cs
 
+-- a byte behind a number that ends there, none where it may not end
 abbrev pub number_end : Option ℕ → ℕ → ℕ → List Pending → List Call → ℕ → Option State
 number_end None l o k cs b = None
 number_end (Some n) l o k cs b = if nat_le n greatest_number then behind (constant (pos n)) l o k cs b else None
 
 -- a byte behind the first ones of a number
 abbrev pub number : Figures → ℕ → ℕ → List Pending → List Call → ℕ → Option State
-number f l o k cs b = if is_figure b then numbered (figure greatest_number f b) b o k cs else number_end (figures_value f) l o k cs b
+number f l o k cs b =
+    if is_figure b then numbered (figure greatest_number f b) b o k cs else number_end (figures_value f) l o k cs b
 
+-- a byte of a host's name, or the slash behind it
 abbrev pub host : Fun → List ℕ → ℕ → List Pending → List Call → ℕ → Option State
 host f h o k cs b =
     if is_host_byte b then (if nat_lt (length h) 128 then Some (state (Host f (h ++ b ∷ [])) b o k cs) else None)
@@ -259,6 +291,7 @@ host f h o k cs b =
 abbrev pub ended : Call → ℕ → List Pending → List Call → Option State
 ended c o k cs = if has_room cs then Some (state (Done (call (length cs))) 41 o k (cs ++ c ∷ [])) else None
 
+-- behind a comma the next argument, where the function takes one more
 abbrev pub next_slot : Call → List Slot → ℕ → List Pending → List Call → Option State
 next_slot c [] o k cs = None
 next_slot c (s ∷ ss) o k cs = Some (state (Argument true c s ss Before) 44 o k cs)
@@ -274,7 +307,9 @@ delivered c ss o k cs b =
 abbrev pub is_delimiter : ℕ → Bool
 is_delimiter b = if b == 44 then true else b == 41
 
-abbrev pub key_more : Fun → List ℕ → List ℕ → Option Place → Option Character → ℕ → List Pending → List Call → ℕ → Option State
+-- the key with one byte more, where its grammar and its characters go on
+abbrev pub key_more : Fun → List ℕ → List ℕ → Option Place → Option Character → ℕ → List Pending → List Call → ℕ
+    → Option State
 key_more f h t None u o k cs b = None
 key_more f h t (Some place) None o k cs b = None
 key_more f h t (Some place) (Some u) o k cs b = Some (state (Key f h (t ++ b ∷ []) place u) b o k cs)
@@ -287,13 +322,16 @@ key_on free f h t place u o k cs b =
 
 -- what stands behind the key, where host and key are characters
 abbrev pub key_end : Fun → List ℕ → List ℕ → ℕ → List Pending → List Call → ℕ → Option State
-key_end f h t o k cs b = if is_utf8 h then (if is_utf8 t then delivered (plain_call f h t) (slots f) o k cs b else None) else None
+key_end f h t o k cs b =
+    if is_utf8 h then (if is_utf8 t then delivered (plain_call f h t) (slots f) o k cs b else None) else None
 
+-- a byte of a key, or what ends it
 abbrev pub key_byte : Bool → Fun → List ℕ → List ℕ → Place → Character → ℕ → List Pending → List Call → ℕ → Option State
 key_byte free f h t place u o k cs b =
     if is_delimiter b then (if key.ends place then key_end f h t o k cs b else key_on free f h t place u o k cs b)
     else key_on free f h t place u o k cs b
 
+-- the place behind one byte more of an argument, where there is one
 abbrev pub argument_on : Option Part → Call → Slot → List Slot → ℕ → List Pending → List Call → ℕ → Option State
 argument_on None c s ss o k cs b = None
 argument_on (Some q) c s ss o k cs b = Some (state (Argument false c s ss q) b o k cs)
@@ -303,21 +341,29 @@ abbrev pub said : List ℕ → Call → Slot → List Slot → ℕ → List Pend
 said t c s ss o k cs b = if is_utf8 t then delivered (put s (Said t) c) ss o k cs b else None
 
 -- what stands behind an argument
-abbrev pub argument_end : Option Value → Call → Slot → List Slot → Part → ℕ → List Pending → List Call → ℕ → Option State
+abbrev pub argument_end : Option Value → Call → Slot → List Slot → Part → ℕ → List Pending → List Call → ℕ
+    → Option State
 argument_end None c s ss p o k cs b = argument_on (part s p b) c s ss o k cs b
 argument_end (Some (Ranged r n)) c s ss p o k cs b = delivered (put_range r n c) ss o k cs b
 argument_end (Some (Said t)) c s ss p o k cs b = said t c s ss o k cs b
 
+-- a byte of an argument, or what ends it
 abbrev pub argument_byte : Call → Slot → List Slot → Part → ℕ → List Pending → List Call → ℕ → Option State
-argument_byte c s ss p o k cs b = if is_delimiter b then argument_end (part_value s p) c s ss p o k cs b else argument_on (part s p b) c s ss o k cs b
+argument_byte c s ss p o k cs b =
+    if is_delimiter b then argument_end (part_value s p) c s ss p o k cs b
+    else argument_on (part s p b) c s ss o k cs b
 
+-- a byte of an argument, or a blank before it
 abbrev pub argument : Bool → Call → Slot → List Slot → Part → ℕ → List Pending → List Call → ℕ → Option State
-argument true c s ss p o k cs b = if is_blank b then Some (state (Argument true c s ss p) b o k cs) else argument_byte c s ss p o k cs b
+argument true c s ss p o k cs b =
+    if is_blank b then Some (state (Argument true c s ss p) b o k cs) else argument_byte c s ss p o k cs b
 argument false c s ss p o k cs b = argument_byte c s ss p o k cs b
 
+-- the slash before a host
 abbrev pub slash : Fun → ℕ → List Pending → List Call → ℕ → Option State
 slash f o k cs b = if b == 47 then Some (state (Host f []) b o k cs) else None
 
+-- the parenthesis that ends the call of a date function
 abbrev pub close : Call → ℕ → List Pending → List Call → ℕ → Option State
 close c o k cs b = if b == 41 then ended c o k cs else None
 
@@ -337,13 +383,16 @@ move free (Less e) l o k cs b = behind_less e l o k cs b
 move free (Greater e) l o k cs b = behind_greater e l o k cs b
 move free (Joint op rest e) l o k cs b = joint_byte op rest e o k cs b
 
+-- the state behind one byte; a free byte isn't held to the limit of keys
 abbrev pub step : Bool → State → ℕ → Option State
 step free s b = move free s.mode s.last s.open_ones s.stack s.calls b
 
+-- the same, where there is a state
 abbrev pub go : Bool → Option State → ℕ → Option State
 go free None b = None
 go free (Some s) b = step free s b
 
+-- the number is 0
 abbrev pub is_zero : ℕ → Bool
 is_zero zero = true
 is_zero (suc n) = false
@@ -353,9 +402,11 @@ unfoldable pub after : ℕ → Option State → List ℕ → Option State
 after n o [] = o
 after n o (b ∷ bs) = after (one_less n) (go (is_zero n) o b) bs
 
+-- the state before the first byte
 abbrev pub start : State
 start = state Begin 40 0 [] []
 
+-- the constant of so many millionths, where they are in range
 abbrev pub constant_of : Option ℕ → Option Tree
 constant_of None = None
 constant_of (Some n) = if nat_le n greatest_number then Some (constant (pos n)) else None
@@ -376,18 +427,21 @@ held (Less e) = None
 held (Greater e) = None
 held (Joint op rest e) = None
 
+-- the expression and its calls, where nothing waits
 abbrev pub whole : List Pending × Tree → List Call → Option (Tree × List Call)
 whole ([], e) cs = Some (e, cs)
 whole (p ∷ k, e) cs = None
 
--- the expression and its calls, where they may end here
+-- the expression and its calls, of the operand that is there; a text doesn't end with a blank
 abbrev pub ends_by : Option Tree → ℕ → List Pending → List Call → Option (Tree × List Call)
 ends_by None l k cs = None
 ends_by (Some e) l k cs = if is_blank l then None else whole (reduced 0 k e) cs
 
+-- the expression and its calls, where the text may end in this state
 abbrev pub ends : State → Option (Tree × List Call)
 ends s = ends_by (held s.mode) s.last s.stack s.calls
 
+-- the same, where there is a state
 abbrev pub ends_at : Option State → Option (Tree × List Call)
 ends_at None = None
 ends_at (Some s) = ends s

@@ -1,5 +1,6 @@
 -- Arguments byte by byte.
-use Rattle.std.specs.Prelude.{ℕ, zero, suc, ◌+◌, ◌*◌, ◌-◌, List, [], ◌∷◌, ◌++◌, Option, Some, None, Bool, true, false, ◌==◌, nat_le, if◌then◌else◌}
+use Rattle.std.specs.Prelude.{ℕ, zero, suc, ◌+◌, ◌*◌, ◌-◌, List, [], ◌∷◌, ◌++◌, Option, Some, None, Bool, true, false,
+  ◌==◌, nat_le, if◌then◌else◌}
 use Rattle.std.specs.Option.{option_map}
 use Rattle.zbx_types.specs.declared.calls.Range.{Range}
 use Rattle.zbx_types.specs.declared.calls.Range.TheVariants.{Count, Period}
@@ -13,7 +14,8 @@ use Rattle.expr_parser.specs.declared.parts.Value.TheVariants.{Ranged, Said}
 use Rattle.expr_parser.specs.declared.parts.Ahead.{Ahead}
 use Rattle.expr_parser.specs.declared.parts.Ahead.TheVariants.{Now, Ow, W, Dash, Digits}
 use Rattle.expr_parser.specs.declared.parts.Part.{Part}
-use Rattle.expr_parser.specs.declared.parts.Part.TheVariants.{Before, Hash, Latest, Seconds, Spanned, Back, Shift, Shifted, Letters, Number, Opened, Quoted, Text, Slash, Closed}
+use Rattle.expr_parser.specs.declared.parts.Part.TheVariants.{Before, Hash, Latest, Seconds, Spanned, Back, Shift,
+  Shifted, Letters, Number, Opened, Quoted, Text, Slash, Closed}
 use Rattle.expr_parser.specs.Bytes.{is_digit}
 use Rattle.expr_parser.specs.Numbers.{period_factor}
 use Rattle.expr_parser.specs.Functions.{takes_count, least_period, word_list}
@@ -39,7 +41,8 @@ grown most v b = if nat_le (v * 10 + (b - 48)) most then Some (v * 10 + (b - 48)
 -- the seconds of a period with a suffix, where it is then long and short enough
 abbrev pub lasting : ℕ → ℕ → Option ℕ → Option ℕ
 lasting least v None = None
-lasting least v (Some f) = if nat_le least (v * f) then (if nat_le (v * f) longest_period then Some (v * f) else None) else None
+lasting least v (Some f) =
+    if nat_le least (v * f) then (if nat_le (v * f) longest_period then Some (v * f) else None) else None
 
 -- the colon behind a range
 abbrev pub colon : Slot → Range → ℕ → Option Part
@@ -53,14 +56,17 @@ second s v (Some least) b =
     else if b == 58 then (if nat_le least v then colon s (Period v) b else None)
     else option_map (λ n. Spanned (Period n)) (lasting least v (period_factor b))
 
+-- the first digit of a period, where one may stand there
 abbrev pub first_second : Option ℕ → ℕ → Option Part
 first_second None b = None
 first_second (Some least) b = if is_digit b then option_map Seconds (grown longest_period 0 b) else None
 
+-- the first digit of a number, where one may stand there
 abbrev pub first_number : Option ℕ → ℕ → Option Part
 first_number None b = None
 first_number (Some most) b = option_map Number (first_figure most b)
 
+-- a byte more of a number
 abbrev pub more_number : Option ℕ → Figures → ℕ → Option Part
 more_number None f b = None
 more_number (Some most) f b = option_map Number (figure most f b)
@@ -81,7 +87,9 @@ first_part Free b = if b == 34 then Some (Text [] Whole) else first_number (numb
 
 -- a byte in a word in quotes
 abbrev pub letter : Slot → List ℕ → ℕ → Option Part
-letter (Word ws) w b = if b == 34 then (if is_one_of (word_list ws) w then Some (Closed w) else None) else if begins_one (word_list ws) (w ++ b ∷ []) then Some (Letters (w ++ b ∷ [])) else None
+letter (Word ws) w b =
+    if b == 34 then (if is_one_of (word_list ws) w then Some (Closed w) else None)
+    else if begins_one (word_list ws) (w ++ b ∷ []) then Some (Letters (w ++ b ∷ [])) else None
 letter Newest w b = None
 letter Span w b = None
 letter MaybeSpan w b = None
@@ -94,6 +102,7 @@ abbrev pub end_number : Option ℕ → List ℕ → Option Part
 end_number None w = None
 end_number (Some n) w = Some (Closed w)
 
+-- a text in quotes with the character that it is in, where there is one
 abbrev pub more_text : List ℕ → Option Character → Option Part
 more_text v None = None
 more_text v (Some u) = Some (Text v u)
@@ -117,10 +126,12 @@ abbrev pub latest_range : ℕ → Option Range
 latest_range zero = None
 latest_range (suc v) = Some (Count (suc v))
 
+-- the colon behind a range that may end there
 abbrev pub colon_of : Slot → Option Range → ℕ → Option Part
 colon_of s None b = None
 colon_of s (Some r) b = colon s r b
 
+-- the byte of `now-` that is wanted next
 abbrev pub awaited : ℕ → Ahead → Range → ℕ → Option Part
 awaited want next r b = if b == want then Some (Back next r) else None
 
@@ -142,14 +153,18 @@ latest_byte s v b = if is_digit b then option_map Latest (grown 10000 v b) else 
 
 -- a byte behind the first digits of a shift
 abbrev pub shift_byte : Range → ℕ → ℕ → Option Part
-shift_byte r v b = if is_digit b then option_map (Shift r) (grown longest_period v b) else option_map (Shifted r) (lasting 0 v (period_factor b))
+shift_byte r v b =
+    if is_digit b then option_map (Shift r) (grown longest_period v b)
+    else option_map (Shifted r) (lasting 0 v (period_factor b))
 
 -- a byte behind the quote in front of a number, and in such a number
 abbrev pub opened_byte : ℕ → Option Part
 opened_byte b = option_map Quoted (first_figure greatest_percent b)
 
+-- a byte of a number in quotes, or the quote that ends it
 abbrev pub quoted_byte : Figures → ℕ → Option Part
-quoted_byte f b = if b == 34 then end_number (figures_value f) (figures_text f) else option_map Quoted (figure greatest_percent f b)
+quoted_byte f b =
+    if b == 34 then end_number (figures_value f) (figures_text f) else option_map Quoted (figure greatest_percent f b)
 
 -- the place behind one byte more of an argument
 abbrev pub part : Slot → Part → ℕ → Option Part
@@ -169,14 +184,17 @@ part s (Text v u) b = text_byte v u b
 part s (Slash v) b = slash_byte v b
 part s (Closed v) b = None
 
+-- a range, where there is one, with its shift
 abbrev pub ranged_value : Option Range → ℕ → Option Value
 ranged_value None n = None
 ranged_value (Some r) n = Some (Ranged r n)
 
+-- a period of so many seconds, where it is long enough and may stand there
 abbrev pub seconds_value : Option ℕ → ℕ → Option Value
 seconds_value None v = None
 seconds_value (Some least) v = if nat_le least v then Some (Ranged (Period v) 0) else None
 
+-- the text of a number, where it may end there
 abbrev pub number_value : Option ℕ → List ℕ → Option Value
 number_value None w = None
 number_value (Some n) w = Some (Said w)

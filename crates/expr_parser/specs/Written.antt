@@ -1,5 +1,6 @@
 -- The one written form of expressions.
-use Rattle.std.specs.Prelude.{ℕ, suc, List, [], ◌∷◌, ◌++◌, Option, Some, None, Bool, true, false, ◌==◌, if◌then◌else◌, codes, slice_get, max}
+use Rattle.std.specs.Prelude.{ℕ, suc, List, [], ◌∷◌, ◌++◌, Option, Some, None, Bool, true, false, ◌==◌, if◌then◌else◌,
+  codes, slice_get, max}
 use Rattle.std.specs.List.{flat_map}
 use Rattle.std.specs.Fmt.{decimal}
 use Rattle.zbx_types.specs.Tree.{Tree, constant, call, negative, negation, binary}
@@ -16,6 +17,7 @@ use Rattle.expr_parser.specs.Grammar.{op_text}
 abbrev pub escaped_byte : ℕ → List ℕ
 escaped_byte b = if b == 34 then codes "\\\"" else b ∷ []
 
+-- the bytes between quotes
 abbrev pub escaped : List ℕ → List ℕ
 escaped text = flat_map escaped_byte text
 
@@ -52,7 +54,8 @@ last_arguments op (b ∷ bs) = codes "," ++ quoted_text op ++ codes "," ++ quote
 abbrev pub written_call : Call → List ℕ
 written_call c =
     if is_dated c.fun then name_of c.fun ++ codes "()"
-    else name_of c.fun ++ codes "(/" ++ c.host ++ codes "/" ++ c.key ++ (range_argument c ++ last_arguments c.op c.arg) ++ codes ")"
+    else name_of c.fun
+      ++ codes "(/" ++ c.host ++ codes "/" ++ c.key ++ (range_argument c ++ last_arguments c.op c.arg) ++ codes ")"
 
 -- a call that is named by its place
 abbrev pub written_place : Option Call → List ℕ
@@ -78,12 +81,14 @@ written_of (call place) calls = written_place (slice_get calls place)
 written_of (negative a) calls = codes "-" ++ as_operand (is_simple a) (written_of a calls)
 written_of (negation a) calls = codes "not " ++ as_operand (is_simple a) (written_of a calls)
 written_of (binary op a b) calls =
-    as_operand (is_simple a) (written_of a calls) ++ codes " " ++ op_text op ++ codes " " ++ as_operand (is_simple b) (written_of b calls)
+    as_operand (is_simple a) (written_of a calls) ++ codes " " ++ op_text op ++ codes " "
+      ++ as_operand (is_simple b) (written_of b calls)
 
--- how many parentheses are open at one place of the written form, those of calls aside
+-- the parentheses that are open in an operand which has so many: one more where it isn't simple
 abbrev pub operand_nesting : Bool → ℕ → ℕ
 operand_nesting simple n = if simple then n else suc n
 
+-- how many parentheses are open at one place of the written form, those of calls aside
 abbrev pub nesting : Tree → ℕ
 nesting (constant z) = 0
 nesting (call place) = 0

@@ -1,6 +1,6 @@
 //! The bytes of calls: hosts, keys and arguments.
 
-ghost use Rattle.std.specs.Prelude.{◌≡◌, ◌≤◌, ◌<◌, ◌++◌, ◌∷◌, [], IfOk, reverse, nat_le, nat_lt, Some, None, true, false, option_map, length, if◌then◌else◌, pos, is_some};
+ghost use Rattle.std.specs.Prelude.{◌≡◌, ◌≤◌, ◌<◌, ◌++◌, ◌∷◌, [], IfOk, reverse, nat_le, nat_lt, Some, None, true, false, option_map, length, if◌then◌else◌, pos};
 ghost use Rattle.std.specs.Str.{is_utf8};
 ghost use Rattle.expr_parser.specs.Bytes as bytes;
 ghost use Rattle.expr_parser.specs.Calls as calls;
@@ -8,13 +8,14 @@ ghost use Rattle.expr_parser.specs.Parts as parts;
 ghost use Rattle.expr_parser.specs.Figures as figures;
 ghost use Rattle.expr_parser.specs.Machine as machine;
 ghost use Rattle.expr_parser.specs.View.{state, slot_list, whole_of};
+ghost use Rattle.expr_parser.specs.declared.parts.Part.{Part};
 ghost use Rattle.expr_parser.specs.declared.parts.Value.TheVariants.{Said};
 ghost use Rattle.expr_parser.specs.declared.pending.Pending.TheVariants.{Waits};
 ghost use Rattle.zbx_types.specs.Tree as trees;
 ghost use Rattle.zbx_types.specs.Trees.{tree_of};
 
 use crate::figures::longer;
-use crate::parts::{Part, Value, may_end_part, part_on, part_value};
+use crate::parts::{Part, Value, part_on, part_value};
 use crate::slots::{Slot, Slots, all_absent, default_range, slots_of};
 use crate::states::{Base, Mode, State, blank};
 use byte_grammar::Character;
@@ -255,6 +256,24 @@ pub(crate) fn put_range(range: Range, shift: u32, call: Call) -> Call
 
 pub(crate) fn argument_end(
     alloc: Global,
+    value: Value,
+    call: Call,
+    slot: Slot,
+    slots: Slots,
+    base: Base,
+    byte: u8,
+) -> Result<Option<State>, OutOfMemory>
+    ensures { IfOk result (λ r. (place : Part) → option_map state r ≡ machine.argument_end (Some value) call slot (slot_list slots) place base.open_ones (reverse base.stack.items) base.calls byte) }
+{
+    match value {
+        Value::Said(text) => said(alloc, text, call, slot, slots, base, byte),
+        Value::Ranged(range, shift) => delivered(put_range(range, shift, call), slots, base, byte),
+    }
+}
+
+/// The state behind one byte more of an argument.
+pub(crate) fn argument_more(
+    alloc: Global,
     place: Part,
     call: Call,
     slot: Slot,
@@ -262,16 +281,10 @@ pub(crate) fn argument_end(
     base: Base,
     byte: u8,
 ) -> Result<Option<State>, OutOfMemory>
-    requires { is_some (parts.part_value slot place) ≡ true }
-    ensures { IfOk result (λ r. option_map state r ≡ machine.argument_end (parts.part_value slot place) call slot (slot_list slots) place base.open_ones (reverse base.stack.items) base.calls byte) }
+    ensures { IfOk result (λ r. option_map state r ≡ machine.argument_on (parts.part slot place byte) call slot (slot_list slots) base.open_ones (reverse base.stack.items) base.calls byte) }
 {
-    match part_value(alloc, slot, place) {
-        None => Ok(None),
-        Some(Value::Said(text)) => said(alloc, text, call, slot, slots, base, byte),
-        Some(Value::Ranged(range, shift)) => {
-            delivered(put_range(range, shift, call), slots, base, byte)
-        }
-    }
+    let made = part_on(alloc, slot, place, byte)?;
+    Ok(argument_on(made, call, slot, slots, base, byte))
 }
 
 pub(crate) fn argument_byte(
@@ -285,11 +298,13 @@ pub(crate) fn argument_byte(
 ) -> Result<Option<State>, OutOfMemory>
     ensures { IfOk result (λ r. option_map state r ≡ machine.argument_byte call slot (slot_list slots) place base.open_ones (reverse base.stack.items) base.calls byte) }
 {
-    if delimiter(byte) && may_end_part(slot, &place) {
-        argument_end(alloc, place, call, slot, slots, base, byte)
+    if delimiter(byte) {
+        match part_value(alloc, slot, place) {
+            Ok(value) => argument_end(alloc, value, call, slot, slots, base, byte),
+            Err(place) => argument_more(alloc, place, call, slot, slots, base, byte),
+        }
     } else {
-        let made = part_on(alloc, slot, place, byte)?;
-        Ok(argument_on(made, call, slot, slots, base, byte))
+        argument_more(alloc, place, call, slot, slots, base, byte)
     }
 }
 

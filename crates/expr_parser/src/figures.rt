@@ -159,26 +159,24 @@ pub(crate) fn first_figure(
 fn behind_integral(most: u128, text: Bytes, byte: u8) -> Result<Option<Figures>, OutOfMemory>
     ensures { IfOk result (λ made. made ≡ figures.figure most (Integral text) byte) }
 {
-    let number = millionths(text.as_slice());
-    let text = longer(text, byte)?;
     if digit(byte) {
-        Ok(integral(most, text))
+        Ok(integral(most, longer(text, byte)?))
     } else if byte == b'.' {
-        Ok(Some(Figures::Pointed(text)))
+        Ok(Some(Figures::Pointed(longer(text, byte)?)))
     } else {
-        Ok(scaled(most, text, number, number_factor(byte)))
+        let number = millionths(text.as_slice());
+        Ok(scaled(most, longer(text, byte)?, number, number_factor(byte)))
     }
 }
 
 fn behind_fraction(most: u128, text: Bytes, byte: u8) -> Result<Option<Figures>, OutOfMemory>
     ensures { IfOk result (λ made. made ≡ figures.figure most (Fraction text) byte) }
 {
-    let number = millionths(text.as_slice());
-    let text = longer(text, byte)?;
     if digit(byte) {
-        Ok(fraction(most, text))
+        Ok(fraction(most, longer(text, byte)?))
     } else {
-        Ok(scaled(most, text, number, number_factor(byte)))
+        let number = millionths(text.as_slice());
+        Ok(scaled(most, longer(text, byte)?, number, number_factor(byte)))
     }
 }
 

@@ -1,8 +1,9 @@
-//! Expressions of triggers, as `avg(/h/system.cpu.load,5m)>2 and last(/h/k)<>0`: from a text to a tree and its calls, and back.
+//! Expressions of triggers, as `avg(/h/system.cpu.load,5m)>2 and last(/h/k)<>0`: from a text to a tree and its calls,
+//! and back.
 //!
 //! The public contract: [`read`] gives the expression that the grammar relates to the text, with its calls in order, or
-//! the first byte where no expression goes on; [`one_expression`]: no text is two; [`write`] gives one text of an expression,
-//! which is read again as the same.
+//! the first byte where no expression goes on; [`one_expression`]: no text is two; [`write`] gives one text of an
+//! expression, which is read again as the same.
 //!
 //! The grammar is the Zabbix 6.0 manual's ("Trigger expression", "Supported functions"), within limits of this project:
 //!
@@ -16,9 +17,9 @@
 //! call = name "(" "/" host "/" key { "," argument } ")", or the name of a function of date or time and "()"
 //! ```
 //!
-//! Binary operators associate to the left. `and`, `or` and `not` stand between blanks or parentheses, or at the beginning.
-//! Blanks may stand between other parts too, and in a call behind commas. A text has at most 4,096 bytes, 32 calls and 32
-//! open parentheses, a host 128 bytes and a key 2,048. Quoted texts and keys are UTF-8.
+//! Binary operators associate to the left. `and`, `or` and `not` stand between blanks or parentheses, or at the
+//! beginning. Blanks may stand between other parts too, and in a call behind commas. A text has at most 4,096 bytes, 32
+//! calls and 32 open parentheses, a host 128 bytes and a key 2,048. Quoted texts and keys are UTF-8.
 //!
 //! ```text
 //! let parsed = expr_parser::read(alloc, b"last(/h/k,#2)>5")?;

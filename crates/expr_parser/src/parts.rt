@@ -1,6 +1,6 @@
 //! Arguments byte by byte.
 
-ghost use Rattle.std.specs.Prelude.{◌≡◌, ◌≤◌, ◌++◌, ◌∷◌, [], ◌*◌, ◌+◌, ◌-◌, true, IfOk, nat_le, if◌then◌else◌, Some, None, option_map, is_some};
+ghost use Rattle.std.specs.Prelude.{◌≡◌, ◌≤◌, ◌++◌, ◌∷◌, [], ◌*◌, ◌+◌, ◌-◌, true, IfOk, nat_le, if◌then◌else◌, Some, None, option_map, MatchResult};
 ghost use Rattle.expr_parser.specs.Bytes as bytes;
 ghost use Rattle.expr_parser.specs.Numbers as numbers;
 ghost use Rattle.expr_parser.specs.Functions as functions;
@@ -277,15 +277,6 @@ fn seconds_value(slot: Slot, number: u32) -> Option<Value>
     }
 }
 
-fn number_value(place: Figures) -> Option<Value>
-    ensures { result ≡ parts.number_value (figures.figures_value place) (figures.figures_text place) }
-{
-    match value(&place) {
-        Some(_) => Some(Value::Said(text_of(place))),
-        None => None,
-    }
-}
-
 fn latest_value(number: u32) -> Option<Value>
     ensures { result ≡ parts.ranged_value (parts.latest_range number) 0 }
 {
@@ -295,63 +286,32 @@ fn latest_value(number: u32) -> Option<Value>
     }
 }
 
-/// What an argument says, where it may end here.
-pub(crate) fn part_value(alloc: Global, slot: Slot, place: Part) -> Option<Value>
-    ensures { result ≡ parts.part_value slot place }
+/// What an argument says that is a number, where it may end here, else the place again.
+fn number_value(place: Figures) -> Result<Value, Figures>
+    ensures { MatchResult result (λ v. parts.number_value (figures.figures_value place) (figures.figures_text place) ≡ Some v) (λ p. (parts.number_value (figures.figures_value place) (figures.figures_text place) ≡ None) × (p ≡ place)) }
+{
+    match value(&place) {
+        Some(_) => Ok(Value::Said(text_of(place))),
+        None => Err(place),
+    }
+}
+
+/// What an argument says, where it may end here, else the place again.
+pub(crate) fn part_value(alloc: Global, slot: Slot, place: Part) -> Result<Value, Part>
+    ensures { MatchResult result (λ v. parts.part_value slot place ≡ Some v) (λ p. (parts.part_value slot place ≡ None) × (p ≡ place)) }
 {
     match place {
-        Part::Before => absent(alloc, slot),
-        Part::Latest(n) => latest_value(n),
-        Part::Seconds(n) => seconds_value(slot, n),
-        Part::Spanned(range) => Some(Value::Ranged(range, 0)),
-        Part::Shift(range, n) => Some(Value::Ranged(range, n)),
-        Part::Shifted(range, n) => Some(Value::Ranged(range, n)),
-        Part::Number(figures) => number_value(figures),
-        Part::Closed(text) => Some(Value::Said(text)),
-        _ => None,
-    }
-}
-
-fn says_nothing(slot: Slot) -> bool
-    ensures { result ≡ is_some (calls.absent_value slot) }
-{
-    match slot {
-        Slot::Newest | Slot::MaybeSpan | Slot::Word(_) | Slot::Free => true,
-        _ => false,
-    }
-}
-
-fn enough_seconds(slot: Slot, number: u32) -> bool
-    ensures { result ≡ is_some (parts.seconds_value (functions.least_period slot) number) }
-{
-    match least_period(slot) {
-        Some(least) => least <= number,
-        _ => false,
-    }
-}
-
-fn has_number(place: &Figures) -> bool
-    ensures { result ≡ is_some (parts.number_value (figures.figures_value place.now) (figures.figures_text place.now)) }
-{
-    match value(place) {
-        Some(_) => true,
-        None => false,
-    }
-}
-
-/// An argument may end here.
-pub(crate) fn may_end_part(slot: Slot, place: &Part) -> bool
-    ensures { result ≡ is_some (parts.part_value slot place.now) }
-{
-    match place {
-        Part::Before => says_nothing(slot),
-        Part::Latest(n) => *n > 0,
-        Part::Seconds(n) => enough_seconds(slot, *n),
-        Part::Spanned(_) => true,
-        Part::Shift(_, _) => true,
-        Part::Shifted(_, _) => true,
-        Part::Number(figures) => has_number(figures),
-        Part::Closed(_) => true,
-        _ => false,
+        Part::Before => absent(alloc, slot).ok_or(Part::Before),
+        Part::Latest(n) => latest_value(n).ok_or(Part::Latest(n)),
+        Part::Seconds(n) => seconds_value(slot, n).ok_or(Part::Seconds(n)),
+        Part::Spanned(range) => Ok(Value::Ranged(range, 0)),
+        Part::Shift(range, n) => Ok(Value::Ranged(range, n)),
+        Part::Shifted(range, n) => Ok(Value::Ranged(range, n)),
+        Part::Number(figures) => match number_value(figures) {
+            Ok(value) => Ok(value),
+            Err(figures) => Err(Part::Number(figures)),
+        },
+        Part::Closed(text) => Ok(Value::Said(text)),
+        _ => Err(place),
     }
 }

@@ -1,9 +1,11 @@
 //! Reading of expressions.
 
 ghost use Rattle.std.specs.Prelude.{◌≡◌, ◌≤◌, ℕ, List, [], length, true, false, IfOk, IfErr, Some, None};
+ghost use Rattle.std.specs.List.{All};
 ghost use Rattle.zbx_types.specs.Tree.{Tree};
-ghost use Rattle.zbx_types.specs.Trees.{tree_of};
+ghost use Rattle.zbx_types.specs.Trees.{CallsBelow, tree_of};
 ghost use Rattle.zbx_types.specs.declared.calls.Call.{Call};
+ghost use Rattle.expr_parser.specs.Calls.{IsBoundedCall};
 ghost use Rattle.expr_parser.specs.Fault.{IsFault};
 ghost use Rattle.expr_parser.specs.Machine as machine;
 ghost use Rattle.expr_parser.specs.View.{state};
@@ -90,13 +92,18 @@ fn answer(alloc: Global, s: State, count: u32) -> Result<Parsed, ParseError>
 
 /// Reads an expression (the Zabbix 6.0 manual, "Trigger expression").
 ///
-/// `Ok` is the expression that the text is by the grammar, with its calls in order. A number as an argument and the same
-/// text in quotes are one argument; a range, a shift and a text that aren't written have their defaults: `#1`, or `#2` of
-/// `change`, 0 and empty. [`ParseError::At`] comes where the text is no expression, with the place of the first byte where
-/// none goes on or that passes a limit (the length of the text, where that comes first), and with 0 where it is one that
-/// looks at no item. [`ParseError::OutOfMemory`] comes for want of memory alone.
+/// `Ok` is the expression that the text is by the grammar, with its calls in order: each place in the tree is below
+/// their number. A number as an argument and the same text in quotes are one argument; a range, a shift and a text that
+/// aren't written have their defaults: `#1`, or `#2` of `change`, 0 and empty. Each `#n` is from 1 to 10,000, each
+/// period from 1 to 2,678,400 seconds (31 days), and each shift at most that long.
+///
+/// [`ParseError::At`] comes where the text is no expression, with the place of the first byte where none goes on or
+/// that passes a limit (the length of the text, where that comes first), and with 0 where it is one that looks at no
+/// item. [`ParseError::OutOfMemory`] comes for want of memory alone.
 pub fn read(alloc: Global, text: &[u8]) -> Result<Parsed, ParseError>
     ensures found { IfOk result (λ p. IsExpr text.now (tree_of p.expr) p.calls × (length text.now ≤ 4096) × (looks_at_item p.calls ≡ true)) }
+    ensures below { IfOk result (λ p. CallsBelow (length p.calls) (tree_of p.expr)) }
+    ensures bounded { IfOk result (λ p. All IsBoundedCall p.calls) }
     ensures none { IfErr result (λ x. (at : ℕ) → x ≡ At at → (e : Tree) (ks : List Call) → IsExpr text.now e ks → length text.now ≤ 4096 → looks_at_item ks ≡ false) }
     ensures dates { IfErr result (λ x. (at : ℕ) → x ≡ At at → (e : Tree) (ks : List Call) → IsExpr text.now e ks → length text.now ≤ 4096 → at ≡ 0) }
     ensures place { IfErr result (λ x. (at : ℕ) → x ≡ At at → ((e : Tree) (ks : List Call) → IsExpr text.now e ks → length text.now ≤ 4096 → ⊥) → IsFault IsText 4096 text.now at) }

@@ -100,18 +100,22 @@ fn put_expr(expr: &Expr, calls: &[Call], out: &mut Text) -> Result<(), OutOfMemo
     }
 }
 
-/// The one written form of an expression (this project's own, in the words of the Zabbix 6.0 manual, "Trigger expression").
+/// The one written form of an expression (this project's own, in the words of the Zabbix 6.0 manual, "Trigger
+/// expression").
 ///
-/// A binary operator stands between blanks, `-` right before its operand, and `not` with a blank behind it; an operand that
-/// is itself one of these stands in parentheses. A constant is a written number, without a suffix. A call has its range
-/// wherever its function takes one, also the default; a period and a shift other than 0 are in seconds. Its arguments behind
-/// the range are texts in quotes, each `"` in them as `\"`, up to the last one that isn't empty. Its commas have no blanks.
+/// A binary operator stands between blanks, `-` right before its operand, and `not` with a blank behind it; an operand
+/// that is itself one of these stands in parentheses. A constant is a written number, without a suffix. A call has its
+/// range wherever its function takes one, also the default; a period and a shift other than 0 are in seconds. Its
+/// arguments behind the range are texts in quotes, each `"` in them as `\"`, up to the last one that isn't empty. Its
+/// commas have no blanks.
 ///
-/// The written form of what [`read`](crate::read) gave is again a text of that expression, and of no other, where at most 32
-/// parentheses are open at one place; it may be longer than `read` takes, [`LONGEST_EXPRESSION`](crate::LONGEST_EXPRESSION).
-/// A call whose place isn't in the list, which `read` never gives, is written as nothing.
+/// The written form of what [`read`](crate::read) gave is again a text of that expression, and of no other, where at
+/// most 32 parentheses are open at one place; it may be longer than `read` takes,
+/// [`LONGEST_EXPRESSION`](crate::LONGEST_EXPRESSION). A call whose place isn't in the list, which `read` never gives,
+/// is written as nothing.
 ///
-/// The one error is want of memory. The recursion is as deep as the expression, at most 2,048 levels for what `read` gives.
+/// The one error is want of memory. The recursion is as deep as the expression, at most 2,048 levels for what `read`
+/// gives.
 pub fn write(alloc: Global, parsed: &Parsed) -> Result<Text, OutOfMemory>
     ensures text { IfOk result (λ t. t ≡ written_of (tree_of parsed.now.expr) parsed.now.calls) }
     ensures reads_back { IfOk result (λ t. (from : List ℕ) → IsExpr from (tree_of parsed.now.expr) parsed.now.calls → nesting (tree_of parsed.now.expr) ≤ 32 → IsExpr t (tree_of parsed.now.expr) parsed.now.calls) }

@@ -4,6 +4,7 @@ use Rattle.expr_parser.specs.Grammar.{IsText}
 use Rattle.expr_parser.specs.Fault.{IsFault}
 use Rattle.expr_parser.specs.Machine.{ends}
 use Rattle.expr_parser.specs.View.{state}
+use Rattle.expr_parser.proofs.Bounds.{expr_below, calls_bounded}
 use Rattle.expr_parser.proofs.Places.{reached_start, reached_next, fault_limit, fault_stop, none_stop, fault_end, found_end, ends_with, ends_none, ok_map, err_map}
 use Rattle.expr_parser.proofs.reading.read.Goals as goal
 
@@ -42,6 +43,16 @@ returns-clause-found c =
     let i : c.loop-byte.byte-index ≡ length c.args.text.now = omega arith in
     let l : length c.args.text.now ≤ 4096 = omega arith in
     ok_map c.answer.result (λ p h. (found_end c.args.text.now c.loop-byte.byte-index (state c.loop-byte.state) (tree_of p.expr) p.calls i c.loop-byte.invariant.reached h.0, l, h.1)) c.answer.ensures.found
+
+pub returns-clause-below : goal.returns-clause-below
+returns-clause-below c =
+    let i : c.loop-byte.byte-index ≡ length c.args.text.now = omega arith in
+    ok_map c.answer.result (λ p h. expr_below (found_end c.args.text.now c.loop-byte.byte-index (state c.loop-byte.state) (tree_of p.expr) p.calls i c.loop-byte.invariant.reached h.0)) c.answer.ensures.found
+
+pub returns-clause-bounded : goal.returns-clause-bounded
+returns-clause-bounded c =
+    let i : c.loop-byte.byte-index ≡ length c.args.text.now = omega arith in
+    ok_map c.answer.result (λ p h. calls_bounded (found_end c.args.text.now c.loop-byte.byte-index (state c.loop-byte.state) (tree_of p.expr) p.calls i c.loop-byte.invariant.reached h.0)) c.answer.ensures.found
 
 pub returns-clause-none : goal.returns-clause-none
 returns-clause-none c =
