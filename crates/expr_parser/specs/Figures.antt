@@ -1,6 +1,22 @@
 -- Numbers byte by byte.
-use Rattle.std.specs.Prelude.{ℕ, ◌*◌, List, [], ◌∷◌, ◌++◌, Option, Some, None, Bool, true, false, ◌==◌, nat_le,
-  if◌then◌else◌, is_some}
+use Rattle.std.specs.Prelude.{
+  ℕ,
+  ◌*◌,
+  List,
+  [],
+  ◌∷◌,
+  ◌++◌,
+  Option,
+  Some,
+  None,
+  Bool,
+  true,
+  false,
+  ◌==◌,
+  nat_le,
+  if◌then◌else◌,
+  is_some,
+}
 use Rattle.expr_parser.specs.declared.figures.Figures.{Figures}
 use Rattle.expr_parser.specs.declared.figures.Figures.TheVariants.{Integral, Pointed, Fraction, Suffixed}
 use Rattle.expr_parser.specs.Bytes.{is_digit}

@@ -1,6 +1,20 @@
 -- Numbers and periods in expressions.
-use Rattle.std.specs.Prelude.{◌≡◌, ◌≤◌, ◌*◌, ℕ, List, [], ◌∷◌, ◌++◌, Option, Some, None, ◌==◌, if◌then◌else◌,
-  unsigned_abs}
+use Rattle.std.specs.Prelude.{
+  ◌≡◌,
+  ◌≤◌,
+  ◌*◌,
+  ℕ,
+  List,
+  [],
+  ◌∷◌,
+  ◌++◌,
+  Option,
+  Some,
+  None,
+  ◌==◌,
+  if◌then◌else◌,
+  unsigned_abs,
+}
 use Rattle.std.specs.Option.{option_map}
 use Rattle.zbx_types.specs.Numerals.{read_number}
 use Rattle.expr_parser.specs.Bytes.{AreDigits, Digits}
