@@ -1,16 +1,34 @@
 -- What the grammar says of calls: their places in the tree, and the bounds of their ranges and shifts.
-use Rattle.std.proofs.Common.{◌≡◌, ◌≤◌, ◌<◌, ◌+◌, ◌++◌, ◌∷◌, [], ℕ, zero, suc, List, length, length-append, Some,
-  None, sym, subst, refl, arith}
+use Rattle.std.proofs.Common.{◌≡◌, ◌≤◌, ◌<◌, ◌+◌, ◌++◌, [], ℕ, List, length, length-append, Some, subst, arith}
 use Rattle.std.specs.List.{All}
 use Rattle.std.proofs.lemmas.List.Elements.{All-nil, All-cons, All-append}
 use Rattle.zbx_types.specs.Tree.{Tree, constant, call, negative, negation, binary}
 use Rattle.zbx_types.specs.Trees.{CallsBelow}
 use Rattle.zbx_types.specs.declared.calls.Call.{Call}
 use Rattle.zbx_types.specs.declared.calls.Fun.{Fun}
-use Rattle.zbx_types.specs.declared.calls.Fun.TheVariants.{Last, First, Min, Max, Avg, Sum, Change, Count as Matching,
-  Find, NoData, Percentile, ChangeCount, MonoInc, MonoDec, Now, Time, Date, DayOfWeek, DayOfMonth}
+use Rattle.zbx_types.specs.declared.calls.Fun.TheVariants.{
+  Last,
+  First,
+  Min,
+  Max,
+  Avg,
+  Sum,
+  Change,
+  Count as Matching,
+  Find,
+  NoData,
+  Percentile,
+  ChangeCount,
+  MonoInc,
+  MonoDec,
+  Now,
+  Time,
+  Date,
+  DayOfWeek,
+  DayOfMonth,
+}
 use Rattle.zbx_types.specs.declared.calls.Range.{Range}
-use Rattle.zbx_types.specs.declared.calls.Range.TheVariants.{Count, Period}
+use Rattle.zbx_types.specs.declared.calls.Range.TheVariants.{Count}
 use Rattle.expr_parser.specs.declared.slots.Slot.{Slot}
 use Rattle.expr_parser.specs.declared.slots.Slot.TheVariants.{Newest, Span, MaybeSpan, Silence, Word, Percent, Free}
 use Rattle.expr_parser.specs.declared.parts.Value.{Value}
@@ -18,9 +36,32 @@ use Rattle.expr_parser.specs.declared.parts.Value.TheVariants.{Ranged, Said}
 use Rattle.expr_parser.specs.Bytes.{Point}
 use Rattle.expr_parser.specs.Numbers.{IsPeriod, seconds, suffixed_period}
 use Rattle.expr_parser.specs.Functions.{default_range, least_period}
-use Rattle.expr_parser.specs.Calls.{absent_value, longest_period, IsRange, latest, span, IsPart, absent, ranged,
-  shifted, word, number as figured, quoted_number, quoted, put, put_text, plain_call, Arguments, no_more,
-  another, IsCall, dated, of_item, IsBoundedRange, IsBoundedCall}
+use Rattle.expr_parser.specs.Calls.{
+  absent_value,
+  longest_period,
+  IsRange,
+  latest,
+  span,
+  IsPart,
+  absent,
+  ranged,
+  shifted,
+  word,
+  number as figured,
+  quoted_number,
+  quoted,
+  put,
+  put_text,
+  plain_call,
+  Arguments,
+  no_more,
+  another,
+  IsCall,
+  dated,
+  of_item,
+  IsBoundedRange,
+  IsBoundedCall,
+}
 use Rattle.expr_parser.specs.Grammar.{Spells, IsExpr, number, called, paren, minus, denied, tighter, joined}
 use Rattle.expr_parser.proofs.Lists.{some_is}
 

@@ -1,6 +1,22 @@
 -- Bytes, and points in a text.
-use Rattle.std.specs.Prelude.{◌≡◌, ◌-◌, ◌+◌, ◌*◌, ℕ, zero, suc, List, [], ◌∷◌, Bool, true, false, ◌==◌, nat_le,
-  if◌then◌else◌}
+use Rattle.std.specs.Prelude.{
+  ◌≡◌,
+  ◌-◌,
+  ◌+◌,
+  ◌*◌,
+  ℕ,
+  zero,
+  suc,
+  List,
+  [],
+  ◌∷◌,
+  Bool,
+  true,
+  false,
+  ◌==◌,
+  nat_le,
+  if◌then◌else◌,
+}
 
 -- space, tab, carriage return or line feed
 abbrev pub is_blank : ℕ → Bool

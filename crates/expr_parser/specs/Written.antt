@@ -1,6 +1,23 @@
 -- The one written form of expressions.
-use Rattle.std.specs.Prelude.{ℕ, suc, List, [], ◌∷◌, ◌++◌, Option, Some, None, Bool, true, false, ◌==◌, if◌then◌else◌,
-  codes, slice_get, max}
+use Rattle.std.specs.Prelude.{
+  ℕ,
+  suc,
+  List,
+  [],
+  ◌∷◌,
+  ◌++◌,
+  Option,
+  Some,
+  None,
+  Bool,
+  true,
+  false,
+  ◌==◌,
+  if◌then◌else◌,
+  codes,
+  slice_get,
+  max,
+}
 use Rattle.std.specs.List.{flat_map}
 use Rattle.std.specs.Fmt.{decimal}
 use Rattle.zbx_types.specs.Tree.{Tree, constant, call, negative, negation, binary}
@@ -55,7 +72,7 @@ abbrev pub written_call : Call → List ℕ
 written_call c =
     if is_dated c.fun then name_of c.fun ++ codes "()"
     else name_of c.fun
-      ++ codes "(/" ++ c.host ++ codes "/" ++ c.key ++ (range_argument c ++ last_arguments c.op c.arg) ++ codes ")"
+    ++ codes "(/" ++ c.host ++ codes "/" ++ c.key ++ (range_argument c ++ last_arguments c.op c.arg) ++ codes ")"
 
 -- a call that is named by its place
 abbrev pub written_place : Option Call → List ℕ
@@ -82,7 +99,7 @@ written_of (negative a) calls = codes "-" ++ as_operand (is_simple a) (written_o
 written_of (negation a) calls = codes "not " ++ as_operand (is_simple a) (written_of a calls)
 written_of (binary op a b) calls =
     as_operand (is_simple a) (written_of a calls) ++ codes " " ++ op_text op ++ codes " "
-      ++ as_operand (is_simple b) (written_of b calls)
+    ++ as_operand (is_simple b) (written_of b calls)
 
 -- the parentheses that are open in an operand which has so many: one more where it isn't simple
 abbrev pub operand_nesting : Bool → ℕ → ℕ
