@@ -5,9 +5,8 @@ use Rattle.std.specs.Char.{is_ascii_digit}
 use Rattle.std.specs.List.{prefix_len}
 use Rattle.zbx_types.specs.Numerals.{Numeral, read_number, numeral_of, unsigned_of, pointed_of, numeral_with, exponent_of, value_of, magnitude, digits_after, front_digits, behind_digits}
 use Rattle.expr_parser.specs.Bytes.{is_digit, AreDigits}
-use Rattle.expr_parser.specs.Numbers.{millionths}
+use Rattle.expr_parser.specs.Numbers.{is_at_most, millionths}
 use native.Mathlib.Nat.{le-div_iff_mul-le, div-mul-le_self, le_trans, le_of_eq, pow-suc, mul-div-mul_right}
-use Rattle.expr_parser.specs.Figures.{is_at_most}
 use Rattle.expr_parser.proofs.Lists.{le_test, le_true, are_snoc, digit_bounds, way, some_is, none_some}
 
 -- the millionths that these digits before and behind the point write, cut
@@ -146,10 +145,10 @@ point_zero w =
 
 -- ---- so what begins a number in range is in range
 
-capped_some : (m n : ℕ) → capped m ≡ Some n → (m ≡ n) × (m ≤ 1000000000000000000000000000000)
+pub capped_some : (m n : ℕ) → capped m ≡ Some n → (m ≡ n) × (m ≤ 1000000000000000000000000000000)
 capped_some m n h = elim (way (nat_le m 1000000000000000000000000000000) (Some m) None (Some n) h) [ inl z ↦ (some_is m n z.1, le_true _ _ z.0) | inr z ↦ none_some n z.1 ]
 
-capped_is : (m : ℕ) → m ≤ 1000000000000000000000000000000 → capped m ≡ Some m
+pub capped_is : (m : ℕ) → m ≤ 1000000000000000000000000000000 → capped m ≡ Some m
 capped_is m h = rw (le_test m 1000000000000000000000000000000 h) refl
 
 -- a number is there and at most so great

@@ -1,25 +1,5 @@
 -- What the grammar says of calls: their places in the tree, and the bounds of their ranges and shifts.
-use Rattle.std.proofs.Common.{
-  ◌≡◌,
-  ◌≤◌,
-  ◌<◌,
-  ◌+◌,
-  ◌++◌,
-  ◌∷◌,
-  [],
-  ℕ,
-  zero,
-  suc,
-  List,
-  length,
-  length-append,
-  Some,
-  None,
-  sym,
-  subst,
-  refl,
-  arith,
-}
+use Rattle.std.proofs.Common.{◌≡◌, ◌≤◌, ◌<◌, ◌+◌, ◌++◌, [], ℕ, List, length, length-append, Some, subst, arith}
 use Rattle.std.specs.List.{All}
 use Rattle.std.proofs.lemmas.List.Elements.{All-nil, All-cons, All-append}
 use Rattle.zbx_types.specs.Tree.{Tree, constant, call, negative, negation, binary}
@@ -48,7 +28,7 @@ use Rattle.zbx_types.specs.declared.calls.Fun.TheVariants.{
   DayOfMonth,
 }
 use Rattle.zbx_types.specs.declared.calls.Range.{Range}
-use Rattle.zbx_types.specs.declared.calls.Range.TheVariants.{Count, Period}
+use Rattle.zbx_types.specs.declared.calls.Range.TheVariants.{Count}
 use Rattle.expr_parser.specs.declared.slots.Slot.{Slot}
 use Rattle.expr_parser.specs.declared.slots.Slot.TheVariants.{Newest, Span, MaybeSpan, Silence, Word, Percent, Free}
 use Rattle.expr_parser.specs.declared.parts.Value.{Value}

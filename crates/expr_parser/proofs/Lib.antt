@@ -1,5 +1,6 @@
 pub mod Lists
 pub mod Amounts
+pub mod WrittenWholes
 pub mod NumberPaths
 pub mod PartPaths
 pub mod TextPaths

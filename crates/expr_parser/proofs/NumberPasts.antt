@@ -3,8 +3,8 @@ use Rattle.std.proofs.Common.{◌≡◌, ℕ, ◌*◌, ◌≤◌, List, [], ◌�
 use Rattle.expr_parser.specs.declared.figures.Figures.{Figures}
 use Rattle.expr_parser.specs.declared.figures.Figures.TheVariants.{Integral, Pointed, Fraction, Suffixed}
 use Rattle.expr_parser.specs.Bytes.{is_digit, AreDigits}
-use Rattle.expr_parser.specs.Numbers.{millionths, IsDecimal, whole, pointed, IsNumber, decimal, suffixed, number_factor}
-use Rattle.expr_parser.specs.Figures.{figures_text, figures_value, is_at_most, held_to, scaled, first_figure, figure}
+use Rattle.expr_parser.specs.Numbers.{is_at_most, millionths, IsDecimal, whole, pointed, IsNumber, decimal, suffixed, number_factor}
+use Rattle.expr_parser.specs.Figures.{figures_text, figures_value, held_to, scaled, first_figure, figure}
 use Rattle.expr_parser.proofs.Lists.{way, some_is, none_some, le_true, are_snoc, are_one, eq_true}
 use Rattle.expr_parser.proofs.Amounts.{Bounded, test_bounded, bounded_zero}
 

@@ -1,26 +1,9 @@
 -- Numbers byte by byte.
-use Rattle.std.specs.Prelude.{
-  ℕ,
-  ◌*◌,
-  List,
-  [],
-  ◌∷◌,
-  ◌++◌,
-  Option,
-  Some,
-  None,
-  Bool,
-  true,
-  false,
-  ◌==◌,
-  nat_le,
-  if◌then◌else◌,
-  is_some,
-}
+use Rattle.std.specs.Prelude.{ℕ, ◌*◌, List, [], ◌∷◌, ◌++◌, Option, Some, None, Bool, true, ◌==◌, nat_le, if◌then◌else◌, is_some}
 use Rattle.expr_parser.specs.declared.figures.Figures.{Figures}
 use Rattle.expr_parser.specs.declared.figures.Figures.TheVariants.{Integral, Pointed, Fraction, Suffixed}
 use Rattle.expr_parser.specs.Bytes.{is_digit}
-use Rattle.expr_parser.specs.Numbers.{millionths, number_factor}
+use Rattle.expr_parser.specs.Numbers.{is_at_most, millionths, number_factor}
 
 -- the text of a number so far
 abbrev pub figures_text : Figures → List ℕ
@@ -39,11 +22,6 @@ figures_value (Integral w) = millionths w
 figures_value (Pointed w) = None
 figures_value (Fraction w) = millionths w
 figures_value (Suffixed w n) = Some n
-
--- there is a number, and it is at most so great
-abbrev pub is_at_most : ℕ → Option ℕ → Bool
-is_at_most most None = false
-is_at_most most (Some n) = nat_le n most
 
 -- a place, where the text is in range
 abbrev pub held_to : ℕ → List ℕ → Figures → Option Figures

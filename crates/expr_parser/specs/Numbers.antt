@@ -11,12 +11,15 @@ use Rattle.std.specs.Prelude.{
   Option,
   Some,
   None,
+  Bool,
+  false,
   ◌==◌,
+  nat_le,
   if◌then◌else◌,
   unsigned_abs,
 }
 use Rattle.std.specs.Option.{option_map}
-use Rattle.zbx_types.specs.Numerals.{read_number}
+use Rattle.zbx_types.specs.Numerals.{digits_after, read_number}
 use Rattle.expr_parser.specs.Bytes.{AreDigits, Digits}
 
 -- the seconds of a period's suffix
@@ -40,6 +43,15 @@ pub data IsDecimal : List ℕ → Type 0 where
 -- the millionths of a decimal, cut, where they are in range
 abbrev pub millionths : List ℕ → Option ℕ
 millionths text = option_map unsigned_abs (read_number text)
+
+-- there is a number, and it is at most so great
+abbrev pub is_at_most : ℕ → Option ℕ → Bool
+is_at_most most None = false
+is_at_most most (Some n) = nat_le n most
+
+-- digits, at least one, that write so many millionths
+abbrev pub IsWritten : List ℕ → ℕ → Type 0
+IsWritten t n = (b : ℕ) × (bs : List ℕ) × (t ≡ b ∷ bs) × AreDigits (b ∷ bs) × (digits_after 0 t * 1000000 ≡ n)
 
 -- the text is a number of so many millionths, at most `most`: a decimal, and optionally a suffix that multiplies it
 pub data IsNumber (most : ℕ) : List ℕ → ℕ → Type 0 where

@@ -1,11 +1,12 @@
 //! Numbers byte by byte.
 
-ghost use Rattle.std.specs.Prelude.{◌≡◌, ◌++◌, ◌∷◌, [], ◌*◌, ◌+◌, ◌-◌, ◌^◌, ◌≤◌, true, IfOk, nat_le, if◌then◌else◌, Some, None};
+ghost use Rattle.std.specs.Prelude.{◌≡◌, ◌++◌, ◌∷◌, [], ◌*◌, ◌+◌, ◌-◌, ◌^◌, ◌≤◌, true, IfOk, nat_le, if◌then◌else◌, Some, None, option_map};
 ghost use Rattle.expr_parser.specs.Bytes as bytes;
 ghost use Rattle.expr_parser.specs.Numbers as numbers;
 ghost use Rattle.expr_parser.specs.Figures as figures;
 ghost use Rattle.expr_parser.specs.declared.figures.Figures.TheVariants.{Integral, Fraction};
 
+use crate::whole_numbers::{WholeNumber, first_digit};
 use std::alloc::Global;
 use zbx_types::{Bytes, Fix, OutOfMemory};
 
@@ -13,7 +14,7 @@ use zbx_types::{Bytes, Fix, OutOfMemory};
 #[derive(Drop)]
 pub(crate) enum Figures {
     /// Among the digits before the point.
-    Integral(Bytes),
+    Integral(WholeNumber),
     /// Behind the point.
     Pointed(Bytes),
     /// Among the digits behind the point.
@@ -88,7 +89,7 @@ fn millionths(text: &[u8]) -> Option<u128>
 }
 
 fn at_most(most: u128, text: &[u8]) -> bool
-    ensures { result ≡ figures.is_at_most most (numbers.millionths text.now) }
+    ensures { result ≡ numbers.is_at_most most (numbers.millionths text.now) }
 {
     match millionths(text) {
         Some(number) => number <= most,
@@ -96,13 +97,12 @@ fn at_most(most: u128, text: &[u8]) -> bool
     }
 }
 
-fn integral(most: u128, text: Bytes) -> Option<Figures>
-    ensures { result ≡ figures.held_to most text (Integral text) }
+fn integral(number: Option<WholeNumber>) -> Option<Figures>
+    ensures { result ≡ option_map Integral number }
 {
-    if at_most(most, text.as_slice()) {
-        Some(Figures::Integral(text))
-    } else {
-        None
+    match number {
+        Some(number) => Some(Figures::Integral(number)),
+        None => None,
     }
 }
 
@@ -141,6 +141,7 @@ fn scaled(most: u128, text: Bytes, number: Option<u128>, factor: Option<u64>) ->
 }
 
 /// The place behind the first byte of a number.
+#[tactic(auto, using(crate::proofs::WrittenWholes::integral_held))]
 pub(crate) fn first_figure(
     alloc: Global,
     most: u128,
@@ -149,23 +150,30 @@ pub(crate) fn first_figure(
     ensures { IfOk result (λ made. made ≡ figures.first_figure most byte) }
 {
     if digit(byte) {
-        let text = Bytes::of(alloc, &[byte])?;
-        Ok(integral(most, text))
+        let number = first_digit(alloc, most, byte)?;
+        Ok(integral(number))
     } else {
         Ok(None)
     }
 }
 
-fn behind_integral(most: u128, text: Bytes, byte: u8) -> Result<Option<Figures>, OutOfMemory>
-    ensures { IfOk result (λ made. made ≡ figures.figure most (Integral text) byte) }
+#[tactic(auto, using(crate::proofs::WrittenWholes::integral_held))]
+fn behind_integral(most: u128, whole: WholeNumber, byte: u8) -> Result<Option<Figures>, OutOfMemory>
+    ensures { IfOk result (λ made. made ≡ figures.figure most (Integral whole) byte) }
 {
     if digit(byte) {
-        Ok(integral(most, longer(text, byte)?))
+        let number = whole.more(most, byte)?;
+        Ok(integral(number))
     } else if byte == b'.' {
-        Ok(Some(Figures::Pointed(longer(text, byte)?)))
+        Ok(Some(Figures::Pointed(longer(whole.text(), byte)?)))
     } else {
-        let number = millionths(text.as_slice());
-        Ok(scaled(most, longer(text, byte)?, number, number_factor(byte)))
+        let number = whole.millionths();
+        Ok(scaled(
+            most,
+            longer(whole.text(), byte)?,
+            Some(number),
+            number_factor(byte),
+        ))
     }
 }
 
@@ -196,7 +204,7 @@ pub(crate) fn figure(most: u128, place: Figures, byte: u8) -> Result<Option<Figu
     ensures { IfOk result (λ made. made ≡ figures.figure most place byte) }
 {
     match place {
-        Figures::Integral(text) => behind_integral(most, text, byte),
+        Figures::Integral(whole) => behind_integral(most, whole, byte),
         Figures::Pointed(text) => behind_point(most, text, byte),
         Figures::Fraction(text) => behind_fraction(most, text, byte),
         Figures::Suffixed(_, _) => Ok(None),
@@ -208,7 +216,7 @@ pub(crate) fn value(place: &Figures) -> Option<u128>
     ensures { result ≡ figures.figures_value place.now }
 {
     match place {
-        Figures::Integral(text) => millionths(text.as_slice()),
+        Figures::Integral(whole) => Some(whole.millionths()),
         Figures::Pointed(_) => None,
         Figures::Fraction(text) => millionths(text.as_slice()),
         Figures::Suffixed(_, number) => Some(*number),
@@ -220,7 +228,7 @@ pub(crate) fn text_of(place: Figures) -> Bytes
     ensures { result ≡ figures.figures_text place }
 {
     match place {
-        Figures::Integral(text) => text,
+        Figures::Integral(whole) => whole.text(),
         Figures::Pointed(text) => text,
         Figures::Fraction(text) => text,
         Figures::Suffixed(text, _) => text,

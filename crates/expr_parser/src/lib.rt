@@ -41,6 +41,7 @@ mod range_bytes;
 mod reading;
 mod slots;
 mod states;
+mod whole_numbers;
 mod writing;
 
 pub use reading::{LONGEST_EXPRESSION, ParseError, Parsed, one_expression, read};
