@@ -6,27 +6,9 @@ use Rattle.zbx_types.specs.Tree.{Tree, constant, call, negative, negation, binar
 use Rattle.zbx_types.specs.Trees.{CallsBelow}
 use Rattle.zbx_types.specs.declared.calls.Call.{Call}
 use Rattle.zbx_types.specs.declared.calls.Fun.{Fun}
-use Rattle.zbx_types.specs.declared.calls.Fun.TheVariants.{
-  Last,
-  First,
-  Min,
-  Max,
-  Avg,
-  Sum,
-  Change,
-  Count as Matching,
-  Find,
-  NoData,
-  Percentile,
-  ChangeCount,
-  MonoInc,
-  MonoDec,
-  Now,
-  Time,
-  Date,
-  DayOfWeek,
-  DayOfMonth,
-}
+use Rattle.zbx_types.specs.declared.calls.Fun.TheVariants.{Last, First, Min, Max, Avg, Sum, Change, Count as Matching}
+use Rattle.zbx_types.specs.declared.calls.Fun.TheVariants.{Find, NoData, Percentile, ChangeCount, MonoInc, MonoDec, Now}
+use Rattle.zbx_types.specs.declared.calls.Fun.TheVariants.{Time, Date, DayOfWeek, DayOfMonth}
 use Rattle.zbx_types.specs.declared.calls.Range.{Range}
 use Rattle.zbx_types.specs.declared.calls.Range.TheVariants.{Count}
 use Rattle.expr_parser.specs.declared.slots.Slot.{Slot}
@@ -36,32 +18,9 @@ use Rattle.expr_parser.specs.declared.parts.Value.TheVariants.{Ranged, Said}
 use Rattle.expr_parser.specs.Bytes.{Point}
 use Rattle.expr_parser.specs.Numbers.{IsPeriod, seconds, suffixed_period}
 use Rattle.expr_parser.specs.Functions.{default_range, least_period}
-use Rattle.expr_parser.specs.Calls.{
-  absent_value,
-  longest_period,
-  IsRange,
-  latest,
-  span,
-  IsPart,
-  absent,
-  ranged,
-  shifted,
-  word,
-  number as figured,
-  quoted_number,
-  quoted,
-  put,
-  put_text,
-  plain_call,
-  Arguments,
-  no_more,
-  another,
-  IsCall,
-  dated,
-  of_item,
-  IsBoundedRange,
-  IsBoundedCall,
-}
+use Rattle.expr_parser.specs.Calls.{absent_value, longest_period, IsRange, latest, span, IsPart, absent, ranged}
+use Rattle.expr_parser.specs.Calls.{shifted, word, number as figured, quoted_number, quoted, put, put_text, plain_call}
+use Rattle.expr_parser.specs.Calls.{Arguments, no_more, another, IsCall, dated, of_item, IsBoundedRange, IsBoundedCall}
 use Rattle.expr_parser.specs.Grammar.{Spells, IsExpr, number, called, paren, minus, denied, tighter, joined}
 use Rattle.expr_parser.proofs.Lists.{some_is}
 

@@ -1,33 +1,6 @@
 -- Whole numbers with their millionths, a digit more at a time.
-use Rattle.std.proofs.Common.{
-  ◌≡◌,
-  ℕ,
-  ◌+◌,
-  ◌-◌,
-  ◌*◌,
-  ◌≤◌,
-  ◌^◌,
-  List,
-  [],
-  ◌∷◌,
-  ◌++◌,
-  refl,
-  ap,
-  sym,
-  ◌∙◌,
-  Bool,
-  true,
-  false,
-  arith,
-  Option,
-  Some,
-  None,
-  append-nil,
-  inl,
-  inr,
-  if◌then◌else◌,
-  option_map,
-}
+use Rattle.std.proofs.Common.{◌≡◌, ℕ, ◌+◌, ◌-◌, ◌*◌, ◌≤◌, ◌^◌, List, [], ◌∷◌, ◌++◌, refl, ap, sym, ◌∙◌, Bool, true}
+use Rattle.std.proofs.Common.{false, arith, Option, Some, None, append-nil, inl, inr, if◌then◌else◌, option_map}
 use Rattle.zbx_types.specs.Numerals.{digits_after}
 use Rattle.zbx_types.proofs.NumeralLemmas.{digits_after-append}
 use Rattle.expr_parser.specs.Bytes.{is_digit}
@@ -43,7 +16,8 @@ amount_alone w = rw (append-nil w) (omega arith)
 pub written_value : (t : List ℕ) (n : ℕ) → IsWritten t n → millionths t ≡ capped n
 written_value t n h =
     ap (λ (v : List ℕ). millionths v) h.2 ∙ whole_is h.0 h.1 h.3
-    ∙ ap (λ (m : ℕ). capped m) (amount_alone (h.0 ∷ h.1) ∙ ap (λ (v : List ℕ). digits_after 0 v * 1000000) (sym h.2) ∙ h.4)
+    ∙ ap (λ (m : ℕ). capped m)
+    (amount_alone (h.0 ∷ h.1) ∙ ap (λ (v : List ℕ). digits_after 0 v * 1000000) (sym h.2) ∙ h.4)
 
 pub written_one : (d : ℕ) → is_digit d ≡ true → IsWritten (d ∷ []) ((d - 48) * 1000000)
 written_one d g = (d, [], refl, are_one d g, omega arith)
@@ -59,7 +33,8 @@ pub written_some : (t : List ℕ) (n : ℕ) → IsWritten t n → n ≤ 10 ^ 30 
 written_some t n h l = sym (written_value t n h ∙ capped_is n (omega arith))
 
 pub integral_held : (most : ℕ) (t : List ℕ) (o : Option (List ℕ))
-    → o ≡ (if is_at_most most (millionths t) then Some t else None) → option_map Integral o ≡ held_to most t (Integral t)
+    → o ≡ (if is_at_most most (millionths t) then Some t else None)
+    → option_map Integral o ≡ held_to most t (Integral t)
 integral_held most t o h = ap (λ v. option_map Integral v) h ∙ kept (is_at_most most (millionths t))
   where
     kept : (b : Bool) → option_map Integral (if b then Some t else None) ≡ (if b then Some (Integral t) else None)

@@ -1,22 +1,6 @@
 -- Bytes, and points in a text.
-use Rattle.std.specs.Prelude.{
-  ◌≡◌,
-  ◌-◌,
-  ◌+◌,
-  ◌*◌,
-  ℕ,
-  zero,
-  suc,
-  List,
-  [],
-  ◌∷◌,
-  Bool,
-  true,
-  false,
-  ◌==◌,
-  nat_le,
-  if◌then◌else◌,
-}
+use Rattle.std.specs.Prelude.{◌≡◌, ◌-◌, ◌+◌, ◌*◌, ℕ, zero, suc, List, [], ◌∷◌, Bool, true, false, ◌==◌, nat_le}
+use Rattle.std.specs.Prelude.{if◌then◌else◌}
 
 -- space, tab, carriage return or line feed
 abbrev pub is_blank : ℕ → Bool

@@ -1,26 +1,7 @@
 -- Calls of functions, by the cases of their grammar (the Zabbix 6.0 manual, "Trigger expression" and "Supported
 -- functions").
-use Rattle.std.specs.Prelude.{
-  ◌≡◌,
-  ◌≤◌,
-  ◌<◌,
-  ℕ,
-  List,
-  [],
-  ◌∷◌,
-  ◌++◌,
-  Option,
-  Some,
-  None,
-  Bool,
-  true,
-  false,
-  ◌==◌,
-  if◌then◌else◌,
-  length,
-  take,
-  IsUtf8,
-}
+use Rattle.std.specs.Prelude.{◌≡◌, ◌≤◌, ◌<◌, ℕ, List, [], ◌∷◌, ◌++◌, Option, Some, None, Bool, true, false, ◌==◌}
+use Rattle.std.specs.Prelude.{if◌then◌else◌, length, take, IsUtf8}
 use Rattle.zbx_types.specs.declared.calls.Call.{Call}
 use Rattle.zbx_types.specs.declared.calls.Fun.{Fun}
 use Rattle.zbx_types.specs.declared.calls.Range.{Range}

@@ -1,5 +1,6 @@
 -- Numbers byte by byte.
-use Rattle.std.specs.Prelude.{ℕ, ◌*◌, List, [], ◌∷◌, ◌++◌, Option, Some, None, Bool, true, ◌==◌, nat_le, if◌then◌else◌, is_some}
+use Rattle.std.specs.Prelude.{ℕ, ◌*◌, List, [], ◌∷◌, ◌++◌, Option, Some, None, Bool, true, ◌==◌, nat_le, if◌then◌else◌}
+use Rattle.std.specs.Prelude.{is_some}
 use Rattle.expr_parser.specs.declared.figures.Figures.{Figures}
 use Rattle.expr_parser.specs.declared.figures.Figures.TheVariants.{Integral, Pointed, Fraction, Suffixed}
 use Rattle.expr_parser.specs.Bytes.{is_digit}

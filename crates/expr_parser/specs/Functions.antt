@@ -1,27 +1,9 @@
 -- The functions of expressions, by name, and the arguments that each takes.
 use Rattle.std.specs.Prelude.{ℕ, List, [], ◌∷◌, Option, Some, None, Bool, true, false, codes}
 use Rattle.zbx_types.specs.declared.calls.Fun.{Fun}
-use Rattle.zbx_types.specs.declared.calls.Fun.TheVariants.{
-  Last,
-  First,
-  Min,
-  Max,
-  Avg,
-  Sum,
-  Change,
-  Count,
-  Find,
-  NoData,
-  Percentile,
-  ChangeCount,
-  MonoInc,
-  MonoDec,
-  Now,
-  Time,
-  Date,
-  DayOfWeek,
-  DayOfMonth,
-}
+use Rattle.zbx_types.specs.declared.calls.Fun.TheVariants.{Last, First, Min, Max, Avg, Sum, Change, Count, Find, NoData}
+use Rattle.zbx_types.specs.declared.calls.Fun.TheVariants.{Percentile, ChangeCount, MonoInc, MonoDec, Now, Time, Date}
+use Rattle.zbx_types.specs.declared.calls.Fun.TheVariants.{DayOfWeek, DayOfMonth}
 use Rattle.zbx_types.specs.declared.calls.Range.{Range}
 use Rattle.zbx_types.specs.declared.calls.Range.TheVariants.{Count as Latest}
 use Rattle.expr_parser.specs.declared.slots.Words.{Words}

@@ -1,26 +1,6 @@
 -- Expressions byte by byte: where an expression stands behind a front of it.
-use Rattle.std.specs.Prelude.{
-  ◌≡◌,
-  ℕ,
-  zero,
-  suc,
-  List,
-  [],
-  ◌∷◌,
-  ◌++◌,
-  length,
-  Bool,
-  true,
-  false,
-  ◌==◌,
-  nat_le,
-  nat_lt,
-  if◌then◌else◌,
-  Option,
-  Some,
-  None,
-  pos,
-}
+use Rattle.std.specs.Prelude.{◌≡◌, ℕ, zero, suc, List, [], ◌∷◌, ◌++◌, length, Bool, true, false, ◌==◌, nat_le, nat_lt}
+use Rattle.std.specs.Prelude.{if◌then◌else◌, Option, Some, None, pos}
 use Rattle.std.specs.Str.{is_utf8}
 use Rattle.zbx_types.specs.Tree.{Tree, constant, call, negative, negation, binary}
 use Rattle.zbx_types.specs.declared.expr.Op.{Op}

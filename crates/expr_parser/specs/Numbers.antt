@@ -1,23 +1,6 @@
 -- Numbers and periods in expressions.
-use Rattle.std.specs.Prelude.{
-  ◌≡◌,
-  ◌≤◌,
-  ◌*◌,
-  ℕ,
-  List,
-  [],
-  ◌∷◌,
-  ◌++◌,
-  Option,
-  Some,
-  None,
-  Bool,
-  false,
-  ◌==◌,
-  nat_le,
-  if◌then◌else◌,
-  unsigned_abs,
-}
+use Rattle.std.specs.Prelude.{◌≡◌, ◌≤◌, ◌*◌, ℕ, List, [], ◌∷◌, ◌++◌, Option, Some, None, Bool, false, ◌==◌, nat_le}
+use Rattle.std.specs.Prelude.{if◌then◌else◌, unsigned_abs}
 use Rattle.std.specs.Option.{option_map}
 use Rattle.zbx_types.specs.Numerals.{digits_after, read_number}
 use Rattle.expr_parser.specs.Bytes.{AreDigits, Digits}

@@ -1,25 +1,6 @@
 -- Arguments byte by byte.
-use Rattle.std.specs.Prelude.{
-  ℕ,
-  zero,
-  suc,
-  ◌+◌,
-  ◌*◌,
-  ◌-◌,
-  List,
-  [],
-  ◌∷◌,
-  ◌++◌,
-  Option,
-  Some,
-  None,
-  Bool,
-  true,
-  false,
-  ◌==◌,
-  nat_le,
-  if◌then◌else◌,
-}
+use Rattle.std.specs.Prelude.{ℕ, zero, suc, ◌+◌, ◌*◌, ◌-◌, List, [], ◌∷◌, ◌++◌, Option, Some, None, Bool, true, false}
+use Rattle.std.specs.Prelude.{◌==◌, nat_le, if◌then◌else◌}
 use Rattle.std.specs.Option.{option_map}
 use Rattle.zbx_types.specs.declared.calls.Range.{Range}
 use Rattle.zbx_types.specs.declared.calls.Range.TheVariants.{Count, Period}
@@ -33,23 +14,9 @@ use Rattle.expr_parser.specs.declared.parts.Value.TheVariants.{Ranged, Said}
 use Rattle.expr_parser.specs.declared.parts.Ahead.{Ahead}
 use Rattle.expr_parser.specs.declared.parts.Ahead.TheVariants.{Now, Ow, W, Dash, Digits}
 use Rattle.expr_parser.specs.declared.parts.Part.{Part}
-use Rattle.expr_parser.specs.declared.parts.Part.TheVariants.{
-  Before,
-  Hash,
-  Latest,
-  Seconds,
-  Spanned,
-  Back,
-  Shift,
-  Shifted,
-  Letters,
-  Number,
-  Opened,
-  Quoted,
-  Text,
-  Slash,
-  Closed,
-}
+use Rattle.expr_parser.specs.declared.parts.Part.TheVariants.{Before, Hash, Latest, Seconds, Spanned, Back, Shift}
+use Rattle.expr_parser.specs.declared.parts.Part.TheVariants.{Shifted, Letters, Number, Opened, Quoted, Text, Slash}
+use Rattle.expr_parser.specs.declared.parts.Part.TheVariants.{Closed}
 use Rattle.expr_parser.specs.Bytes.{is_digit}
 use Rattle.expr_parser.specs.Numbers.{period_factor}
 use Rattle.expr_parser.specs.Functions.{takes_count, least_period, word_list}

@@ -6,21 +6,8 @@ use Rattle.expr_parser.specs.declared.slots.Slot.{Slot}
 use Rattle.expr_parser.specs.declared.slots.Slots.{Slots}
 use Rattle.expr_parser.specs.declared.slots.Slots.TheVariants.{Zero, OneSlot, TwoSlots, ThreeSlots}
 use Rattle.expr_parser.specs.declared.states.Mode.{Mode}
-use Rattle.expr_parser.specs.declared.states.Mode.TheVariants.{
-  Begin,
-  Operand,
-  Word,
-  Number,
-  Slash,
-  Host,
-  Key,
-  Argument,
-  Close,
-  Done,
-  Less,
-  Greater,
-  Joint,
-}
+use Rattle.expr_parser.specs.declared.states.Mode.TheVariants.{Begin, Operand, Word, Number, Slash, Host, Key, Argument}
+use Rattle.expr_parser.specs.declared.states.Mode.TheVariants.{Close, Done, Less, Greater, Joint}
 use Rattle.expr_parser.specs.declared.states.State.{State}
 use Rattle.expr_parser.specs.declared.states.Whole.{Whole}
 use Rattle.zbx_types.specs.Tree.{Tree}

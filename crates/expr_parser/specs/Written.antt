@@ -1,23 +1,6 @@
 -- The one written form of expressions.
-use Rattle.std.specs.Prelude.{
-  ℕ,
-  suc,
-  List,
-  [],
-  ◌∷◌,
-  ◌++◌,
-  Option,
-  Some,
-  None,
-  Bool,
-  true,
-  false,
-  ◌==◌,
-  if◌then◌else◌,
-  codes,
-  slice_get,
-  max,
-}
+use Rattle.std.specs.Prelude.{ℕ, suc, List, [], ◌∷◌, ◌++◌, Option, Some, None, Bool, true, false, ◌==◌, if◌then◌else◌}
+use Rattle.std.specs.Prelude.{codes, slice_get, max}
 use Rattle.std.specs.List.{flat_map}
 use Rattle.std.specs.Fmt.{decimal}
 use Rattle.zbx_types.specs.Tree.{Tree, constant, call, negative, negation, binary}
