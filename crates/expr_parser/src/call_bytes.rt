@@ -197,16 +197,29 @@ pub(crate) fn key_byte(
     }
 }
 
+/// Where an argument of a call stands: the call so far, the argument's slot and those behind it, and what stands around the
+/// call.
+#[derive(Drop)]
+pub(crate) struct ArgumentPlace {
+    pub(crate) call: Call,
+    pub(crate) slot: Slot,
+    pub(crate) slots: Slots,
+    pub(crate) base: Base,
+}
+
 pub(crate) fn argument_on(
     made: Option<Part>,
-    call: Call,
-    slot: Slot,
-    slots: Slots,
-    base: Base,
+    at: ArgumentPlace,
     byte: u8,
 ) -> Option<State>
-    ensures { option_map state result ≡ machine.argument_on made call slot (slot_list slots) base.open_ones (reverse base.stack.items) base.calls byte }
+    ensures { option_map state result ≡ machine.argument_on made at.call at.slot (slot_list at.slots) at.base.open_ones (reverse at.base.stack.items) at.base.calls byte }
 {
+    let ArgumentPlace {
+        call,
+        slot,
+        slots,
+        base,
+    } = at;
     match made {
         Some(place) => Some(State {
             mode: Mode::Argument(false, call, slot, slots, place),
@@ -231,17 +244,14 @@ pub(crate) fn put_text(slot: Slot, text: Text, call: Call) -> Call
 pub(crate) fn said(
     alloc: Global,
     text: Bytes,
-    call: Call,
-    slot: Slot,
-    slots: Slots,
-    base: Base,
+    at: ArgumentPlace,
     byte: u8,
 ) -> Result<Option<State>, OutOfMemory>
-    ensures { IfOk result (λ r. option_map state r ≡ machine.said text call slot (slot_list slots) base.open_ones (reverse base.stack.items) base.calls byte) }
+    ensures { IfOk result (λ r. option_map state r ≡ machine.said text at.call at.slot (slot_list at.slots) at.base.open_ones (reverse at.base.stack.items) at.base.calls byte) }
 {
     match as_text(alloc, &text)? {
         None => Ok(None),
-        Some(text) => delivered(put_text(slot, text, call), slots, base, byte),
+        Some(text) => delivered(put_text(at.slot, text, at.call), at.slots, at.base, byte),
     }
 }
 
@@ -257,17 +267,14 @@ pub(crate) fn put_range(range: Range, shift: u32, call: Call) -> Call
 pub(crate) fn argument_end(
     alloc: Global,
     value: Value,
-    call: Call,
-    slot: Slot,
-    slots: Slots,
-    base: Base,
+    at: ArgumentPlace,
     byte: u8,
 ) -> Result<Option<State>, OutOfMemory>
-    ensures { IfOk result (λ r. (place : Part) → option_map state r ≡ machine.argument_end (Some value) call slot (slot_list slots) place base.open_ones (reverse base.stack.items) base.calls byte) }
+    ensures { IfOk result (λ r. (place : Part) → option_map state r ≡ machine.argument_end (Some value) at.call at.slot (slot_list at.slots) place at.base.open_ones (reverse at.base.stack.items) at.base.calls byte) }
 {
     match value {
-        Value::Said(text) => said(alloc, text, call, slot, slots, base, byte),
-        Value::Ranged(range, shift) => delivered(put_range(range, shift, call), slots, base, byte),
+        Value::Said(text) => said(alloc, text, at, byte),
+        Value::Ranged(range, shift) => delivered(put_range(range, shift, at.call), at.slots, at.base, byte),
     }
 }
 
@@ -275,36 +282,30 @@ pub(crate) fn argument_end(
 pub(crate) fn argument_more(
     alloc: Global,
     place: Part,
-    call: Call,
-    slot: Slot,
-    slots: Slots,
-    base: Base,
+    at: ArgumentPlace,
     byte: u8,
 ) -> Result<Option<State>, OutOfMemory>
-    ensures { IfOk result (λ r. option_map state r ≡ machine.argument_on (parts.part slot place byte) call slot (slot_list slots) base.open_ones (reverse base.stack.items) base.calls byte) }
+    ensures { IfOk result (λ r. option_map state r ≡ machine.argument_on (parts.part at.slot place byte) at.call at.slot (slot_list at.slots) at.base.open_ones (reverse at.base.stack.items) at.base.calls byte) }
 {
-    let made = part_on(alloc, slot, place, byte)?;
-    Ok(argument_on(made, call, slot, slots, base, byte))
+    let made = part_on(alloc, at.slot, place, byte)?;
+    Ok(argument_on(made, at, byte))
 }
 
 pub(crate) fn argument_byte(
     alloc: Global,
     place: Part,
-    call: Call,
-    slot: Slot,
-    slots: Slots,
-    base: Base,
+    at: ArgumentPlace,
     byte: u8,
 ) -> Result<Option<State>, OutOfMemory>
-    ensures { IfOk result (λ r. option_map state r ≡ machine.argument_byte call slot (slot_list slots) place base.open_ones (reverse base.stack.items) base.calls byte) }
+    ensures { IfOk result (λ r. option_map state r ≡ machine.argument_byte at.call at.slot (slot_list at.slots) place at.base.open_ones (reverse at.base.stack.items) at.base.calls byte) }
 {
     if delimiter(byte) {
-        match part_value(alloc, slot, place) {
-            Ok(value) => argument_end(alloc, value, call, slot, slots, base, byte),
-            Err(place) => argument_more(alloc, place, call, slot, slots, base, byte),
+        match part_value(alloc, at.slot, place) {
+            Ok(value) => argument_end(alloc, value, at, byte),
+            Err(place) => argument_more(alloc, place, at, byte),
         }
     } else {
-        argument_more(alloc, place, call, slot, slots, base, byte)
+        argument_more(alloc, place, at, byte)
     }
 }
 
@@ -312,22 +313,25 @@ pub(crate) fn argument(
     alloc: Global,
     fresh: bool,
     place: Part,
-    call: Call,
-    slot: Slot,
-    slots: Slots,
-    base: Base,
+    at: ArgumentPlace,
     byte: u8,
 ) -> Result<Option<State>, OutOfMemory>
-    ensures { IfOk result (λ r. option_map state r ≡ machine.argument fresh call slot (slot_list slots) place base.open_ones (reverse base.stack.items) base.calls byte) }
+    ensures { IfOk result (λ r. option_map state r ≡ machine.argument fresh at.call at.slot (slot_list at.slots) place at.base.open_ones (reverse at.base.stack.items) at.base.calls byte) }
 {
     if fresh && blank(byte) {
+        let ArgumentPlace {
+            call,
+            slot,
+            slots,
+            base,
+        } = at;
         Ok(Some(State {
             mode: Mode::Argument(true, call, slot, slots, place),
             last: byte,
             base,
         }))
     } else {
-        argument_byte(alloc, place, call, slot, slots, base, byte)
+        argument_byte(alloc, place, at, byte)
     }
 }
 

@@ -13,7 +13,7 @@ ghost use Rattle.expr_parser.specs.declared.pending.Pending.TheVariants.{Waits};
 ghost use Rattle.zbx_types.specs.Tree as trees;
 ghost use Rattle.zbx_types.specs.Trees.{tree_of};
 
-use crate::call_bytes::{argument, close, host, key_byte, slash};
+use crate::call_bytes::{ArgumentPlace, argument, close, host, key_byte, slash};
 use crate::figures::value;
 use crate::operand_bytes::{blank_or, constant, number, operand, word};
 use crate::operator_bytes::{behind, behind_greater, behind_less, joint_byte};
@@ -38,7 +38,13 @@ pub(crate) fn move_on(alloc: Global, s: State, byte: u8) -> Result<Option<State>
             key_byte(alloc, (fun, host, key), place, character, base, byte)
         }
         Mode::Argument(fresh, call, slot, slots, place) => {
-            argument(alloc, fresh, place, call, slot, slots, base, byte)
+            let at = ArgumentPlace {
+                call,
+                slot,
+                slots,
+                base,
+            };
+            argument(alloc, fresh, place, at, byte)
         }
         Mode::Close(call) => close(call, base, byte),
         Mode::Done(left) => behind(alloc, left, last, base, byte),
