@@ -17,11 +17,11 @@ ghost use Rattle.zbx_types.specs.Trees.{tree_of};
 use crate::figures::longer;
 use crate::parts::{Part, Value, part_on, part_value};
 use crate::slots::{Slot, Slots, all_absent, default_range, slots_of};
-use crate::states::{Base, Mode, State, blank};
+use crate::states::{Base, MOST_CALLS, Mode, State, blank};
 use byte_grammar::Character;
 use item_key::{Place, may_end, next};
 use std::alloc::Global;
-use zbx_types::{Bytes, Call, Expr, Fun, OutOfMemory, Range, Text};
+use zbx_types::{Bytes, Call, Expr, Fun, LONGEST_KEY, LONGEST_NAME, OutOfMemory, Range, Text};
 
 pub(crate) fn host_byte(byte: u8) -> bool
     ensures { result ≡ calls.is_host_byte byte }
@@ -45,7 +45,7 @@ pub(crate) fn host(
     ensures { IfOk result (λ r. option_map state r ≡ machine.host fun text base.open_ones (reverse base.stack.items) base.calls byte) }
 {
     if host_byte(byte) {
-        if text.len() < 128 {
+        if text.len() < LONGEST_NAME {
             let text = longer(text, byte)?;
             Ok(Some(State {
                 mode: Mode::Host(fun, text),
@@ -71,7 +71,7 @@ pub(crate) fn ended(call: Call, base: Base) -> Result<Option<State>, OutOfMemory
 {
     let mut base = base;
     let place = base.calls.len();
-    if place < 32 {
+    if place < MOST_CALLS {
         base.calls.push(call)?;
         Ok(Some(State {
             mode: Mode::Done(Expr::Call(place as u32)),
@@ -132,7 +132,7 @@ pub(crate) fn key_on(
     ensures { IfOk result (λ r. option_map state r ≡ machine.key_on false names.0 names.1 names.2 place character base.open_ones (reverse base.stack.items) base.calls byte) }
 {
     let (fun, host, key) = names;
-    if key.len() >= 2048 {
+    if key.len() >= LONGEST_KEY {
         return Ok(None);
     }
     let key = longer(key, byte)?;
@@ -207,11 +207,7 @@ pub(crate) struct ArgumentPlace {
     pub(crate) base: Base,
 }
 
-pub(crate) fn argument_on(
-    made: Option<Part>,
-    at: ArgumentPlace,
-    byte: u8,
-) -> Option<State>
+pub(crate) fn argument_on(made: Option<Part>, at: ArgumentPlace, byte: u8) -> Option<State>
     ensures { option_map state result ≡ machine.argument_on made at.call at.slot (slot_list at.slots) at.base.open_ones (reverse at.base.stack.items) at.base.calls byte }
 {
     let ArgumentPlace {
@@ -274,7 +270,12 @@ pub(crate) fn argument_end(
 {
     match value {
         Value::Said(text) => said(alloc, text, at, byte),
-        Value::Ranged(range, shift) => delivered(put_range(range, shift, at.call), at.slots, at.base, byte),
+        Value::Ranged(range, shift) => delivered(
+            put_range(range, shift, at.call),
+            at.slots,
+            at.base,
+            byte,
+        ),
     }
 }
 

@@ -18,7 +18,7 @@ use crate::figures::{Figures, figure, first_figure, is_figure, longer, value};
 use crate::names::{begun, is_not, named};
 use crate::operator_bytes::behind;
 use crate::pending::{Half, floor};
-use crate::states::{Base, Mode, State, blank, gap, opened, waiting};
+use crate::states::{Base, MOST_CALLS, Mode, State, blank, gap, opened, waiting};
 use std::alloc::Global;
 use zbx_types::{Bytes, Expr, Fix, Fun, OutOfMemory, Text};
 
@@ -34,7 +34,7 @@ pub(crate) fn word_byte(
     ensures { IfOk result (λ r. option_map state r ≡ machine.word_byte nots text byte base.open_ones (reverse base.stack.items) base.calls) }
 {
     let text = longer(text, byte)?;
-    if begun(nots, base.calls.len() < 32, text.as_slice()) {
+    if begun(nots, base.calls.len() < MOST_CALLS, text.as_slice()) {
         Ok(Some(State {
             mode: Mode::Word(nots, text),
             last: byte,
@@ -169,7 +169,7 @@ pub(crate) fn called(
 ) -> Result<Option<State>, OutOfMemory>
     ensures { IfOk result (λ r. option_map state r ≡ machine.called (if machine.has_room base.calls then machine.function_of text.now else None) nots text.now base.open_ones (reverse base.stack.items) base.calls) }
 {
-    if base.calls.len() < 32 {
+    if base.calls.len() < MOST_CALLS {
         match named(text) {
             Some(fun) => Ok(Some(calling(alloc, fun, base))),
             None => denied(text, nots, base),

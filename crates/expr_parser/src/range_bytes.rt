@@ -12,10 +12,7 @@ ghost use Rattle.expr_parser.specs.declared.parts.Part.TheVariants.{Seconds, Shi
 use crate::figures::{digit, period_factor};
 use crate::parts::{Ahead, Part};
 use crate::slots::{Slot, least_period, takes_count};
-use zbx_types::Range;
-
-/// The longest period, 31 days, in seconds.
-const LONGEST: u32 = 2678400;
+use zbx_types::{LONGEST_RANGE, Range};
 
 pub(crate) fn grown(most: u32, number: u32, byte: u8) -> Option<u32>
     requires { bytes.is_digit byte ≡ true }
@@ -35,7 +32,7 @@ pub(crate) fn lasting(least: u32, number: u32, factor: Option<u64>) -> Option<u3
     match factor {
         None => None,
         Some(f) => match (number as u64).checked_mul(f) {
-            Some(made) if least as u64 <= made && made <= LONGEST as u64 => Some(made as u32),
+            Some(made) if least as u64 <= made && made <= LONGEST_RANGE as u64 => Some(made as u32),
             _ => None,
         },
     }
@@ -67,7 +64,7 @@ pub(crate) fn second(slot: Slot, number: u32, byte: u8) -> Option<Part>
         None => None,
         Some(least) => {
             if digit(byte) {
-                in_seconds(grown(LONGEST, number, byte))
+                in_seconds(grown(LONGEST_RANGE, number, byte))
             } else if byte == b':' {
                 if least <= number {
                     colon(slot, Range::Period(number), byte)
@@ -91,7 +88,7 @@ pub(crate) fn first_second(slot: Slot, byte: u8) -> Option<Part>
         None => None,
         Some(_) => {
             if digit(byte) {
-                in_seconds(grown(LONGEST, 0, byte))
+                in_seconds(grown(LONGEST_RANGE, 0, byte))
             } else {
                 None
             }
@@ -142,7 +139,7 @@ pub(crate) fn back(ahead: Ahead, range: Range, byte: u8) -> Option<Part>
         Ahead::Dash => awaited(b'-', Ahead::Digits, range, byte),
         Ahead::Digits => {
             if digit(byte) {
-                in_shift(range, grown(LONGEST, 0, byte))
+                in_shift(range, grown(LONGEST_RANGE, 0, byte))
             } else {
                 None
             }
@@ -154,7 +151,7 @@ pub(crate) fn shift_byte(range: Range, number: u32, byte: u8) -> Option<Part>
     ensures { result ≡ parts.shift_byte range number byte }
 {
     if digit(byte) {
-        in_shift(range, grown(LONGEST, number, byte))
+        in_shift(range, grown(LONGEST_RANGE, number, byte))
     } else {
         match lasting(0, number, period_factor(byte)) {
             Some(made) => Some(Part::Shifted(range, made)),

@@ -21,6 +21,12 @@ use byte_grammar::Character;
 use item_key::Place;
 use zbx_types::{Bytes, Call, Expr, Fun, Many, Op, OutOfMemory};
 
+/// The most calls of functions in an expression (this project's own).
+pub(crate) const MOST_CALLS: usize = 32;
+
+/// The most parentheses that are open at one place, those of calls aside (this project's own).
+pub(crate) const MOST_OPEN: u32 = 32;
+
 /// A place in a token.
 #[derive(Drop)]
 pub(crate) enum Mode {
@@ -101,7 +107,7 @@ pub(crate) fn opened(base: Base) -> Result<Option<State>, OutOfMemory>
     ensures { IfOk result (λ r. option_map state r ≡ machine.opened base.open_ones (reverse base.stack.items) base.calls) }
 {
     let mut base = base;
-    if base.open_ones < 32 {
+    if base.open_ones < MOST_OPEN {
         base.stack.push(Pending::Open)?;
         base.open_ones += 1;
         Ok(Some(State {
