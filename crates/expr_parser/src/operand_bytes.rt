@@ -19,11 +19,9 @@ use crate::names::{begun, is_not, named};
 use crate::operator_bytes::behind;
 use crate::pending::{Half, floor};
 use crate::states::{Base, MOST_CALLS, Mode, State, blank, gap, opened, waiting};
+use crate::whole_numbers::GREATEST;
 use std::alloc::Global;
 use zbx_types::{Bytes, Expr, Fix, Fun, OutOfMemory, Text};
-
-/// The greatest number, in millionths.
-const GREATEST: u128 = 1_000_000_000_000_000_000_000_000_000_000;
 
 pub(crate) fn word_byte(
     nots: bool,

@@ -19,7 +19,7 @@ use thiserror::Error;
 use zbx_types::{Call, Expr, Many, OutOfMemory};
 
 /// The most bytes of an expression (this project's own).
-pub const LONGEST_EXPRESSION: u32 = 4096;
+pub const LONGEST_EXPRESSION: u32 = zbx_types::LONGEST_EXPRESSION as u32;
 
 /// An expression, and the calls of functions in it.
 #[derive(Drop)]

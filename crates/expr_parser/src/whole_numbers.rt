@@ -10,7 +10,7 @@ use std::marker::Model;
 use zbx_types::{Bytes, OutOfMemory};
 
 /// The millionths of the greatest number.
-const GREATEST: u128 = 1_000_000_000_000_000_000_000_000_000_000;
+pub(crate) const GREATEST: u128 = 1_000_000_000_000_000_000_000_000_000_000;
 
 /// Digits, at least one, with the millionths that they write.
 #[derive(Drop)]
