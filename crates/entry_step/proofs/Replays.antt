@@ -23,7 +23,8 @@ use Rattle.entry_step.specs.Evaluation.{call_value}
 use Rattle.entry_step.specs.Order.{level, by_depth, above_depths, order}
 use Rattle.entry_step.specs.Problems.{event_of, event_in, opens, recovers, opened, open_of}
 use Rattle.entry_step.specs.Records.{problem_of, recovery_of, begun, verdict_records, judged, judged_by, evaluated, phase_over, has_call, stores, triggers_at, failure_by, failure_of, failures_at, out_of, replay}
-use Rattle.entry_step.specs.Named.{is_named, host_of, AreDistinct, last_number, IsRising, OpenByNames}
+use Rattle.entry_step.specs.Log.{last_number, IsRising}
+use Rattle.entry_step.specs.Named.{is_named, host_of, AreDistinct, OpenByNames}
 use Rattle.entry_step.specs.declared.opens.Open.{Open}
 use Rattle.entry_step.proofs.Members.{each_append, each_sub, and_both}
 

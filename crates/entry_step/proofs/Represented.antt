@@ -14,7 +14,7 @@ use Rattle.zbx_types.specs.declared.entries.Numbered.{Numbered}
 use Rattle.zbx_types.specs.declared.entries.Rec.{Rec}
 use Rattle.zbx_types.specs.declared.entries.Stored.{Stored}
 use Rattle.entry_step.specs.Each.{Each, In}
-use Rattle.entry_step.specs.Log.{moment_of, last_moment, tick_with, IsFitting, AllSuit, Fits}
+use Rattle.entry_step.specs.Log.{moment_of, last_moment, tick_with, IsFitting, Suits}
 use Rattle.entry_step.specs.History.{stored_of, placed, with_stored, history_of}
 use Rattle.entry_step.specs.Evaluation.{up_to}
 use Rattle.entry_step.specs.Order.{order}
@@ -276,19 +276,19 @@ value_steps conf held next e now item time value made is takes = subst (λ entry
         )
 
 -- Over logs
-seen_by : (conf : Conf) (log : List Numbered) (i : ℕ) → AllSuit conf log → seen_of conf log i ≤ last_moment log
+seen_by : (conf : Conf) (log : List Numbered) (i : ℕ) → Suits conf log → seen_of conf log i ≤ last_moment log
 seen_by conf [] i h = omega arith
 seen_by conf (e ∷ log) i h = go (touches conf e.entry (ItemKey i)) (seen_by conf log i h.0)
   where
     go : (b : Bool) → seen_of conf log i ≤ last_moment log → cond b (moment_of e.entry) (seen_of conf log i) ≤ moment_of e.entry
     go true k = omega arith
-    go false k = let m = h.1.moments in omega arith
+    go false k = let m = h.1 in omega arith
 
-pub comes_after : (conf : Conf) (c : Cells) (log : List Numbered) (e : Numbered) → StandFor conf c log → AllSuit conf (e ∷ log) → ComesAfter conf c e
+pub comes_after : (conf : Conf) (c : Cells) (log : List Numbered) (e : Numbered) → StandFor conf c log → Suits conf (e ∷ log) → ComesAfter conf c e
 unfolding StandFor look
 comes_after conf c log e stand h id t =
     let k = seen_by conf log id h.0 in
-    let m = h.1.moments in
+    let m = h.1 in
     let s : (c (ItemKey id)).seen ≡ seen_of conf log id = ap (λ x. (x (ItemKey id)).seen) stand in omega arith
 
 pub records_are : (conf : Conf) (log : List Numbered) (rs : List Rec) (e : Numbered) → records conf (look conf log rs) e ≡ out_of conf log e e.entry rs
@@ -330,10 +330,10 @@ pub one_entry : (conf : Conf) (c : Cells) (log : List Numbered) (e : Numbered) �
 unfolding StandFor
 one_entry conf c log e h = (ap (λ x. records conf x e) h ∙ records_are conf log (replay conf log) e, ap (λ x. after conf x e) h ∙ after_is conf log (replay conf log) e)
 
-pub steps_out : (conf : Conf) (held next : CellsView) (e : Numbered) (made : List Rec) → StepsTo conf held e made next → (log : List Numbered) → Holds conf held log → AllSuit conf (e ∷ log)
+pub steps_out : (conf : Conf) (held next : CellsView) (e : Numbered) (made : List Rec) → StepsTo conf held e made next → (log : List Numbered) → Holds conf held log → Suits conf (e ∷ log)
     → (made ≡ out_of conf log e e.entry (replay conf log)) × Holds conf next (e ∷ log)
 steps_out conf held next e made steps log h suit =
-    let both = steps h.cells h.represented (comes_after conf h.cells log e h.stand suit) suit.1.fitting in
+    let both = steps h.cells h.represented (comes_after conf h.cells log e h.stand suit) suit.2 in
     let one = one_entry conf h.cells log e h.stand in
     (both.0 ∙ one.0, record { cells = after conf h.cells e; stand = one.1; represented = both.1 })
 
@@ -410,13 +410,8 @@ pub on_ok : {T E : Type 0} (r : Result T E) (P : T → Type 0) (Q : Type 0) → 
 on_ok (Ok x) P Q f p = f x p
 on_ok (Err x) P Q f p = tt
 
--- a log that fits suits, whatever its numbers
-pub fits_suit : (conf : Conf) (log : List Numbered) → Fits conf log → AllSuit conf log
-fits_suit conf [] f = tt
-fits_suit conf (e ∷ log) f = (fits_suit conf log f.0, record { moments = f.1.moments; fitting = f.1.fitting })
-
 -- what holds nothing holds a log of a configuration's entry
 pub config_holds : (conf : Conf) (held : CellsView) (e : Numbered) (now : ℕ) (text : List ℕ) → e.entry ≡ Config now text → Holds conf held [] → Holds conf held (e ∷ [])
 config_holds conf held e now text is h =
     (steps_out conf held held e [] (config_steps conf held e now text [] is refl) [] h
-    (tt, record { moments = omega arith; fitting = subst (IsFitting conf) (sym is) tt })).1
+    (tt, omega arith, subst (IsFitting conf) (sym is) tt)).1

@@ -1,5 +1,5 @@
 -- Logs of numbered entries. A log has the newest entry first.
-use Rattle.std.specs.Prelude.{◌≡◌, ◌≤◌, ℕ, ◌+◌, ◌==◌, Bool, true, false, ◌&&◌, List, [], ◌∷◌, length, reverse, Option, Some, None}
+use Rattle.std.specs.Prelude.{◌≡◌, ◌≤◌, ◌<◌, ℕ, ◌+◌, ◌==◌, Bool, true, false, ◌&&◌, List, [], ◌∷◌, length, reverse, Option, Some, None}
 use Rattle.std.specs.Option.{option_or}
 use Rattle.zbx_types.specs.Ids.{at_id}
 use Rattle.zbx_types.specs.declared.conf.Conf.{Conf}
@@ -60,25 +60,31 @@ abbrev pub first_tick : List Numbered → Option ℕ
 first_tick [] = None
 first_tick (e ∷ log) = tick_with (first_tick log) e.entry
 
--- an entry whose moment isn't before a log's last one, and whose value fits
-pub record Suits (conf : Conf) (e : Numbered) (log : List Numbered) : Type 0 where
-  pub moments : last_moment log ≤ moment_of e.entry
-  pub fitting : IsFitting conf e.entry
+-- the number of a log's newest entry, or 0
+abbrev pub last_number : List Numbered → ℕ
+last_number [] = 0
+last_number (e ∷ log) = e.number
 
--- a log of which each entry suits those before it, whatever their numbers: so the part of a log that is applied may be one
-abbrev pub AllSuit : Conf → List Numbered → Type 0
-AllSuit conf [] = Unit {0}
-AllSuit conf (e ∷ log) = AllSuit conf log × Suits conf e log
+-- the numbers of a log rise
+abbrev pub IsRising : List Numbered → Type 0
+IsRising [] = Unit {0}
+IsRising (e ∷ log) = (last_number log < e.number) × IsRising log
 
--- an entry that may follow a log: it has the next number, it is a Config where it is the first and only there,
--- its moment isn't before the last one, and its value fits
-pub record Follows (conf : Conf) (e : Numbered) (log : List Numbered) : Type 0 where
-  pub numbered : e.number ≡ length log + 1
-  pub first : is_config e.entry ≡ (length log == 0)
-  pub moments : last_moment log ≤ moment_of e.entry
-  pub fitting : IsFitting conf e.entry
+-- a log is full: its numbers are 1, 2, 3 and so on
+abbrev pub IsFull : List Numbered → Type 0
+IsFull [] = Unit {0}
+IsFull (e ∷ log) = IsFull log × (e.number ≡ length log + 1)
 
--- a log whose entries have the numbers 1, 2, 3 and so on, and of which each may follow those before it
+-- the first entry of a log is a Config, and no other is
+abbrev pub HasOneConfig : List Numbered → Type 0
+HasOneConfig [] = Unit {0}
+HasOneConfig (e ∷ log) = HasOneConfig log × (is_config e.entry ≡ (length log == 0))
+
+-- no moment of a log falls, and each of its values fits: so does each part of such a log
+abbrev pub Suits : Conf → List Numbered → Type 0
+Suits conf [] = Unit {0}
+Suits conf (e ∷ log) = Suits conf log × (last_moment log ≤ moment_of e.entry) × IsFitting conf e.entry
+
+-- a log fits a configuration, which its first entry brings
 abbrev pub Fits : Conf → List Numbered → Type 0
-Fits conf [] = Unit {0}
-Fits conf (e ∷ log) = Fits conf log × Follows conf e log
+Fits conf log = HasOneConfig log × Suits conf log

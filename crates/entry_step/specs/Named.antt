@@ -1,5 +1,5 @@
 -- Open problems by the names of their trigger, over all records.
-use Rattle.std.specs.Prelude.{◌≡◌, ◌<◌, ℕ, ◌&&◌, Bool, true, false, not, List, [], ◌∷◌, map, filter, Some}
+use Rattle.std.specs.Prelude.{◌≡◌, ℕ, ◌&&◌, Bool, true, false, not, List, [], ◌∷◌, map, filter, Some}
 use Rattle.std.specs.List.{list_any}
 use Rattle.zbx_types.specs.Ids.{at_id}
 use Rattle.zbx_types.specs.declared.conf.Conf.{Conf}
@@ -8,6 +8,7 @@ use Rattle.zbx_types.specs.declared.entries.Numbered.{Numbered}
 use Rattle.zbx_types.specs.declared.entries.Rec.{Rec}
 use Rattle.zbx_types.specs.declared.entries.Rec.TheVariants.{Failure, Problem, Recovery, Step, Message}
 use Rattle.std.specs.Str.{bytes_eq}
+use Rattle.entry_step.specs.Log.{IsRising}
 use Rattle.entry_step.specs.Problems.{event_of, recovers, open_of}
 use Rattle.entry_step.specs.Records.{host_name, replay}
 
@@ -31,16 +32,6 @@ host_of conf trigger = host_name (at_id conf.hosts trigger.host)
 abbrev pub AreDistinct : Conf → Type 0
 AreDistinct conf = (i j : ℕ) (a b : Trigger) → at_id conf.triggers i ≡ Some a → at_id conf.triggers j ≡ Some b
     → bytes_eq (host_of conf a) (host_of conf b) ≡ true → bytes_eq a.name b.name ≡ true → i ≡ j
-
--- the number of a log's newest entry, or 0
-abbrev pub last_number : List Numbered → ℕ
-last_number [] = 0
-last_number (e ∷ log) = e.number
-
--- the numbers of a log rise
-abbrev pub IsRising : List Numbered → Type 0
-IsRising [] = Unit {0}
-IsRising (e ∷ log) = (last_number log < e.number) × IsRising log
 
 -- On a replay, the open problems of a trigger are those with its names that no Recovery names at all.
 abbrev pub OpenByNames : Type 0

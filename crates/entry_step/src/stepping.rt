@@ -5,7 +5,7 @@ ghost use Rattle.std.specs.Prelude.{◌≡◌, ◌≤◌, ◌+◌, ◌∷◌, []
 ghost use Rattle.std.specs.Option.{option_or};
 ghost use Rattle.zbx_types.specs.declared.entries.Entry.TheVariants.{Value};
 ghost use Rattle.zbx_types.specs.declared.entries.Numbered.{Numbered};
-ghost use Rattle.entry_step.specs.Log.{AllSuit};
+ghost use Rattle.entry_step.specs.Log.{Suits};
 ghost use Rattle.entry_step.specs.History.{stored_of};
 ghost use Rattle.entry_step.specs.Problems.{absorbed_all};
 ghost use Rattle.entry_step.specs.Records.{triggers_over, triggers_at, out_of, replay};
@@ -214,8 +214,8 @@ pub fn step<L: Ledger>(
     steps: &mut Steps<L>,
 ) -> Result<Many<Rec>, OutOfMemory>
     ensures made { IfOk result (λ made. StepsTo ready.now cells.old entry.now made cells.new) }
-    ensures out { IfOk result (λ made. (log : List Numbered) → Holds ready.now cells.old log → AllSuit ready.now (entry.now ∷ log) → made ≡ out_of ready.now log entry.now entry.now.entry (replay ready.now log)) }
-    ensures holds { OnOk result ((log : List Numbered) → Holds ready.now cells.old log → AllSuit ready.now (entry.now ∷ log) → Holds ready.now cells.new (entry.now ∷ log)) }
+    ensures out { IfOk result (λ made. (log : List Numbered) → Holds ready.now cells.old log → Suits ready.now (entry.now ∷ log) → made ≡ out_of ready.now log entry.now entry.now.entry (replay ready.now log)) }
+    ensures holds { OnOk result ((log : List Numbered) → Holds ready.now cells.old log → Suits ready.now (entry.now ∷ log) → Holds ready.now cells.new (entry.now ∷ log)) }
     ensures counted { OnOk result (steps.new ≡ steps.old + length (triggers_at ready.now entry.now.number entry.now.entry)) }
     ensures err { OnErr result (cells.new ≡ cells.old) }
 {

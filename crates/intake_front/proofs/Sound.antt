@@ -26,7 +26,7 @@ use Rattle.sender_json.specs.declared.asked.Clock.TheVariants as clock
 use Rattle.sender_json.specs.declared.request.Request.{Request}
 use Rattle.sender_json.specs.declared.request.Request.TheVariants as request
 use Rattle.sender_json.specs.Requests.{request_of}
-use Rattle.entry_step.specs.Log.{log_of, last_moment, moment_of, is_config, is_trapper, IsFitting, Follows, Fits}
+use Rattle.entry_step.specs.Log.{log_of, last_moment, moment_of, is_config, is_trapper, IsFitting, IsFull, Fits}
 use Rattle.entry_step.specs.Names.{host_named, item_keyed}
 use Rattle.intake_front.specs.Taking.{clocked, valued, keyed, hosted, taken_of, entry_in, group_of, is_enabled_host, is_enabled_item, is_trapper_kind, is_trapper_item}
 use Rattle.intake_front.specs.Intake.{Intake, numbered_from, with_group, is_due, half_minute, ticks_at, answered_values, answered_request, turned, behind_tick, ticked, handled, start, IsSound}
@@ -41,6 +41,7 @@ record IsTakenAt (conf : Conf) (now : ℕ) (e : Entry) : Type 0 where
 
 -- entries that are sound at a moment
 record Stand (conf : Conf) (now : ℕ) (entries : List Numbered) : Type 0 where
+  full : IsFull (log_of entries)
   fits : Fits conf (log_of entries)
   moments : last_moment (log_of entries) ≤ now
   begun : 0 < length entries
@@ -52,14 +53,12 @@ stand_one conf now entries e s t =
     let log : log_of (entries ++ one ∷ []) ≡ one ∷ log_of entries = reverse-append entries (one ∷ []) in
     let count : length (log_of entries) ≡ length entries = length-reverse entries in
     let some : length entries ≡ 0 → ⊥ = λ none. let begun = s.begun in omega arith in
-    let follows : Follows conf one (log_of entries) = record {
-      numbered = rw count refl;
-      first = t.plain ∙ sym (ap (λ n. eqb n 0) count ∙ ne_eqb (length entries) 0 some);
-      moments = rw t.moment s.moments;
-      fitting = t.fitting;
-    } in
+    let numbered : length entries + 1 ≡ length (log_of entries) + 1 = rw count refl in
+    let first : is_config e ≡ eqb (length (log_of entries)) 0 = t.plain ∙ sym (ap (λ n. eqb n 0) count ∙ ne_eqb (length entries) 0 some) in
+    let later : last_moment (log_of entries) ≤ moment_of e = rw t.moment s.moments in
     record {
-      fits = rw log (s.fits, follows);
+      full = rw log (s.full, numbered);
+      fits = rw log ((s.fits.0, first), (s.fits.1, later, t.fitting));
       moments = rw (log, t.moment) (omega arith);
       begun = omega (arith, length-append entries (one ∷ []));
     }
@@ -153,7 +152,7 @@ module _ (conf : Conf) (now : ℕ) where
 
 -- a run that begins is sound
 pub sound_start : (conf : Conf) (text : List ℕ) → IsSound conf (start text)
-sound_start conf text = record { fits = (tt, record { numbered = refl; first = refl; moments = omega arith; fitting = tt }); moments = omega arith; begun = omega arith }
+sound_start conf text = record { full = (tt, refl); fits = ((tt, refl), (tt, omega arith, tt)); moments = omega arith; begun = omega arith }
 
 -- an event keeps the intake sound
 pub sound_handled : (conf : Conf) (i : Intake) (e : WireEvent) → IsSound conf i → IsSound conf (handled conf i e).intake
@@ -161,11 +160,11 @@ unfolding handled behind_tick ticked
 sound_handled conf i e s =
     let now = max i.now (moment_at e) in
     let due = is_due i.tick (half_minute now) in
-    let begun : Stand conf now i.entries = let before = s.moments in record { fits = s.fits; moments = omega arith; begun = s.begun } in
+    let begun : Stand conf now i.entries = let before = s.moments in record { full = s.full; fits = s.fits; moments = omega arith; begun = s.begun } in
     let tick = stand_group conf now i.entries (ticks_at i.tick now) begun (tick_fits conf now due) in
     let made = turned conf now (turn_of i.peers now e) in
     let all = stand_group conf now (with_group i.entries (ticks_at i.tick now)) made.group tick (turned_fits conf now (turn_of i.peers now e)) in
-    record { fits = all.fits; moments = all.moments; begun = all.begun }
+    record { full = all.full; fits = all.fits; moments = all.moments; begun = all.begun }
 
 -- what an event leaves is as sound as what was there
 pub kept : (conf : Conf) (old new : Intake) (e : WireEvent) → new ≡ (handled conf old e).intake → IsSound conf old → IsSound conf new

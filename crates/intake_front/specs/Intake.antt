@@ -17,7 +17,7 @@ use Rattle.sender_json.specs.declared.asked.Asked.{Asked}
 use Rattle.sender_json.specs.declared.request.Request.{Request}
 use Rattle.sender_json.specs.declared.request.Request.TheVariants as request
 use Rattle.sender_json.specs.declared.refused.Refusal.TheVariants as refusal
-use Rattle.entry_step.specs.Log.{log_of, last_moment, Fits}
+use Rattle.entry_step.specs.Log.{log_of, last_moment, IsFull, Fits}
 use Rattle.intake_front.specs.Taking.{group_of}
 use Rattle.intake_front.specs.declared.answer.Answer.{Answer}
 use Rattle.intake_front.specs.declared.answer.Stop.{Stop}
@@ -140,6 +140,7 @@ start text = record { now = 0; tick = None; peers = no_peers; entries = record {
 
 -- the entries are a full log that fits, begun, and none is later than the moment that the events have reached
 pub record IsSound (conf : Conf) (i : Intake) : Type 0 where
+  pub full : IsFull (log_of i.entries)
   pub fits : Fits conf (log_of i.entries)
   pub moments : last_moment (log_of i.entries) ≤ i.now
   pub begun : 0 < length i.entries

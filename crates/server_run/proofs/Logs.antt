@@ -24,7 +24,7 @@ log_of-append a b = onto_reverse (log_of a) b ∙ sym (reverse-append a b)
 -- what fits with entries behind it fits
 pub fits_front : (conf : Conf) (log es : List Numbered) → Fits conf (onto log es) → Fits conf log
 fits_front conf log [] fits = fits
-fits_front conf log (e ∷ es) fits = let longer : Fits conf (e ∷ log) = fits_front conf (e ∷ log) es fits in longer.0
+fits_front conf log (e ∷ es) fits = let longer : Fits conf (e ∷ log) = fits_front conf (e ∷ log) es fits in (longer.0.0, longer.1.0)
 
 pub lines_of-append : (a b : List Rec) → lines_of (a ++ b) ≡ lines_of a ++ lines_of b
 lines_of-append a b = flat_map-append line_of a b

@@ -102,7 +102,7 @@ module _ (conf : Conf) (old new : Intake) (ledger ledger' : Ledger) (sink now la
   failed settles =
       let set = settles (log_of old.entries) u.applied fits_onto in
       let lines : before ++ set.0 ≡ log_lines conf (log_of new.entries) = sym set.1 ∙ ap (log_lines conf) same_log in
-      record { fits = sound.fits; conf_is = conf_is_new; lines = front_more sink now later before set.0 (log_lines conf (log_of new.entries)) lines u.lines set.2 }
+      record { full = sound.full; fits = sound.fits; conf_is = conf_is_new; lines = front_more sink now later before set.0 (log_lines conf (log_of new.entries)) lines u.lines set.2 }
 
   -- none is, since memory was refused
   refused : later ≡ now → FrontOut conf new.entries sink later
@@ -110,7 +110,7 @@ module _ (conf : Conf) (old new : Intake) (ledger ledger' : Ledger) (sink now la
       let grown = lines_grow conf (log_of old.entries) group in
       let lines : before ++ grown.0 ≡ log_lines conf (log_of new.entries) = sym grown.1 ∙ ap (log_lines conf) same_log in
       let stays : GrewByFront now later grown.0 = subst (λ t. GrewByFront now t grown.0) (sym same) (none_front now grown.0) in
-      record { fits = sound.fits; conf_is = conf_is_new; lines = front_more sink now later before grown.0 (log_lines conf (log_of new.entries)) lines u.lines stays }
+      record { full = sound.full; fits = sound.fits; conf_is = conf_is_new; lines = front_more sink now later before grown.0 (log_lines conf (log_of new.entries)) lines u.lines stays }
 
   -- some are, or none
   pub unsettled : (t : Trouble) → Settles conf ledger ledger' group now later (Err t) → FrontOut conf new.entries sink later
@@ -120,12 +120,12 @@ module _ (conf : Conf) (old new : Intake) (ledger ledger' : Ledger) (sink now la
 -- what is up to date has all lines out
 pub all_out : (conf : Conf) (i : Intake) (entries : List Numbered) (ledger : Ledger) (sink now : SinkTells) → entries ≡ i.entries → UpToDate conf i ledger sink now → AllOut conf entries ledger.tally sink now
 all_out conf i entries ledger sink now is u =
-    subst (λ es. AllOut conf es ledger.tally sink now) (sym is) (record { fits = u.sound.fits; conf_is = u.conf_is; tally_is = u.applied.tally_is; lines = u.lines })
+    subst (λ es. AllOut conf es ledger.tally sink now) (sym is) (record { full = u.sound.full; fits = u.sound.fits; conf_is = u.conf_is; tally_is = u.applied.tally_is; lines = u.lines })
 
 -- and so some from the front
 pub front_out : (conf : Conf) (i : Intake) (entries : List Numbered) (ledger : Ledger) (sink now : SinkTells) → entries ≡ i.entries → UpToDate conf i ledger sink now → FrontOut conf entries sink now
 front_out conf i entries ledger sink now is u =
-    subst (λ es. FrontOut conf es sink now) (sym is) (record { fits = u.sound.fits; conf_is = u.conf_is; lines = all_front sink now (log_lines conf (log_of i.entries)) u.lines })
+    subst (λ es. FrontOut conf es sink now) (sym is) (record { full = u.sound.full; fits = u.sound.fits; conf_is = u.conf_is; lines = all_front sink now (log_lines conf (log_of i.entries)) u.lines })
 
 -- ---- what a run leaves
 

@@ -4,12 +4,11 @@ use Rattle.zbx_types.specs.declared.conf.Conf.{Conf}
 use Rattle.zbx_types.specs.declared.entries.Numbered.{Numbered}
 use Rattle.zbx_types.specs.declared.entries.Rec.{Rec}
 use Rattle.event_text.specs.Lines.{lines_of}
-use Rattle.entry_step.specs.Log.{log_of, Fits}
+use Rattle.entry_step.specs.Log.{log_of, Suits, Fits}
 use Rattle.zbx_types.specs.declared.entries.Entry.TheVariants.{Config}
 use Rattle.entry_step.specs.Records.{replay, out_of}
-use Rattle.entry_step.specs.Log.{AllSuit}
 use Rattle.entry_step.specs.Represents.{CellsView, Holds}
-use Rattle.entry_step.proofs.Represented.{fits_suit, config_holds}
+use Rattle.entry_step.proofs.Represented.{config_holds}
 use Rattle.intake_front.specs.Intake.{start}
 use Rattle.server_run.specs.declared.tally.Tally.{Tally}
 use Rattle.server_run.specs.Tally.{tally_of, tally_with}
@@ -19,14 +18,14 @@ use Rattle.server_run.proofs.Counting.{tally_more}
 
 -- one entry more
 pub applied_more : (conf : Conf) (cells cells' : CellsView) (tally tally' : Tally) (e : Numbered) (records : List Rec) (lines lines' : List ℕ)
-    → ((log : List Numbered) → Holds conf cells log → AllSuit conf (e ∷ log) → records ≡ out_of conf log e e.entry (replay conf log))
-    → ((log : List Numbered) → Holds conf cells log → AllSuit conf (e ∷ log) → Holds conf cells' (e ∷ log))
+    → ((log : List Numbered) → Holds conf cells log → Suits conf (e ∷ log) → records ≡ out_of conf log e e.entry (replay conf log))
+    → ((log : List Numbered) → Holds conf cells log → Suits conf (e ∷ log) → Holds conf cells' (e ∷ log))
     → tally' ≡ tally_with tally records → lines' ≡ lines ++ lines_of records
     → (log : List Numbered) → Applied conf cells tally log → Fits conf (e ∷ log)
     → Applied conf cells' tally' (e ∷ log) × ((more : List ℕ) × (lines' ≡ lines ++ more) × (log_lines conf (e ∷ log) ≡ log_lines conf log ++ more))
 applied_more conf cells cells' tally tally' e records lines lines' out after counts written log applied fits =
     let rs = replay conf log in
-    let suit : AllSuit conf (e ∷ log) = fits_suit conf (e ∷ log) fits in
+    let suit : Suits conf (e ∷ log) = fits.1 in
     let made : records ≡ out_of conf log e e.entry rs = out log applied.cells_hold suit in
     let all : rs ++ records ≡ replay conf (e ∷ log) = ap (λ l. rs ++ l) made in (
       record {

@@ -5,7 +5,7 @@ use Rattle.zbx_types.specs.declared.entries.Numbered.{Numbered}
 use Rattle.outside.specs.Tells.{SinkTells}
 use Rattle.outside.specs.declared.event.Trouble.{Trouble}
 use Rattle.outside.specs.declared.event.Trouble.TheVariants as trouble
-use Rattle.entry_step.specs.Log.{log_of, Fits}
+use Rattle.entry_step.specs.Log.{log_of, IsFull, Fits}
 use Rattle.entry_step.specs.Records.{replay}
 use Rattle.intake_front.specs.Intake.{Intake, IsSound}
 use Rattle.intake_front.specs.declared.answer.Stop.{Stop}
@@ -25,20 +25,22 @@ pub record UpToDate (conf : Conf) (intake : Intake) (ledger : Ledger) (sink sink
   pub applied : Applied conf ledger.cells ledger.tally (log_of intake.entries)
   pub lines : Grew sink sink' (log_lines conf (log_of intake.entries))
 
--- the entries fit, they are counted, and the outbox has all their lines
+-- the entries are a full log that fits, they are counted, and the outbox has all their lines
 pub record AllOut (conf : Conf) (entries : List Numbered) (tally : Tally) (sink sink' : SinkTells) : Type 0 where
+  pub full : IsFull (log_of entries)
   pub fits : Fits conf (log_of entries)
   pub conf_is : conf_of_run entries ≡ Some conf
   pub tally_is : tally ≡ tally_of (replay conf (log_of entries))
   pub lines : Grew sink sink' (log_lines conf (log_of entries))
 
--- the entries fit, and the outbox has some of their lines from the front
+-- the entries are a full log that fits, and the outbox has some of their lines from the front
 pub record FrontOut (conf : Conf) (entries : List Numbered) (sink sink' : SinkTells) : Type 0 where
+  pub full : IsFull (log_of entries)
   pub fits : Fits conf (log_of entries)
   pub conf_is : conf_of_run entries ≡ Some conf
   pub lines : GrewByFront sink sink' (log_lines conf (log_of entries))
 
--- the entries fit, and so much of their lines is out
+-- the entries are a full log that fits, and so much of their lines is out
 abbrev pub Leaves : Conf → List Numbered → Tally → SinkTells → SinkTells → Extent → Type 0
 Leaves conf entries tally sink sink' no_lines = ⊥
 Leaves conf entries tally sink sink' all_lines = AllOut conf entries tally sink sink'

@@ -3,7 +3,7 @@
 ghost use Rattle.std.specs.Prelude.{◌≡◌, ◌<◌, ◌++◌, ◌∷◌, ℕ, List, OnOk, IfOk};
 ghost use Rattle.zbx_types.specs.declared.entries.Numbered.{Numbered};
 ghost use Rattle.outside.specs.Events.{HasNextCause};
-ghost use Rattle.entry_step.specs.Log.{AllSuit, Fits};
+ghost use Rattle.entry_step.specs.Log.{Fits, Suits};
 ghost use Rattle.entry_step.specs.Records.{out_of, replay};
 ghost use Rattle.entry_step.specs.Represents.{Holds};
 ghost use Rattle.event_text.specs.Lines.{lines_of};
@@ -38,8 +38,8 @@ fn uncounted<L: std::sync::ledger::Ledger>(
     requires name { blank.name ≡ L.name }
     requires parts { blank.parts ≡ L.parts }
     requires some { 0 < L.parts }
-    ensures out { IfOk result (λ made. (log : List Numbered) → Holds ready.now cells.old log → AllSuit ready.now (entry.now ∷ log) → made ≡ out_of ready.now log entry.now entry.now.entry (replay ready.now log)) }
-    ensures holds { OnOk result ((log : List Numbered) → Holds ready.now cells.old log → AllSuit ready.now (entry.now ∷ log) → Holds ready.now cells.new (entry.now ∷ log)) }
+    ensures out { IfOk result (λ made. (log : List Numbered) → Holds ready.now cells.old log → Suits ready.now (entry.now ∷ log) → made ≡ out_of ready.now log entry.now entry.now.entry (replay ready.now log)) }
+    ensures holds { OnOk result ((log : List Numbered) → Holds ready.now cells.old log → Suits ready.now (entry.now ∷ log) → Holds ready.now cells.new (entry.now ∷ log)) }
 {
     let mut steps = Steps::<L>::new(blank);
     step(alloc, ready, cells, entry, &mut steps)
