@@ -19,11 +19,11 @@ use Rattle.entry_step.specs.Each.{Each, In}
 use Rattle.entry_step.specs.History.{kept_by, stored_of, placed}
 use Rattle.expr_eval.specs.Values.{value_over}
 use Rattle.entry_step.specs.Evaluation.{last_number, up_to, function_value, call_value}
-use Rattle.entry_step.specs.Problems.{absorbed_all, grown}
+use Rattle.trigger_state.specs.Problems.{absorbed_all, grown}
 use Rattle.entry_step.specs.Records.{verdict_records, judged, judged_by, evaluated, phase}
 use Rattle.entry_step.specs.Represents.{first_of}
 use Rattle.entry_step.specs.Kept.{newer}
-use Rattle.entry_step.specs.declared.opens.Open.{Open}
+use Rattle.trigger_state.specs.declared.problems.Open.{Open}
 
 -- What entries store
 stored_at : ℕ → ℕ → Held → Stored

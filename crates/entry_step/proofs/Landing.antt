@@ -10,11 +10,12 @@ use Rattle.zbx_types.specs.declared.entries.Rec.{Rec}
 use Rattle.zbx_types.specs.declared.entries.Stored.{Stored}
 use Rattle.expr_eval.specs.Values.{value_over}
 use Rattle.entry_step.specs.Evaluation.{call_value}
-use Rattle.entry_step.specs.Problems.{home, event_in, lands, absorbed_all, grown}
+use Rattle.trigger_state.specs.Problems.{home, event_in, lands, absorbed_all, grown}
 use Rattle.entry_step.specs.Records.{problem_of, recovery_of, begun, verdict_records, judged, judged_by, evaluated, phase}
 use Rattle.entry_step.specs.Represents.{AllAtHome}
-use Rattle.entry_step.specs.declared.opens.Open.{Open}
-use Rattle.entry_step.proofs.Problems.{absorbed_off, home_all}
+use Rattle.trigger_state.specs.declared.problems.Open.{Open}
+use Rattle.trigger_state.proofs.Searches.{lands_alone}
+use Rattle.entry_step.proofs.Problems.{home_all}
 
 -- the records change the problems of triggers in K alone
 abbrev pub LandIn : Conf → (ℕ → Bool) → List Rec → Type 0
@@ -27,7 +28,7 @@ land_append conf K (r ∷ rs) more a b = (a.0, land_append conf K rs more a.1 b)
 
 pub land_off : (conf : Conf) (K : ℕ → Bool) (id : ℕ) (os : List Open) (rs : List Rec) → LandIn conf K rs → K id ≡ false → absorbed_all conf id os rs ≡ os
 land_off conf K id os [] l e = refl
-land_off conf K id os (r ∷ rs) l e = ap (λ xs. absorbed_all conf id xs rs) (absorbed_off conf id os r (l.0 id e)) ∙ land_off conf K id os rs l.1 e
+land_off conf K id os (r ∷ rs) l e = ap (λ xs. absorbed_all conf id xs rs) (lands_alone conf id os r (l.0 id e)) ∙ land_off conf K id os rs l.1 e
 
 pub land_sub : (conf : Conf) (K L : ℕ → Bool) (rs : List Rec) → ((id : ℕ) → L id ≡ false → K id ≡ false) → LandIn conf K rs → LandIn conf L rs
 land_sub conf K L [] h l = tt

@@ -13,7 +13,7 @@ use Rattle.entry_step.specs.Log.{moment_of, first_tick}
 use Rattle.entry_step.specs.History.{stored_of, with_stored}
 use Rattle.entry_step.specs.Evaluation.{up_to}
 use Rattle.entry_step.specs.Order.{order}
-use Rattle.entry_step.specs.Problems.{absorbed_all}
+use Rattle.trigger_state.specs.Problems.{absorbed_all}
 use Rattle.entry_step.specs.Records.{evaluated, phase, is_over, triggers_at, failures_at, out_of, replay}
 use Rattle.entry_step.specs.Cells.{Key, ItemKey, TriggerKey, TickKey, CellOf, ItemCell, Cells, opens_in, touches, item_after, histories_after, records_at, records, after, look, StandFor}
 use Rattle.entry_step.specs.Represents.{first_of, IsTidy}

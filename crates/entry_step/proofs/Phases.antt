@@ -6,7 +6,7 @@ use Rattle.std.proofs.lemmas.List.{take_more, length-set}
 use Rattle.zbx_types.specs.Ids.{at_id}
 use Rattle.zbx_types.specs.declared.conf.Conf.{Conf}
 use Rattle.zbx_types.specs.declared.entries.Rec.{Rec}
-use Rattle.entry_step.specs.Problems.{absorbed_all, grown, open_of}
+use Rattle.trigger_state.specs.Problems.{absorbed_all, grown, open_of}
 use Rattle.zbx_types.specs.declared.entries.Stored.{Stored}
 use Rattle.entry_step.specs.Records.{evaluated, phase, phase_over}
 use Rattle.std.proofs.lemmas.Bool.Decides.{leb_tells}
@@ -14,7 +14,7 @@ use Rattle.std.proofs.lemmas.Option.{slice_get_past}
 use Rattle.entry_step.proofs.Landing.{LandIn, only, land_off, evaluated_lands, evaluated_none}
 use Rattle.entry_step.specs.Represents.{problems_at, AllAtHome}
 use Rattle.entry_step.specs.Changes.{with_row, outcome_records, outcome_opens, outcome_rows, AreTidy, Runs}
-use Rattle.entry_step.specs.declared.opens.Open.{Open}
+use Rattle.trigger_state.specs.declared.problems.Open.{Open}
 use Rattle.entry_step.specs.declared.changes.Outcome.{Outcome}
 use Rattle.entry_step.proofs.Items.{at_zero, at_suc, slice_get_set_same, slice_get_set_other}
 use Rattle.entry_step.proofs.Problems.{open_append, absorbed_append, home_all}

@@ -1,6 +1,5 @@
 -- On replays no Recovery stands before its Problem, so open problems are those that no Recovery names at all.
 use Rattle.std.proofs.Common.{◌≡◌, ℕ, zero, suc, ◌+◌, ◌-◌, ◌<◌, ◌≤◌, ◌==◌, Bool, true, false, cond, not, ◌&&◌, ◌||◌, ◌⊎◌, inl, inr, Option, Some, None, List, [], ◌∷◌, ◌++◌, map, filter, slice_get, refl, sym, ◌∙◌, ap, ap₂, subst, append_assoc, append-nil, eqb-true, eq-eqb, ne_eqb, ℤ, pos, arith}
-use Rattle.std.proofs.lemmas.List.Folds.{list_any-append}
 use Rattle.std.specs.List.{list_any}
 use Rattle.std.specs.Ordering.{int_eq}
 use Rattle.zbx_types.specs.Ids.{at_id}
@@ -21,11 +20,16 @@ use Rattle.entry_step.specs.History.{history_of}
 use Rattle.expr_eval.specs.Values.{value_over}
 use Rattle.entry_step.specs.Evaluation.{call_value}
 use Rattle.entry_step.specs.Order.{level, by_depth, above_depths, order}
-use Rattle.entry_step.specs.Problems.{event_of, event_in, opens, recovers, opened, open_of}
+use Rattle.zbx_types.specs.Records.{event_of}
+use Rattle.trigger_state.specs.Problems.{event_in, opens, recovers, opened, open_of}
 use Rattle.entry_step.specs.Records.{problem_of, recovery_of, begun, verdict_records, judged, judged_by, evaluated, phase_over, has_call, stores, triggers_at, failure_by, failure_of, failures_at, out_of, replay}
 use Rattle.entry_step.specs.Log.{last_number, IsRising}
 use Rattle.entry_step.specs.Named.{is_named, host_of, AreDistinct, OpenByNames}
-use Rattle.entry_step.specs.declared.opens.Open.{Open}
+use Rattle.trigger_state.specs.declared.problems.Open.{Open}
+use Rattle.std.specs.List.{All}
+use Rattle.std.proofs.lemmas.List.Elements.{All-nil, All-cons}
+use Rattle.trigger_state.specs.Laws.{OpenFirst}
+use Rattle.trigger_state.proofs.Searches.{open_by_test}
 use Rattle.entry_step.proofs.Members.{each_append, each_sub, and_both}
 
 -- Each trigger stands once in the order
@@ -232,7 +236,7 @@ open_done conf n done (r ∷ rs) id e = go (opens conf id r) refl (not (list_any
     own (Step event action step now) d q = cc
     own (Message event action step recipient subject body) d q = cc
 
-    go : (a : Bool) → opens conf id r ≡ a → (b : Bool) → Each (λ o. Done n done (event_in o)) (open_of conf rs id) → Each (λ o. Done n done (event_in o)) (cond (a && b) (opened conf r ∷ open_of conf rs id) (open_of conf rs id))
+    go : (a : Bool) → opens conf id r ≡ a → (b : Bool) → Each (λ o. Done n done (event_in o)) (open_of conf rs id) → Each (λ o. Done n done (event_in o)) (cond (a && b) (opened conf r rs ∷ open_of conf rs id) (open_of conf rs id))
     go true q true ih = (own r e.0 q, ih)
     go true q false ih = ih
     go false q b ih = ih
@@ -361,9 +365,6 @@ any_early : (event : EventId) (before : List Rec) → Each (λ r. recovers event
 any_early event [] e = refl
 any_early event (r ∷ rs) e = ap (λ b. b || list_any (recovers event) rs) e.0 ∙ any_early event rs e.1
 
-before_all : (event : EventId) (before rs : List Rec) → Each (λ r. recovers event r ≡ false) before → list_any (recovers event) (before ++ rs) ≡ list_any (recovers event) rs
-before_all event before rs e = list_any-append (recovers event) before rs ∙ ap (λ b. b || list_any (recovers event) rs) (any_early event before e)
-
 free_more : (before : List Rec) (r : Rec) (rs : List Rec) → Each (λ p. Each (λ b. NotAgain b p) before) rs → Each (NotAgain r) rs → Each (λ p. Each (λ b. NotAgain b p) (before ++ r ∷ [])) rs
 free_more before r [] f e = tt
 free_more before r (p ∷ rs) f e = (each_append (λ b. NotAgain b p) before (r ∷ []) f.0 (e.0, tt), free_more before r rs f.1 e.1)
@@ -398,34 +399,32 @@ module _ (conf : Conf) (id : ℕ) (trigger : Trigger) (distinct : AreDistinct co
           at true false ea eb = refl
           at false b ea eb = refl
 
-  keep_named : (a b : Bool) (x : Rec) (os : List Open) (rs : List Rec) → map (λ o. o.problem) os ≡ rs → map (λ o. o.problem) (cond (a && not b) (opened conf x ∷ os) os) ≡ cond (a && not b) (x ∷ rs) rs
-  keep_named true true x os rs e = e
-  keep_named true false x os rs e = ap (λ ys. x ∷ ys) e
-  keep_named false b x os rs e = e
-
-  literal : (all before rest : List Rec) → before ++ rest ≡ all → Each (λ p. Each (λ b. NotAgain b p) before) rest → NoEarly rest → Each (IsOf conf) rest
-      → map (λ o. o.problem) (open_of conf rest id) ≡ filter (λ r. is_named (host_of conf trigger) trigger.name r && not (list_any (recovers (event_of r)) all)) rest
-  literal all before [] split free early named = refl
-  literal all before (r ∷ rs) split free early named =
-      go r free.0 named.0 split (literal all (before ++ r ∷ []) rs (append_assoc before (r ∷ []) rs ∙ split) (free_more before r rs free.1 early.0) early.1 named.1)
+  tells : (rs : List Rec) → Each (IsOf conf) rs → All (λ r. is_named (host_of conf trigger) trigger.name r ≡ opens conf id r) rs
+  tells [] e = All-nil (λ r. is_named (host_of conf trigger) trigger.name r ≡ opens conf id r)
+  tells (r ∷ rs) e = All-cons (λ r. is_named (host_of conf trigger) trigger.name r ≡ opens conf id r) r rs (one r e.0) (tells rs e.1)
     where
-      test : Rec → Bool
-      test x = is_named (host_of conf trigger) trigger.name x && not (list_any (recovers (event_of x)) all)
+      one : (r : Rec) → IsOf conf r → is_named (host_of conf trigger) trigger.name r ≡ opens conf id r
+      one (Problem event now severity suppressed host t name tags) n = sym (named_is event host t n)
+      one (Recovery event by now cause) n = refl
+      one (Failure number host key why) n = refl
+      one (Step event action step now) n = refl
+      one (Message event action step recipient subject body) n = refl
 
-      go : (r : Rec) → Each (λ b. NotAgain b r) before → IsOf conf r → before ++ r ∷ rs ≡ all → map (λ o. o.problem) (open_of conf rs id) ≡ filter test rs
-          → map (λ o. o.problem) (open_of conf (r ∷ rs) id) ≡ cond (test r) (r ∷ filter test rs) (filter test rs)
-      go (Problem event now severity suppressed host t name tags) f n s ih =
-          let r : Rec = Problem event now severity suppressed host t name tags in
-          let g : list_any (recovers event) all ≡ list_any (recovers event) rs = ap (list_any (recovers event)) (sym s) ∙ before_all event before (r ∷ rs) f in
-          keep_named (event.trigger == id) (list_any (recovers event) rs) r (open_of conf rs id) (filter test rs) ih
-          ∙ ap₂ (λ a b. cond (a && not b) (r ∷ filter test rs) (filter test rs)) (named_is event host t n) (sym g)
-      go (Recovery event by now cause) f n s ih = ih
-      go (Failure number host key why) f n s ih = ih
-      go (Step event action step now) f n s ih = ih
-      go (Message event action step recipient subject body) f n s ih = ih
+-- a problem comes before its Recovery
+comes_first : (host name : List ℕ) (earlier rs : List Rec) → Each (λ p. Each (λ b. NotAgain b p) earlier) rs → NoEarly rs → OpenFirst (is_named host name) earlier rs
+comes_first host name earlier [] free early = tt
+comes_first host name earlier (r ∷ rs) free early = (λ q. one r free.0 q, comes_first host name (earlier ++ r ∷ []) rs (free_more earlier r rs free.1 early.0) early.1)
+  where
+    one : (r : Rec) → Each (λ b. NotAgain b r) earlier → is_named host name r ≡ true → list_any (recovers (event_of r)) earlier ≡ false
+    one (Problem event now severity suppressed h t n tags) f q = any_early event earlier f
+    one (Recovery event by now cause) f q = cc
+    one (Failure number h key why) f q = cc
+    one (Step event action step now) f q = cc
+    one (Message event action step recipient subject body) f q = cc
 
 pub open_by_names : OpenByNames
 open_by_names conf log rising distinct id trigger is =
     let bound : last_number log < last_number log + 1 = omega arith in
     let right = replay_right conf log rising (last_number log + 1) bound in
-    literal conf id trigger distinct is (replay conf log) [] (replay conf log) refl (free_none (replay conf log)) right.early right.named
+    open_by_test conf id (is_named (host_of conf trigger) trigger.name) (replay conf log) (tells conf id trigger distinct is (replay conf log) right.named)
+    (comes_first (host_of conf trigger) trigger.name [] (replay conf log) (free_none (replay conf log)) right.early)

@@ -18,14 +18,14 @@ use Rattle.entry_step.specs.Log.{moment_of, last_moment, tick_with, IsFitting, S
 use Rattle.entry_step.specs.History.{stored_of, placed, with_stored, history_of}
 use Rattle.entry_step.specs.Evaluation.{up_to}
 use Rattle.entry_step.specs.Order.{order}
-use Rattle.entry_step.specs.Problems.{absorbed_all, open_of}
+use Rattle.trigger_state.specs.Problems.{absorbed_all, open_of}
 use Rattle.entry_step.specs.Records.{evaluated, phase, phase_over, has_call, is_over, triggers_over, stores, triggers_at, failure_by, failure_of, failures_at, out_of, replay}
 use Rattle.entry_step.specs.Cells.{Key, ItemKey, TriggerKey, TickKey, Cells, opens_in, touches, item_after, histories_after, records_at, records, after, seen_of, look, StandFor}
 use Rattle.entry_step.specs.Represents.{CellsView, first_of, problems_at, AllAtHome, Represents, Holds, ComesAfter, StepsTo}
 use Rattle.entry_step.specs.Kept.{latest_at, kept, newer, with_value}
 use Rattle.entry_step.specs.Changes.{with_rows, put_back, one_of, AreTidy, TakesIn, Takes}
 use Rattle.entry_step.specs.declared.changes.Row.{Row}
-use Rattle.entry_step.specs.declared.opens.Open.{Open}
+use Rattle.trigger_state.specs.declared.problems.Open.{Open}
 use Rattle.entry_step.proofs.Members.{and_left, and_both, or_left, or_right, each_filter, any_intro}
 use Rattle.entry_step.proofs.Items.{at_zero, at_suc, latest_at_same, latest_at_other, length-with_value}
 use Rattle.entry_step.proofs.Problems.{open_append, home_all}

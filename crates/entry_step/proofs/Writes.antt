@@ -2,7 +2,7 @@
 use Rattle.std.proofs.Common.{◌≡◌, ◌≢◌, ◌≤◌, ◌-◌, ◌==◌, ℕ, zero, suc, List, [], ◌∷◌, ◌++◌, refl, ◌∙◌, ap, set, length, get_or, reverse, false, ne_eqb}
 use Rattle.std.proofs.lemmas.List.{set_past, reverse-append}
 use Rattle.entry_step.specs.Changes.{with_row, with_rows, put_back}
-use Rattle.entry_step.specs.declared.opens.Open.{Open}
+use Rattle.trigger_state.specs.declared.problems.Open.{Open}
 use Rattle.entry_step.specs.declared.changes.Row.{Row}
 
 pub rows_push : (rows : List (List Open)) (rs : List Row) (r : Row) → with_rows rows (rs ++ r ∷ []) ≡ set (with_rows rows rs) r.index r.opens

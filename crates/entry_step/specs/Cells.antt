@@ -11,9 +11,9 @@ use Rattle.zbx_types.specs.declared.entries.Stored.{Stored}
 use Rattle.entry_step.specs.Log.{moment_of, tick_with, first_tick}
 use Rattle.entry_step.specs.History.{stored_of, with_stored, history_of}
 use Rattle.entry_step.specs.Order.{order}
-use Rattle.entry_step.specs.Problems.{open_of, absorbed_all}
+use Rattle.trigger_state.specs.Problems.{open_of, absorbed_all}
 use Rattle.entry_step.specs.Records.{evaluated, phase, is_over, triggers_at, failures_at, replay}
-use Rattle.entry_step.specs.declared.opens.Open.{Open}
+use Rattle.trigger_state.specs.declared.problems.Open.{Open}
 
 -- the key of a cell: that of an item, of a trigger, or of the first Tick
 pub data Key : Type 0 where

@@ -3,11 +3,11 @@ use Rattle.std.specs.Prelude.{◌≡◌, ℕ, ◌-◌, ◌==◌, List, [], ◌�
 use Rattle.zbx_types.specs.declared.conf.Conf.{Conf}
 use Rattle.zbx_types.specs.declared.entries.Rec.{Rec}
 use Rattle.zbx_types.specs.declared.entries.Stored.{Stored}
-use Rattle.entry_step.specs.Problems.{absorbed_all}
+use Rattle.trigger_state.specs.Problems.{absorbed_all}
 use Rattle.entry_step.specs.Records.{evaluated, phase, triggers_over, failure_of}
 use Rattle.entry_step.specs.Represents.{CellsView, problems_at, AllAtHome}
 use Rattle.entry_step.specs.Kept.{kept, with_value}
-use Rattle.entry_step.specs.declared.opens.Open.{Open}
+use Rattle.trigger_state.specs.declared.problems.Open.{Open}
 use Rattle.entry_step.specs.declared.changes.Row.{Row}
 use Rattle.entry_step.specs.declared.changes.Outcome.{Outcome}
 

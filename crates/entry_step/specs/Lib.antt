@@ -2,7 +2,6 @@ pub mod Each
 pub mod Log
 pub mod History
 pub mod Evaluation
-pub mod Problems
 pub mod Order
 pub mod Records
 pub mod Cells

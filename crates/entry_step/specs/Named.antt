@@ -9,7 +9,8 @@ use Rattle.zbx_types.specs.declared.entries.Rec.{Rec}
 use Rattle.zbx_types.specs.declared.entries.Rec.TheVariants.{Failure, Problem, Recovery, Step, Message}
 use Rattle.std.specs.Str.{bytes_eq}
 use Rattle.entry_step.specs.Log.{IsRising}
-use Rattle.entry_step.specs.Problems.{event_of, recovers, open_of}
+use Rattle.zbx_types.specs.Records.{event_of}
+use Rattle.trigger_state.specs.Problems.{recovers, open_of}
 use Rattle.entry_step.specs.Records.{host_name, replay}
 
 -- a record is a Problem with these names of host and trigger

@@ -19,8 +19,8 @@ use Rattle.entry_step.specs.History.{stored_of, history_of}
 use Rattle.expr_eval.specs.Values.{value_over}
 use Rattle.entry_step.specs.Evaluation.{call_value}
 use Rattle.entry_step.specs.Order.{order}
-use Rattle.entry_step.specs.Problems.{event_in, open_of, grown}
-use Rattle.entry_step.specs.declared.opens.Open.{Open}
+use Rattle.trigger_state.specs.Problems.{event_in, open_of, grown}
+use Rattle.trigger_state.specs.declared.problems.Open.{Open}
 
 abbrev pub host_name : Option Host → List ℕ
 host_name None = []

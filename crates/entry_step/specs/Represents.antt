@@ -8,10 +8,10 @@ use Rattle.zbx_types.specs.declared.entries.Rec.{Rec}
 use Rattle.zbx_types.specs.declared.entries.Stored.{Stored}
 use Rattle.entry_step.specs.Log.{moment_of, IsFitting}
 use Rattle.entry_step.specs.Evaluation.{up_to}
-use Rattle.entry_step.specs.Problems.{home, event_in}
+use Rattle.trigger_state.specs.Problems.{home, event_in}
 use Rattle.entry_step.specs.Kept.{latest_at}
 use Rattle.entry_step.specs.Cells.{Cells, ItemKey, TriggerKey, TickKey, opens_in, touches, records, after, StandFor}
-use Rattle.entry_step.specs.declared.opens.Open.{Open}
+use Rattle.trigger_state.specs.declared.problems.Open.{Open}
 
 -- the latest stored value of each item and the open problems of each trigger, in the order of ids, and the first Tick
 pub record CellsView : Type 0 where

@@ -3,9 +3,9 @@
 ghost use Rattle.std.specs.Prelude.{◌≡◌, [], None, replicate, IfOk};
 ghost use Rattle.entry_step.specs.Represents.{Holds};
 
-use crate::opens::Open;
 use std::alloc::Global;
 use std::marker::Model;
+use trigger_state::Open;
 use zbx_types::{Conf, Many, Moment, OutOfMemory, Stored};
 
 /// What a run keeps between entries: the latest stored value of each item, the open problems of each trigger in the order

@@ -3,8 +3,8 @@
 ghost use Rattle.std.specs.Prelude.{◌≡◌, ◌++◌, OnOk};
 ghost use Rattle.entry_step.specs.Changes.{with_row, put_back, outcome_records, outcome_rows};
 
-use crate::opens::Open;
 use std::mem::replace;
+use trigger_state::Open;
 use zbx_types::{Many, OutOfMemory, Rec};
 
 /// What a trigger adds, and its open problems behind that.

@@ -37,7 +37,6 @@ mod index;
 pub mod laws;
 mod lists;
 mod names;
-mod opens;
 mod order;
 mod packed;
 mod plans;

@@ -3,7 +3,7 @@
 ghost use Rattle.std.specs.Prelude.{◌≡◌, ◌∷◌, [], ℕ, map, Some, IfOk};
 ghost use Rattle.zbx_types.specs.declared.conf.Conf.{Conf};
 ghost use Rattle.zbx_types.specs.Ids.{at_id};
-ghost use Rattle.entry_step.specs.Problems.{absorbed_all};
+ghost use Rattle.trigger_state.specs.Problems.{absorbed_all};
 ghost use Rattle.entry_step.specs.Records.{host_name, problem_of, recovery_of, failure_of, begun, verdict_records, judged};
 ghost use Rattle.entry_step.specs.Represents.{AllAtHome};
 ghost use Rattle.entry_step.specs.Changes.{outcome_records, outcome_opens};
@@ -12,9 +12,9 @@ ghost use Rattle.entry_step.specs.Plans.{plan_of};
 
 use crate::changes::Outcome;
 use crate::evaluation::{Calls, plan_value};
-use crate::opens::Open;
 use crate::plans::Node;
 use std::alloc::Global;
+use trigger_state::Open;
 use zbx_types::{Cause2, Conf, EventId, Fix, Many, Moment, OutOfMemory, Rec, Text, Trigger, by_id};
 
 /// A copy of a host's name, empty where there is no host with this id.
@@ -115,6 +115,7 @@ fn open_one(
     let mut opens = Many::new(alloc);
     opens.push(Open {
         problem: problem_of(alloc, conf, number, now, id, trigger)?,
+        steps: Many::new(alloc),
         depth: trigger.depth,
     })?;
     Ok(Outcome { records, opens })

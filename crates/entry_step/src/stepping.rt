@@ -7,7 +7,7 @@ ghost use Rattle.zbx_types.specs.declared.entries.Entry.TheVariants.{Value};
 ghost use Rattle.zbx_types.specs.declared.entries.Numbered.{Numbered};
 ghost use Rattle.entry_step.specs.Log.{Suits};
 ghost use Rattle.entry_step.specs.History.{stored_of};
-ghost use Rattle.entry_step.specs.Problems.{absorbed_all};
+ghost use Rattle.trigger_state.specs.Problems.{absorbed_all};
 ghost use Rattle.entry_step.specs.Records.{triggers_over, triggers_at, out_of, replay};
 ghost use Rattle.entry_step.specs.Represents.{Holds, StepsTo, AllAtHome, problems_at};
 ghost use Rattle.entry_step.specs.Changes.{outcome_records, outcome_opens, put_back, one_of, AreTidy, Runs, Takes};
@@ -17,11 +17,11 @@ use crate::changes::{Draft, Outcome, put_back};
 use crate::evaluation::Calls;
 use crate::history::{put, store};
 use crate::index::Ready;
-use crate::opens::Open;
 use crate::records::{failure_of, judge};
 use crate::steps::Steps;
 use std::alloc::Global;
 use std::sync::ledger::Ledger;
+use trigger_state::Open;
 use zbx_types::{Entry, Many, Moment, Numbered, OutOfMemory, Rec, Stored, Text, by_id};
 
 /// The open problems of the trigger with an id.

@@ -1,10 +1,10 @@
 use Rattle.std.proofs.Common.{◌≡◌, ◌<◌, ◌+◌, ℕ, List, length, get_or, ◌∙◌, ap, subst, arith}
 use Rattle.entry_step.specs.Kept.{kept, with_value}
-use Rattle.entry_step.specs.Problems.{absorbed_all}
+use Rattle.trigger_state.specs.Problems.{absorbed_all}
 use Rattle.entry_step.specs.Records.{triggers_over}
 use Rattle.entry_step.specs.Represents.{AllAtHome, problems_at}
 use Rattle.entry_step.specs.Changes.{outcome_records, outcome_opens, one_of}
-use Rattle.entry_step.specs.declared.opens.Open.{Open}
+use Rattle.trigger_state.specs.declared.problems.Open.{Open}
 use Rattle.entry_step.proofs.Phases.{run_more}
 use Rattle.entry_step.proofs.stepping.evaluate_all.Goals as goal
 

@@ -3,7 +3,7 @@ use Rattle.zbx_types.specs.declared.entries.Entry.TheVariants.{Value}
 use Rattle.entry_step.specs.History.{stored_of}
 use Rattle.entry_step.specs.Records.{triggers_over, triggers_at}
 use Rattle.entry_step.specs.Represents.{CellsView}
-use Rattle.entry_step.specs.declared.opens.Open.{Open}
+use Rattle.trigger_state.specs.declared.problems.Open.{Open}
 use Rattle.entry_step.proofs.Represented.{ok_const, none_counted, stores_none, triggers_stored, put_back_none}
 use Rattle.entry_step.proofs.stepping.take_value.Goals.{in-Words-1, in-Number-1}
 use Rattle.entry_step.proofs.stepping.take_value.Goals as goal
