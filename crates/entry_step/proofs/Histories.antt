@@ -1,10 +1,11 @@
 -- What cells keep of histories is enough for the functions built so far.
-use Rattle.std.proofs.Common.{◌≡◌, ◌≢◌, ◌++◌, zero, suc, inl, inr, ℕ, ◌==◌, ◌&&◌, nat_le, Bool, true, false, cond, Option, Some, None, List, [], ◌∷◌, slice_get, refl, sym, ◌∙◌, ap, option_map, option_and_then, option_to_list, ℤ, eqb-true, arith}
+use Rattle.std.proofs.Common.{◌≡◌, ◌≢◌, ◌++◌, zero, suc, inl, inr, ℕ, ◌==◌, ◌&&◌, nat_le, Bool, true, false, cond, not, ◌||◌, Option, Some, None, List, [], ◌∷◌, slice_get, refl, sym, ◌∙◌, ap, option_map, option_and_then, option_to_list, ℤ, eqb-true, arith}
 use mathlib.Core.Path.{fun_ext}
 use Rattle.std.proofs.lemmas.Bool.Decides.{nat_tests}
 use Rattle.zbx_types.specs.Ids.{at_id}
 use Rattle.zbx_types.specs.Trees.{tree_of}
 use Rattle.zbx_types.specs.declared.conf.Conf.{Conf}
+use Rattle.zbx_types.specs.declared.expr.Expr.{Expr}
 use Rattle.zbx_types.specs.declared.calls.Call.{Call}
 use Rattle.zbx_types.specs.declared.calls.Fun.{Fun}
 use Rattle.zbx_types.specs.declared.calls.Fun.TheVariants as function
@@ -20,7 +21,11 @@ use Rattle.entry_step.specs.History.{kept_by, stored_of, placed}
 use Rattle.expr_eval.specs.Values.{value_over}
 use Rattle.entry_step.specs.Evaluation.{last_number, up_to, function_value, call_value}
 use Rattle.trigger_state.specs.Problems.{absorbed_all, grown}
-use Rattle.entry_step.specs.Records.{verdict_records, judged, judged_by, evaluated, phase}
+use Rattle.entry_step.specs.Records.{verdict_records, expression_value, recovery_value, evaluated, phase}
+use Rattle.entry_step.specs.Changes.{judged}
+use Rattle.trigger_state.specs.Verdicts.{is_none, some_open, is_held, verdict_over}
+use Rattle.zbx_types.specs.Masters.{masters_of}
+use Rattle.entry_step.proofs.Landing.{judged_is, evaluated_none}
 use Rattle.entry_step.specs.Represents.{first_of}
 use Rattle.entry_step.specs.Kept.{newer}
 use Rattle.trigger_state.specs.declared.problems.Open.{Open}
@@ -143,25 +148,46 @@ call_same now a b trigger h place = go (slice_get trigger.calls place) (slice_ge
     go (Some c) None e = refl
     go (Some c) (Some item) e = function_same c.fun c.range c.shift now (a item) (b item) (h item (get_in trigger.call_items place item e))
 
-pub evaluated_same : (conf : Conf) (number now : ℕ) (a b : ℕ → List Stored) (p q : ℕ → List Open) (id : ℕ) → SameTo conf now a b id → p id ≡ q id → evaluated conf number now a p id ≡ evaluated conf number now b q id
-unfolding evaluated judged
-evaluated_same conf number now a b p q id same e = ap (judged_by conf a number now id (at_id conf.triggers id)) e ∙ go (at_id conf.triggers id) refl
+expression_same : (now : ℕ) (a b : ℕ → List Stored) (trigger : Trigger) (expr : Expr) → ((item : ℕ) → In item trigger.call_items → first_of (up_to now (a item)) ≡ first_of (up_to now (b item)))
+    → expression_value a now trigger expr ≡ expression_value b now trigger expr
+expression_same now a b trigger expr h = ap (λ (calls : ℕ → Option ℤ). value_over calls (tree_of expr)) (fun_ext (call_same now a b trigger h))
+
+recovery_same : (now : ℕ) (a b : ℕ → List Stored) (trigger : Trigger) (expr : Option Expr) → ((item : ℕ) → In item trigger.call_items → first_of (up_to now (a item)) ≡ first_of (up_to now (b item)))
+    → recovery_value a now trigger expr ≡ recovery_value b now trigger expr
+recovery_same now a b trigger None h = refl
+recovery_same now a b trigger (Some expr) h = expression_same now a b trigger expr h
+
+pub evaluated_same : (conf : Conf) (number now : ℕ) (a b : ℕ → List Stored) (p q : ℕ → List Open) (id : ℕ) → SameTo conf now a b id → p id ≡ q id → is_held conf p id ≡ is_held conf q id
+    → evaluated conf number now a p id ≡ evaluated conf number now b q id
+evaluated_same conf number now a b p q id same e held = go (at_id conf.triggers id) refl
   where
-    go : (t : Option Trigger) → at_id conf.triggers id ≡ t → judged_by conf a number now id t (q id) ≡ judged_by conf b number now id t (q id)
-    go None w = refl
+    go : (t : Option Trigger) → at_id conf.triggers id ≡ t → evaluated conf number now a p id ≡ evaluated conf number now b q id
+    go None w = evaluated_none conf number now a p id w ∙ sym (evaluated_none conf number now b q id w)
     go (Some trigger) w =
-        ap (λ (calls : ℕ → Option ℤ). verdict_records conf number now id trigger (q id) (value_over calls (tree_of trigger.expr)))
-        (fun_ext (call_same now a b trigger (λ item i. same item (trigger, w, i))))
+        let h : (item : ℕ) → In item trigger.call_items → first_of (up_to now (a item)) ≡ first_of (up_to now (b item)) = λ item i. same item (trigger, w, i) in
+        judged_is conf number now a p id trigger w
+        ∙ ap (λ t. judged conf a number now id trigger t (p id)) held ∙ ap (judged conf a number now id trigger (is_held conf q id)) e
+        ∙ ap (λ x. verdict_records conf number now id trigger (verdict_over trigger (is_held conf q id) (q id) x (recovery_value a now trigger trigger.recovery_expr) [] true)) (expression_same now a b trigger trigger.expr h)
+        ∙ ap (λ x. verdict_records conf number now id trigger (verdict_over trigger (is_held conf q id) (q id) (expression_value b now trigger trigger.expr) x [] true)) (recovery_same now a b trigger trigger.recovery_expr h)
+        ∙ sym (judged_is conf number now b q id trigger w)
 
 -- the open problems agree at the triggers in K
 abbrev pub AgreeOn : (ℕ → Bool) → (ℕ → List Open) → (ℕ → List Open) → Type 0
 AgreeOn K p q = (id : ℕ) → K id ≡ true → p id ≡ q id
 
-pub phase_same : (conf : Conf) (number now : ℕ) (K : ℕ → Bool) (a b : ℕ → List Stored) (p q : ℕ → List Open) (ids : List ℕ) → AgreeOn K p q → Each (λ id. (K id ≡ true) × SameTo conf now a b id) ids
+-- a trigger and its masters are in K
+abbrev pub HasMasters : Conf → (ℕ → Bool) → ℕ → Type 0
+HasMasters conf K id = (K id ≡ true) × Each (λ m. K m ≡ true) (masters_of conf id)
+
+held_same : (K : ℕ → Bool) (p q : ℕ → List Open) → AgreeOn K p q → (ms : List ℕ) → Each (λ m. K m ≡ true) ms → some_open p ms ≡ some_open q ms
+held_same K p q agree [] h = refl
+held_same K p q agree (m ∷ ms) h = ap (λ os. not (is_none os) || some_open p ms) (agree m h.0) ∙ ap (λ b. not (is_none (q m)) || b) (held_same K p q agree ms h.1)
+
+pub phase_same : (conf : Conf) (number now : ℕ) (K : ℕ → Bool) (a b : ℕ → List Stored) (p q : ℕ → List Open) (ids : List ℕ) → AgreeOn K p q → Each (λ id. HasMasters conf K id × SameTo conf now a b id) ids
     → phase conf (evaluated conf number now a) p ids ≡ phase conf (evaluated conf number now b) q ids
 phase_same conf number now K a b p q [] agree h = refl
 phase_same conf number now K a b p q (id ∷ ids) agree h =
     let rs = evaluated conf number now a p id in
-    let e = evaluated_same conf number now a b p q id h.0.1 (agree id h.0.0) in
+    let e = evaluated_same conf number now a b p q id h.0.1 (agree id h.0.0.0) (held_same K p q agree (masters_of conf id) h.0.0.1) in
     ap (λ xs. rs ++ xs) (phase_same conf number now K a b (grown conf p rs) (grown conf q rs) ids (λ u k. ap (λ os. absorbed_all conf u os rs) (agree u k)) h.1)
     ∙ ap (λ xs. xs ++ phase conf (evaluated conf number now b) (grown conf q xs) ids) e

@@ -1,17 +1,23 @@
 -- Which triggers' problems an evaluation changes: its own alone.
-use Rattle.std.proofs.Common.{◌≡◌, ℕ, ◌==◌, Bool, true, false, cond, Option, Some, None, List, [], ◌∷◌, ◌++◌, map, refl, ◌∙◌, ap, subst, eqb-true, ℤ, pos}
+use Rattle.std.proofs.Common.{◌≡◌, ℕ, ◌==◌, Bool, true, false, cond, Option, Some, None, List, [], ◌∷◌, ◌++◌, map, filter, refl, sym, ◌∙◌, ap, subst, eqb-true, ℤ, pos, Result, Ok, Err, IfOk}
 use Rattle.std.specs.Ordering.{int_eq}
 use Rattle.zbx_types.specs.Ids.{at_id}
-use Rattle.zbx_types.specs.Trees.{tree_of}
+use Rattle.zbx_types.specs.Masters.{masters_of}
 use Rattle.zbx_types.specs.declared.conf.Conf.{Conf}
 use Rattle.zbx_types.specs.declared.triggers.Trigger.{Trigger}
 use Rattle.zbx_types.specs.declared.entries.EventId.{EventId}
 use Rattle.zbx_types.specs.declared.entries.Rec.{Rec}
 use Rattle.zbx_types.specs.declared.entries.Stored.{Stored}
-use Rattle.expr_eval.specs.Values.{value_over}
-use Rattle.entry_step.specs.Evaluation.{call_value}
 use Rattle.trigger_state.specs.Problems.{home, event_in, lands, absorbed_all, grown}
-use Rattle.entry_step.specs.Records.{problem_of, recovery_of, begun, verdict_records, judged, judged_by, evaluated, phase}
+use Rattle.entry_step.specs.Records.{problem_of, recovery_of, verdict_records, expression_value, recovery_value, judged_by, evaluated, phase}
+use Rattle.entry_step.specs.Changes.{outcome_records, outcome_opens, Closes, judged}
+use Rattle.entry_step.specs.declared.changes.Outcome.{Outcome}
+use Rattle.trigger_state.specs.Verdicts.{some_open, is_held, lets_close, makes_new, is_closed_by, closing, close_all, verdict_over, verdict_by}
+use Rattle.trigger_state.specs.declared.answer.Verdict.{Verdict}
+use Rattle.trigger_state.specs.declared.answer.Verdict.TheVariants.{Nothing, New, Close}
+use Rattle.zbx_types.specs.declared.entries.Tag.{Tag}
+use Rattle.entry_step.specs.Each.{Each}
+use Rattle.entry_step.proofs.Members.{each_map, each_cond}
 use Rattle.entry_step.specs.Represents.{AllAtHome}
 use Rattle.trigger_state.specs.declared.problems.Open.{Open}
 use Rattle.trigger_state.proofs.Searches.{lands_alone}
@@ -41,37 +47,84 @@ only id j = id == j
 at_home : (conf : Conf) (event : EventId) (id j : ℕ) → home conf event ≡ id → only id j ≡ false → (home conf event == j) ≡ false
 at_home conf event id j h e = ap (λ t. t == j) h ∙ e
 
-recoveries_land : (conf : Conf) (number now id : ℕ) (os : List Open) → AllAtHome conf id os → LandIn conf (only id) (map (recovery_of number now) os)
+recoveries_land : (conf : Conf) (number now id : ℕ) (events : List EventId) → Each (λ e. home conf e ≡ id) events → LandIn conf (only id) (map (recovery_of number now) events)
 recoveries_land conf number now id [] h = tt
-recoveries_land conf number now id (o ∷ os) h = (λ j e. at_home conf (event_in o) id j h.0 e, recoveries_land conf number now id os h.1)
+recoveries_land conf number now id (e ∷ es) h = (λ j q. at_home conf e id j h.0 q, recoveries_land conf number now id es h.1)
 
-begun_lands : (conf : Conf) (number now id : ℕ) (trigger : Trigger) (os : List Open) → LandIn conf (only id) (begun conf number now id trigger os)
-unfolding problem_of
-begun_lands conf number now id trigger [] = (λ j e. e, tt)
-begun_lands conf number now id trigger (o ∷ os) = tt
+verdict_lands : (conf : Conf) (number now id : ℕ) (trigger : Trigger) (v : Verdict) → Closes (λ e. home conf e ≡ id) v → LandIn conf (only id) (verdict_records conf number now id trigger v)
+unfolding verdict_records problem_of
+verdict_lands conf number now id trigger Nothing h = tt
+verdict_lands conf number now id trigger New h = (λ j e. e, tt)
+verdict_lands conf number now id trigger (Close events) h = recoveries_land conf number now id events h
 
-verdict_lands : (conf : Conf) (number now id : ℕ) (trigger : Trigger) (os : List Open) (value : Option ℤ) → AllAtHome conf id os → LandIn conf (only id) (verdict_records conf number now id trigger os value)
-unfolding verdict_records
-verdict_lands conf number now id trigger os None h = tt
-verdict_lands conf number now id trigger os (Some p) h = go (int_eq p (pos 0))
-  where
-    go : (b : Bool) → LandIn conf (only id) (cond b (map (recovery_of number now) os) (begun conf number now id trigger os))
-    go true = recoveries_land conf number now id os h
-    go false = begun_lands conf number now id trigger os
+-- what a verdict closes is among the open problems
+module _ (P : EventId → Type 0) where
+  closing_own : (trigger : Trigger) (tags : List Tag) (os : List Open) → Each (λ o. P (event_in o)) os → Each P (closing trigger tags os)
+  closing_own trigger tags os h = each_map P event_in (filter (is_closed_by trigger.close_tag tags) os) (kept os h)
+    where
+      kept : (xs : List Open) → Each (λ o. P (event_in o)) xs → Each (λ o. P (event_in o)) (filter (is_closed_by trigger.close_tag tags) xs)
+      kept [] e = tt
+      kept (x ∷ xs) e = each_cond (λ o. P (event_in o)) (is_closed_by trigger.close_tag tags x) (x ∷ filter (is_closed_by trigger.close_tag tags) xs) (filter (is_closed_by trigger.close_tag tags) xs) (e.0, kept xs e.1) (kept xs e.1)
 
-judged_lands : (conf : Conf) (items : ℕ → List Stored) (number now id : ℕ) (trigger : Option Trigger) (os : List Open) → AllAtHome conf id os → LandIn conf (only id) (judged_by conf items number now id trigger os)
-unfolding judged
-judged_lands conf items number now id None os h = tt
-judged_lands conf items number now id (Some trigger) os h = verdict_lands conf number now id trigger os (value_over (call_value items now trigger) (tree_of trigger.expr)) h
+  all_own : (events : List EventId) → Each P events → Closes P (close_all events)
+  all_own [] h = tt
+  all_own (e ∷ es) h = h
 
-pub evaluated_lands : (conf : Conf) (number now : ℕ) (items : ℕ → List Stored) (all : ℕ → List Open) (id : ℕ) → AllAtHome conf id (all id) → LandIn conf (only id) (evaluated conf number now items all id)
+  pub closes_own : (trigger : Trigger) (held : Bool) (os : List Open) (p r : Option ℤ) (tags : List Tag) (is_value : Bool) → Each (λ o. P (event_in o)) os → Closes P (verdict_over trigger held os p r tags is_value)
+  closes_own trigger true os p r tags is_value h = tt
+  closes_own trigger false os None r tags is_value h = tt
+  closes_own trigger false os (Some z) r tags is_value h = go (int_eq z (pos 0)) (lets_close trigger.recovery r) (makes_new trigger os is_value)
+    where
+      go : (a b d : Bool) → Closes P (cond a (cond b (close_all (closing trigger tags os)) Nothing) (cond d New Nothing))
+      go true true d = all_own (closing trigger tags os) (closing_own trigger tags os h)
+      go true false d = tt
+      go false b true = tt
+      go false b false = tt
+
+-- what the outcome of a verdict makes of the open problems
+pub settled_opens : {E : Type 0} (result : Result (Option Outcome) E) (conf : Conf) (id : ℕ) (trigger : Trigger) (held : Bool) (os : List Open) (p r : Option ℤ) (tags : List Tag) (is_value : Bool) (v : Verdict)
+    → v ≡ verdict_over trigger held os p r tags is_value
+    → IfOk result (λ made. at_id conf.triggers id ≡ Some trigger → Closes (λ e. home conf e ≡ id) v → outcome_opens os made ≡ absorbed_all conf id os (outcome_records made))
+    → IfOk result (λ made. at_id conf.triggers id ≡ Some trigger → AllAtHome conf id os → outcome_opens os made ≡ absorbed_all conf id os (outcome_records made))
+settled_opens (Ok made) conf id trigger held os p r tags is_value v is h = λ there homes.
+    h there (subst (Closes (λ e. home conf e ≡ id)) (sym is) (closes_own (λ e. home conf e ≡ id) trigger held os p r tags is_value homes))
+settled_opens (Err e) conf id trigger held os p r tags is_value v is h = tt
+
+-- what a trigger adds that is there
+pub judged_is : (conf : Conf) (number now : ℕ) (items : ℕ → List Stored) (all : ℕ → List Open) (id : ℕ) (trigger : Trigger) → at_id conf.triggers id ≡ Some trigger
+    → evaluated conf number now items all id ≡ judged conf items number now id trigger (is_held conf all id) (all id)
 unfolding evaluated
-evaluated_lands conf number now items all id h = judged_lands conf items number now id (at_id conf.triggers id) (all id) h
+judged_is conf number now items all id trigger e =
+    ap (judged_by conf items number now all id) e
+    ∙ ap (λ t. verdict_records conf number now id trigger (verdict_by t (is_held conf all id) (all id) (expression_value items now trigger trigger.expr) (recovery_value items now trigger trigger.recovery_expr) [] true)) e
 
--- no trigger, no records
+pub outcome_is : (conf other : Conf) (number now : ℕ) (items : ℕ → List Stored) (all : ℕ → List Open) (id : ℕ) (trigger : Trigger) (held : Bool) (os : List Open) (ms : List ℕ) → other ≡ conf → at_id conf.triggers id ≡ Some trigger
+    → ms ≡ masters_of conf id → held ≡ some_open all ms → os ≡ all id → judged other items number now id trigger held os ≡ evaluated conf number now items all id
+outcome_is conf other number now items all id trigger held os ms same there m h o =
+    ap (λ c. judged c items number now id trigger held os) same ∙ ap (λ b. judged conf items number now id trigger b os) (h ∙ ap (some_open all) m)
+    ∙ ap (judged conf items number now id trigger (is_held conf all id)) o ∙ sym (judged_is conf number now items all id trigger there)
+
+-- what holds of the records of each verdict that closes some of the open problems
+pub judged_has : (P : EventId → Type 0) (R : List Rec → Type 0) (conf : Conf) (items : ℕ → List Stored) (number now id : ℕ) (trigger : Trigger) (held : Bool) (os : List Open)
+    → ((v : Verdict) → Closes P v → R (verdict_records conf number now id trigger v)) → Each (λ o. P (event_in o)) os → R (judged conf items number now id trigger held os)
+judged_has P R conf items number now id trigger held os f h =
+    let p : Option ℤ = expression_value items now trigger trigger.expr in
+    let r : Option ℤ = recovery_value items now trigger trigger.recovery_expr in
+    f (verdict_over trigger held os p r [] true) (closes_own P trigger held os p r [] true h)
+
+-- and one that isn't
 pub evaluated_none : (conf : Conf) (number now : ℕ) (items : ℕ → List Stored) (all : ℕ → List Open) (id : ℕ) → at_id conf.triggers id ≡ None → evaluated conf number now items all id ≡ []
 unfolding evaluated
-evaluated_none conf number now items all id e = ap (λ t. judged_by conf items number now id t (all id)) e
+evaluated_none conf number now items all id e = ap (judged_by conf items number now all id) e
+
+pub evaluated_lands : (conf : Conf) (number now : ℕ) (items : ℕ → List Stored) (all : ℕ → List Open) (id : ℕ) → AllAtHome conf id (all id) → LandIn conf (only id) (evaluated conf number now items all id)
+evaluated_lands conf number now items all id h = go (at_id conf.triggers id) refl
+  where
+    go : (t : Option Trigger) → at_id conf.triggers id ≡ t → LandIn conf (only id) (evaluated conf number now items all id)
+    go None e = subst (LandIn conf (only id)) (sym (evaluated_none conf number now items all id e)) tt
+    go (Some trigger) e =
+        subst (LandIn conf (only id)) (sym (judged_is conf number now items all id trigger e))
+        (judged_has (λ x. home conf x ≡ id) (LandIn conf (only id)) conf items number now id trigger (is_held conf all id) (all id) (verdict_lands conf number now id trigger) h)
 
 -- the triggers of a phase are in K: so are those whose problems its records change
 abbrev pub AllIn : (ℕ → Bool) → List ℕ → Type 0

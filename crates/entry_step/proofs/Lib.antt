@@ -12,3 +12,4 @@ pub mod Naming
 pub mod Listing
 pub mod Planned
 pub mod Packing
+pub mod Dependents

@@ -2,7 +2,8 @@
 use Rattle.std.proofs.Common.{◌≡◌, ℕ, ◌==◌, Bool, true, false, cond, ◌&&◌, ◌⊎◌, inl, inr, Option, Some, None, List, [], ◌∷◌, ◌++◌, filter, refl, sym, ◌∙◌, ap, ap₂, subst, eq-eqb}
 use mathlib.Core.Path.{fun_ext}
 use Rattle.std.specs.List.{list_any}
-use Rattle.zbx_types.specs.Ids.{at_id}
+use Rattle.zbx_types.specs.Ids.{at_id, ids_from}
+use Rattle.zbx_types.specs.Masters.{is_master}
 use Rattle.zbx_types.specs.declared.conf.Conf.{Conf}
 use Rattle.zbx_types.specs.declared.entries.Entry.{Entry}
 use Rattle.zbx_types.specs.declared.entries.Entry.TheVariants.{Config, Value, Tick}
@@ -18,10 +19,10 @@ use Rattle.entry_step.specs.Records.{evaluated, phase, is_over, triggers_at, fai
 use Rattle.entry_step.specs.Cells.{Key, ItemKey, TriggerKey, TickKey, CellOf, ItemCell, Cells, opens_in, touches, item_after, histories_after, records_at, records, after, look, StandFor}
 use Rattle.entry_step.specs.Represents.{first_of, IsTidy}
 use Rattle.entry_step.specs.Laws.{Agree, IsLocal, IsConfined, Apart, AreTidyCells, Locality, SameOut, Insertion, cells_done, records_done, any_touches, BatchOnACopy, PassedApart, AppliedPart}
-use Rattle.entry_step.proofs.Members.{or_left, or_false_left, or_false_right, each_at, any_intro, true_or_false}
+use Rattle.entry_step.proofs.Members.{or_left, or_right, and_both, each_filter, or_false_left, or_false_right, each_at, any_intro, true_or_false}
 use Rattle.entry_step.proofs.Problems.{home_all}
 use Rattle.entry_step.proofs.Landing.{LandIn, land_append, land_sub, land_off, AllIn, phase_lands}
-use Rattle.entry_step.proofs.Histories.{stored_other, SameTo, phase_same}
+use Rattle.entry_step.proofs.Histories.{stored_other, SameTo, HasMasters, phase_same}
 use Rattle.entry_step.proofs.Represented.{stores_none, triggers_stored, triggers_none, each_over, calls_touched, failures_land, records_are, after_is}
 
 -- Each trigger that an entry evaluates is over its item
@@ -38,7 +39,18 @@ all_in K (id ∷ ids) h = (h.0, all_in K ids h.1)
 
 trigger_touched : (conf : Conf) (now item time : ℕ) (value : List ℕ) (id : ℕ) → is_over item (at_id conf.triggers id) ≡ true → touches conf (Value now item time value) (TriggerKey id) ≡ true
 unfolding touches
-trigger_touched conf now item time value id o = o
+trigger_touched conf now item time value id o = or_left (is_over item (at_id conf.triggers id)) (list_any (λ t. is_over item (at_id conf.triggers t) && is_master conf t id) (order conf)) o
+
+-- so are its masters
+masters_touched : (conf : Conf) (now item time : ℕ) (value : List ℕ) (id : ℕ) → In id (order conf) → is_over item (at_id conf.triggers id) ≡ true → HasMasters conf (λ j. touches conf (Value now item time value) (TriggerKey j)) id
+unfolding touches
+masters_touched conf now item time value id j o =
+    (trigger_touched conf now item time value id o, each_filter (λ m. touches conf (Value now item time value) (TriggerKey m) ≡ true) (is_master conf id) (ids_from 1 conf.triggers) (λ m i e. also m e))
+  where
+    also : (m : ℕ) → is_master conf id m ≡ true → touches conf (Value now item time value) (TriggerKey m) ≡ true
+    also m e =
+        or_right (is_over item (at_id conf.triggers m)) (list_any (λ t. is_over item (at_id conf.triggers t) && is_master conf t m) (order conf))
+        (any_intro (λ t. is_over item (at_id conf.triggers t) && is_master conf t m) id (order conf) j (and_both (is_over item (at_id conf.triggers id)) (is_master conf id m) o e))
 
 own_touched : (conf : Conf) (now item time : ℕ) (value : List ℕ) → touches conf (Value now item time value) (ItemKey item) ≡ true
 unfolding touches
@@ -92,8 +104,8 @@ unfolding records_at
 value_local conf number now item time value c d agree =
     ap (λ xs. failures_at conf number entry ++ xs)
     (phase_same conf number now (λ id. touches conf entry (TriggerKey id)) (histories_after conf c number entry) (histories_after conf d number entry) (opens_in c) (opens_in d) (triggers_at conf number entry) (λ id t. agree.at (TriggerKey id) t)
-    (each_triggered conf number now item time value (λ id. (touches conf entry (TriggerKey id) ≡ true) × SameTo conf now (histories_after conf c number entry) (histories_after conf d number entry) id)
-    (λ id j o. (trigger_touched conf now item time value id o, λ i calls. ap (λ cell. first_of (up_to now (item_after conf number entry i cell).history)) (agree.at (ItemKey i) (calls_touched conf now item time value id i j o calls))))))
+    (each_triggered conf number now item time value (λ id. HasMasters conf (λ j. touches conf entry (TriggerKey j)) id × SameTo conf now (histories_after conf c number entry) (histories_after conf d number entry) id)
+    (λ id j o. (masters_touched conf now item time value id j o, λ i calls. ap (λ cell. first_of (up_to now (item_after conf number entry i cell).history)) (agree.at (ItemKey i) (calls_touched conf now item time value id i j o calls))))))
   where
     entry : Entry
     entry = Value now item time value

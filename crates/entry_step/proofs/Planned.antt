@@ -113,10 +113,10 @@ pub no_nodes : (calls : ℕ → Node) (t : Tree) (nodes more : List Node) → le
 no_nodes calls t [] more z e = no_tree calls t more e
 no_nodes calls t (n ∷ nodes) more z e = cc
 
--- the plan of a trigger, by id
-pub plan_at : (triggers : List Trigger) (plan : List Node) (id : ℕ) (trigger : Trigger) → plan ≡ get_or (map plan_of triggers) (id - 1) [] → at_id triggers id ≡ Some trigger → plan ≡ plan_of trigger
+-- what a function says of a trigger, by id
+pub plan_at : (plan_of : Trigger → List Node) (triggers : List Trigger) (plan : List Node) (id : ℕ) (trigger : Trigger) → plan ≡ get_or (map plan_of triggers) (id - 1) [] → at_id triggers id ≡ Some trigger → plan ≡ plan_of trigger
 unfolding at_id
-plan_at triggers plan id trigger is found = is ∙ go (id == 0) found
+plan_at plan_of triggers plan id trigger is found = is ∙ go (id == 0) found
   where
     get_map : (ts : List Trigger) (k : ℕ) → slice_get ts k ≡ Some trigger → get_or (map plan_of ts) k [] ≡ plan_of trigger
     get_map [] k e = cc
@@ -128,12 +128,12 @@ plan_at triggers plan id trigger is found = is ∙ go (id == 0) found
     go false e = get_map triggers (id - 1) e
 
 -- the plans so far, with that of one more trigger
-pub plan_more : (triggers : List Trigger) (k : ℕ) (trigger : Trigger) (starts begun : List ℕ) (items more : List Node) → k < length triggers → trigger ≡ get_or triggers k trigger
-    → begun ≡ starts ++ length items ∷ [] → ((rest : List Node) → more ++ rest ≡ items ++ flat (call_node trigger) (tree_of trigger.expr) rest)
+pub plan_more : (plan_of : Trigger → List Node) (triggers : List Trigger) (k : ℕ) (trigger : Trigger) (starts begun : List ℕ) (items more : List Node) → k < length triggers → trigger ≡ get_or triggers k trigger
+    → begun ≡ starts ++ length items ∷ [] → more ≡ items ++ plan_of trigger
     → IsPacked starts items (take k (map plan_of triggers)) → IsPacked begun more (take (k + 1) (map plan_of triggers))
-plan_more triggers k trigger starts begun items more l is b m p =
+plan_more plan_of triggers k trigger starts begun items more l is b m p =
     let size : length (map plan_of triggers) ≡ length triggers = length-map triggers plan_of in
-    packed_more (map plan_of triggers) k (plan_of trigger) starts begun items more (omega arith) (ap plan_of is ∙ mapped triggers k l) b (sym (append-nil more) ∙ m []) p
+    packed_more (map plan_of triggers) k (plan_of trigger) starts begun items more (omega arith) (ap plan_of is ∙ mapped triggers k l) b m p
   where
     mapped : (ts : List Trigger) (i : ℕ) → i < length ts → plan_of (get_or ts i trigger) ≡ get_or (map plan_of ts) i (plan_of trigger)
     mapped [] i h = refl

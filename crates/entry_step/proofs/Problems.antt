@@ -1,5 +1,5 @@
 -- Open problems and more records.
-use Rattle.std.proofs.Common.{◌≡◌, ℕ, ◌==◌, Bool, true, false, cond, not, ◌&&◌, ◌||◌, List, [], ◌∷◌, ◌++◌, Some, map, filter, refl, ◌∙◌, ap, eq-eqb, eqb-true}
+use Rattle.std.proofs.Common.{◌≡◌, ℕ, ◌==◌, Bool, true, false, cond, not, ◌&&◌, ◌||◌, List, [], ◌∷◌, ◌++◌, Some, map, filter, refl, sym, ◌∙◌, ap, eq-eqb, eqb-true}
 use Rattle.std.specs.List.{list_any}
 use Rattle.zbx_types.specs.Ids.{at_id}
 use Rattle.zbx_types.specs.declared.conf.Conf.{Conf}
@@ -11,66 +11,49 @@ use Rattle.zbx_types.specs.Records.{same_event, event_of}
 use Rattle.trigger_state.specs.Problems.{home, event_in, opened, open_of, with_step, stepped, absorbed, absorbed_all}
 use Rattle.trigger_state.proofs.Searches.{search_grows}
 use Rattle.entry_step.specs.Records.{problem_of, recovery_of}
+use Rattle.entry_step.specs.Each.{Each}
 use Rattle.entry_step.specs.Represents.{AllAtHome}
 use Rattle.trigger_state.specs.declared.problems.Open.{Open}
 
-pub one_opened : (conf : Conf) (number now id : ℕ) (trigger : Trigger) → at_id conf.triggers id ≡ Some trigger
-    → record { problem = problem_of conf number now id trigger; steps = []; depth = trigger.depth } ∷ [] ≡ absorbed_all conf id [] (problem_of conf number now id trigger ∷ [])
+pub one_opened : (conf : Conf) (number now id : ℕ) (trigger : Trigger) (os : List Open) → at_id conf.triggers id ≡ Some trigger
+    → os ++ record { problem = problem_of conf number now id trigger; steps = []; depth = trigger.depth } ∷ [] ≡ absorbed_all conf id os (problem_of conf number now id trigger ∷ [])
 unfolding problem_of absorbed
-one_opened conf number now id trigger e = rw (eq-eqb id id refl, e) refl
+one_opened conf number now id trigger os e = rw (eq-eqb id id refl, e) refl
 
-same_refl : (e : EventId) → same_event e e ≡ true
-same_refl e = rw (eq-eqb e.number e.number refl, eq-eqb e.trigger e.trigger refl) refl
-
--- each of these problems has its event among those of the others
-Among : List Open → List Open → Type 0
-Among [] os = Unit {0}
-Among (x ∷ xs) os = (list_any (λ o. same_event (event_in x) (event_in o)) os ≡ true) × Among xs os
-
-among_filter : (o : Open) (os xs : List Open) → Among xs (o ∷ os) → Among (filter (λ x. not (same_event (event_in x) (event_in o))) xs) os
-unfolding Among
-among_filter o os [] h = tt
-among_filter o os (x ∷ xs) h = go (same_event (event_in x) (event_in o)) h.0 (among_filter o os xs h.1)
+-- without some, and then without one more
+filter_twice : (e : EventId) (es : List EventId) (os : List Open)
+    → filter (λ o. not (list_any (same_event (event_in o)) es)) (filter (λ o. not (same_event (event_in o) e)) os) ≡ filter (λ o. not (list_any (same_event (event_in o)) (e ∷ es))) os
+filter_twice e es [] = refl
+filter_twice e es (o ∷ os) = go (same_event (event_in o) e) (list_any (same_event (event_in o)) es) refl (filter_twice e es os)
   where
+    p : Open → Bool
+    p x = not (list_any (same_event (event_in x)) es)
+
     rest : List Open
-    rest = filter (λ y. not (same_event (event_in y) (event_in o))) xs
+    rest = filter (λ x. not (same_event (event_in x) e)) os
 
-    go : (b : Bool) → (b || list_any (λ p. same_event (event_in x) (event_in p)) os) ≡ true → Among rest os → Among (cond (not b) (x ∷ rest) rest) os
-    go true q ih = ih
-    go false q ih = (q, ih)
+    all : List Open
+    all = filter (λ x. not (list_any (same_event (event_in x)) (e ∷ es))) os
 
-among_none : (xs : List Open) → Among xs [] → xs ≡ []
-unfolding Among
-among_none [] h = refl
-among_none (x ∷ xs) h = let q = h.0 in cc
+    go : (a b : Bool) → list_any (same_event (event_in o)) es ≡ b → filter p rest ≡ all → filter p (cond (not a) (o ∷ rest) rest) ≡ cond (not (a || b)) (o ∷ all) all
+    go true b q ih = ih
+    go false b q ih = ap (λ t. cond (not t) (o ∷ filter p rest) (filter p rest)) q ∙ ap (λ ys. cond (not b) (o ∷ ys) ys) ih
 
-close_one : (conf : Conf) (number now id : ℕ) (o : Open) (xs : List Open) → home conf (event_in o) ≡ id → absorbed conf id xs (recovery_of number now o) ≡ filter (λ x. not (same_event (event_in x) (event_in o))) xs
+close_one : (conf : Conf) (number now id : ℕ) (e : EventId) (os : List Open) → home conf e ≡ id → absorbed conf id os (recovery_of number now e) ≡ filter (λ o. not (same_event (event_in o) e)) os
 unfolding absorbed
-close_one conf number now id o xs h = rw (eq-eqb (home conf (event_in o)) id h) refl
+close_one conf number now id e os h = rw (eq-eqb (home conf e) id h) refl
 
-closed_all : (conf : Conf) (number now id : ℕ) (os xs : List Open) → AllAtHome conf id os → Among xs os → absorbed_all conf id xs (map (recovery_of number now) os) ≡ []
-closed_all conf number now id [] xs t h = among_none xs h
-closed_all conf number now id (o ∷ os) xs t h =
-    ap (λ ys. absorbed_all conf id ys (map (recovery_of number now) os)) (close_one conf number now id o xs t.0)
-    ∙ closed_all conf number now id os (filter (λ x. not (same_event (event_in x) (event_in o))) xs) t.1 (among_filter o os xs h)
+filter_all : (os : List Open) → filter (λ (o : Open). not false) os ≡ os
+filter_all [] = refl
+filter_all (o ∷ os) = ap (λ ys. o ∷ ys) (filter_all os)
 
-among_more : (o : Open) (os xs : List Open) → Among xs os → Among xs (o ∷ os)
-unfolding Among
-among_more o os [] h = tt
-among_more o os (x ∷ xs) h = (go (same_event (event_in x) (event_in o)) h.0, among_more o os xs h.1)
-  where
-    go : (b : Bool) → list_any (λ p. same_event (event_in x) (event_in p)) os ≡ true → (b || list_any (λ p. same_event (event_in x) (event_in p)) os) ≡ true
-    go true q = refl
-    go false q = q
-
-among_self : (xs : List Open) → Among xs xs
-unfolding Among
-among_self [] = tt
-among_self (x ∷ xs) = (rw (same_refl (event_in x)) refl, among_more x xs xs (among_self xs))
-
--- the recoveries of all open problems leave none
-pub all_closed : (conf : Conf) (number now id : ℕ) (os : List Open) → AllAtHome conf id os → absorbed_all conf id os (map (recovery_of number now) os) ≡ []
-all_closed conf number now id os t = closed_all conf number now id os os t (among_self os)
+-- the recoveries of events leave the other open problems
+pub rest_closed : (conf : Conf) (number now id : ℕ) (events : List EventId) (os : List Open) → Each (λ e. home conf e ≡ id) events
+    → absorbed_all conf id os (map (recovery_of number now) events) ≡ filter (λ o. not (list_any (same_event (event_in o)) events)) os
+rest_closed conf number now id [] os h = sym (filter_all os)
+rest_closed conf number now id (e ∷ es) os h =
+    ap (λ ys. absorbed_all conf id ys (map (recovery_of number now) es)) (close_one conf number now id e os h.0)
+    ∙ rest_closed conf number now id es (filter (λ o. not (same_event (event_in o) e)) os) h.1 ∙ filter_twice e es os
 
 -- the search with some more records
 pub open_append : (conf : Conf) (id : ℕ) (rs more : List Rec) → open_of conf (rs ++ more) id ≡ absorbed_all conf id (open_of conf rs id) more

@@ -1,9 +1,7 @@
 -- On replays no Recovery stands before its Problem, so open problems are those that no Recovery names at all.
 use Rattle.std.proofs.Common.{◌≡◌, ℕ, zero, suc, ◌+◌, ◌-◌, ◌<◌, ◌≤◌, ◌==◌, Bool, true, false, cond, not, ◌&&◌, ◌||◌, ◌⊎◌, inl, inr, Option, Some, None, List, [], ◌∷◌, ◌++◌, map, filter, slice_get, refl, sym, ◌∙◌, ap, ap₂, subst, append_assoc, append-nil, eqb-true, eq-eqb, ne_eqb, ℤ, pos, arith}
 use Rattle.std.specs.List.{list_any}
-use Rattle.std.specs.Ordering.{int_eq}
 use Rattle.zbx_types.specs.Ids.{at_id}
-use Rattle.zbx_types.specs.Trees.{tree_of}
 use Rattle.zbx_types.specs.declared.conf.Conf.{Conf}
 use Rattle.zbx_types.specs.declared.triggers.Trigger.{Trigger}
 use Rattle.zbx_types.specs.declared.items.Item.{Item}
@@ -17,12 +15,15 @@ use Rattle.zbx_types.specs.declared.entries.Stored.{Stored}
 use Rattle.entry_step.specs.Each.{Each, In}
 use Rattle.std.specs.Str.{bytes_eq}
 use Rattle.entry_step.specs.History.{history_of}
-use Rattle.expr_eval.specs.Values.{value_over}
-use Rattle.entry_step.specs.Evaluation.{call_value}
 use Rattle.entry_step.specs.Order.{level, by_depth, above_depths, order}
 use Rattle.zbx_types.specs.Records.{event_of}
 use Rattle.trigger_state.specs.Problems.{event_in, opens, recovers, opened, open_of}
-use Rattle.entry_step.specs.Records.{problem_of, recovery_of, begun, verdict_records, judged, judged_by, evaluated, phase_over, has_call, stores, triggers_at, failure_by, failure_of, failures_at, out_of, replay}
+use Rattle.entry_step.specs.Records.{problem_of, recovery_of, verdict_records, evaluated, phase_over, has_call, stores, triggers_at, failure_by, failure_of, failures_at, out_of, replay}
+use Rattle.trigger_state.specs.Verdicts.{is_held}
+use Rattle.trigger_state.specs.declared.answer.Verdict.{Verdict}
+use Rattle.trigger_state.specs.declared.answer.Verdict.TheVariants.{Nothing, New, Close}
+use Rattle.entry_step.specs.Changes.{Closes}
+use Rattle.entry_step.proofs.Landing.{judged_is, judged_has, evaluated_none}
 use Rattle.entry_step.specs.Log.{last_number, IsRising}
 use Rattle.entry_step.specs.Named.{is_named, host_of, AreDistinct, OpenByNames}
 use Rattle.trigger_state.specs.declared.problems.Open.{Open}
@@ -241,9 +242,9 @@ open_done conf n done (r ∷ rs) id e = go (opens conf id r) refl (not (list_any
     go true q false ih = ih
     go false q b ih = ih
 
-recoveries_right : (conf : Conf) (n now : ℕ) (done : List ℕ) (os : List Open) → Each (λ o. Done n done (event_in o)) os → Each IsQuiet (map (recovery_of n now) os) × Each (IsDone n done) (map (recovery_of n now) os)
-recoveries_right conf n now done [] e = (tt, tt)
-recoveries_right conf n now done (o ∷ os) e = let r = recoveries_right conf n now done os e.1 in ((tt, r.0), (e.0, r.1))
+recoveries_right : (n now : ℕ) (done : List ℕ) (events : List EventId) → Each (Done n done) events → Each IsQuiet (map (recovery_of n now) events) × Each (IsDone n done) (map (recovery_of n now) events)
+recoveries_right n now done [] e = (tt, tt)
+recoveries_right n now done (x ∷ xs) e = let r = recoveries_right n now done xs e.1 in ((tt, r.0), (e.0, r.1))
 
 quiet_right : (conf : Conf) (n : ℕ) (done : List ℕ) (qs : List Rec) → Each IsQuiet qs → Each (IsDone n done) qs → Right conf n done qs
 quiet_right conf n done qs q d = record { early = quiet_early qs q; ids = d; named = quiet_named conf qs q }
@@ -271,10 +272,10 @@ module _ (conf : Conf) (n now : ℕ) (items : ℕ → List Stored) (done : List 
   none_next : Next []
   none_next = subst (Right conf n (id ∷ done)) (sym (append-nil rs)) weaker
 
-  close_next : Next (map (recovery_of n now) (open_of conf rs id))
-  close_next =
-      let r = recoveries_right conf n now (id ∷ done) (open_of conf rs id) (open_done conf n (id ∷ done) rs id weaker.ids) in
-      right_append conf n (id ∷ done) rs (map (recovery_of n now) (open_of conf rs id)) weaker (quiet_right conf n (id ∷ done) (map (recovery_of n now) (open_of conf rs id)) r.0 r.1) (quiet_all rs (map (recovery_of n now) (open_of conf rs id)) r.0)
+  close_next : (events : List EventId) → Each (Done n (id ∷ done)) events → Next (map (recovery_of n now) events)
+  close_next events e =
+      let r = recoveries_right n now (id ∷ done) events e in
+      right_append conf n (id ∷ done) rs (map (recovery_of n now) events) weaker (quiet_right conf n (id ∷ done) (map (recovery_of n now) events) r.0 r.1) (quiet_all rs (map (recovery_of n now) events) r.0)
 
   begin_next : (t : Trigger) → at_id conf.triggers id ≡ Some t → Next (problem_of conf n now id t ∷ [])
   unfolding problem_of
@@ -283,26 +284,20 @@ module _ (conf : Conf) (n now : ℕ) (items : ℕ → List Stored) (done : List 
       (record { early = (tt, tt); ids = (inr (refl, inl refl), tt); named = ((t, is, refl, refl), tt) })
       (each_sub (IsDone n done) (λ x. Each (NotAgain x) (problem_of conf n now id t ∷ [])) rs (λ x d. (fresh n id done out x d, tt)) right.ids)
 
-  begun_next : (t : Trigger) → at_id conf.triggers id ≡ Some t → (os : List Open) → Next (begun conf n now id t os)
-  begun_next t is [] = begin_next t is
-  begun_next t is (o ∷ os) = none_next
-
-  verdict_next : (t : Trigger) → at_id conf.triggers id ≡ Some t → (value : Option ℤ) → Next (verdict_records conf n now id t (open_of conf rs id) value)
+  verdict_next : (t : Trigger) → at_id conf.triggers id ≡ Some t → (v : Verdict) → Closes (Done n (id ∷ done)) v → Next (verdict_records conf n now id t v)
   unfolding verdict_records
-  verdict_next t is None = none_next
-  verdict_next t is (Some p) = go (int_eq p (pos 0))
-    where
-      go : (b : Bool) → Next (cond b (map (recovery_of n now) (open_of conf rs id)) (begun conf n now id t (open_of conf rs id)))
-      go true = close_next
-      go false = begun_next t is (open_of conf rs id)
+  verdict_next t is Nothing h = none_next
+  verdict_next t is New h = begin_next t is
+  verdict_next t is (Close events) h = close_next events h
 
   one_next : Next (evaluated conf n now items (open_of conf rs) id)
-  unfolding evaluated judged
   one_next = go (at_id conf.triggers id) refl
     where
-      go : (t : Option Trigger) → at_id conf.triggers id ≡ t → Next (judged_by conf items n now id t (open_of conf rs id))
-      go None e = none_next
-      go (Some t) e = verdict_next t e (value_over (call_value items now t) (tree_of t.expr))
+      go : (t : Option Trigger) → at_id conf.triggers id ≡ t → Next (evaluated conf n now items (open_of conf rs) id)
+      go None e = subst Next (sym (evaluated_none conf n now items (open_of conf rs) id e)) none_next
+      go (Some t) e =
+          subst Next (sym (judged_is conf n now items (open_of conf rs) id t e))
+          (judged_has (Done n (id ∷ done)) Next conf items n now id t (is_held conf (open_of conf rs) id) (open_of conf rs id) (verdict_next t e) (open_done conf n (id ∷ done) rs id weaker.ids))
 
 phase_next : (conf : Conf) (n now : ℕ) (items : ℕ → List Stored) (done ids : List ℕ) (rs : List Rec) → Right conf n done rs → Once ids → ((x : ℕ) → In x ids → In x done → ⊥)
     → (all : List ℕ) × Right conf n all (rs ++ phase_over conf (evaluated conf n now items) rs ids)

@@ -5,6 +5,7 @@ use Rattle.std.proofs.lemmas.Bool.{le-leb}
 use Rattle.std.specs.List.{list_any}
 use Rattle.std.specs.Option.{option_flatten, option_or, unwrap_or}
 use Rattle.zbx_types.specs.Ids.{at_id}
+use Rattle.zbx_types.specs.Masters.{masters_of}
 use Rattle.zbx_types.specs.declared.conf.Conf.{Conf}
 use Rattle.zbx_types.specs.declared.items.Item.{Item}
 use Rattle.zbx_types.specs.declared.triggers.Trigger.{Trigger}
@@ -26,11 +27,11 @@ use Rattle.entry_step.specs.Kept.{latest_at, kept, newer, with_value}
 use Rattle.entry_step.specs.Changes.{with_rows, put_back, one_of, AreTidy, TakesIn, Takes}
 use Rattle.entry_step.specs.declared.changes.Row.{Row}
 use Rattle.trigger_state.specs.declared.problems.Open.{Open}
-use Rattle.entry_step.proofs.Members.{and_left, and_both, or_left, or_right, each_filter, any_intro}
+use Rattle.entry_step.proofs.Members.{and_left, and_both, or_left, or_right, each_from, each_filter, any_intro}
 use Rattle.entry_step.proofs.Items.{at_zero, at_suc, latest_at_same, latest_at_other, length-with_value}
 use Rattle.entry_step.proofs.Problems.{open_append, home_all}
 use Rattle.entry_step.proofs.Landing.{LandIn, land_off}
-use Rattle.entry_step.proofs.Histories.{stored_none, stored_other, stored_time, first_placed, up_placed, first_up, Calls, SameTo, phase_same}
+use Rattle.entry_step.proofs.Histories.{stored_none, stored_other, stored_time, first_placed, up_placed, first_up, Calls, SameTo, HasMasters, phase_same}
 use Rattle.entry_step.proofs.Phases.{none_same, phase_is}
 
 -- Which triggers an entry evaluates
@@ -208,8 +209,8 @@ module _ (conf : Conf) (held after_held : CellsView) (c : Cells) (number now ite
           same_latest conf held c e r comes id t (stored_other conf number now item time value id (λ p. ne (sym p))) l ∙ sym (latest_at_other held.latest item id s ne)
 
   -- what the triggers see is the same
-  sees_same : Each (λ id. (true ≡ true) × SameTo conf now (histories_after conf c number entry) (kept (with_value held.latest item s)) id) (triggers_over conf item)
-  sees_same = each_over conf item (λ id. (true ≡ true) × SameTo conf now (histories_after conf c number entry) (kept (with_value held.latest item s)) id) (λ id j o. (refl, λ i calls. at i (calls_touched conf now item time value id i j o calls)))
+  sees_same : Each (λ id. HasMasters conf (λ j. true) id × SameTo conf now (histories_after conf c number entry) (kept (with_value held.latest item s)) id) (triggers_over conf item)
+  sees_same = each_over conf item (λ id. HasMasters conf (λ j. true) id × SameTo conf now (histories_after conf c number entry) (kept (with_value held.latest item s)) id) (λ id j o. ((refl, each_from (λ m. true ≡ true) (masters_of conf id) (λ m k. refl)), λ i calls. at i (calls_touched conf now item time value id i j o calls)))
     where
       at : (i : ℕ) → touches conf entry (ItemKey i) ≡ true → first_of (up_to now (histories_after conf c number entry i)) ≡ first_of (up_to now (kept (with_value held.latest item s) i))
       at i t =

@@ -2,6 +2,7 @@
 use Rattle.std.specs.Prelude.{◌≡◌, ℕ, ◌==◌, Bool, true, false, ◌&&◌, ◌||◌, List, [], ◌∷◌, ◌++◌, Option, if◌then◌else◌}
 use Rattle.std.specs.List.{list_any}
 use Rattle.zbx_types.specs.Ids.{at_id}
+use Rattle.zbx_types.specs.Masters.{is_master}
 use Rattle.zbx_types.specs.declared.conf.Conf.{Conf}
 use Rattle.zbx_types.specs.declared.entries.Entry.{Entry}
 use Rattle.zbx_types.specs.declared.entries.Entry.TheVariants.{Config, Value, Tick}
@@ -38,14 +39,15 @@ Cells = (k : Key) → CellOf k
 abbrev pub opens_in : Cells → ℕ → List Open
 opens_in c id = c (TriggerKey id)
 
--- The foot of an entry, as a test of keys: what it may read or change. Of a value that is its item, the triggers over it
--- and their items; of other entries everything.
+-- The foot of an entry, as a test of keys: what it may read or change. Of a value that is its item, the triggers over it,
+-- their items and all their masters; of other entries everything.
 unfoldable pub touches : Conf → Entry → Key → Bool
 touches conf (Config now text) k = true
 touches conf (Tick now) k = true
 touches conf (Value now item time value) (ItemKey i) =
     (i == item) || list_any (λ id. is_over item (at_id conf.triggers id) && is_over i (at_id conf.triggers id)) (order conf)
-touches conf (Value now item time value) (TriggerKey id) = is_over item (at_id conf.triggers id)
+touches conf (Value now item time value) (TriggerKey id) =
+    is_over item (at_id conf.triggers id) || list_any (λ t. is_over item (at_id conf.triggers t) && is_master conf t id) (order conf)
 touches conf (Value now item time value) TickKey = false
 
 -- the cell of an item behind an entry

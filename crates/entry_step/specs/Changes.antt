@@ -1,10 +1,16 @@
 -- How a step changes what is kept of the triggers, and how that is put back.
-use Rattle.std.specs.Prelude.{◌≡◌, ℕ, ◌-◌, ◌==◌, List, [], ◌∷◌, reverse, length, Option, Some, None, if◌then◌else◌, slice_set}
+use Rattle.std.specs.Prelude.{◌≡◌, ℕ, ◌-◌, ◌==◌, Bool, true, List, [], ◌∷◌, reverse, length, Option, Some, None, if◌then◌else◌, slice_set}
 use Rattle.zbx_types.specs.declared.conf.Conf.{Conf}
+use Rattle.zbx_types.specs.declared.triggers.Trigger.{Trigger}
+use Rattle.zbx_types.specs.declared.entries.EventId.{EventId}
 use Rattle.zbx_types.specs.declared.entries.Rec.{Rec}
 use Rattle.zbx_types.specs.declared.entries.Stored.{Stored}
 use Rattle.trigger_state.specs.Problems.{absorbed_all}
-use Rattle.entry_step.specs.Records.{evaluated, phase, triggers_over, failure_of}
+use Rattle.trigger_state.specs.Verdicts.{verdict_over}
+use Rattle.trigger_state.specs.declared.answer.Verdict.{Verdict}
+use Rattle.trigger_state.specs.declared.answer.Verdict.TheVariants.{Nothing, New, Close}
+use Rattle.entry_step.specs.Each.{Each}
+use Rattle.entry_step.specs.Records.{verdict_records, expression_value, recovery_value, evaluated, phase, triggers_over, failure_of}
 use Rattle.entry_step.specs.Represents.{CellsView, problems_at, AllAtHome}
 use Rattle.entry_step.specs.Kept.{kept, with_value}
 use Rattle.trigger_state.specs.declared.problems.Open.{Open}
@@ -36,6 +42,17 @@ outcome_opens os (Some o) = o.opens
 abbrev pub outcome_rows : List (List Open) → ℕ → Option Outcome → List (List Open)
 outcome_rows rows id None = rows
 outcome_rows rows id (Some o) = with_row rows id o.opens
+
+-- each event that a verdict closes has the property
+abbrev pub Closes : (EventId → Type 0) → Verdict → Type 0
+Closes P Nothing = Unit {0}
+Closes P New = Unit {0}
+Closes P (Close events) = Each P events
+
+-- what a trigger adds that is held or not, and has these open problems
+abbrev pub judged : Conf → (ℕ → List Stored) → ℕ → ℕ → ℕ → Trigger → Bool → List Open → List Rec
+judged conf items number now id trigger held os =
+    verdict_records conf number now id trigger (verdict_over trigger held os (expression_value items now trigger trigger.expr) (recovery_value items now trigger trigger.recovery_expr) [] true)
 
 -- what a trigger adds where an item stored a value
 abbrev pub one_of : Conf → ℕ → ℕ → List (Option Stored) → ℕ → Stored → (ℕ → List Open) → ℕ → List Rec

@@ -3,10 +3,11 @@ use Rattle.std.specs.Prelude.{◌≡◌, ℕ, ◌==◌, Bool, List, [], map, Str
 use Rattle.std.specs.HashMap.{HashMap, get_by_text}
 use Rattle.std.specs.List.{list_any}
 use Rattle.std.specs.Option.{option_or}
+use Rattle.zbx_types.specs.Masters.{masters_of}
 use Rattle.zbx_types.specs.declared.conf.Conf.{Conf}
 use Rattle.entry_step.specs.Names.{host_named, item_keyed}
 use Rattle.entry_step.specs.Records.{triggers_over}
-use Rattle.entry_step.specs.Plans.{plan_of}
+use Rattle.entry_step.specs.Plans.{plan_of, recovery_plan_of}
 use Rattle.entry_step.specs.Packed.{row_at}
 use Rattle.entry_step.specs.declared.packed.Packed.{Packed}
 use Rattle.entry_step.specs.declared.plans.Node.{Node}
@@ -20,11 +21,13 @@ abbrev pub listed : List (List ℕ) → ℕ → List ℕ
 listed rows number = slice_index_or rows number []
 
 -- the indexes are those of the configuration
-pub record IsIndex {A S T : Type 0} (conf : Conf) (hosts : HashMap (String A) ℕ S) (keys : List (HashMap (String A) ℕ T)) (over : Packed ℕ) (plans : Packed Node) : Type 0 where
+pub record IsIndex {A S T : Type 0} (conf : Conf) (hosts : HashMap (String A) ℕ S) (keys : List (HashMap (String A) ℕ T)) (over : Packed ℕ) (plans recoveries : Packed Node) (masters : Packed ℕ) : Type 0 where
   pub by_name : (name : List ℕ) → get_by_text hosts name ≡ host_named conf name
   pub by_key : (host : ℕ) (key : List ℕ) → id_at keys host key ≡ item_keyed conf host key
   pub by_item : (item : ℕ) → row_at over.starts over.items item ≡ triggers_over conf item
   pub by_trigger : (number : ℕ) → row_at plans.starts plans.items number ≡ slice_index_or (map plan_of conf.triggers) number []
+  pub by_recovery : (number : ℕ) → row_at recoveries.starts recoveries.items number ≡ slice_index_or (map recovery_plan_of conf.triggers) number []
+  pub by_dependent : (id : ℕ) → row_at masters.starts masters.items id ≡ masters_of conf id
 
 -- the id of a name with one more item, which may have the name: the first one counts
 abbrev pub noted : Option ℕ → Bool → ℕ → Option ℕ

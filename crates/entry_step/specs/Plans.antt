@@ -1,5 +1,5 @@
 -- Expressions of triggers that lie flat: each node stands before its operands, the left one first.
-use Rattle.std.specs.Prelude.{ℕ, ◌==◌, ◌&&◌, List, [], ◌∷◌, if◌then◌else◌, slice_get, option_and_then, option_map}
+use Rattle.std.specs.Prelude.{ℕ, ◌==◌, ◌&&◌, List, [], ◌∷◌, if◌then◌else◌, Option, Some, None, slice_get, option_and_then, option_map}
 use Rattle.std.specs.Option.{unwrap_or}
 use Rattle.zbx_types.specs.Tree.{Tree, constant, call, negative, negation, binary}
 use Rattle.zbx_types.specs.Trees.{tree_of}
@@ -7,6 +7,7 @@ use Rattle.zbx_types.specs.declared.calls.Fun.{Fun}
 use Rattle.zbx_types.specs.declared.calls.Fun.TheVariants as function
 use Rattle.zbx_types.specs.declared.calls.Range.{Range}
 use Rattle.zbx_types.specs.declared.calls.Range.TheVariants.{Count}
+use Rattle.zbx_types.specs.declared.expr.Expr.{Expr}
 use Rattle.zbx_types.specs.declared.triggers.Trigger.{Trigger}
 use Rattle.entry_step.specs.declared.plans.Node.{Node}
 use Rattle.entry_step.specs.declared.plans.Node.TheVariants.{Const, Last, Unknown, Neg, Not, Bin}
@@ -32,3 +33,11 @@ flat calls (binary op a b) rest = Bin op ∷ flat calls a (flat calls b rest)
 -- the nodes of a trigger's expression
 abbrev pub plan_of : Trigger → List Node
 plan_of trigger = flat (call_node trigger) (tree_of trigger.expr) []
+
+-- the nodes of a trigger's recovery expression, where it has one
+abbrev pub nodes_of : Trigger → Option Expr → List Node
+nodes_of trigger None = []
+nodes_of trigger (Some expr) = flat (call_node trigger) (tree_of expr) []
+
+abbrev pub recovery_plan_of : Trigger → List Node
+recovery_plan_of trigger = nodes_of trigger trigger.recovery_expr

@@ -1,13 +1,14 @@
 -- The records that entries make.
-use Rattle.std.specs.Prelude.{ℕ, ◌==◌, Bool, false, ◌&&◌, List, [], ◌∷◌, ◌++◌, map, filter, Option, Some, None, is_some, if◌then◌else◌, ℤ, pos, codes}
-use Rattle.std.specs.Ordering.{int_eq}
+use Rattle.std.specs.Prelude.{ℕ, ◌==◌, Bool, false, true, ◌&&◌, List, [], ◌∷◌, ◌++◌, map, filter, Option, Some, None, is_some, if◌then◌else◌, ℤ, codes}
 use Rattle.std.specs.List.{list_any}
 use Rattle.zbx_types.specs.Ids.{at_id}
 use Rattle.zbx_types.specs.Trees.{tree_of}
 use Rattle.zbx_types.specs.declared.conf.Conf.{Conf}
 use Rattle.zbx_types.specs.declared.conf.Host.{Host}
 use Rattle.zbx_types.specs.declared.items.Item.{Item}
+use Rattle.zbx_types.specs.declared.expr.Expr.{Expr}
 use Rattle.zbx_types.specs.declared.triggers.Trigger.{Trigger}
+use Rattle.zbx_types.specs.declared.entries.EventId.{EventId}
 use Rattle.zbx_types.specs.declared.entries.Entry.{Entry}
 use Rattle.zbx_types.specs.declared.entries.Entry.TheVariants.{Config, Value, Tick}
 use Rattle.zbx_types.specs.declared.entries.Numbered.{Numbered}
@@ -19,7 +20,10 @@ use Rattle.entry_step.specs.History.{stored_of, history_of}
 use Rattle.expr_eval.specs.Values.{value_over}
 use Rattle.entry_step.specs.Evaluation.{call_value}
 use Rattle.entry_step.specs.Order.{order}
-use Rattle.trigger_state.specs.Problems.{event_in, open_of, grown}
+use Rattle.trigger_state.specs.Problems.{open_of, grown}
+use Rattle.trigger_state.specs.Verdicts.{verdict_of}
+use Rattle.trigger_state.specs.declared.answer.Verdict.{Verdict}
+use Rattle.trigger_state.specs.declared.answer.Verdict.TheVariants.{Nothing, New, Close}
 use Rattle.trigger_state.specs.declared.problems.Open.{Open}
 
 abbrev pub host_name : Option Host → List ℕ
@@ -31,34 +35,34 @@ unfoldable pub problem_of : Conf → ℕ → ℕ → ℕ → Trigger → Rec
 problem_of conf number now id trigger =
     Problem (record { number = number; trigger = id }) now trigger.severity false (host_name (at_id conf.hosts trigger.host)) trigger.name trigger.title []
 
--- the Recovery record of an open problem at an entry, which names the problem's own event
-abbrev pub recovery_of : ℕ → ℕ → Open → Rec
-recovery_of number now o = Recovery (event_in o) number now causes.Expression
+-- the Recovery record of an event at an entry
+abbrev pub recovery_of : ℕ → ℕ → EventId → Rec
+recovery_of number now event = Recovery event number now causes.Expression
 
--- a new problem where none is open
-abbrev pub begun : Conf → ℕ → ℕ → ℕ → Trigger → List Open → List Rec
-begun conf number now id trigger [] = problem_of conf number now id trigger ∷ []
-begun conf number now id trigger (o ∷ rest) = []
+-- the records that a verdict on a trigger makes: a new problem, or the recoveries of those that close
+unfoldable pub verdict_records : Conf → ℕ → ℕ → ℕ → Trigger → Verdict → List Rec
+verdict_records conf number now id trigger Nothing = []
+verdict_records conf number now id trigger New = problem_of conf number now id trigger ∷ []
+verdict_records conf number now id trigger (Close events) = map (recovery_of number now) events
 
--- What a trigger adds where its expression has this value and these are its open problems: where the value is unknown
--- nothing; where it is 0 the open problems close; else there is a new problem where none is open.
-unfoldable pub verdict_records : Conf → ℕ → ℕ → ℕ → Trigger → List Open → Option ℤ → List Rec
-verdict_records conf number now id trigger os None = []
-verdict_records conf number now id trigger os (Some p) =
-    if int_eq p (pos 0) then map (recovery_of number now) os else begun conf number now id trigger os
+-- the value of an expression of a trigger over the histories of the items, and of one that it may not have
+abbrev pub expression_value : (ℕ → List Stored) → ℕ → Trigger → Expr → Option ℤ
+expression_value items now trigger expr = value_over (call_value items now trigger) (tree_of expr)
 
--- what a trigger adds where it is evaluated over the histories of the items
-unfoldable pub judged : Conf → (ℕ → List Stored) → ℕ → ℕ → ℕ → Trigger → List Open → List Rec
-judged conf items number now id trigger os =
-    verdict_records conf number now id trigger os (value_over (call_value items now trigger) (tree_of trigger.expr))
+abbrev pub recovery_value : (ℕ → List Stored) → ℕ → Trigger → Option Expr → Option ℤ
+recovery_value items now trigger None = None
+recovery_value items now trigger (Some expr) = expression_value items now trigger expr
 
-abbrev pub judged_by : Conf → (ℕ → List Stored) → ℕ → ℕ → ℕ → Option Trigger → List Open → List Rec
-judged_by conf items number now id None os = []
-judged_by conf items number now id (Some trigger) os = judged conf items number now id trigger os
+abbrev pub judged_by : Conf → (ℕ → List Stored) → ℕ → ℕ → (ℕ → List Open) → ℕ → Option Trigger → List Rec
+judged_by conf items number now all id None = []
+judged_by conf items number now all id (Some trigger) =
+    verdict_records conf number now id trigger
+    (verdict_of conf all id (expression_value items now trigger trigger.expr) (recovery_value items now trigger trigger.recovery_expr) [] true)
 
--- what the trigger with an id adds, over the histories of the items and the open problems of the triggers
+-- What the trigger with an id adds at a value, over the histories of the items and the open problems of the triggers: the
+-- records of its verdict. Its problems have no tags: tags of events aren't built.
 unfoldable pub evaluated : Conf → ℕ → ℕ → (ℕ → List Stored) → (ℕ → List Open) → ℕ → List Rec
-evaluated conf number now items all id = judged_by conf items number now id (at_id conf.triggers id) (all id)
+evaluated conf number now items all id = judged_by conf items number now all id (at_id conf.triggers id)
 
 -- triggers evaluated one after another, each over the open problems that those before it leave
 abbrev pub phase : Conf → ((ℕ → List Open) → ℕ → List Rec) → (ℕ → List Open) → List ℕ → List Rec

@@ -6,6 +6,7 @@ use Rattle.zbx_types.specs.declared.conf.Conf.{Conf}
 use Rattle.zbx_types.specs.declared.entries.Numbered.{Numbered}
 use Rattle.zbx_types.specs.declared.entries.Rec.{Rec}
 use Rattle.zbx_types.specs.declared.entries.Stored.{Stored}
+use Rattle.entry_step.specs.Each.{Each}
 use Rattle.entry_step.specs.Log.{moment_of, IsFitting}
 use Rattle.entry_step.specs.Evaluation.{up_to}
 use Rattle.trigger_state.specs.Problems.{home, event_in}
@@ -29,8 +30,7 @@ problems_at rows id = unwrap_or (at_id rows id) []
 
 -- each open problem is of the trigger with this id
 abbrev pub AllAtHome : Conf → ℕ → List Open → Type 0
-AllAtHome conf id [] = Unit {0}
-AllAtHome conf id (o ∷ os) = (home conf (event_in o) ≡ id) × AllAtHome conf id os
+AllAtHome conf id os = Each (λ o. home conf (event_in o) ≡ id) os
 
 -- each open problem is in the cell of its own trigger
 abbrev pub IsTidy : Conf → Cells → Type 0

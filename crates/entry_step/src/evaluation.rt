@@ -6,7 +6,8 @@ ghost use Rattle.expr_eval.specs.Values.{value_over};
 ghost use Rattle.entry_step.specs.Evaluation.{number_held, last_number, up_to};
 ghost use Rattle.entry_step.specs.Calls.{histories, values_of, Evaluates};
 ghost use Rattle.zbx_types.specs.Trees.{tree_of};
-ghost use Rattle.entry_step.specs.Plans.{call_node, flat, plan_of};
+ghost use Rattle.entry_step.specs.Plans.{call_node, flat, plan_of, recovery_plan_of};
+ghost use Rattle.entry_step.specs.Records.{recovery_value};
 ghost use Rattle.entry_step.specs.declared.plans.Node.{Node};
 
 use crate::history::{is_by, latest_at};
@@ -112,4 +113,15 @@ pub(crate) fn plan_value(calls: &Calls, plan: &[Node]) -> Option<Fix>
     ensures { result ≡ value_over (values_of calls.entry.now) (tree_of calls.entry.now.trigger.now.expr) }
 {
     value_at(calls, plan).value
+}
+
+/// The value of the trigger's recovery expression, whose nodes these are. None where it has none.
+pub(crate) fn recovery_value(calls: &Calls, plan: &[Node]) -> Option<Fix>
+    requires { plan.now ≡ recovery_plan_of calls.now.trigger.now }
+    ensures { result ≡ recovery_value (histories calls.entry.now) calls.entry.now.now calls.entry.now.trigger.now calls.entry.now.trigger.now.recovery_expr }
+{
+    match &calls.trigger.recovery_expr {
+        None => None,
+        Some(_) => value_at(calls, plan).value,
+    }
 }

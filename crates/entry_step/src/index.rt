@@ -3,14 +3,16 @@
 ghost use Rattle.std.specs.Prelude.{◌≡◌, Some, IfOk};
 ghost use Rattle.zbx_types.specs.Ids.{at_id};
 ghost use Rattle.zbx_types.specs.declared.triggers.Trigger.{Trigger};
-ghost use Rattle.entry_step.specs.Plans.{plan_of};
+ghost use Rattle.zbx_types.specs.Masters.{masters_of};
+ghost use Rattle.entry_step.specs.Plans.{plan_of, recovery_plan_of};
 ghost use Rattle.entry_step.specs.Names.{host_named, item_keyed};
 ghost use Rattle.entry_step.specs.Records.{triggers_over};
 
 use crate::lists::lists_of;
+use crate::masters::masters_of_all;
 use crate::names::{hosts_of, keys_of};
 use crate::packed::{Packed, row};
-use crate::plans::{Node, plans_of};
+use crate::plans::{Node, plans_of, recovery_plans_of};
 use std::alloc::Global;
 use std::collections::HashMap;
 use std::convert::AsStr;
@@ -27,6 +29,8 @@ pub struct Ready {
     keys: Vec<HashMap<String, u32>>,
     over: Packed<u32>,
     plans: Packed<Node>,
+    recoveries: Packed<Node>,
+    masters: Packed<u32>,
 }
 
 impl Model for Ready {
@@ -41,16 +45,17 @@ impl Model for Ready {
 
     ghost view = { λ r. r.conf };
 
-    ghost invariant = { λ r. IsIndex r.conf r.hosts r.keys.items r.over r.plans };
+    ghost invariant = { λ r. IsIndex r.conf r.hosts r.keys.items r.over r.plans r.recoveries r.masters };
 }
 
 impl Ready {
-    /// Makes the indexes of a configuration, in time that grows with its length.
+    /// Makes the indexes of a configuration, in time that grows with its length, and for each trigger that depends on
+    /// others with the number of triggers.
     ///
     /// # Errors
     ///
     /// `OutOfMemory` where memory was refused, which a configuration whose hosts, items or triggers can't be counted in
-    /// 32 bits stands for too. There is room for each id of a host or an item that is named and for each depth, up to the
+    /// 32 bits stands for too, and one whose triggers have no smaller depth where others depend on them. There is room for each id of a host or an item that is named and for each depth, up to the
     /// greatest of them, whether it is in the configuration or not.
     pub fn build(alloc: Global, conf: Conf) -> Result<Ready, OutOfMemory>
         ensures { IfOk result (λ ready. ready ≡ conf) }
@@ -59,12 +64,16 @@ impl Ready {
         let keys = keys_of(alloc, &conf)?;
         let over = lists_of(alloc, &conf)?;
         let plans = plans_of(alloc, conf.triggers.as_slice())?;
+        let recoveries = recovery_plans_of(alloc, conf.triggers.as_slice())?;
+        let masters = masters_of_all(alloc, &conf)?;
         Ok(Ready {
             conf,
             hosts,
             keys,
             over,
             plans,
+            recoveries,
+            masters,
         })
     }
 
@@ -104,5 +113,18 @@ impl Ready {
         ensures { (trigger : Trigger) → at_id self.now.triggers id ≡ Some trigger → result.now ≡ plan_of trigger }
     {
         row(&self.plans, id.saturating_sub(1))
+    }
+    /// The nodes of the recovery expression of the trigger with an id, none where it has none.
+    pub(crate) fn recovery_plan(&self, id: u32) -> &[Node]
+        ensures { (trigger : Trigger) → at_id self.now.triggers id ≡ Some trigger → result.now ≡ recovery_plan_of trigger }
+    {
+        row(&self.recoveries, id.saturating_sub(1))
+    }
+
+    /// The masters of the trigger with an id, in the order of ids.
+    pub(crate) fn masters(&self, id: u32) -> &[u32]
+        ensures { result.now ≡ masters_of self.now id }
+    {
+        row(&self.masters, id)
     }
 }

@@ -12,14 +12,15 @@
 //! A log has its newest entry first (`specs/Log.antt`), records stand in the order in which they were made. A value
 //! goes into the history of its item by its time (`specs/History.antt`). Where an item stored a value, the enabled
 //! triggers with a call over it are evaluated one after another, by depth and then by id (`specs/Order.antt`,
-//! `specs/Evaluation.antt`, `specs/Records.antt`): a value other than 0 makes a problem where none is open, 0 closes the
-//! open ones, an unknown value does nothing. A number item reads a value without the blanks around it. A value that its
-//! item can't keep makes a Failure. Entries of other kinds make no records.
+//! `specs/Evaluation.antt`, `specs/Records.antt`): the verdict of the crate `trigger_state`, over the problems that are open
+//! then, makes a problem or closes some. A number item reads a value without the blanks around it. A value that its item
+//! can't keep makes a Failure. Entries of other kinds make no records.
 //!
 //! The module `laws` has the laws of order as clauses: an entry's records and changes depend on its foot alone, and an entry
 //! that conflicts with no later one joins in its place.
 //!
 //! Built so far of the functions is `last(#1)`; the others are unknown. Operators are those of the crate `expr_eval`.
+//! Problems get no tags so far, so a trigger with a close tag closes none.
 //!
 //! ```text
 //! let ready = Ready::build(alloc, conf)?;
@@ -36,7 +37,9 @@ mod history;
 mod index;
 pub mod laws;
 mod lists;
+mod masters;
 mod names;
+mod opens;
 mod order;
 mod packed;
 mod plans;

@@ -2,7 +2,7 @@
 
 ghost use Rattle.std.specs.Prelude.{◌≡◌, ◌++◌, [], ℕ, List, map, slice_index_or, OnOk, IfOk};
 ghost use Rattle.zbx_types.specs.Trees.{tree_of};
-ghost use Rattle.entry_step.specs.Plans.{node_of, call_node, flat, plan_of};
+ghost use Rattle.entry_step.specs.Plans.{node_of, call_node, flat, plan_of, recovery_plan_of};
 ghost use Rattle.entry_step.specs.Packed.{row_at};
 ghost use Rattle.entry_step.specs.declared.plans.Node.{Node};
 
@@ -76,6 +76,16 @@ fn add(nodes: &mut Many<Node>, trigger: &Trigger, expr: &Expr) -> Result<(), Out
     Ok(())
 }
 
+/// Adds the nodes of a trigger's recovery expression, where it has one.
+fn add_recovery(nodes: &mut Many<Node>, trigger: &Trigger) -> Result<(), OutOfMemory>
+    ensures { OnOk result (nodes.new ≡ nodes.old ++ recovery_plan_of trigger.now) }
+{
+    if let Some(expr) = &trigger.recovery_expr {
+        add(nodes, trigger, expr)?;
+    }
+    Ok(())
+}
+
 /// The nodes of each trigger's expression, by the places of triggers.
 pub(crate) fn plans_of(alloc: Global, triggers: &[Trigger]) -> Result<Packed<Node>, OutOfMemory>
     ensures { IfOk result (λ made. (number : ℕ) → row_at made.starts made.items number ≡ slice_index_or (map plan_of triggers.now) number []) }
@@ -87,6 +97,24 @@ pub(crate) fn plans_of(alloc: Global, triggers: &[Trigger]) -> Result<Packed<Nod
     for trigger in triggers {
         begin(&mut made)?;
         add(&mut made.items, trigger, &trigger.expr)?;
+    }
+    Ok(made)
+}
+
+/// The nodes of each trigger's recovery expression, none where it has none, by the places of triggers.
+pub(crate) fn recovery_plans_of(
+    alloc: Global,
+    triggers: &[Trigger],
+) -> Result<Packed<Node>, OutOfMemory>
+    ensures { IfOk result (λ made. (number : ℕ) → row_at made.starts made.items number ≡ slice_index_or (map recovery_plan_of triggers.now) number []) }
+{
+    let mut made = Packed {
+        starts: Many::new(alloc),
+        items: Many::new(alloc),
+    };
+    for trigger in triggers {
+        begin(&mut made)?;
+        add_recovery(&mut made.items, trigger)?;
     }
     Ok(made)
 }

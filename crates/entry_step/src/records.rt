@@ -3,19 +3,21 @@
 ghost use Rattle.std.specs.Prelude.{◌≡◌, ◌∷◌, [], ℕ, map, Some, IfOk};
 ghost use Rattle.zbx_types.specs.declared.conf.Conf.{Conf};
 ghost use Rattle.zbx_types.specs.Ids.{at_id};
-ghost use Rattle.trigger_state.specs.Problems.{absorbed_all};
-ghost use Rattle.entry_step.specs.Records.{host_name, problem_of, recovery_of, failure_of, begun, verdict_records, judged};
+ghost use Rattle.trigger_state.specs.Problems.{home, absorbed_all};
+ghost use Rattle.entry_step.specs.Records.{host_name, problem_of, recovery_of, failure_of, verdict_records};
+ghost use Rattle.entry_step.specs.Each.{Each};
 ghost use Rattle.entry_step.specs.Represents.{AllAtHome};
-ghost use Rattle.entry_step.specs.Changes.{outcome_records, outcome_opens};
+ghost use Rattle.entry_step.specs.Changes.{outcome_records, outcome_opens, Closes, judged};
 ghost use Rattle.entry_step.specs.Calls.{histories};
-ghost use Rattle.entry_step.specs.Plans.{plan_of};
+ghost use Rattle.entry_step.specs.Plans.{plan_of, recovery_plan_of};
 
 use crate::changes::Outcome;
-use crate::evaluation::{Calls, plan_value};
+use crate::evaluation::{Calls, plan_value, recovery_value};
+use crate::opens::{copies, copies_without};
 use crate::plans::Node;
 use std::alloc::Global;
-use trigger_state::Open;
-use zbx_types::{Cause2, Conf, EventId, Fix, Many, Moment, OutOfMemory, Rec, Text, Trigger, by_id};
+use trigger_state::{Open, Verdict, verdict_over};
+use zbx_types::{Cause2, Conf, EventId, Many, Moment, OutOfMemory, Rec, Text, Trigger, by_id};
 
 /// A copy of a host's name, empty where there is no host with this id.
 fn host_name(alloc: Global, conf: &Conf, id: u32) -> Result<Text, OutOfMemory>
@@ -76,19 +78,19 @@ fn problem_of(
     })
 }
 
-/// The Recovery records of open problems at an entry.
+/// The Recovery records of events at an entry.
 fn recoveries(
     alloc: Global,
     number: u64,
     now: Moment,
-    opens: &[Open],
+    events: &[EventId],
 ) -> Result<Many<Rec>, OutOfMemory>
-    ensures { IfOk result (λ made. made ≡ map (recovery_of number now) opens.now) }
+    ensures { IfOk result (λ made. made ≡ map (recovery_of number now) events.now) }
 {
     let mut made = Many::new(alloc);
-    for open in opens {
+    for event in events {
         made.push(Rec::Recovery {
-            event: open.problem.event(),
+            event: *event,
             by: number,
             now,
             cause: Cause2::Expression,
@@ -97,31 +99,8 @@ fn recoveries(
     Ok(made)
 }
 
-/// A new problem of a trigger.
+/// A new problem of a trigger, behind those that are open.
 #[tactic(auto, using(crate::proofs::Problems::one_opened))]
-fn open_one(
-    alloc: Global,
-    conf: &Conf,
-    number: u64,
-    now: Moment,
-    id: u32,
-    trigger: &Trigger,
-) -> Result<Outcome, OutOfMemory>
-    ensures records { IfOk result (λ made. made.records ≡ problem_of conf.now number now id trigger.now ∷ []) }
-    ensures opens { IfOk result (λ made. at_id conf.now.triggers id ≡ Some trigger.now → made.opens ≡ absorbed_all conf.now id [] (problem_of conf.now number now id trigger.now ∷ [])) }
-{
-    let mut records = Many::new(alloc);
-    records.push(problem_of(alloc, conf, number, now, id, trigger)?)?;
-    let mut opens = Many::new(alloc);
-    opens.push(Open {
-        problem: problem_of(alloc, conf, number, now, id, trigger)?,
-        steps: Many::new(alloc),
-        depth: trigger.depth,
-    })?;
-    Ok(Outcome { records, opens })
-}
-
-/// A new problem of a trigger where none is open.
 fn begin(
     alloc: Global,
     conf: &Conf,
@@ -130,41 +109,45 @@ fn begin(
     id: u32,
     trigger: &Trigger,
     opens: &[Open],
-) -> Result<Option<Outcome>, OutOfMemory>
-    ensures records { IfOk result (λ made. outcome_records made ≡ begun conf.now number now id trigger.now opens.now) }
-    ensures opens { IfOk result (λ made. at_id conf.now.triggers id ≡ Some trigger.now → outcome_opens opens.now made ≡ absorbed_all conf.now id opens.now (outcome_records made)) }
+) -> Result<Outcome, OutOfMemory>
+    ensures records { IfOk result (λ made. made.records ≡ problem_of conf.now number now id trigger.now ∷ []) }
+    ensures opens { IfOk result (λ made. at_id conf.now.triggers id ≡ Some trigger.now → made.opens ≡ absorbed_all conf.now id opens.now (problem_of conf.now number now id trigger.now ∷ [])) }
 {
-    if opens.is_empty() {
-        Ok(Some(open_one(alloc, conf, number, now, id, trigger)?))
-    } else {
-        Ok(None)
-    }
+    let mut records = Many::new(alloc);
+    records.push(problem_of(alloc, conf, number, now, id, trigger)?)?;
+    let mut all = copies(alloc, opens)?;
+    all.push(Open {
+        problem: problem_of(alloc, conf, number, now, id, trigger)?,
+        steps: Many::new(alloc),
+        depth: trigger.depth,
+    })?;
+    Ok(Outcome {
+        records,
+        opens: all,
+    })
 }
 
-/// The end of the open problems of a trigger.
-#[tactic(auto, using(crate::proofs::Problems::all_closed))]
+/// The end of the open problems with these events.
+#[tactic(auto, using(crate::proofs::Problems::rest_closed))]
 fn end(
     alloc: Global,
     number: u64,
     now: Moment,
     opens: &[Open],
-) -> Result<Option<Outcome>, OutOfMemory>
-    ensures records { IfOk result (λ made. outcome_records made ≡ map (recovery_of number now) opens.now) }
-    ensures opens { IfOk result (λ made. (conf : Conf) (id : ℕ) → AllAtHome conf id opens.now → outcome_opens opens.now made ≡ absorbed_all conf id opens.now (outcome_records made)) }
+    events: &[EventId],
+) -> Result<Outcome, OutOfMemory>
+    ensures records { IfOk result (λ made. made.records ≡ map (recovery_of number now) events.now) }
+    ensures opens { IfOk result (λ made. (conf : Conf) (id : ℕ) → Each (λ e. home conf e ≡ id) events.now → made.opens ≡ absorbed_all conf id opens.now (map (recovery_of number now) events.now)) }
 {
-    if !opens.is_empty() {
-        Ok(Some(Outcome {
-            records: recoveries(alloc, number, now, opens)?,
-            opens: Many::new(alloc),
-        }))
-    } else {
-        Ok(None)
-    }
+    Ok(Outcome {
+        records: recoveries(alloc, number, now, events)?,
+        opens: copies_without(alloc, opens, events)?,
+    })
 }
 
-/// What a trigger adds where its expression has this value. None: nothing changes.
+/// What a verdict on a trigger adds. None: nothing changes.
 #[tactic(auto, unfolding(crate::specs::Records::verdict_records))]
-fn verdict(
+fn settled(
     alloc: Global,
     conf: &Conf,
     number: u64,
@@ -172,25 +155,19 @@ fn verdict(
     id: u32,
     trigger: &Trigger,
     opens: &[Open],
-    value: Option<Fix>,
+    verdict: &Verdict,
 ) -> Result<Option<Outcome>, OutOfMemory>
-    ensures records { IfOk result (λ made. outcome_records made ≡ verdict_records conf.now number now id trigger.now opens.now value) }
-    ensures opens { IfOk result (λ made. at_id conf.now.triggers id ≡ Some trigger.now → AllAtHome conf.now id opens.now → outcome_opens opens.now made ≡ absorbed_all conf.now id opens.now (outcome_records made)) }
+    ensures records { IfOk result (λ made. outcome_records made ≡ verdict_records conf.now number now id trigger.now verdict.now) }
+    ensures opens { IfOk result (λ made. at_id conf.now.triggers id ≡ Some trigger.now → Closes (λ e. home conf.now e ≡ id) verdict.now → outcome_opens opens.now made ≡ absorbed_all conf.now id opens.now (outcome_records made)) }
 {
-    match value {
-        None => Ok(None),
-        Some(number_is) => {
-            if number_is.raw() == 0 {
-                end(alloc, number, now, opens)
-            } else {
-                begin(alloc, conf, number, now, id, trigger, opens)
-            }
-        }
+    match verdict {
+        Verdict::Nothing => Ok(None),
+        Verdict::New => Ok(Some(begin(alloc, conf, number, now, id, trigger, opens)?)),
+        Verdict::Close(events) => Ok(Some(end(alloc, number, now, opens, events.as_slice())?)),
     }
 }
 
-/// What a trigger adds where it is evaluated, whose nodes are given. None: nothing changes.
-#[tactic(auto, unfolding(crate::specs::Records::judged))]
+/// What a trigger adds where it is evaluated, and is held or not. None: nothing changes.
 pub(crate) fn judge(
     alloc: Global,
     conf: &Conf,
@@ -198,14 +175,19 @@ pub(crate) fn judge(
     id: u32,
     calls: &Calls,
     plan: &[Node],
+    recovery: &[Node],
+    held: bool,
     opens: &[Open],
 ) -> Result<Option<Outcome>, OutOfMemory>
-    requires { plan.now ≡ plan_of calls.now.trigger.now }
-    ensures records { IfOk result (λ made. outcome_records made ≡ judged conf.now (histories calls.entry.now) number calls.entry.now.now id calls.entry.now.trigger.now opens.now) }
+    requires plan { plan.now ≡ plan_of calls.now.trigger.now }
+    requires recovery { recovery.now ≡ recovery_plan_of calls.now.trigger.now }
+    ensures records { IfOk result (λ made. outcome_records made ≡ judged conf.now (histories calls.entry.now) number calls.entry.now.now id calls.entry.now.trigger.now held opens.now) }
     ensures opens { IfOk result (λ made. at_id conf.now.triggers id ≡ Some calls.entry.now.trigger.now → AllAtHome conf.now id opens.now → outcome_opens opens.now made ≡ absorbed_all conf.now id opens.now (outcome_records made)) }
 {
-    let value = plan_value(calls, plan);
-    verdict(
+    let p = plan_value(calls, plan);
+    let r = recovery_value(calls, recovery);
+    let verdict = verdict_over(alloc, calls.trigger, held, opens, p, r, &[], true)?;
+    settled(
         alloc,
         conf,
         number,
@@ -213,6 +195,6 @@ pub(crate) fn judge(
         id,
         calls.trigger,
         opens,
-        value,
+        &verdict,
     )
 }

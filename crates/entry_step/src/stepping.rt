@@ -17,26 +17,16 @@ use crate::changes::{Draft, Outcome, put_back};
 use crate::evaluation::Calls;
 use crate::history::{put, store};
 use crate::index::Ready;
+use crate::opens::{Looked, problems_at};
 use crate::records::{failure_of, judge};
 use crate::steps::Steps;
 use std::alloc::Global;
 use std::sync::ledger::Ledger;
-use trigger_state::Open;
+use trigger_state::{Open, held_by};
 use zbx_types::{Entry, Many, Moment, Numbered, OutOfMemory, Rec, Stored, Text, by_id};
 
-/// The open problems of the trigger with an id.
-#[tactic(auto, unfolding(crate::specs::Represents::problems_at))]
-fn problems_at(problems: &[Many<Open>], id: u32) -> &[Open]
-    ensures { result.now ≡ problems_at problems.now id }
-{
-    match by_id(problems, id) {
-        None => &[],
-        Some(opens) => opens.as_slice(),
-    }
-}
-
 /// What the trigger with an id adds where an item stored a value. None: nothing changes.
-#[tactic(auto, unfolding(crate::specs::Records::evaluated))]
+#[tactic(auto, using(crate::proofs::Landing::evaluated_none))]
 fn outcome_of(
     alloc: Global,
     ready: &Ready,
@@ -62,8 +52,19 @@ fn outcome_of(
         now,
         trigger,
     };
+    let held = held_by(ready.masters(id), &Looked { problems });
     let opens = problems_at(problems, id);
-    judge(alloc, conf, number, id, &calls, ready.plan(id), opens)
+    judge(
+        alloc,
+        conf,
+        number,
+        id,
+        &calls,
+        ready.plan(id),
+        ready.recovery_plan(id),
+        held,
+        opens,
+    )
 }
 
 /// Evaluates the triggers over an item that stored a value, one after another. What they had before is kept in the draft,

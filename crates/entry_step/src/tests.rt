@@ -379,6 +379,20 @@ impl<L: Ledger> Run<L> {
         Ok(())
     }
 
+    /// Takes values of items, and tells how many records there are behind each.
+    fn counts(
+        &mut self,
+        alloc: Global,
+        values: &[(u32, &str)],
+    ) -> Result<Many<usize>, OutOfMemory> {
+        let mut counts = Many::new(alloc);
+        for (item, text) in values {
+            self.take(alloc, *item, text)?;
+            counts.push(self.made)?;
+        }
+        Ok(counts)
+    }
+
     /// Takes so many values of item 1 twice, first a high one and then a low one.
     fn take_turns(&mut self, alloc: Global, times: u32) -> Result<(), OutOfMemory> {
         for _time in 0..times {
@@ -446,5 +460,77 @@ fn a_thousand_items_make_a_problem_each(rt: HostRuntime) -> Result<(), Fail> {
 #[test]
 fn an_item_takes_a_thousand_values(rt: HostRuntime) -> Result<(), Fail> {
     assert_eq!(rt; turns_of(rt.alloc(), 500)?, 1_000);
+    Ok(())
+}
+
+/// A trigger over item 1 and one that depends on it, one over item 2 that makes several problems, and one over item 3
+/// that closes where its value is below 2.
+fn of_all_kinds(alloc: Global) -> Result<Conf, OutOfMemory> {
+    let hosts = one(alloc, host(alloc, "h")?)?;
+    let mut triggers = Many::new(alloc);
+    triggers.push(trigger(alloc, 1, 0)?)?;
+    triggers.push(dependent(alloc)?)?;
+    triggers.push(several(alloc)?)?;
+    triggers.push(recovering(alloc)?)?;
+    of_these(alloc, hosts, items_of(alloc, 3)?, triggers)
+}
+
+fn dependent(alloc: Global) -> Result<Trigger, OutOfMemory> {
+    let mut made = trigger(alloc, 1, 1)?;
+    made.depends = one(alloc, 1)?;
+    Ok(made)
+}
+
+fn several(alloc: Global) -> Result<Trigger, OutOfMemory> {
+    let mut made = trigger(alloc, 2, 0)?;
+    made.multiple = true;
+    Ok(made)
+}
+
+fn recovering(alloc: Global) -> Result<Trigger, OutOfMemory> {
+    let mut made = trigger(alloc, 3, 0)?;
+    let bound = Fix::of_raw(2_000_000).ok_or(OutOfMemory)?;
+    made.recovery = RecoveryMode::RecoveryExpression;
+    made.recovery_expr = Some(Expr::Bin(
+        Op::Lt,
+        Operand::new(alloc, Expr::Call(1))?,
+        Operand::new(alloc, Expr::Const(bound))?,
+    ));
+    Ok(made)
+}
+
+/// How many records there are behind each of these values of items.
+fn counts_of(alloc: Global, values: &[(u32, &str)]) -> Result<Many<usize>, OutOfMemory> {
+    counts_counted::<Brand>(alloc, values, Blank::new(1))
+}
+
+fn counts_counted<L: Ledger>(
+    alloc: Global,
+    values: &[(u32, &str)],
+    blank: Blank,
+) -> Result<Many<usize>, OutOfMemory>
+    requires name { blank.name ≡ L.name }
+    requires parts { blank.parts ≡ L.parts }
+    requires some { 0 < L.parts }
+{
+    let mut run = Run::<L>::over(alloc, of_all_kinds(alloc)?, blank)?;
+    run.counts(alloc, values)
+}
+
+#[test]
+fn verdicts_hang_on_masters_and_on_the_way_to_recover(rt: HostRuntime) -> Result<(), Fail> {
+    let made = counts_of(
+        rt.alloc(),
+        &[
+            (1, "10"),
+            (2, "10"),
+            (2, "10"),
+            (2, "1"),
+            (3, "10"),
+            (3, "4"),
+            (3, "1"),
+        ],
+    )?;
+    assert_eq!(rt; made.as_slice(), [1, 2, 3, 5, 6, 6, 7].as_slice());
     Ok(())
 }

@@ -1,7 +1,6 @@
-use Rattle.std.proofs.Common.{◌++◌, ◌∙◌, ap, map, List, arith}
+use Rattle.std.proofs.Common.{◌++◌, ◌∙◌, [], sym, ap, map, List, append-nil, arith}
 use Rattle.std.proofs.lemmas.List.{length-map}
-use Rattle.zbx_types.specs.Trees.{tree_of}
-use Rattle.entry_step.specs.Plans.{call_node, flat, plan_of}
+use Rattle.entry_step.specs.Plans.{plan_of}
 use Rattle.entry_step.specs.declared.plans.Node.{Node}
 use Rattle.entry_step.proofs.Packing.{packed_all}
 use Rattle.entry_step.proofs.Planned.{plan_more}
@@ -9,9 +8,9 @@ use Rattle.entry_step.proofs.plans.plans_of.Goals as goal
 
 pub loop-trigger-preserved : goal.loop-trigger-preserved
 loop-trigger-preserved c =
-    plan_more c.args.triggers.now c.loop-trigger.trigger-index c.trigger-item.result c.loop-trigger.made.starts c.begin.new.packed.starts c.loop-trigger.made.items c.add.new.nodes
+    plan_more plan_of c.args.triggers.now c.loop-trigger.trigger-index c.trigger-item.result c.loop-trigger.made.starts c.begin.new.packed.starts c.loop-trigger.made.items c.add.new.nodes
     c.loop-trigger-test.true c.trigger-item.is c.in_ok-begin.ensures.starts
-    (λ rest. c.in_ok-add.ensures rest ∙ ap (λ (ns : List Node). ns ++ flat (call_node c.trigger-item.result) (tree_of c.trigger-item.result.expr) rest) c.in_ok-begin.ensures.items) c.loop-trigger.invariant
+    (sym (append-nil c.add.new.nodes) ∙ c.in_ok-add.ensures [] ∙ ap (λ (ns : List Node). ns ++ plan_of c.trigger-item.result) c.in_ok-begin.ensures.items) c.loop-trigger.invariant
 
 pub returns : goal.returns
 returns c =

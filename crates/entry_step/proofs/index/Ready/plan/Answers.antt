@@ -6,6 +6,6 @@ use Rattle.entry_step.proofs.index.Ready.plan.Goals as goal
 
 pub returns : goal.returns
 returns c = λ trigger found.
-    plan_at c.args.self.now.triggers c.row.result.now c.args.id trigger
+    plan_at plan_of c.args.self.now.triggers c.row.result.now c.args.id trigger
     (c.row.ensures ∙ c.self.invariant.by_trigger c.saturating_sub.result ∙ ap (λ n. get_or (map plan_of c.self.inside.conf.triggers) n []) c.saturating_sub.ensures
     ∙ ap (λ (conf : Conf). get_or (map plan_of conf.triggers) (c.args.id - 1) []) c.self.view_is) found
