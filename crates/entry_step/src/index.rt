@@ -55,8 +55,9 @@ impl Ready {
     /// # Errors
     ///
     /// `OutOfMemory` where memory was refused, which a configuration whose hosts, items or triggers can't be counted in
-    /// 32 bits stands for too, and one whose triggers have no smaller depth where others depend on them. There is room for each id of a host or an item that is named and for each depth, up to the
-    /// greatest of them, whether it is in the configuration or not.
+    /// 32 bits stands for too, and one with a trigger whose depth isn't greater than that of each trigger that it depends
+    /// on. There is room for each id of a host or an item that is named and for each depth, up to the greatest of them,
+    /// whether it is in the configuration or not.
     pub fn build(alloc: Global, conf: Conf) -> Result<Ready, OutOfMemory>
         ensures { IfOk result (λ ready. ready ≡ conf) }
     {

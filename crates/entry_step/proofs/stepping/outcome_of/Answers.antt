@@ -11,6 +11,6 @@ returns-clause-records c =
     let there : at_id c.args.ready.now.triggers c.args.id ≡ Some c.in-Some.trigger.now = search rules in
     ok_sub c.judge.result _ _
     (λ made e.
-        e ∙ outcome_is c.args.ready.now c.conf-conf.result.now c.args.number c.args.now (kept (with_value c.args.latest.now c.args.item c.args.stored.now)) (problems_at c.args.problems.now) c.args.id c.in-Some.trigger.now
-        c.held_by-held.result c.problems_at-opens.result.now c.masters.result.now c.conf-conf.ensures there c.masters.ensures c.held_by-held.ensures c.problems_at-opens.ensures)
+    e ∙ outcome_is c.args.ready.now c.conf-conf.result.now c.args.number c.args.now (kept (with_value c.args.latest.now c.args.item c.args.stored.now)) (problems_at c.args.problems.now) c.args.id c.in-Some.trigger.now
+    c.held_by-held.result c.problems_at-opens.result.now c.masters.result.now c.conf-conf.ensures there c.masters.ensures c.held_by-held.ensures c.problems_at-opens.ensures)
     c.judge.ensures.records
