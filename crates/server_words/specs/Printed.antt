@@ -12,13 +12,21 @@ abbrev pub exit_of : Status → ℕ
 exit_of status.Ok = 0
 exit_of status.Usage = 2
 exit_of (status.ConfigRefused path cause) = 3
+exit_of (status.PatternRefused path) = 4
 exit_of status.SourceFault = 5
+exit_of status.NotOurs = 6
+exit_of (status.Damaged at) = 7
+exit_of (status.ConfigDiffers at) = 8
+exit_of (status.OutboxAhead held lines) = 9
+exit_of status.DiskFault = 10
 exit_of status.OutboxFault = 11
 exit_of status.PrintFault = 12
 exit_of status.WireFault = 13
+exit_of (status.Full entries bytes) = 14
 exit_of status.TurnLimit = 15
 exit_of status.OutOfMemory = 16
 exit_of status.Unbuilt = 17
+exit_of (status.PatternTooLarge path) = 26
 
 -- a count behind its name
 unfoldable pub count_text : List ℕ → ℕ → List ℕ
@@ -59,12 +67,24 @@ reason_text cause = codes "; cause: " ++ cause_text cause ++ codes "\n"
 abbrev pub refused_text : List ℕ → Cause → List ℕ
 refused_text path cause = codes "status: ConfigRefused; path: " ++ path ++ reason_text cause
 
+-- the line of a pattern that can't be used, behind the text before its path
+abbrev pub path_text : List ℕ → List ℕ → List ℕ
+path_text name path = name ++ path ++ codes "\n"
+
 -- The line of a status, with its line feed. That of Ok alone has the counts; where the line couldn't be printed there
 -- is none.
 abbrev pub printed_text : Status → Counts → List ℕ
 printed_text status.Ok c = ok_text c
 printed_text status.Usage c = codes "status: Usage\n"
+printed_text (status.PatternRefused path) c = path_text (codes "status: PatternRefused; path: ") path
+printed_text (status.PatternTooLarge path) c = path_text (codes "status: PatternTooLarge; path: ") path
 printed_text status.SourceFault c = codes "status: SourceFault\n"
+printed_text status.NotOurs c = codes "status: NotOurs\n"
+printed_text (status.Damaged at) c = count_text (codes "status: Damaged; at: ") at ++ codes "\n"
+printed_text (status.ConfigDiffers at) c = count_text (codes "status: ConfigDiffers; at: ") at ++ codes "\n"
+printed_text (status.OutboxAhead held lines) c = count_text (codes "status: OutboxAhead; held: ") held ++ count_text (codes "; lines: ") lines ++ codes "\n"
+printed_text status.DiskFault c = codes "status: DiskFault\n"
+printed_text (status.Full entries bytes) c = count_text (codes "status: Full; entries: ") entries ++ count_text (codes "; bytes: ") bytes ++ codes "\n"
 printed_text (status.ConfigRefused path cause) c = refused_text path cause
 printed_text status.Unbuilt c = codes "status: Unbuilt\n"
 printed_text status.WireFault c = codes "status: WireFault\n"

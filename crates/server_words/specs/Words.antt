@@ -1,37 +1,96 @@
--- The words of the command line, and their plan.
-use Rattle.std.specs.Prelude.{ℕ, nat_eq, Bool, ◌&&◌, ◌==◌, List, [], length, slice_index_or, Option, Some, None, if◌then◌else◌, codes}
-use Rattle.std.specs.Cmp.Lexicographic.{pointwise}
+-- The words of the command line, as `clap` reads a simple command, and their plan.
+use Rattle.std.specs.Prelude.{ℕ, Bool, true, ◌&&◌, ◌<◌, List, [], ◌∷◌, Option, Some, None, is_some, option_and_then, unwrap_or, if◌then◌else◌, codes, nat_lt, ◌^◌}
+use Rattle.std.specs.Str.{bytes_eq}
+use Rattle.std.specs.Str.Parse.{digits_value, without_leading_plus}
+use Rattle.clap.specs.Words.{App, Row, Rule, new_app, new_rule, with_rule, matches_of, fault_of, first_of, one_of}
+use Rattle.clap.specs.Walk.{is_empty}
+use Rattle.clap.specs.ValueTests.{is_numeral}
+use Rattle.clap.specs.declared.builder.value_parser.ValueParser.TheVariants as vp
 use Rattle.server_words.specs.declared.words.Plan.{Plan}
-use Rattle.server_words.specs.declared.words.Mode.TheVariants.{Feed}
+use Rattle.server_words.specs.declared.words.Mode.{Mode}
+use Rattle.server_words.specs.declared.words.Mode.TheVariants.{Feed, Serve}
 
--- the word at a place, counted from 0; empty behind the last one
-abbrev pub word_at : List (List ℕ) → ℕ → List ℕ
-word_at words place = slice_index_or words place []
+-- an option with a value, by its name
+abbrev pub option : List ℕ → Rule
+option name = record (new_rule name) { long = Some name }
 
--- the word at a place is this one
-abbrev pub has_word : List (List ℕ) → ℕ → List ℕ → Bool
-has_word words place word = pointwise nat_eq (word_at words place) word
+-- one that has to be there
+abbrev pub needed : List ℕ → Rule
+needed name = record (option name) { required = true }
 
--- the one list of words that is known: `--mode feed --config C --script S`, in this order
-abbrev pub is_command : List (List ℕ) → Bool
-is_command words = length words == 6 && has_word words 0 (codes "--mode") && has_word words 1 (codes "feed") && has_word words 2 (codes "--config") && has_word words 4 (codes "--script")
+-- one that has this value where it isn't there
+abbrev pub with_default : List ℕ → List ℕ → Rule
+with_default name value = record (option name) { defaults = value ∷ [] }
 
--- the plan of a feed with the paths of its configuration and its script; all other options have their defaults
-abbrev pub feed_plan : List ℕ → List ℕ → Plan
-feed_plan config script = record {
-  mode = Feed;
-  config = Some config;
-  script = Some script;
-  listen = None;
-  journal = None;
-  outbox = codes "-";
-  syncers = 0;
-  turns = 1000000000;
-  max_entries = 4000000;
-  number = 1;
-  values = 1000;
+-- one whose value is a number from the least to the most
+abbrev pub number : List ℕ → List ℕ → ℕ → ℕ → Rule
+number name value least most = record (with_default name value) { parser = Some (vp.Unsigned least most) }
+
+-- the command before its options; its words have no program's name before them
+abbrev pub bare_app : App
+bare_app = let app = new_app (codes "zabbix_server") in record app { top = record app.top { no_binary_name = true } }
+
+-- the command with its texts
+abbrev pub text_app : App
+text_app = with_rule (with_rule (with_rule (with_rule (with_rule (with_rule bare_app
+    (needed (codes "mode"))) (option (codes "config"))) (option (codes "listen")))
+    (option (codes "script"))) (option (codes "journal"))) (with_default (codes "outbox") (codes "-"))
+
+-- the command: its texts and its numbers
+abbrev pub server_app : App
+server_app = with_rule (with_rule (with_rule text_app
+    (number (codes "syncers") (codes "0") 0 0)) (number (codes "turns") (codes "1000000000") 1 1000000000))
+    (number (codes "max-entries") (codes "4000000") 1 4000000)
+
+-- the mode of this name
+abbrev pub mode_of : List ℕ → Option Mode
+mode_of name = if bytes_eq name (codes "feed") then Some Feed else if bytes_eq name (codes "serve") then Some Serve else None
+
+-- the number that a text writes, where an unsigned type of so many bits holds it
+abbrev pub number_of : ℕ → List ℕ → Option ℕ
+number_of bits text =
+    let digits = without_leading_plus text in
+    if is_numeral digits && nat_lt (digits_value 10 digits) (2 ^ bits) then Some (digits_value 10 digits) else None
+
+-- the number of an option
+abbrev pub number_in : ℕ → List ℕ → List Row → Option ℕ
+number_in bits name rows = option_and_then (number_of bits) (one_of name rows)
+
+-- what a mode needs is there
+abbrev pub has_needed : Mode → List Row → Bool
+has_needed Feed rows = is_some (first_of (codes "config") rows) && is_some (first_of (codes "script") rows)
+has_needed Serve rows = is_some (first_of (codes "config") rows) && is_some (first_of (codes "listen") rows)
+
+-- the plan with this mode and these numbers, and with the texts of the options
+abbrev pub plan_with : List Row → Mode → ℕ → ℕ → ℕ → Plan
+plan_with rows mode syncers turns max_entries = record {
+  mode = mode;
+  config = first_of (codes "config") rows;
+  script = first_of (codes "script") rows;
+  listen = first_of (codes "listen") rows;
+  journal = first_of (codes "journal") rows;
+  outbox = unwrap_or (first_of (codes "outbox") rows) [];
+  syncers = syncers;
+  turns = turns;
+  max_entries = max_entries;
 }
 
--- the plan of a list of words, or none where they aren't the command
+-- the plan that the options ask for, or none where one is missing that the mode needs
+abbrev pub plan_in : List Row → Option Plan
+plan_in rows =
+    option_and_then (λ mode. if has_needed mode rows then
+    option_and_then (λ syncers.
+    option_and_then (λ turns.
+    option_and_then (λ max_entries. Some (plan_with rows mode syncers turns max_entries))
+    (number_in 64 (codes "max-entries") rows))
+    (number_in 64 (codes "turns") rows))
+    (number_in 32 (codes "syncers") rows) else None)
+    (option_and_then mode_of (first_of (codes "mode") rows))
+
+-- the words are those of the command, as `clap` takes them
+abbrev pub is_taken : List (List ℕ) → Bool
+is_taken words = is_empty (fault_of server_app words)
+
+-- the plan of a list of words, or none where they aren't the command's
 unfoldable pub plan_of : List (List ℕ) → Option Plan
-plan_of words = if is_command words then Some (feed_plan (word_at words 3) (word_at words 5)) else None
+plan_of words = if is_taken words then plan_in (matches_of server_app words) else None

@@ -1,10 +1,12 @@
 //! The words of the command line, the statuses of a run, and the line that it prints.
 //!
-//! A run begins with a list of words and ends with a status. [`plan`] turns the words into a [`Plan`] or answers Usage;
-//! so far it knows one list of words alone, `--mode feed --config C --script S`, in this order. [`printed`] gives the
-//! line that a run prints last, and [`Status::exit`] the number with which the program exits.
+//! A run begins with a list of words and ends with a status. [`plan`] turns the words into a [`Plan`] or answers Usage:
+//! the words are those of one command of `clap`, with options in any order, and a mode needs some of them. [`printed`]
+//! gives the line that a run prints last, and [`Status::exit`] the number with which the program exits.
 //!
 //! The one contract: `plan` gives the plan of the words, exactly; `printed` gives the status's line over the counts.
+//! What `clap` takes is taken: a lone `--` behind the options, a plus sign and leading zeros of a number, and the empty
+//! text of `--config=`.
 //!
 //! ```text
 //! let plan = plan(alloc, words)?;         // Plan { mode: Feed, config: Some(C), script: Some(S), outbox: "-", .. }
@@ -12,6 +14,7 @@
 //! ```
 #![tactic(auto)]
 
+mod command;
 mod planning;
 mod printing;
 mod status;

@@ -1,58 +1,142 @@
 //! From words to a plan.
 
-ghost use Rattle.std.specs.Prelude.{◌≡◌, IfOk, IsErrOf, IsTrue, Some, None, IsSome, length};
-ghost use Rattle.server_words.specs.Words.{is_command, plan_of, feed_plan};
-ghost use Rattle.std.specs.Prelude.{slice_index_or, []};
+ghost use Rattle.std.specs.Prelude.{◌≡◌, IfOk, IsErrOf, Some, None, option_and_then, codes};
+ghost use Rattle.clap.specs.Words.{found_of, first_of, rows_of};
+ghost use Rattle.server_words.specs.Words.{plan_of, plan_in, plan_with, mode_of, number_in, has_needed};
 
+use crate::command::command;
 use crate::words::{Mode, Plan, PlanError};
+use clap::ArgMatches;
+use clap::error::ErrorKind;
 use std::alloc::Global;
-use std::convert::AsStr;
 use zbx_types::{OutOfMemory, Text};
 
-/// The plan of a list of words.
+/// The plan of a list of words, which stand behind the program's name.
 ///
-/// The words `--mode feed --config C --script S`, in this order, have a plan, whatever the paths C and S are. Any other
-/// list of words is [`PlanError::Usage`]. [`PlanError::OutOfMemory`] comes only for words that have a plan.
-#[tactic(auto, unfolding(crate::specs::Words::plan_of))]
+/// The words are `--name value` or `--name=value`, each option at most once, in any order. `--mode` is `feed` or `serve`.
+/// Both need `--config`, a path; feed needs `--script`, a path, and serve needs `--listen`, an address and port.
+/// `--journal` and `--outbox` are paths, `--syncers` is 0, `--turns` is 1 to 1,000,000,000 and `--max-entries` 1 to
+/// 4,000,000. What a mode doesn't need it may have.
+///
+/// [`PlanError::Usage`] comes exactly where `clap` doesn't take the words as this command's, or the mode is another one
+/// or lacks what it needs. [`PlanError::OutOfMemory`] where there is no room for the command or for the plan.
 pub fn plan(alloc: Global, words: &[Text]) -> Result<Plan, PlanError>
     ensures ok { IfOk result (λ plan. plan_of words.now ≡ Some plan) }
     ensures usage { IsErrOf result PlanError.Usage → plan_of words.now ≡ None }
-    ensures memory { IsErrOf result PlanError.OutOfMemory → IsSome (plan_of words.now) }
 {
-    if !is_feed(words) {
+    let Ok(command) = command(alloc) else {
+        return Err(PlanError::OutOfMemory);
+    };
+    match command.try_get_matches_from(words) {
+        Ok(matches) => planned(alloc, &matches),
+        Err(error) => match error.kind() {
+            ErrorKind::OutOfMemory => Err(PlanError::OutOfMemory),
+            _ => Err(PlanError::Usage),
+        },
+    }
+}
+
+/// The plan that the options ask for.
+fn planned(alloc: Global, matches: &ArgMatches) -> Result<Plan, PlanError>
+    ensures ok { IfOk result (λ plan. plan_in (rows_of (found_of matches.now)) ≡ Some plan) }
+    ensures usage { IsErrOf result PlanError.Usage → plan_in (rows_of (found_of matches.now)) ≡ None }
+{
+    let Some(mode) = mode_in(matches) else {
+        return Err(PlanError::Usage);
+    };
+    if !has_needed(mode, matches) {
         return Err(PlanError::Usage);
     }
-    match feed(alloc, &words[3], &words[5]) {
+    let Some(syncers) = narrow_number_in(matches, "syncers") else {
+        return Err(PlanError::Usage);
+    };
+    let Some(turns) = number_in(matches, "turns") else {
+        return Err(PlanError::Usage);
+    };
+    let Some(max_entries) = number_in(matches, "max-entries") else {
+        return Err(PlanError::Usage);
+    };
+    match plan_with(alloc, matches, mode, syncers, turns, max_entries) {
         Ok(plan) => Ok(plan),
         Err(OutOfMemory) => Err(PlanError::OutOfMemory),
     }
 }
 
-fn is_feed(words: &[Text]) -> bool
-    ensures value { result ≡ is_command words.now }
-    ensures six { IsTrue result → length words.now ≡ 6 }
+/// The mode of this name.
+fn mode_of(name: &str) -> Option<Mode>
+    ensures { result ≡ mode_of name.now }
 {
-    words.len() == 6
-        && words[0].as_str() == "--mode"
-        && words[1].as_str() == "feed"
-        && words[2].as_str() == "--config"
-        && words[4].as_str() == "--script"
+    match name {
+        "feed" => Some(Mode::Feed),
+        "serve" => Some(Mode::Serve),
+        _ => None,
+    }
 }
 
-fn feed(alloc: Global, config: &Text, script: &Text) -> Result<Plan, OutOfMemory>
-    ensures { IfOk result (λ plan. plan ≡ feed_plan config.now script.now) }
+/// The mode that the options name.
+#[tactic(auto, using(crate::proofs::Rows::text_of_rows))]
+fn mode_in(matches: &ArgMatches) -> Option<Mode>
+    ensures { result ≡ option_and_then mode_of (first_of (codes "mode") (rows_of (found_of matches.now))) }
+{
+    mode_of(matches.get_str("mode")?)
+}
+
+/// Whether what a mode needs is there.
+#[tactic(auto, using(crate::proofs::Rows::text_of_rows))]
+fn has_needed(mode: Mode, matches: &ArgMatches) -> bool
+    ensures { result ≡ has_needed mode (rows_of (found_of matches.now)) }
+{
+    match mode {
+        Mode::Feed => matches.get_str("config").is_some() && matches.get_str("script").is_some(),
+        Mode::Serve => matches.get_str("config").is_some() && matches.get_str("listen").is_some(),
+    }
+}
+
+/// The number of an option.
+fn number_in(matches: &ArgMatches, name: &str) -> Option<u64>
+    ensures { result ≡ number_in 64 name.now (rows_of (found_of matches.now)) }
+{
+    matches.get_one::<u64>(name)
+}
+
+/// The number of an option, as 32 bits hold it.
+fn narrow_number_in(matches: &ArgMatches, name: &str) -> Option<u32>
+    ensures { result ≡ number_in 32 name.now (rows_of (found_of matches.now)) }
+{
+    matches.get_one::<u32>(name)
+}
+
+/// A copy of the text of an option.
+#[tactic(auto, using(crate::proofs::Rows::text_of_rows))]
+fn text_in(alloc: Global, matches: &ArgMatches, name: &str) -> Result<Option<Text>, OutOfMemory>
+    ensures { IfOk result (λ made. made ≡ first_of name.now (rows_of (found_of matches.now))) }
+{
+    match matches.get_str(name) {
+        Some(text) => Ok(Some(Text::of(alloc, text)?)),
+        None => Ok(None),
+    }
+}
+
+/// The plan with this mode and these numbers, and with copies of the options' texts.
+fn plan_with(
+    alloc: Global,
+    matches: &ArgMatches,
+    mode: Mode,
+    syncers: u32,
+    turns: u64,
+    max_entries: u64,
+) -> Result<Plan, OutOfMemory>
+    ensures { IfOk result (λ plan. plan ≡ plan_with (rows_of (found_of matches.now)) mode syncers turns max_entries) }
 {
     Ok(Plan {
-        mode: Mode::Feed,
-        config: Some(config.copy(alloc)?),
-        script: Some(script.copy(alloc)?),
-        listen: None,
-        journal: None,
-        outbox: Text::of(alloc, "-")?,
-        syncers: 0,
-        turns: 1_000_000_000,
-        max_entries: 4_000_000,
-        number: 1,
-        values: 1000,
+        mode,
+        config: text_in(alloc, matches, "config")?,
+        script: text_in(alloc, matches, "script")?,
+        listen: text_in(alloc, matches, "listen")?,
+        journal: text_in(alloc, matches, "journal")?,
+        outbox: text_in(alloc, matches, "outbox")?.unwrap_or(Text::new(alloc)),
+        syncers,
+        turns,
+        max_entries,
     })
 }

@@ -1,7 +1,7 @@
 //! The line that a run prints.
 
 ghost use Rattle.std.specs.Prelude.{◌≡◌, ◌++◌, OnOk, IfOk, codes};
-ghost use Rattle.server_words.specs.Printed.{printed_text, ok_text, refused_text, reason_text, cause_text, count_text, first_counts, last_counts};
+ghost use Rattle.server_words.specs.Printed.{printed_text, ok_text, refused_text, reason_text, cause_text, count_text, path_text, first_counts, last_counts};
 
 use crate::status::{Counts, Status};
 use std::alloc::Global;
@@ -85,8 +85,46 @@ fn refused_line(alloc: Global, path: &Text, cause: Cause) -> Result<Text, OutOfM
     Ok(line)
 }
 
-/// The line that a run prints last, with its line feed: `status: ` and the status, for Ok alone the counts, and for
-/// ConfigRefused the path and the cause, with ` at ` and its place where it has one. It is empty for PrintFault. [`OutOfMemory`] where there is no room for it.
+/// The line of a pattern that can't be used, from the text before its path on.
+fn path_line(alloc: Global, name: &str, path: &Text) -> Result<Text, OutOfMemory>
+    ensures { IfOk result (λ line. line ≡ path_text name.now path.now) }
+{
+    let mut line = Text::of(alloc, name)?;
+    line.push_str(path.as_str())?;
+    put_end(&mut line)?;
+    Ok(line)
+}
+
+/// A line that ends with one number, from the text before it on.
+fn count_line(alloc: Global, name: &str, count: u64) -> Result<Text, OutOfMemory>
+    ensures { IfOk result (λ line. line ≡ count_text name.now count ++ codes "\n") }
+{
+    let mut line = Text::new(alloc);
+    put_count(alloc, &mut line, name, count)?;
+    put_end(&mut line)?;
+    Ok(line)
+}
+
+/// A line that ends with two numbers, from the text before the first one on.
+fn two_counts_line(
+    alloc: Global,
+    name: &str,
+    count: u64,
+    next: &str,
+    last: u64,
+) -> Result<Text, OutOfMemory>
+    ensures { IfOk result (λ line. line ≡ count_text name.now count ++ count_text next.now last ++ codes "\n") }
+{
+    let mut line = Text::new(alloc);
+    put_count(alloc, &mut line, name, count)?;
+    put_count(alloc, &mut line, next, last)?;
+    put_end(&mut line)?;
+    Ok(line)
+}
+
+/// The line that a run prints last, with its line feed: `status: ` and the status, for Ok the counts, for ConfigRefused
+/// the path and the cause, with ` at ` and its place where it has one, and for another status that has fields each of
+/// these behind its name. It is empty for PrintFault. [`OutOfMemory`] where there is no room for it.
 pub fn printed(alloc: Global, status: &Status, counts: &Counts) -> Result<Text, OutOfMemory>
     ensures { IfOk result (λ line. line ≡ printed_text status.now counts.now) }
 {
@@ -94,7 +132,31 @@ pub fn printed(alloc: Global, status: &Status, counts: &Counts) -> Result<Text, 
         Status::Ok => ok_line(alloc, counts),
         Status::Usage => Text::of(alloc, "status: Usage\n"),
         Status::ConfigRefused { path, cause } => refused_line(alloc, path, *cause),
+        Status::PatternRefused { path } => path_line(alloc, "status: PatternRefused; path: ", path),
+        Status::PatternTooLarge { path } => path_line(
+            alloc,
+            "status: PatternTooLarge; path: ",
+            path,
+        ),
         Status::SourceFault => Text::of(alloc, "status: SourceFault\n"),
+        Status::NotOurs => Text::of(alloc, "status: NotOurs\n"),
+        Status::Damaged { at } => count_line(alloc, "status: Damaged; at: ", *at),
+        Status::ConfigDiffers { at } => count_line(alloc, "status: ConfigDiffers; at: ", *at),
+        Status::OutboxAhead { held, lines } => two_counts_line(
+            alloc,
+            "status: OutboxAhead; held: ",
+            *held,
+            "; lines: ",
+            *lines,
+        ),
+        Status::DiskFault => Text::of(alloc, "status: DiskFault\n"),
+        Status::Full { entries, bytes } => two_counts_line(
+            alloc,
+            "status: Full; entries: ",
+            *entries,
+            "; bytes: ",
+            *bytes,
+        ),
         Status::Unbuilt => Text::of(alloc, "status: Unbuilt\n"),
         Status::WireFault => Text::of(alloc, "status: WireFault\n"),
         Status::OutboxFault => Text::of(alloc, "status: OutboxFault\n"),

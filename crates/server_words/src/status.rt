@@ -21,6 +21,37 @@ pub enum Status {
         /// What is wrong there.
         cause: Cause,
     },
+    /// A pattern of the configuration isn't read by the grammar of `regex`, or nests more deeply than `regex` allows.
+    PatternRefused {
+        /// A JSON pointer (RFC 6901) to the pattern's text.
+        path: Text,
+    },
+    /// A pattern of the configuration is too large for `regex`.
+    PatternTooLarge {
+        /// A JSON pointer (RFC 6901) to the pattern's text.
+        path: Text,
+    },
+    /// The journal's file is no journal.
+    NotOurs,
+    /// The journal is damaged.
+    Damaged {
+        /// The place in the journal's bytes, counted from 0.
+        at: u64,
+    },
+    /// The configuration isn't the one that the journal was begun with.
+    ConfigDiffers {
+        /// The place of the first byte that differs, counted from 0.
+        at: u64,
+    },
+    /// The outbox holds more bytes than the lines of the kept entries have.
+    OutboxAhead {
+        /// How many bytes the outbox holds.
+        held: u64,
+        /// How many bytes the lines have.
+        lines: u64,
+    },
+    /// The journal's disk failed.
+    DiskFault,
     /// The configuration has a form that isn't built yet.
     Unbuilt,
     /// The wire failed.
@@ -29,6 +60,13 @@ pub enum Status {
     OutboxFault,
     /// The line about a run that ended well couldn't be printed.
     PrintFault,
+    /// The next entries would have made the journal larger than is allowed.
+    Full {
+        /// How many entries it would have had.
+        entries: u64,
+        /// How many bytes it would have had.
+        bytes: u64,
+    },
     /// As many events were taken as the plan allows, and none closed the wire.
     TurnLimit,
     /// No memory was to be had.
@@ -44,13 +82,21 @@ impl Status {
             Status::Ok => 0,
             Status::Usage => 2,
             Status::ConfigRefused { .. } => 3,
+            Status::PatternRefused { .. } => 4,
             Status::SourceFault => 5,
+            Status::NotOurs => 6,
+            Status::Damaged { .. } => 7,
+            Status::ConfigDiffers { .. } => 8,
+            Status::OutboxAhead { .. } => 9,
+            Status::DiskFault => 10,
             Status::OutboxFault => 11,
             Status::PrintFault => 12,
             Status::WireFault => 13,
+            Status::Full { .. } => 14,
             Status::TurnLimit => 15,
             Status::OutOfMemory => 16,
             Status::Unbuilt => 17,
+            Status::PatternTooLarge { .. } => 26,
         }
     }
 }

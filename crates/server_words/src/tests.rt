@@ -4,46 +4,141 @@ use std::convert::AsStr;
 use std::test::Fail;
 use zbx_types::{Cause, Many, OutOfMemory, Text};
 
-fn words_of(alloc: Global, words: &[&str]) -> Result<Many<Text>, OutOfMemory> {
+/// The words of a line, between its blanks.
+fn words_of(alloc: Global, line: &str) -> Result<Many<Text>, OutOfMemory> {
     let mut made = Many::new(alloc);
-    for word in words {
-        made.push(Text::of(alloc, word)?)?;
+    for word in line.split(' ') {
+        if !word.is_empty() {
+            made.push(Text::of(alloc, word)?)?;
+        }
     }
     Ok(made)
 }
 
-#[test]
-fn the_six_words_have_a_plan(rt: HostRuntime) -> Result<(), Fail> {
-    let alloc = rt.alloc();
-    let words = words_of(
-        alloc,
-        &["--mode", "feed", "--config", "c.json", "--script", "s.txt"],
-    )?;
-    let plan = plan(alloc, words.as_slice())?;
-    assert_eq!(rt; plan.mode, Mode::Feed);
-    assert_eq!(rt; plan.config, Some(Text::of(alloc, "c.json")?));
-    assert_eq!(rt; plan.script, Some(Text::of(alloc, "s.txt")?));
-    assert_eq!(rt; plan.outbox.as_str(), "-");
-    assert_eq!(rt; (plan.syncers, plan.turns), (0, 1_000_000_000));
+fn put_text(line: &mut Text, name: &str, text: &Option<Text>) -> Result<(), OutOfMemory> {
+    if let Some(text) = text {
+        line.push_str(name)?;
+        line.push_str(text.as_str())?;
+    }
     Ok(())
 }
 
-#[test]
-fn other_words_are_usage(rt: HostRuntime) -> Result<(), Fail> {
-    let alloc = rt.alloc();
-    let two = words_of(alloc, &["--mode", "feed"])?;
-    assert!(rt; matches!(plan(alloc, two.as_slice()), Err(PlanError::Usage)));
-    let turned = words_of(
+fn put_number(line: &mut Text, number: u64) -> Result<(), OutOfMemory> {
+    line.push_str(" ")?;
+    line.push_decimal(number)
+}
+
+/// A plan in one line: its mode, its paths, its outbox and its numbers.
+fn plan_line(alloc: Global, plan: &Plan) -> Result<Text, OutOfMemory> {
+    let mut line = Text::of(
         alloc,
-        &["--config", "c.json", "--script", "s.txt", "--mode", "feed"],
+        if plan.mode == Mode::Feed {
+            "feed"
+        } else {
+            "serve"
+        },
     )?;
-    assert!(rt; matches!(plan(alloc, turned.as_slice()), Err(PlanError::Usage)));
-    Ok(())
+    put_text(&mut line, " config ", &plan.config)?;
+    put_text(&mut line, " script ", &plan.script)?;
+    put_text(&mut line, " listen ", &plan.listen)?;
+    put_text(&mut line, " journal ", &plan.journal)?;
+    line.push_str(" outbox ")?;
+    line.push_str(plan.outbox.as_str())?;
+    put_number(&mut line, u64::from(plan.syncers))?;
+    put_number(&mut line, plan.turns)?;
+    put_number(&mut line, plan.max_entries)?;
+    Ok(line)
+}
+
+/// What a line of words asks for.
+fn asked(alloc: Global, line: &str) -> Result<Text, OutOfMemory> {
+    match plan(alloc, words_of(alloc, line)?.as_slice()) {
+        Ok(plan) => plan_line(alloc, &plan),
+        Err(PlanError::Usage) => Text::of(alloc, "Usage"),
+        Err(PlanError::OutOfMemory) => Err(OutOfMemory),
+    }
+}
+
+/// Lines of words that have a plan, and the plan.
+fn plans() -> [(&'static str, &'static str); 8] {
+    [
+        (
+            "--mode feed --config c --script s",
+            "feed config c script s outbox - 0 1000000000 4000000",
+        ),
+        (
+            "--script=s --config=c --mode=feed",
+            "feed config c script s outbox - 0 1000000000 4000000",
+        ),
+        (
+            "--mode serve --config c --listen 127.0.0.1:10051",
+            "serve config c listen 127.0.0.1:10051 outbox - 0 1000000000 4000000",
+        ),
+        (
+            "--mode serve --config c --listen a:1 --script s --journal j --outbox o --syncers 0 --turns 1 --max-entries 1",
+            "serve config c script s listen a:1 journal j outbox o 0 1 1",
+        ),
+        (
+            "--mode feed --config c --script s --turns 1000000000 --max-entries 4000000",
+            "feed config c script s outbox - 0 1000000000 4000000",
+        ),
+        (
+            "--mode feed --config= --script s --outbox -",
+            "feed config  script s outbox - 0 1000000000 4000000",
+        ),
+        (
+            "--mode feed --config c --script s --turns +4 --max-entries=007",
+            "feed config c script s outbox - 0 4 7",
+        ),
+        (
+            "--mode feed --config c --script s --",
+            "feed config c script s outbox - 0 1000000000 4000000",
+        ),
+    ]
+}
+
+/// Lines of words that aren't those of the command.
+fn others() -> [&'static str; 22] {
+    [
+        "",
+        "--mode",
+        "--mode feed",
+        "--mode feed --config c",
+        "--mode feed --script s",
+        "--mode feed --config c --listen a:1",
+        "--mode serve --config c",
+        "--mode serve --config c --script s",
+        "--mode serve --listen a:1",
+        "--config c --script s",
+        "--mode Feed --config c --script s",
+        "--mode workload --config c --script s",
+        "--mode feed --mode feed --config c --script s",
+        "--mode feed --config c --config d --script s",
+        "--mo feed --config c --script s",
+        "--mode feed --config c --script s x",
+        "--mode feed --config c --script s --help",
+        "-h",
+        "--mode feed --config c --script s --syncers 1",
+        "--mode feed --config c --script s --turns 0",
+        "--mode feed --config c --script s --turns 1000000001",
+        "--mode feed --config c --script s --max-entries 4000001",
+    ]
 }
 
 #[test]
-fn a_run_that_ended_well_prints_its_counts(rt: HostRuntime) -> Result<(), Fail> {
+fn each_list_of_words_has_its_plan_or_is_usage(rt: HostRuntime) -> Result<(), Fail> {
     let alloc = rt.alloc();
+    for (line, wanted) in plans() {
+        assert_eq!(rt; asked(alloc, line)?.as_str(), wanted);
+    }
+    for line in others() {
+        assert_eq!(rt; asked(alloc, line)?.as_str(), "Usage");
+    }
+    Ok(())
+}
+
+/// The exit number of a status and its printed line, over these counts.
+fn said(alloc: Global, status: Status) -> Result<Text, OutOfMemory> {
     let counts = Counts {
         entries: 3,
         problems: 1,
@@ -51,49 +146,119 @@ fn a_run_that_ended_well_prints_its_counts(rt: HostRuntime) -> Result<(), Fail> 
         messages: 0,
         bytes: 34,
     };
-    assert_eq!(rt;
-        printed(alloc, &Status::Ok, &counts)?.as_str(),
-        "status: Ok; entries: 3; problems: 1; recoveries: 0; messages: 0; outbox bytes: 34\n"
-    );
-    assert_eq!(rt;
-        printed(alloc, &Status::Usage, &counts)?.as_str(),
-        "status: Usage\n"
-    );
-    assert_eq!(rt; (Status::Ok.exit(), Status::Usage.exit()), (0, 2));
-    Ok(())
-}
-
-/// The line of a configuration that is refused at the first host's first key for this cause.
-fn refused_at_a_key(alloc: Global, cause: Cause) -> Result<Text, OutOfMemory> {
-    let status = Status::ConfigRefused {
-        path: Text::of(alloc, "/hosts/0/items/0/key")?,
-        cause,
-    };
-    let counts = Counts {
-        entries: 0,
-        problems: 0,
-        recoveries: 0,
-        messages: 0,
-        bytes: 0,
-    };
-    printed(alloc, &status, &counts)
+    let mut line = Text::new(alloc);
+    line.push_decimal(u64::from(status.exit()))?;
+    line.push_str(" ")?;
+    line.push_str(printed(alloc, &status, &counts)?.as_str())?;
+    Ok(line)
 }
 
 #[test]
-fn a_refused_configuration_prints_its_path_and_cause(rt: HostRuntime) -> Result<(), Fail> {
+fn each_status_has_its_exit_and_its_line(rt: HostRuntime) -> Result<(), Fail> {
     let alloc = rt.alloc();
     assert_eq!(rt;
-        refused_at_a_key(alloc, Cause::BadKey { at: 5 })?.as_str(),
-        "status: ConfigRefused; path: /hosts/0/items/0/key; cause: BadKey at 5\n"
+        said(alloc, Status::Ok)?.as_str(),
+        "0 status: Ok; entries: 3; problems: 1; recoveries: 0; messages: 0; outbox bytes: 34\n"
+    );
+    assert_eq!(rt; said(alloc, Status::Usage)?.as_str(), "2 status: Usage\n");
+    assert_eq!(rt;
+        said(alloc, refused_at_a_key(alloc, Cause::BadKey { at: 5 })?)?.as_str(),
+        "3 status: ConfigRefused; path: /hosts/0/items/0/key; cause: BadKey at 5\n"
     );
     assert_eq!(rt;
-        refused_at_a_key(alloc, Cause::Duplicate)?.as_str(),
-        "status: ConfigRefused; path: /hosts/0/items/0/key; cause: Duplicate\n"
+        said(alloc, refused_at_a_key(alloc, Cause::Duplicate)?)?.as_str(),
+        "3 status: ConfigRefused; path: /hosts/0/items/0/key; cause: Duplicate\n"
     );
-    let status = Status::ConfigRefused {
-        path: Text::new(alloc),
-        cause: Cause::NotJson,
-    };
-    assert_eq!(rt; status.exit(), 3);
+    assert_eq!(rt;
+        said(
+            alloc,
+            Status::PatternRefused {
+                path: Text::of(alloc, "/a")?
+            }
+        )?
+        .as_str(),
+        "4 status: PatternRefused; path: /a\n"
+    );
+    assert_eq!(rt;
+        said(
+            alloc,
+            Status::PatternTooLarge {
+                path: Text::of(alloc, "/a")?
+            }
+        )?
+        .as_str(),
+        "26 status: PatternTooLarge; path: /a\n"
+    );
+    assert_eq!(rt;
+        said(alloc, Status::SourceFault)?.as_str(),
+        "5 status: SourceFault\n"
+    );
+    assert_eq!(rt;
+        said(alloc, Status::NotOurs)?.as_str(),
+        "6 status: NotOurs\n"
+    );
+    assert_eq!(rt;
+        said(alloc, Status::Damaged { at: 9 })?.as_str(),
+        "7 status: Damaged; at: 9\n"
+    );
+    assert_eq!(rt;
+        said(alloc, Status::ConfigDiffers { at: 10 })?.as_str(),
+        "8 status: ConfigDiffers; at: 10\n"
+    );
+    assert_eq!(rt;
+        said(
+            alloc,
+            Status::OutboxAhead {
+                held: 35,
+                lines: 34
+            }
+        )?
+        .as_str(),
+        "9 status: OutboxAhead; held: 35; lines: 34\n"
+    );
+    assert_eq!(rt;
+        said(alloc, Status::DiskFault)?.as_str(),
+        "10 status: DiskFault\n"
+    );
+    assert_eq!(rt;
+        said(alloc, Status::OutboxFault)?.as_str(),
+        "11 status: OutboxFault\n"
+    );
+    assert_eq!(rt; said(alloc, Status::PrintFault)?.as_str(), "12 ");
+    assert_eq!(rt;
+        said(alloc, Status::WireFault)?.as_str(),
+        "13 status: WireFault\n"
+    );
+    assert_eq!(rt;
+        said(
+            alloc,
+            Status::Full {
+                entries: 4000001,
+                bytes: 18446744073709551615
+            }
+        )?
+        .as_str(),
+        "14 status: Full; entries: 4000001; bytes: 18446744073709551615\n"
+    );
+    assert_eq!(rt;
+        said(alloc, Status::TurnLimit)?.as_str(),
+        "15 status: TurnLimit\n"
+    );
+    assert_eq!(rt;
+        said(alloc, Status::OutOfMemory)?.as_str(),
+        "16 status: OutOfMemory\n"
+    );
+    assert_eq!(rt;
+        said(alloc, Status::Unbuilt)?.as_str(),
+        "17 status: Unbuilt\n"
+    );
     Ok(())
+}
+
+/// A configuration that is refused at the first host's first key for this cause.
+fn refused_at_a_key(alloc: Global, cause: Cause) -> Result<Status, OutOfMemory> {
+    Ok(Status::ConfigRefused {
+        path: Text::of(alloc, "/hosts/0/items/0/key")?,
+        cause,
+    })
 }

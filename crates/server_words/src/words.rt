@@ -8,6 +8,8 @@ use zbx_types::Text;
 pub enum Mode {
     /// It takes its events from a script.
     Feed,
+    /// It takes its events from connections.
+    Serve,
 }
 
 /// What the words of the command line ask for. Where an option isn't named it has its default.
@@ -15,33 +17,29 @@ pub enum Mode {
 pub struct Plan {
     /// What the program does.
     pub mode: Mode,
-    /// The path of the configuration document.
+    /// The path of the configuration document. Feed and Serve have one.
     pub config: Option<Text>,
-    /// The path of the script with the events.
+    /// The path of the script with the events. Feed has one.
     pub script: Option<Text>,
-    /// The address and port to listen at; none so far.
+    /// The address and port to listen at. Serve has one.
     pub listen: Option<Text>,
-    /// The path of the journal; none so far.
+    /// The path of the journal; without one a disk in memory is the journal.
     pub journal: Option<Text>,
-    /// The path of the outbox, or `-` for standard output.
+    /// The path of the outbox, or `-` for standard output, which is its default.
     pub outbox: Text,
     /// How many history syncers work at once: 0 so far, so that one thread does all.
     pub syncers: u32,
-    /// How many events are taken at most: 1,000,000,000.
+    /// How many events are taken at most: 1 to 1,000,000,000, which is the default.
     pub turns: u64,
-    /// How many entries the journal may have at most: 4,000,000.
+    /// How many entries the journal may have at most: 1 to 4,000,000, which is the default.
     pub max_entries: u64,
-    /// The number of a workload: 1.
-    pub number: u64,
-    /// How many values a workload has: 1,000.
-    pub values: u64,
 }
 
 /// Why there is no plan.
 #[derive(Clone, Copy, Debug, PartialEq, Eq, Error)]
 pub enum PlanError {
     /// The words aren't those of the command.
-    #[error("usage: --mode feed --config PATH --script PATH")]
+    #[error("usage: --mode feed --config PATH --script PATH, or --mode serve --config PATH --listen ADDRESS:PORT")]
     Usage,
     /// No memory was to be had.
     #[error("out of memory")]

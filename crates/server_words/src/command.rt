@@ -1,0 +1,68 @@
+//! The command of the program, as `clap` reads it.
+
+ghost use Rattle.std.specs.Prelude.{◌≡◌, IfOk, codes, false};
+ghost use Rattle.clap.specs.Words.{app_of, rule_of};
+ghost use Rattle.server_words.specs.Words.{needed, option, with_default, number, bare_app, text_app, server_app};
+
+use clap::builder::ValueParser;
+use clap::{Arg, Command};
+use std::alloc::{AllocError, Global};
+
+/// An option with a value.
+fn option<'a>(alloc: Global, name: &'a str) -> Arg<'a>
+    ensures rule { rule_of result ≡ option name.entry.now }
+    ensures local { result.global ≡ false }
+{
+    Arg::new(alloc, name).long(name)
+}
+
+/// One that has to be there.
+fn needed<'a>(alloc: Global, name: &'a str) -> Arg<'a>
+    ensures rule { rule_of result ≡ needed name.entry.now }
+    ensures local { result.global ≡ false }
+{
+    Arg::new(alloc, name).long(name).required(true)
+}
+
+/// One that has this value where it isn't there.
+fn with_default<'a>(alloc: Global, name: &'a str, value: &'a str) -> Arg<'a>
+    ensures rule { rule_of result ≡ with_default name.entry.now value.entry.now }
+    ensures local { result.global ≡ false }
+{
+    Arg::new(alloc, name).long(name).default_value(value)
+}
+
+/// One whose value is a number from the least to the most.
+fn number<'a>(alloc: Global, name: &'a str, value: &'a str, least: u64, most: u64) -> Arg<'a>
+    ensures rule { rule_of result ≡ number name.entry.now value.entry.now least most }
+    ensures local { result.global ≡ false }
+{
+    Arg::new(alloc, name)
+        .long(name)
+        .default_value(value)
+        .value_parser(ValueParser::unsigned(least, most))
+}
+
+/// The command with its texts.
+fn text_command<'a>(alloc: Global) -> Result<Command<'a>, AllocError>
+    ensures { IfOk result (λ command. app_of command ≡ text_app) }
+{
+    Command::new(alloc, "zabbix_server")
+        .no_binary_name(true)
+        .arg(needed(alloc, "mode"))?
+        .arg(option(alloc, "config"))?
+        .arg(option(alloc, "listen"))?
+        .arg(option(alloc, "script"))?
+        .arg(option(alloc, "journal"))?
+        .arg(with_default(alloc, "outbox", "-"))
+}
+
+/// The command: its texts and its numbers.
+pub(crate) fn command<'a>(alloc: Global) -> Result<Command<'a>, AllocError>
+    ensures { IfOk result (λ command. app_of command ≡ server_app) }
+{
+    text_command(alloc)?
+        .arg(number(alloc, "syncers", "0", 0, 0))?
+        .arg(number(alloc, "turns", "1000000000", 1, 1_000_000_000))?
+        .arg(number(alloc, "max-entries", "4000000", 1, 4_000_000))
+}
