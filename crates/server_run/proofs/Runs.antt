@@ -39,7 +39,7 @@ some_plan o plan is = ap is_some is
 -- a configuration that couldn't be taken
 pub refuses : (words : List (List ℕ)) (plan : Plan) (source : Option (List ℕ)) (faults faults' : ℕ) (bytes : List ℕ) (s : Status)
     → plan_of words ≡ Some plan → IfSome source (λ all. IsTextUpTo 16777216 all bytes) → IsUntaken bytes s → Refuses words source faults faults' s
-refuses words plan source faults faults' bytes status.OutOfMemory is read spent = some_plan (plan_of words) plan is
+refuses words plan source faults faults' bytes status.OutOfMemory is read spent = tt
 refuses words plan source faults faults' bytes status.Unbuilt is read flaw = (some_plan (plan_of words) plan is, flaw_told source bytes unbuilt read flaw)
 refuses words plan source faults faults' bytes (status.ConfigRefused path cause) is read flaw =
     (some_plan (plan_of words) plan is, flaw_told source bytes (refused (record { path = path; cause = cause })) read flaw)

@@ -33,12 +33,12 @@ IsUntaken text status.Unbuilt = flat_of text ≡ Err unbuilt
 IsUntaken text (status.ConfigRefused path cause) = flat_of text ≡ refuse path cause
 IsUntaken text _ = ⊥
 
--- why a run didn't begin: its words have no plan; or they have one, and its source failed, memory was refused, or the
+-- why a run didn't begin: its words have no plan; memory was refused; or they have one, and its source failed, or the
 -- source's text couldn't be taken
 abbrev pub Refuses : List (List ℕ) → Option (List ℕ) → ℕ → ℕ → Status → Type 0
 Refuses words source faults faults' status.Usage = plan_of words ≡ None
 Refuses words source faults faults' status.SourceFault = IsSome (plan_of words) × Rose faults faults'
-Refuses words source faults faults' status.OutOfMemory = IsSome (plan_of words)
+Refuses words source faults faults' status.OutOfMemory = ⊤
 Refuses words source faults faults' status.Unbuilt = IsSome (plan_of words) × IfSome source (λ text. flat_of text ≡ Err unbuilt)
 Refuses words source faults faults' (status.ConfigRefused path cause) =
     IsSome (plan_of words) × IfSome source (λ text. flat_of text ≡ refuse path cause)

@@ -46,6 +46,10 @@ refusal = record { opening = true; ending = never; out = no_lines; line = own_li
 abbrev pub begun : Ending → Extent → Printing → Course
 begun ending out line = record { opening = false; ending = ending; out = out; line = line }
 
+-- a status that no run ends with
+abbrev pub unreached : Course
+unreached = record { opening = false; ending = never; out = no_lines; line = own_line }
+
 -- what each status is to a run
 abbrev pub course_of : Status → Course
 course_of status.Ok = begun at_closed all_lines whole_line
@@ -58,6 +62,14 @@ course_of status.Usage = refusal
 course_of status.SourceFault = refusal
 course_of (status.ConfigRefused path cause) = refusal
 course_of status.Unbuilt = refusal
+course_of (status.PatternRefused path) = unreached
+course_of (status.PatternTooLarge path) = unreached
+course_of status.NotOurs = unreached
+course_of (status.Damaged at) = unreached
+course_of (status.ConfigDiffers at) = unreached
+course_of (status.OutboxAhead held lines) = unreached
+course_of status.DiskFault = unreached
+course_of (status.Full entries bytes) = unreached
 
 -- a status of a run that hasn't begun
 abbrev pub IsRefusal : Status → Type 0

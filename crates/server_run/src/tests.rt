@@ -146,6 +146,7 @@ fn status_name(status: &Status) -> &'static str {
         Status::PrintFault => "PrintFault",
         Status::TurnLimit => "TurnLimit",
         Status::OutOfMemory => "OutOfMemory",
+        _ => "another",
     }
 }
 

@@ -1,6 +1,6 @@
 //! From words to a run over files and standard output.
 
-ghost use Rattle.std.specs.Prelude.{◌≡◌, ◌⊎◌, None, IfOk, IsSome, OnErr};
+ghost use Rattle.std.specs.Prelude.{◌≡◌, ◌⊎◌, None, IfOk};
 ghost use Rattle.server_words.specs.Words.{plan_of};
 ghost use Rattle.server_words.specs.declared.status.Status.TheVariants as Status;
 ghost use Rattle.server_run.specs.Ran.{IsStatusOf, IsRunStatus};
@@ -21,7 +21,6 @@ pub(crate) fn run(rt: &HostRuntime, alloc: Global, words: &[Text]) -> Result<Sta
     ensures usage { IfOk result (λ status. status ≡ Status.Usage → plan_of words.now ≡ None) }
     ensures not_command { plan_of words.now ≡ None → IfOk result (λ status. (status ≡ Status.Usage) ⊎ (status ≡ Status.OutOfMemory)) }
     ensures ran { IfOk result (IsRunStatus words.now) }
-    ensures memory { OnErr result (IsSome (plan_of words.now)) }
 {
     match plan(alloc, words) {
         Ok(plan) => run_planned(rt, alloc, words, &plan),
