@@ -11,9 +11,8 @@
 //! standard error.
 //!
 //! All that the run does is [`server_run::run_single`]. This crate hands it the files and standard output:
-//! [`FileSource`](source::FileSource) reads a file, [`FileSink`](sink::FileSink) adds to one, and
-//! [`StdSink`](standard::StdSink) writes to standard output. Each tells its bytes where the reader or the writer behind
-//! it does, and an error comes only where its count of faults rose.
+//! [`FileSource`](wire_mio::FileSource) reads a file, [`FileSink`](wire_mio::FileSink) adds to one, and
+//! [`StdSink`](wire_mio::StdSink) writes to standard output.
 //!
 //! The one contract: the program exits with the number of its status, which is that of a run over its words, and the
 //! clauses of the whole run are true of it. So it is Usage exactly where the words have no plan, unless memory was refused.
@@ -21,10 +20,6 @@
 
 mod arguments;
 mod running;
-mod sink;
-mod source;
-mod standard;
-mod writer;
 
 ghost use Rattle.std.specs.Prelude.{◌≡◌, ℕ, List, IfOk};
 ghost use Rattle.std.specs.Process.{exit_status};

@@ -5,14 +5,12 @@ ghost use Rattle.server_words.specs.Words.{plan_of};
 ghost use Rattle.server_words.specs.declared.status.Status.TheVariants as Status;
 ghost use Rattle.server_run.specs.Ran.{IsStatusOf, IsRunStatus};
 
-use crate::sink::FileSink;
-use crate::source::FileSource;
-use crate::standard::StdSink;
 use outside::{MemSink, MemSource, ScriptWire, Sink, Source, Wire};
 use server_run::run_single;
 use server_words::{Plan, PlanError, Status, plan};
 use std::alloc::Global;
 use std::convert::AsStr;
+use wire_mio::{FileSink, FileSource, StdSink};
 use zbx_types::{Bytes, Many, OutOfMemory, Text};
 
 /// Runs the server as the words ask, over files and standard output, and answers how the run ended. [`OutOfMemory`] where
