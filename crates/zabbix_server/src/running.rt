@@ -7,10 +7,10 @@ ghost use Rattle.server_run.specs.Ran.{IsStatusOf, IsRunStatus};
 
 use outside::{MemSink, MemSource, ScriptWire, Sink, Source, Wire};
 use server_run::run_single;
-use server_words::{Plan, PlanError, Status, plan};
+use server_words::{Mode, Plan, PlanError, Status, plan};
 use std::alloc::Global;
 use std::convert::AsStr;
-use wire_mio::{FileSink, FileSource, StdSink};
+use wire_mio::{FileSink, FileSource, MioWire, StdSink};
 use zbx_types::{Bytes, Many, OutOfMemory, Text};
 
 /// Runs the server as the words ask, over files and standard output, and answers how the run ended. [`OutOfMemory`] where
@@ -27,7 +27,7 @@ pub(crate) fn run(rt: &HostRuntime, alloc: Global, words: &[Text]) -> Result<Sta
     }
 }
 
-/// Runs the server over the files that a plan names. A path that it doesn't name is the empty one, at which no file is.
+/// Runs the server as a plan says, over the wire of its mode.
 fn run_planned(
     rt: &HostRuntime,
     alloc: Global,
@@ -36,10 +36,53 @@ fn run_planned(
 ) -> Result<Status, OutOfMemory>
     ensures ran { IfOk result (IsRunStatus words.now) }
 {
+    match plan.mode {
+        Mode::Feed => run_feed(rt, alloc, words, plan),
+        Mode::Serve => run_serve(rt, alloc, words, plan),
+    }
+}
+
+/// Runs the server over the script that a plan names. A path that it doesn't name is the empty one, at which no file is.
+fn run_feed(
+    rt: &HostRuntime,
+    alloc: Global,
+    words: &[Text],
+    plan: &Plan,
+) -> Result<Status, OutOfMemory>
+    ensures ran { IfOk result (IsRunStatus words.now) }
+{
     let nowhere = Text::new(alloc);
-    let config = FileSource::at(rt, alloc, plan.config.as_ref().unwrap_or(&nowhere))?;
     let script = FileSource::at(rt, alloc, plan.script.as_ref().unwrap_or(&nowhere))?;
     let wire = ScriptWire::new(alloc, script, Many::new(alloc));
+    run_over(rt, alloc, words, plan, wire)
+}
+
+/// Runs the server over sockets, at the address that a plan names. At an address that it doesn't name no socket is.
+fn run_serve(
+    rt: &HostRuntime,
+    alloc: Global,
+    words: &[Text],
+    plan: &Plan,
+) -> Result<Status, OutOfMemory>
+    ensures ran { IfOk result (IsRunStatus words.now) }
+{
+    let nowhere = Text::new(alloc);
+    let wire = MioWire::listen(rt, alloc, plan.listen.as_ref().unwrap_or(&nowhere))?;
+    run_over(rt, alloc, words, plan, wire)
+}
+
+/// Runs the server over a wire, and over the files that a plan names.
+fn run_over<W: Wire + Drop>(
+    rt: &HostRuntime,
+    alloc: Global,
+    words: &[Text],
+    plan: &Plan,
+    wire: W,
+) -> Result<Status, OutOfMemory>
+    ensures ran { IfOk result (IsRunStatus words.now) }
+{
+    let nowhere = Text::new(alloc);
+    let config = FileSource::at(rt, alloc, plan.config.as_ref().unwrap_or(&nowhere))?;
     let printer = StdSink::new(rt.stdout());
     if plan.outbox.as_str() == "-" {
         let outbox = StdSink::new(rt.stdout());
