@@ -1,0 +1,5 @@
+use Rattle.std.proofs.Common.{◌≡◌}
+use Rattle.wire_mio.proofs.sockets.Sockets.accept_some.Given as goal
+
+abbrev pub invariant-accepts : goal.invariant-accepts
+invariant-accepts l = l.queue.told ≡ l.fn.queue.told

@@ -1,0 +1,5 @@
+use Rattle.std.proofs.Common.{◌≡◌}
+use Rattle.wire_mio.proofs.wire.wait.Given as goal
+
+abbrev pub invariant-looks : goal.invariant-looks
+invariant-looks g l = l.queue.told ≡ l.fn.queue.told

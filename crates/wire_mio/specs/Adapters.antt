@@ -1,0 +1,45 @@
+-- What contracts see of sources, sinks and disks over readers, writers and files.
+use Rattle.std.specs.Prelude.{◌≡◌, ℕ, ◌+◌, ◌-◌, ◌^◌, min, Bool, ◌==◌, List, length, Option, Some, None, Result, Ok, Err, IsErr, if◌then◌else◌}
+
+-- a source: the bytes that are left, where its reader tells, and how often it has failed
+pub record Reading : Type 0 where
+  pub left : Option (List ℕ)
+  pub faults : ℕ
+
+-- a sink: whether it has a writer, the bytes that it holds, where its writer tells, how many there are, and how often it
+-- has failed
+pub record Holding : Type 0 where
+  pub has_writer : Bool
+  pub bytes : Option (List ℕ)
+  pub held : ℕ
+  pub faults : ℕ
+
+-- the bytes that a writer tells, where there are as many as were counted
+abbrev pub counted : ℕ → Option (List ℕ) → Option (List ℕ)
+counted held None = None
+counted held (Some bytes) = if length bytes == held then Some bytes else None
+
+-- a disk: how many calls of its file have failed, where it has one, and how often it has failed itself
+pub record Filed : Type 0 where
+  pub failed : Option ℕ
+  pub faults : ℕ
+
+-- a failed call is counted, and no other
+abbrev pub CountsFailed : {T E : Type 0} → ℕ → ℕ → Result T E → Type 0
+CountsFailed before now (Ok answer) = now ≡ before
+CountsFailed before now (Err cause) = now ≡ before + 1
+
+-- a call fails where that of the file did, or where there is no file, and nowhere else
+abbrev pub FailsAsFile : {T E : Type 0} → Option ℕ → Option ℕ → Result T E → Type 0
+FailsAsFile None now result = IsErr result × (now ≡ None)
+FailsAsFile (Some before) now (Ok answer) = now ≡ Some before
+FailsAsFile (Some before) now (Err cause) = now ≡ Some (before + 1)
+
+-- a count that rises by one stays at its last value
+abbrev pub risen : ℕ → ℕ
+risen count = min (count + 1) (2 ^ 64 - 1)
+
+-- a count of faults behind an answer
+abbrev pub faults_behind : {T E : Type 0} → ℕ → Result T E → ℕ
+faults_behind faults (Ok answer) = faults
+faults_behind faults (Err cause) = risen faults

@@ -1,0 +1,15 @@
+-- What a read of a connection comes to.
+use Rattle.std.specs.Prelude.{◌≡◌, ℕ, ◌<◌, ◌≤◌, List, length, Option}
+use Rattle.std.specs.Io.KnownBytes.{Consumes, IsAtEnd, Keeps}
+use Rattle.wire_mio.specs.Queues.{longest_piece}
+use Rattle.wire_mio.specs.declared.piece.Got.{Got}
+use Rattle.wire_mio.specs.declared.piece.Got.TheVariants.{Piece, End, Nothing, Again, Lost}
+
+-- a piece is what was taken from the reader, and within its bounds; otherwise nothing was taken, at the end of what there is
+-- or at an error
+abbrev pub IsRead : Option (List ℕ) → Option (List ℕ) → Got → Type 0
+IsRead old new (Piece bytes) = Consumes old new bytes × (0 < length bytes) × (length bytes ≤ longest_piece)
+IsRead old new End = IsAtEnd new
+IsRead old new Nothing = Keeps old new
+IsRead old new Again = Keeps old new
+IsRead old new Lost = Keeps old new

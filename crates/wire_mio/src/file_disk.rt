@@ -1,0 +1,163 @@
+//! Disks over files.
+
+ghost use Rattle.std.specs.Prelude.{◌≡◌, ◌≤◌, length, Some, None, is_some, IfOk, OnOk, IfSome};
+ghost use Rattle.outside.specs.Causes.{HasCause};
+ghost use Rattle.wire_mio.specs.Adapters.{FailsAsFile, faults_behind};
+
+use crate::stored::{DiskFile, Stored};
+use outside::{Disk, Failed};
+use std::convert::AsStr;
+use std::fs::{File, OpenOptions};
+use std::io;
+use std::marker::Model;
+use std::path::Path;
+use std::rt::Files;
+use zbx_types::Text;
+
+/// A disk over a file. It tells neither its bytes nor what a crash leaves of them.
+///
+/// Each call is one call of the file, and fails where that does. One without a file, which couldn't be opened, fails at
+/// every call.
+#[derive(Drop)]
+pub struct FileDisk<F: Stored> {
+    file: Option<F>,
+    faults: u64,
+}
+
+impl<F: Stored> Model for FileDisk<F> {
+    ghost use Rattle.std.specs.Option.{option_map};
+    ghost use Rattle.wire_mio.specs.Adapters.{Filed};
+
+    ghost Value = { Filed };
+
+    ghost view = { λ d. record { failed = option_map F.failed d.file; faults = d.faults } };
+}
+
+impl<F: Stored> FileDisk<F> {
+    /// A disk over this.
+    pub fn over(file: F) -> FileDisk<F>
+        ensures { result ≡ record { failed = Some (F.failed file); faults = 0 } }
+    {
+        FileDisk {
+            file: Some(file),
+            faults: 0,
+        }
+    }
+
+    /// A disk without a file, at which every call fails.
+    pub fn without() -> FileDisk<F>
+        ensures { result ≡ record { failed = None; faults = 0 } }
+    {
+        FileDisk {
+            file: None,
+            faults: 0,
+        }
+    }
+}
+
+impl FileDisk<DiskFile> {
+    /// A disk over the file at a path, which is made where there is none. The folder that it stands in is synced, so that
+    /// a crash leaves its name. Where it can't be opened or made, or its folder can't be synced, every call fails.
+    pub fn at<R: Files<File = File>>(rt: &R, path: &Text) -> FileDisk<DiskFile>
+        ensures { result.faults ≡ 0 }
+    {
+        match opened(rt, path.as_str()) {
+            Ok(file) => FileDisk::over(DiskFile::new(file)),
+            Err(_) => FileDisk::without(),
+        }
+    }
+}
+
+/// A file opened for reading and writing, and made where there is none, in a folder that was synced then.
+fn opened<R: Files<File = File>>(rt: &R, path: &str) -> io::Result<File> {
+    let file = OpenOptions::new()
+        .read(true)
+        .write(true)
+        .create(true)
+        .open(rt, path)?;
+    let folder = match Path::new(path).parent() {
+        Some(folder) if !folder.as_str().is_empty() => folder.as_str(),
+        _ => ".",
+    };
+    File::open(rt, folder)?.sync_all()?;
+    Ok(file)
+}
+
+impl<F: Stored> Disk for FileDisk<F> {
+    ghost bytes = { λ _. None };
+
+    ghost images = { λ _ _. ⊥ };
+
+    ghost moment = { λ _. 0 };
+
+    ghost images_since = { λ _ _ _. ⊥ };
+
+    ghost faults = { λ d. d.faults };
+
+    ghost reads_as = { λ _. tt };
+
+    ghost counts_now = { λ _ _ _ _ image. image };
+
+    ghost only_now = { λ _ _ image. image };
+
+    fn faults(&self) -> u64 {
+        self.faults
+    }
+
+    fn len(&mut self) -> Result<u64, Failed>
+        ensures failed { FailsAsFile self.old.failed self.new.failed result }
+        ensures faults { self.new.faults ≡ faults_behind self.old.faults result }
+        ensures cause { HasCause self.old.faults self.new.faults result }
+    {
+        if let Some(file) = &mut self.file {
+            if let Ok(length) = file.len() {
+                return Ok(length);
+            }
+        }
+        self.faults = self.faults.saturating_add(1);
+        Err(Failed)
+    }
+
+    fn read(&mut self, at: u64, into: &mut [u8]) -> Result<usize, Failed>
+        ensures bound { IfOk result (λ count. count ≤ length into.new) }
+        ensures failed { FailsAsFile self.old.failed self.new.failed result }
+        ensures faults { self.new.faults ≡ faults_behind self.old.faults result }
+        ensures cause { HasCause self.old.faults self.new.faults result }
+    {
+        if let Some(file) = &mut self.file {
+            if let Ok(count) = file.read_at(into, at) {
+                return Ok(count);
+            }
+        }
+        self.faults = self.faults.saturating_add(1);
+        Err(Failed)
+    }
+
+    fn write_at(&mut self, at: u64, piece: &[u8]) -> Result<(), Failed>
+        ensures failed { FailsAsFile self.old.failed self.new.failed result }
+        ensures faults { self.new.faults ≡ faults_behind self.old.faults result }
+        ensures cause { HasCause self.old.faults self.new.faults result }
+    {
+        if let Some(file) = &mut self.file {
+            if file.write_all_at(piece, at).is_ok() {
+                return Ok(());
+            }
+        }
+        self.faults = self.faults.saturating_add(1);
+        Err(Failed)
+    }
+
+    fn sync(&mut self) -> Result<(), Failed>
+        ensures failed { FailsAsFile self.old.failed self.new.failed result }
+        ensures faults { self.new.faults ≡ faults_behind self.old.faults result }
+        ensures cause { HasCause self.old.faults self.new.faults result }
+    {
+        if let Some(file) = &mut self.file {
+            if file.sync().is_ok() {
+                return Ok(());
+            }
+        }
+        self.faults = self.faults.saturating_add(1);
+        Err(Failed)
+    }
+}

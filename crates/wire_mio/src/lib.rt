@@ -1,0 +1,59 @@
+//! The real outside: a wire over TCP sockets, and sources, sinks and disks over files.
+//!
+//! The one contract: each meets the trait of its kind. So an error comes only where the object's count of faults rose,
+//! what is read or written stays within the slice that was handed in, and a wire counts each event that it gives. They
+//! tell nothing of content: what a file holds, what a socket delivers and what a terminal shows is trusted.
+//!
+//! [`FileSource`] reads a file, [`FileSink`] adds to one, and [`StdSink`] writes to standard output. A source or a sink
+//! over a reader or writer that tells its bytes tells them too. [`FileDisk`] keeps a journal in a file.
+//!
+//! [`MioWire`] is a wire over sockets on one thread:
+//!
+//! ```text
+//! let mut wire = MioWire::listen(rt, alloc, &address)?;   // 0.0.0.0:10051 or [::]:10051
+//! match wire.next(alloc)? {                               // within a second: Quiet, if nothing comes
+//!     WireEvent::Piece { conn, bytes, .. } => {           // 1 to 65,536 bytes
+//!         wire.send(conn, reply)?;
+//!         wire.close(conn);                               // behind the reply, which the peer reads whole
+//!     }
+//!     _ => {}
+//! }
+//! ```
+//!
+//! Connections are told of by the numbers 1, 2, 3 and so on. At most 128 are there at once; one that comes besides is
+//! closed, unless one can go that the program has closed already. A connection is one of these:
+//!
+//! ```text
+//! open      its bytes come as pieces, until Ended or Broke
+//! ended     the peer has sent all; a reply may still be sent. It goes when it is closed, or after ten seconds
+//! closed    nothing of it is told any more; what the peer still sends is read away, so that the system doesn't take
+//!           back the reply. It goes when the peer ends, after ten seconds, or where its place is needed
+//! ```
+//!
+//! A look at the sockets reads each one that has something once, so no peer holds up another, and takes time by the
+//! sockets that have something, not by those that are there. Only `send` waits for one peer, 10 seconds at most.
+#![tactic(auto)]
+
+mod clock;
+mod connections;
+mod file_disk;
+mod piece;
+mod queue;
+mod sink;
+mod sockets;
+mod source;
+mod standard;
+mod stored;
+mod wire;
+mod writer;
+
+pub use file_disk::FileDisk;
+pub use sink::FileSink;
+pub use source::FileSource;
+pub use standard::StdSink;
+pub use stored::{DiskFile, Stored};
+pub use wire::MioWire;
+pub use writer::WriterSink;
+
+#[cfg(test)]
+mod tests;
