@@ -21,3 +21,6 @@ pub mod PlacedElements
 pub mod Ranked
 pub mod Sourced
 pub mod MacroLists
+pub mod Counts
+pub mod Linked
+pub mod HostFaults

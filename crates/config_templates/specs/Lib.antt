@@ -21,3 +21,6 @@ pub mod Tables
 pub mod Meanings
 pub mod Written
 pub mod Laid
+pub mod Depends
+pub mod Dependings
+pub mod NamedHosts

@@ -26,10 +26,12 @@
 
 mod built;
 mod copying;
+mod depends;
 mod expressions;
 mod fault;
 mod firsts;
 mod flattening;
+mod hosts;
 mod inheritance;
 mod items;
 mod keys;

@@ -11,7 +11,7 @@ use std::convert::AsStr;
 use zbx_types::{Cause, OutOfMemory, Text};
 
 /// The pointer to an element of a list of a host or a template. The list is named with its `/`.
-fn element_pointer(
+pub(crate) fn element_pointer(
     alloc: Global,
     source: &Source<'_>,
     list: &str,

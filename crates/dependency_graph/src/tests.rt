@@ -1,5 +1,8 @@
 //! Cycles and depths, by examples.
 
+ghost use Rattle.std.specs.Prelude.{◌<◌, All, IsTrue};
+ghost use Rattle.dependency_graph.specs.Tables.{IsClosed};
+
 use crate::{depths, first_on_cycle};
 use std::alloc::Global;
 use std::test::Fail;
@@ -24,9 +27,27 @@ fn ends(alloc: Global, word: &str) -> Result<Many<u32>, OutOfMemory> {
     Ok(made)
 }
 
+/// Whether all of these are below a number.
+fn all_below(ends: &[u32], size: usize) -> bool
+    ensures { IsTrue result → All (λ t. t < size) ends.now }
+{
+    ends.iter().all(|end| (*end as usize) < size)
+}
+
+/// Whether each link leads to one of the things.
+fn is_closed(links: &[Many<u32>]) -> bool
+    ensures { IsTrue result → IsClosed links.now }
+{
+    let size = links.len();
+    links.iter().all(|ends| all_below(ends.as_slice(), size))
+}
+
 /// The place of the first link on a cycle, as `1/0`, or the depths, as `2 1 0`.
 fn told(alloc: Global, text: &str) -> Result<String, OutOfMemory> {
     let links = links(alloc, text)?;
+    if !is_closed(&links) {
+        return Err(OutOfMemory);
+    }
     if let Some(place) = first_on_cycle(alloc, &links)? {
         return Ok(format!(in alloc; "{}/{}", place.from, place.at)?);
     }
