@@ -4,6 +4,8 @@ pub mod Links
 pub mod Macros
 pub mod Items
 pub mod Expressions
+pub mod Patterns
+pub mod Kept
 pub mod Triggers
 pub mod Built
 pub mod Flat

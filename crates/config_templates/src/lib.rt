@@ -37,6 +37,7 @@ mod macros;
 mod meanings;
 mod owned_names;
 mod owners;
+mod patterns;
 mod pointers;
 mod refusals;
 mod templates;
