@@ -21,3 +21,4 @@ pub mod PlacedElements
 pub mod Ranked
 pub mod Sourced
 pub mod MacroLists
+pub mod KeptPatterns

@@ -6,6 +6,9 @@ pub mod Items
 pub mod Expressions
 pub mod Patterns
 pub mod Kept
+pub mod Titles
+pub mod Uses
+pub mod Members
 pub mod Triggers
 pub mod Built
 pub mod Flat

@@ -32,11 +32,11 @@ has_pattern patterns text = list_any (λ p. bytes_eq p.text text) patterns
 
 -- the patterns, where one more is used behind those
 abbrev pub joined : List Pattern → Pattern → Result (List Pattern) Flaw
-joined before use =
-    if not (is_pattern use.text) then refuse use.path BadMember
-    else if has_pattern before use.text then Ok before
-    else if nat_le most_patterns (length before) then refuse use.path TooMany
-    else Ok (before ++ use ∷ [])
+joined before p =
+    if not (is_pattern p.text) then refuse p.path BadMember
+    else if has_pattern before p.text then Ok before
+    else if nat_le most_patterns (length before) then refuse p.path TooMany
+    else Ok (before ++ p ∷ [])
 
 -- the patterns, where these are used one after the other behind those
 abbrev pub all_joined : List Pattern → List Pattern → Result (List Pattern) Flaw

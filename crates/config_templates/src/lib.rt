@@ -41,7 +41,9 @@ mod patterns;
 mod pointers;
 mod refusals;
 mod templates;
+mod titles;
 mod triggers;
+mod uses;
 
 pub use fault::FlatError;
 pub use flattening::flat;

@@ -13,7 +13,7 @@ use zbx_types::{Cause, Many, OutOfMemory, Text};
 const MOST_PATTERNS: usize = 128;
 
 /// The most bytes of a pattern (this project's own).
-const LONGEST_PATTERN: usize = 255;
+pub(crate) const LONGEST_PATTERN: usize = 255;
 
 /// What comes of a pattern that is used.
 #[derive(Clone, Copy)]
