@@ -4,6 +4,7 @@ pub mod KeyFronts
 pub mod FirstNames
 pub mod Failing
 pub mod Steps
+pub mod PassLemmas
 pub mod Fronts
 pub mod Meant
 pub mod Free

@@ -170,7 +170,14 @@ fn join_tags(
 {
     for (place, tag) in tags.as_slice().iter().enumerate() {
         let texts = patterns_in(alloc, &tag.value)?;
-        join_texts(alloc, patterns, source, index, Member::TagValue(place), &texts)?;
+        join_texts(
+            alloc,
+            patterns,
+            source,
+            index,
+            Member::TagValue(place),
+            &texts,
+        )?;
     }
     Ok(())
 }
@@ -205,7 +212,14 @@ pub(crate) fn join_trigger(
 {
     let texts = patterns_in(alloc, users.title)?;
     join_texts(alloc, patterns, source, index, Member::Name, &texts)?;
-    join_calls(alloc, patterns, source, index, Member::Expression, users.calls)?;
+    join_calls(
+        alloc,
+        patterns,
+        source,
+        index,
+        Member::Expression,
+        users.calls,
+    )?;
     let member = Member::RecoveryExpression;
     join_calls(alloc, patterns, source, index, member, users.recovery_calls)?;
     join_tags(alloc, patterns, source, index, users.tags)
