@@ -1,12 +1,12 @@
 -- A document that is laid out.
-use Rattle.std.proofs.Common.{◌≡◌, ℕ, true, false, List, refl, ap, sym, ◌∙◌, subst}
+use Rattle.std.proofs.Common.{◌≡◌, ℕ, true, false, List, [], refl, ap, sym, ◌∙◌, subst}
 use Rattle.std.specs.Prelude.{Result, Ok, Err, Option, Some, None}
 use Rattle.std.specs.Option.{option_or}
 use Rattle.json_form.specs.Faults.{Fault}
 use Rattle.config_templates.specs.Items.{items_of}
 use Rattle.config_templates.specs.Triggers.{triggers_of}
 use Rattle.zbx_types.specs.declared.items.Item.{Item}
-use Rattle.zbx_types.specs.declared.triggers.Trigger.{Trigger}
+use Rattle.config_templates.specs.declared.triggers.Found.{Found}
 use Rattle.zbx_types.specs.declared.conf.Conf.{Conf}
 use Rattle.config_read.specs.declared.raw.RawConf.{RawConf}
 use Rattle.config_templates.specs.declared.fault.FlatError.{FlatError}
@@ -71,12 +71,12 @@ paired : {I L C : Type 0} (items : Result I Flaw) (triggers : I → Result L Fla
 paired (Err f) triggers made = refl
 paired (Ok i) triggers made = paired_one i (triggers i) made
 
-laid_as : (text : List ℕ) (raw : RawConf) → is_built raw ≡ true → unknown_links raw ≡ None → cycles raw ≡ None → laid_out text raw ≡ (items_of raw >>= λ items. triggers_of raw items >>= λ triggers. Ok (conf_made text raw items triggers))
+laid_as : (text : List ℕ) (raw : RawConf) → is_built raw ≡ true → unknown_links raw ≡ None → cycles raw ≡ None → laid_out text raw ≡ (items_of raw >>= λ items. triggers_of raw items [] >>= λ found. Ok (conf_made text raw items found))
 unfolding laid_out
 laid_as text raw b u c = rw (b, u, c) refl
 
 -- what a call gives of the lists it gives of the configuration, where the document is built and its links are right
-pub lists_give : (text : List ℕ) (raw : RawConf) (r : Result (List Item × List Trigger) FlatError) → is_built raw ≡ true → unknown_links raw ≡ None → cycles raw ≡ None → Gives r (lists_of raw) → GivesAs (λ l. conf_made text raw l.0 l.1) r (laid_out text raw)
+pub lists_give : (text : List ℕ) (raw : RawConf) (r : Result (List Item × Found) FlatError) → is_built raw ≡ true → unknown_links raw ≡ None → cycles raw ≡ None → Gives r (lists_of raw) → GivesAs (λ l. conf_made text raw l.0 l.1) r (laid_out text raw)
 lists_give text raw r b u c h =
-    subst (λ laid. GivesAs (λ l. conf_made text raw l.0 l.1) r laid) (paired (items_of raw) (λ items. triggers_of raw items) (conf_made text raw) ∙ sym (laid_as text raw b u c))
+    subst (λ laid. GivesAs (λ l. conf_made text raw l.0 l.1) r laid) (paired (items_of raw) (λ items. triggers_of raw items []) (conf_made text raw) ∙ sym (laid_as text raw b u c))
     (carried (λ l. conf_made text raw l.0 l.1) r (lists_of raw) h)

@@ -4,6 +4,7 @@ pub mod KeyFronts
 pub mod FirstNames
 pub mod Failing
 pub mod Steps
+pub mod PassLemmas
 pub mod Fronts
 pub mod Meant
 pub mod Free
@@ -24,3 +25,4 @@ pub mod MacroLists
 pub mod Counts
 pub mod Linked
 pub mod HostFaults
+pub mod KeptPatterns

@@ -3,7 +3,6 @@ use Rattle.std.specs.Prelude.{ℕ, List, [], map, Result, Ok, Err, if◌then◌e
 use Rattle.json_form.specs.Faults.{Fault}
 use Rattle.zbx_types.specs.declared.conf.Host.{Host}
 use Rattle.zbx_types.specs.declared.items.Item.{Item}
-use Rattle.zbx_types.specs.declared.triggers.Trigger.{Trigger}
 use Rattle.zbx_types.specs.declared.conf.Conf.{Conf}
 use Rattle.config_read.specs.declared.raw.RawHost.{RawHost}
 use Rattle.config_read.specs.declared.raw.RawConf.{RawConf}
@@ -14,24 +13,25 @@ use Rattle.config_templates.specs.Built.{is_built}
 use Rattle.config_templates.specs.Links.{unknown_links, cycles}
 use Rattle.config_templates.specs.Items.{items_of}
 use Rattle.config_templates.specs.Triggers.{triggers_of}
+use Rattle.config_templates.specs.declared.triggers.Found.{Found}
 
 -- a host of the flat configuration
 abbrev pub host_made : RawHost → Host
 host_made raw = record { name = raw.name; groups = raw.groups; enabled = raw.enabled }
 
--- the flat configuration of a document with these items and triggers
-abbrev pub conf_made : List ℕ → RawConf → List Item → List Trigger → Conf
-conf_made text raw items triggers = record {
+-- the flat configuration of a document with these items, triggers and patterns
+abbrev pub conf_made : List ℕ → RawConf → List Item → Found → Conf
+conf_made text raw items found = record {
   text = text;
   utc_offset = raw.utc_offset;
   hosts = map host_made raw.hosts;
   items = items;
-  triggers = triggers;
+  triggers = found.triggers;
   correlations = raw.correlations;
   maintenances = raw.maintenances;
   actions = raw.actions;
-  patterns = [];
-  pattern_paths = [];
+  patterns = map (λ p. p.text) found.patterns;
+  pattern_paths = map (λ p. p.path) found.patterns;
 }
 
 -- the document as it is read, or its first fault
@@ -50,8 +50,8 @@ laid_out text raw = do
   raw ← unless raw (unknown_links raw)
   raw ← unless raw (cycles raw)
   items ← items_of raw
-  triggers ← triggers_of raw items
-  Ok (conf_made text raw items triggers)
+  found ← triggers_of raw items []
+  Ok (conf_made text raw items found)
 
 -- the flat configuration of a text, or why it has none
 unfoldable pub flat_of : List ℕ → Result Conf Flaw

@@ -4,6 +4,11 @@ pub mod Links
 pub mod Macros
 pub mod Items
 pub mod Expressions
+pub mod Patterns
+pub mod Kept
+pub mod Titles
+pub mod Uses
+pub mod Members
 pub mod Triggers
 pub mod Built
 pub mod Flat

@@ -15,16 +15,20 @@ use Rattle.zbx_types.specs.declared.expr.Expr.TheVariants.{Bin}
 use Rattle.zbx_types.specs.declared.expr.Op.TheVariants.{Gt}
 use Rattle.zbx_types.specs.declared.causes.Cause.TheVariants.{Duplicate, TooMany, BadExpression, UnknownName, WrongValueType}
 use Rattle.macro_text.specs.Expanded.{expanded}
-use Rattle.macro_text.specs.Limited.{whole_front}
 use Rattle.macro_text.specs.declared.macros.Macro.{Macro}
 use Rattle.config_read.specs.declared.raw.RawTrigger.{RawTrigger}
 use Rattle.config_read.specs.declared.raw.RawHost.{RawHost}
 use Rattle.config_read.specs.declared.raw.RawConf.{RawConf}
-use Rattle.config_templates.specs.Places.{Flaw, Placed, placed, refuse, each, each_list, ◌>>=◌}
+use Rattle.config_templates.specs.Places.{Flaw, Placed, placed, refuse, each_list, ◌>>=◌}
 use Rattle.config_templates.specs.Places.Flaw.{unbuilt}
 use Rattle.config_templates.specs.Links.{sources_of, placed_hosts}
 use Rattle.config_templates.specs.Macros.{macros_of}
 use Rattle.config_templates.specs.Expressions.{Plain, plain_of, range_end, longest_expression, deciding}
+use Rattle.config_templates.specs.Patterns.{Pattern}
+use Rattle.config_templates.specs.Titles.{title_of, tags_of}
+use Rattle.config_templates.specs.Uses.{Users, trigger_joined}
+use Rattle.config_templates.specs.declared.triggers.Found.{Found}
+use Rattle.zbx_types.specs.declared.entries.Tag.{Tag}
 
 -- the most triggers of all hosts
 abbrev pub most_triggers : ℕ
@@ -108,9 +112,9 @@ plain_meant raw items owner path text (Some plain) = number_meant raw items owne
 unfoldable pub meant_of : RawConf → List Item → Owner → List ℕ → List ℕ → Result Meant Flaw
 meant_of raw items owner path text = plain_meant raw items owner path text (plain_of text)
 
--- a trigger of a host, with its title and what its expression means
-abbrev pub trigger_made : ℕ → List ℕ → RawTrigger → Meant → Trigger
-trigger_made host title raw meant = record {
+-- a trigger of a host, with its title, its tags and what its expression means
+abbrev pub trigger_made : ℕ → List ℕ → List Tag → RawTrigger → Meant → Trigger
+trigger_made host title tags raw meant = record {
   host = host;
   name = raw.name;
   title = title;
@@ -122,27 +126,32 @@ trigger_made host title raw meant = record {
   multiple = raw.multiple;
   close_tag = raw.close_tag;
   severity = raw.severity;
-  tags = raw.tags;
+  tags = tags;
   depends = [];
   enabled = raw.enabled;
   depth = 0;
 }
 
--- the most bytes of a title, as of the name of an event
-abbrev pub longest_title : ℕ
-longest_title = 2048
+-- a trigger of a host with these macros, by what its expression means
+abbrev pub meant_trigger : RawConf → List Item → Owner → List Macro → Placed RawTrigger → Result Trigger Flaw
+meant_trigger raw items owner macros p =
+    meant_of raw items owner (p.path ++ codes "/expression") (deciding (expanded macros p.body.expression))
+    >>= λ meant. Ok (trigger_made owner.id (title_of macros p.body) (tags_of macros p.body) p.body meant)
 
--- the title of a trigger of a host with these macros: its name with their values, cut to whole characters
-abbrev pub title_of : List Macro → RawTrigger → List ℕ
-title_of macros raw = whole_front longest_title (expanded macros raw.name)
+-- what a trigger uses patterns in
+abbrev pub users_of : Trigger → Users
+users_of t = record { title = t.title; calls = t.calls; recovery_calls = []; tags = t.tags }
 
--- a trigger of a host with these macros, behind those before it
-unfoldable pub trigger_of : RawConf → List Item → Owner → List Macro → List Trigger → Placed RawTrigger → Result Trigger Flaw
-trigger_of raw items owner macros before p =
-    if has_trigger before owner.id p.body.name then refuse (p.path ++ codes "/name") Duplicate
-    else if nat_le most_triggers (length before) then refuse p.path TooMany
-    else (meant_of raw items owner (p.path ++ codes "/expression") (deciding (expanded macros p.body.expression))
-    >>= λ meant. Ok (trigger_made owner.id (title_of macros p.body) p.body meant))
+-- one trigger more, at a pointer, and the patterns that it uses
+abbrev pub found_with : Found → List ℕ → Trigger → Result Found Flaw
+found_with found path t = trigger_joined found.patterns path (users_of t) >>= λ patterns. Ok (record { triggers = found.triggers ++ t ∷ []; patterns = patterns })
+
+-- the same of a trigger of a host with these macros
+unfoldable pub trigger_of : RawConf → List Item → Owner → List Macro → Found → Placed RawTrigger → Result Found Flaw
+trigger_of raw items owner macros found p =
+    if has_trigger found.triggers owner.id p.body.name then refuse (p.path ++ codes "/name") Duplicate
+    else if nat_le most_triggers (length found.triggers) then refuse p.path TooMany
+    else (meant_trigger raw items owner macros p >>= found_with found p.path)
 
 -- the triggers of some sources, in their order
 abbrev pub placed_triggers : List (Placed RawHost) → List (Placed RawTrigger)
@@ -153,9 +162,9 @@ abbrev pub owner_of : RawConf → Placed RawHost → Owner
 owner_of raw h = record { id = h.place + 1; name = h.body.name; sources = sources_of raw h }
 
 -- the triggers of a host, behind those of the hosts before it
-unfoldable pub triggers_from : RawConf → List Item → Owner → List Trigger → Result (List Trigger) Flaw
-triggers_from raw items owner before = each (trigger_of raw items owner (macros_of raw owner.sources)) before (placed_triggers owner.sources)
+unfoldable pub triggers_from : RawConf → List Item → Owner → Found → Result Found Flaw
+triggers_from raw items owner found = each_list (trigger_of raw items owner (macros_of raw owner.sources)) found (placed_triggers owner.sources)
 
--- the triggers of all hosts
-unfoldable pub triggers_of : RawConf → List Item → Result (List Trigger) Flaw
-triggers_of raw items = each_list (λ before h. triggers_from raw items (owner_of raw h) before) [] (placed_hosts raw)
+-- the triggers of all hosts, and the patterns that they use, behind those of the items
+unfoldable pub triggers_of : RawConf → List Item → List Pattern → Result Found Flaw
+triggers_of raw items patterns = each_list (λ found h. triggers_from raw items (owner_of raw h) found) (record { triggers = []; patterns = patterns }) (placed_hosts raw)

@@ -16,10 +16,11 @@ use crate::inheritance::Inheritance;
 use crate::items::items;
 use crate::meanings::Scope;
 use crate::owners::host_names;
-use crate::triggers::triggers;
+use crate::patterns::PatternList;
+use crate::triggers::{Found, triggers};
 use config_read::{RawConf, RawHost, ReadError, read};
 use std::alloc::Global;
-use zbx_types::{Conf, Host, Item, Many, OutOfMemory, Text, Trigger, copy_texts};
+use zbx_types::{Conf, Host, Item, Many, OutOfMemory, Text, copy_texts};
 
 /// The document of a text.
 fn document(alloc: Global, text: &[u8]) -> Result<RawConf, FlatError>
@@ -65,30 +66,32 @@ fn hosts(alloc: Global, raws: &Many<RawHost>) -> Result<Many<Host>, OutOfMemory>
     Ok(made)
 }
 
-/// The configuration of a document with these items and triggers.
+/// The configuration of a document with these items, triggers and patterns.
 fn conf(
     alloc: Global,
     text: &[u8],
     raw: RawConf,
     items: Many<Item>,
-    triggers: Many<Trigger>,
+    found: Found,
 ) -> Result<Conf, OutOfMemory>
     requires { IsUtf8 text.now }
-    ensures { IfOk result (λ made. made ≡ conf_made text.now raw items triggers) }
+    ensures { IfOk result (λ made. made ≡ conf_made text.now raw items found) }
 {
     let text = text_of(alloc, text)?;
     let hosts = hosts(alloc, &raw.hosts)?;
+    let patterns = found.patterns.texts(alloc)?;
+    let pattern_paths = found.patterns.paths(alloc)?;
     Ok(Conf {
         text,
         utc_offset: raw.utc_offset,
         hosts,
         items,
-        triggers,
+        triggers: found.triggers,
         correlations: raw.correlations,
         maintenances: raw.maintenances,
         actions: raw.actions,
-        patterns: Many::new(alloc),
-        pattern_paths: Many::new(alloc),
+        patterns,
+        pattern_paths,
     })
 }
 
@@ -97,7 +100,7 @@ fn lists<'r>(
     alloc: Global,
     raw: &'r RawConf,
     inheritance: &Inheritance<'r>,
-) -> Result<(Many<Item>, Many<Trigger>), FlatError>
+) -> Result<(Many<Item>, Found), FlatError>
     requires { Inherits raw.now inheritance.now }
     ensures { Gives result (lists_of raw.now) }
 {
@@ -108,13 +111,14 @@ fn lists<'r>(
         hosts: &hosts,
         items: &items,
     };
-    let triggers = triggers(alloc, &scope, inheritance)?.triggers;
-    Ok((items.items, triggers))
+    let patterns = PatternList::new(alloc);
+    let found = triggers(alloc, &scope, inheritance, patterns)?.found;
+    Ok((items.items, found))
 }
 
 /// The items and the triggers of a document.
 #[tactic(auto, using(crate::proofs::LaidOut::not_built, crate::proofs::LaidOut::links_fail, crate::proofs::LaidOut::lists_give))]
-fn laid_lists(alloc: Global, raw: &RawConf) -> Result<(Many<Item>, Many<Trigger>), FlatError>
+fn laid_lists(alloc: Global, raw: &RawConf) -> Result<(Many<Item>, Found), FlatError>
     ensures { (text : List ℕ) → GivesAs (λ l. conf_made text raw.now l.0 l.1) result (laid_out text raw.now) }
 {
     if !is_built(raw) {
@@ -129,8 +133,8 @@ fn flattened(alloc: Global, text: &[u8], raw: RawConf) -> Result<Conf, FlatError
     requires { IsUtf8 text.now }
     ensures { Gives result (laid_out text.now raw) }
 {
-    let (items, triggers) = laid_lists(alloc, &raw)?;
-    Ok(conf(alloc, text, raw, items, triggers)?)
+    let (items, found) = laid_lists(alloc, &raw)?;
+    Ok(conf(alloc, text, raw, items, found)?)
 }
 
 /// The flat configuration of a configuration document, a JSON text of at most 16,777,216 bytes.

@@ -39,10 +39,13 @@ mod macros;
 mod meanings;
 mod owned_names;
 mod owners;
+mod patterns;
 mod pointers;
 mod refusals;
 mod templates;
+mod titles;
 mod triggers;
+mod uses;
 
 pub use fault::FlatError;
 pub use flattening::flat;
