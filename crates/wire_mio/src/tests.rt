@@ -4,7 +4,7 @@ use crate::source::FileSource;
 use crate::standard::StdSink;
 use crate::wire::MioWire;
 use crate::writer::WriterSink;
-use outside::{Disk, Failed, Sink, Source, Trouble, Wire, WireEvent};
+use outside::{Disk, Failed, Sink, Source, Wire, WireEvent};
 use std::alloc::Global;
 use std::convert::AsStr;
 use std::io::{Read, Write};
@@ -12,7 +12,7 @@ use std::net::{Shutdown, TcpListener, TcpStream};
 use std::test::Fail;
 use std::time::Duration;
 use std::{env, fs, io, thread};
-use zbx_types::{Bytes, Text};
+use zbx_types::{OutOfMemory, Text};
 
 /// Gives one byte, then fails once, then ends.
 #[derive(Drop)]
@@ -120,65 +120,51 @@ fn a_file_that_cannot_be_opened_fails_at_its_first_call(rt: HostRuntime) -> Resu
     Ok(())
 }
 
-/// A path in the folder for temporary files, of this name.
-fn path_of(rt: &HostRuntime, name: &str) -> io::Result<Text> {
-    let alloc = rt.alloc();
+/// A path in the folder for temporary files.
+fn path_of(rt: &HostRuntime) -> io::Result<Text> {
     let folder = env::temp_dir(rt)?;
-    let path = format!(in alloc;
-        "{}/wire_mio_{}_{}",
-        folder.as_str(),
-        name,
-        std::process::id(rt.process())
-    )?;
-    Ok(Text::from(path))
+    let id = std::process::id(rt.process());
+    Ok(Text::from(format!(in rt.alloc(); "{}/wire_mio_disk_{id}", folder.as_str())?))
+}
+
+/// Writes to a disk over a file that isn't there yet, and tells whether all went well.
+fn write_disk(rt: &HostRuntime, path: &Text) -> bool {
+    let mut disk = FileDisk::at(rt, path);
+    disk.len() == Ok(0)
+        && disk.write_at(0, b"abc").is_ok()
+        && disk.write_at(5, b"fg").is_ok()
+        && disk.write_at(1, b"BC").is_ok()
+        && disk.sync().is_ok()
+        && disk.len() == Ok(7)
 }
 
 #[test]
 fn a_disk_keeps_what_was_written_to_its_file(rt: HostRuntime) -> Result<(), Fail> {
-    let path = path_of(&rt, "disk")?;
+    let path = path_of(&rt)?;
+    assert!(rt; write_disk(&rt, &path));
     let mut disk = FileDisk::at(&rt, &path);
-    assert_eq!(rt;
-        (disk.len(), disk.write_at(0, b"abc"), disk.sync()),
-        (Ok(0), Ok(()), Ok(()))
-    );
-    assert_eq!(rt;
-        (disk.write_at(5, b"fg"), disk.write_at(1, b"BC"), disk.len()),
-        (Ok(()), Ok(()), Ok(7))
-    );
-    let mut again = FileDisk::at(&rt, &path);
     let mut into = [9; 8];
-    assert_eq!(rt; again.read(0, &mut into), Ok(7));
+    assert_eq!(rt; disk.read(0, &mut into), Ok(7));
     assert_eq!(rt; into, *b"aBC\0\0fg\x09");
-    assert_eq!(rt;
-        (
-            again.read(4, &mut into[..2]),
-            again.read(7, &mut into),
-            again.faults()
-        ),
-        (Ok(2), Ok(0), 0)
-    );
-    assert_eq!(rt; &into[..2], b"\0f".as_slice());
+    assert_eq!(rt; disk.read(7, &mut into), Ok(0));
     fs::remove_file(&rt, path.as_str())?;
     Ok(())
 }
 
+/// How many calls of a disk over the file at a path fail, of a read, a write and a sync.
+fn failed_calls(rt: &HostRuntime, path: &str) -> Result<u64, OutOfMemory> {
+    let path = Text::of(rt.alloc(), path)?;
+    let mut disk = FileDisk::at(rt, &path);
+    let _ = disk.read(0, &mut [0; 1]);
+    let _ = disk.write_at(0, b"a");
+    let _ = disk.sync();
+    Ok(disk.faults())
+}
+
 #[test]
 fn a_disk_fails_where_its_file_does(rt: HostRuntime) -> Result<(), Fail> {
-    let alloc = rt.alloc();
-    let mut nowhere = FileDisk::at(&rt, &Text::of(alloc, "/nowhere/at/all")?);
-    assert_eq!(rt;
-        (
-            nowhere.len(),
-            nowhere.read(0, &mut [0; 1]),
-            nowhere.faults()
-        ),
-        (Err(Failed), Err(Failed), 2)
-    );
-    let mut full = FileDisk::at(&rt, &Text::of(alloc, "/dev/full")?);
-    assert_eq!(rt;
-        (full.write_at(0, b"a"), full.sync(), full.faults()),
-        (Err(Failed), Err(Failed), 2)
-    );
+    assert_eq!(rt; failed_calls(&rt, "/nowhere/at/all")?, 3);
+    assert_eq!(rt; failed_calls(&rt, "/dev/full")?, 2);
     Ok(())
 }
 
@@ -189,125 +175,121 @@ fn free_address(rt: &HostRuntime) -> io::Result<Text> {
 }
 
 /// Sends in two pieces, then bytes that nobody reads, and answers how many bytes it got up to the end.
-fn ask(rt: &HostRuntime, address: &str) -> io::Result<usize> {
+fn ask(rt: &HostRuntime, address: &str) -> io::Result<u64> {
     let mut stream = TcpStream::connect(rt, address)?;
     stream.write_all(b"hello ")?;
     thread::sleep(rt, Duration::from_millis(50));
     stream.write_all(b"world")?;
     thread::sleep(rt, Duration::from_millis(50));
     stream.write_all(&[b'x'; 30_000])?;
-    let mut reply = Vec::new(rt.alloc());
-    stream.read_to_end(&mut reply)
+    io::copy(&mut stream, &mut io::sink())
 }
 
-/// Takes events until eleven bytes have come, replies with a mebibyte, closes, and takes two events more. Answers what
-/// came up to the reply, and how many connections are there at the end.
-fn answer(wire: &mut MioWire<&HostRuntime>, alloc: Global) -> Result<(Bytes, usize), Trouble> {
-    let reply = Vec::from_elem(alloc, b'r', 1 << 20).or(Err(Trouble::OutOfMemory))?;
-    let mut came = Bytes::new(alloc);
-    for _ in 0..100 {
-        if let WireEvent::Piece { conn, bytes, .. } = wire.next(alloc)? {
-            came.extend(bytes.as_slice())?;
-            if came.len() >= 11 {
-                wire.send(conn, reply.as_slice())?;
-                wire.close(conn);
-                break;
+/// What a wire told up to the first Quiet or error: the latest connection that opened, how many bytes came, and how many
+/// connections ended. Where as many bytes came as are stated, it sends the reply and closes the connection.
+fn told(
+    wire: &mut MioWire<&HostRuntime>,
+    alloc: Global,
+    length: usize,
+    reply: &[u8],
+) -> (u64, usize, u64) {
+    let (mut opened, mut came, mut ended) = (0, 0usize, 0u64);
+    for _ in 0..1_000 {
+        match wire.next(alloc) {
+            Ok(WireEvent::Opened { conn, .. }) => opened = conn,
+            Ok(WireEvent::Piece { conn, bytes, .. }) => {
+                came = came.saturating_add(bytes.len());
+                if came == length {
+                    let _ = wire.send(conn, reply);
+                    wire.close(conn);
+                }
             }
+            Ok(WireEvent::Ended { .. }) => ended = ended.saturating_add(1),
+            _ => break,
         }
     }
-    wire.next(alloc)?;
-    wire.next(alloc)?;
-    Ok((came, wire.connections()))
+    (opened, came, ended)
 }
 
 #[test]
 fn a_client_reads_its_whole_reply(rt: HostRuntime) -> Result<(), Fail> {
+    let alloc = rt.alloc();
     let address = free_address(&rt)?;
-    let mut wire = MioWire::listen(&rt, rt.alloc(), &address)?;
-    let (answered, got) = thread::join(
+    let reply = Vec::from_elem(alloc, b'r', 1 << 20)?;
+    let mut wire = MioWire::listen(&rt, alloc, &address)?;
+    let (_, got) = thread::join(
         &rt,
-        || answer(&mut wire, rt.alloc()),
-        || ask(&rt, address.as_str()),
+        || told(&mut wire, alloc, 11, reply.as_slice()),
+        || ask(&rt, address.as_str()).unwrap_or(0),
     );
-    let (came, left) = answered?;
-    assert_eq!(rt; &came.as_slice()[..11], b"hello world".as_slice());
-    assert_eq!(rt; got?, 1 << 20);
-    assert_eq!(rt; (left, wire.faults(), wire.unsent()), (0, 0, 0));
+    assert_eq!(rt; (got, wire.unsent(), wire.connections()), (1 << 20, 0, 0));
     Ok(())
 }
 
-/// The events up to the one at which nothing came for a while, one letter each, with the numbers of those that opened.
-fn told(wire: &mut MioWire<&HostRuntime>, alloc: Global) -> Result<String, Fail> {
-    let mut told = String::new(alloc);
-    for _ in 0..1_000 {
-        match wire.next(alloc)? {
-            WireEvent::Opened { conn, .. } => told.push_str(format!(in alloc;
-                "o{conn} "
-            )?.as_str())?,
-            WireEvent::Piece { conn, bytes, .. } => {
-                told.push_str(format!(in alloc; "p{conn}:{} ", bytes.len())?.as_str())?;
-            }
-            WireEvent::Ended { conn, .. } => told.push_str(format!(in alloc;
-                "e{conn} "
-            )?.as_str())?,
-            WireEvent::Broke { conn, .. } => told.push_str(format!(in alloc;
-                "b{conn} "
-            )?.as_str())?,
-            WireEvent::Quiet { .. } => return Ok(told),
-            WireEvent::Closed { .. } => told.push_str("c ")?,
-        }
+/// A client that sends three bytes and no more, and the five that it gets.
+fn half_closed(
+    rt: &HostRuntime,
+    wire: &mut MioWire<&HostRuntime>,
+    address: &str,
+) -> io::Result<((u64, usize, u64), usize)> {
+    let mut client = TcpStream::connect(rt, address)?;
+    client.write_all(b"abc")?;
+    client.shutdown(Shutdown::Write)?;
+    let events = told(wire, rt.alloc(), 0, b"");
+    let _ = wire.send(1, b"reply");
+    wire.close(1);
+    let mut reply = [0; 8];
+    Ok((events, client.read(&mut reply)?))
+}
+
+/// As many clients, and what was told of them, with how many connections are there.
+fn crowd(
+    rt: &HostRuntime,
+    wire: &mut MioWire<&HostRuntime>,
+    address: &str,
+    size: u32,
+) -> io::Result<((u64, usize, u64), usize)> {
+    let mut clients = Vec::new(rt.alloc());
+    for _ in 0..size {
+        clients.push(TcpStream::connect(rt, address)?)?;
     }
-    Ok(told)
+    Ok((told(wire, rt.alloc(), 0, b""), wire.connections()))
+}
+
+/// What half a client, a crowd, and a client in its place come to.
+fn visits(
+    rt: &HostRuntime,
+    address: &Text,
+) -> Result<[((u64, usize, u64), usize); 3], OutOfMemory> {
+    let mut wire = MioWire::listen(rt, rt.alloc(), address)?;
+    let none = ((0, 0, 0), 0);
+    let first = half_closed(rt, &mut wire, address.as_str()).unwrap_or(none);
+    let crowd_of = crowd(rt, &mut wire, address.as_str(), 130).unwrap_or(none);
+    let unknown = usize::from(wire.send(7_000, b"reply").is_err() && wire.unsent() == 1);
+    let after = told(&mut wire, rt.alloc(), 0, b"");
+    Ok([first, crowd_of, (after, unknown)])
 }
 
 #[test]
 fn an_ended_connection_gets_its_reply_and_a_129th_is_closed(rt: HostRuntime) -> Result<(), Fail> {
-    let alloc = rt.alloc();
     let address = free_address(&rt)?;
-    let mut wire = MioWire::listen(&rt, alloc, &address)?;
-    let mut first = TcpStream::connect(&rt, address.as_str())?;
-    first.write_all(b"abc")?;
-    first.shutdown(Shutdown::Write)?;
-    assert_eq!(rt; told(&mut wire, alloc)?.as_str(), "o1 p1:3 e1 ");
-    assert_eq!(rt;
-        (
-            wire.send(1, b"reply"),
-            wire.send(7, b"reply"),
-            wire.unsent()
-        ),
-        (Ok(()), Err(Failed), 1)
-    );
-    wire.close(1);
-    let mut reply = [0; 8];
-    assert_eq!(rt;
-        (
-            first.read(&mut reply)?,
-            first.read(&mut reply)?,
-            wire.connections()
-        ),
-        (5, 0, 0)
-    );
-    let mut clients = Vec::new(alloc);
-    for _ in 0..129 {
-        clients.push(TcpStream::connect(&rt, address.as_str())?)?;
-    }
-    let opened = told(&mut wire, alloc)?;
-    assert!(rt; opened.as_str().ends_with(" o128 o129 "));
-    assert_eq!(rt; wire.connections(), 128);
-    assert_eq!(rt; clients[128].read(&mut reply)?, 0);
-    wire.close(5);
-    let late = TcpStream::connect(&rt, address.as_str())?;
-    assert_eq!(rt; told(&mut wire, alloc)?.as_str(), "o130 ");
-    drop(late);
-    assert_eq!(rt; told(&mut wire, alloc)?.as_str(), "e130 ");
+    let seen = visits(&rt, &address)?;
+    assert_eq!(rt; seen[0], ((1, 3, 1), 5));
+    assert_eq!(rt; seen[1], ((129, 0, 0), 128));
+    assert_eq!(rt; seen[2], ((0, 0, 128), 1));
     Ok(())
+}
+
+/// How many calls of `next` have failed, of one call at a wire on an address that is none.
+fn deaf(rt: &HostRuntime) -> Result<u64, OutOfMemory> {
+    let address = Text::of(rt.alloc(), "nowhere")?;
+    let mut wire = MioWire::listen(rt, rt.alloc(), &address)?;
+    let _ = wire.next(rt.alloc());
+    Ok(wire.faults())
 }
 
 #[test]
 fn a_wire_without_a_socket_fails_at_its_first_call(rt: HostRuntime) -> Result<(), Fail> {
-    let alloc = rt.alloc();
-    let mut wire = MioWire::listen(&rt, alloc, &Text::of(alloc, "nowhere")?)?;
-    assert!(rt; matches!(wire.next(alloc), Err(Trouble::Failed)));
-    assert_eq!(rt; (wire.faults(), wire.unsent(), wire.ready()), (1, 0, false));
+    assert_eq!(rt; deaf(&rt)?, 1);
     Ok(())
 }
