@@ -4,8 +4,10 @@ pub mod KeyFronts
 pub mod FirstNames
 pub mod Failing
 pub mod Steps
-pub mod Fronts
 pub mod Meant
+pub mod Parsing
+pub mod CallLists
+pub mod Both
 pub mod Free
 pub mod LaidOut
 pub mod TextsRead

@@ -3,9 +3,12 @@ pub mod Walks
 pub mod Links
 pub mod Macros
 pub mod Items
+pub mod Referenced
+pub mod Functions
+pub mod Reading
 pub mod Expressions
-pub mod Triggers
 pub mod Built
+pub mod Triggers
 pub mod Flat
 pub mod Answers
 pub mod Sources
@@ -16,7 +19,6 @@ pub mod Elements
 pub mod Owners
 pub mod Linked
 pub mod Inherited
-pub mod Read
 pub mod Tables
 pub mod Meanings
 pub mod Written

@@ -3,10 +3,13 @@
 ghost use Rattle.std.specs.Prelude.{◌≡◌};
 ghost use Rattle.std.specs.List.{list_all};
 ghost use Rattle.config_templates.specs.Braces.{begins_with_dollar};
-ghost use Rattle.config_templates.specs.Built.{is_empty, has_user_macros_only, recovers_by_expression, is_built_item, is_built_trigger, is_built_host, is_built};
+ghost use Rattle.config_templates.specs.Built.{is_empty, has_user_macros_only, recovers_by_expression, is_built_item, is_built_trigger, is_built_host, is_built, is_last, is_limit, is_first_call, is_number, is_plain};
+ghost use Rattle.config_templates.specs.Meanings.{meant_now};
+ghost use Rattle.zbx_types.specs.Trees.{tree_of};
 
+use crate::resolving::Meaning;
 use config_read::{RawConf, RawHost, RawItem, RawTrigger};
-use zbx_types::{Many, RecoveryMode};
+use zbx_types::{Call, Expr, Fun, Many, Op, Range, RecoveryMode};
 
 fn is_empty<T>(items: &Many<T>) -> bool
     ensures { result ≡ is_empty items.now }
@@ -107,4 +110,53 @@ pub(crate) fn is_built(raw: &RawConf) -> bool
         && is_empty(&raw.correlations)
         && is_empty(&raw.maintenances)
         && is_empty(&raw.actions)
+}
+
+/// Whether a call is of the last value.
+fn is_last(call: &Call) -> bool
+    ensures { result ≡ is_last call.now }
+{
+    call.fun == Fun::Last && call.range == Range::Count(1) && call.shift == 0
+}
+
+fn is_first_call(expr: &Expr) -> bool
+    ensures { result ≡ is_first_call (tree_of expr.now) }
+{
+    match expr {
+        Expr::Call(0) => true,
+        _ => false,
+    }
+}
+
+fn is_number(expr: &Expr) -> bool
+    ensures { result ≡ is_number (tree_of expr.now) }
+{
+    match expr {
+        Expr::Const(_) => true,
+        _ => false,
+    }
+}
+
+/// Whether an expression is a call above a number.
+fn is_limit(expr: &Expr) -> bool
+    ensures { result ≡ is_limit expr.now }
+{
+    match expr {
+        Expr::Bin(Op::Gt, call, limit) => is_first_call(call.expr()) && is_number(limit.expr()),
+        _ => false,
+    }
+}
+
+fn are_last(calls: &Many<Call>) -> bool
+    ensures { result ≡ list_all is_last calls.now }
+{
+    calls.as_slice().iter().all(|call| is_last(call))
+}
+
+/// Whether the expressions of a trigger are built: `last(/HOST/KEY)>NUMBER` alone is.
+#[tactic(auto, unfolding(crate::specs::Built::is_plain))]
+pub(crate) fn is_plain(meaning: &Meaning) -> bool
+    ensures { result ≡ is_plain (meant_now meaning.now) }
+{
+    is_limit(&meaning.expr) && are_last(&meaning.calls)
 }

@@ -137,8 +137,8 @@ fn flattened(alloc: Global, text: &[u8], raw: RawConf) -> Result<Conf, FlatError
 ///
 /// `Refused` comes with the document's first fault and its path: what the reading of the document refuses, then links, the
 /// items of the hosts in their order, and the triggers of the hosts in theirs. `Unbuilt` comes where the document can be
-/// read and has a form that isn't built, and where an expression isn't plain and nothing before it is refused.
-/// Of an expression of more than 4,096 bytes these alone are looked at, and it is refused where they begin a plain one.
+/// read and has a form that isn't built, and where an expression isn't plain and neither it nor anything before it is
+/// refused. Of an expression of more than 4,096 bytes these alone are looked at.
 /// `OutOfMemory` may come on any text, and says nothing of it.
 ///
 /// The form of the document is this project's own. How hosts inherit is from the Zabbix 6.0 manual, "Linking/unlinking",

@@ -30,6 +30,7 @@ mod expressions;
 mod fault;
 mod firsts;
 mod flattening;
+mod functions;
 mod inheritance;
 mod items;
 mod keys;
@@ -39,6 +40,7 @@ mod owned_names;
 mod owners;
 mod pointers;
 mod refusals;
+mod resolving;
 mod templates;
 mod triggers;
 

@@ -1,36 +1,30 @@
 //! The triggers of the flat configuration.
 
-ghost use Rattle.std.specs.Prelude.{◌≡◌, ◌+◌, ◌++◌, ◌∷◌, [], ◌<◌, length, Some, slice_get, IfOk, OnOk};
+ghost use Rattle.std.specs.Prelude.{◌≡◌, ◌++◌, ◌∷◌, [], ◌<◌, length, Some, slice_get, IfOk, OnOk};
 ghost use Rattle.config_templates.specs.Answers.{Gives, GivesAs};
 ghost use Rattle.config_templates.specs.Elements.{placed_trigger, placed_host, own_triggers};
-ghost use Rattle.config_templates.specs.Expressions.{deciding};
 ghost use Rattle.config_templates.specs.Inherited.{Inherits};
 ghost use Rattle.config_templates.specs.Links.{placed_hosts};
 ghost use Rattle.config_templates.specs.Meanings.{meant_now};
 ghost use Rattle.config_templates.specs.Names.{named_trigger, named_triggers};
 ghost use Rattle.config_templates.specs.Owners.{owner_now, sources_now, KnowsSources, IsScope};
 ghost use Rattle.config_templates.specs.Places.{each};
-ghost use Rattle.config_templates.specs.Triggers.{trigger_made, trigger_of, placed_triggers, owner_of, triggers_from, triggers_of};
+ghost use Rattle.config_templates.specs.Triggers.{built_meant, trigger_made, trigger_of, placed_triggers, owner_of, triggers_from, triggers_of};
 ghost use Rattle.config_templates.specs.Written.{written, meant_trigger};
-ghost use Rattle.macro_text.specs.Expanded.{expanded};
-ghost use Rattle.zbx_types.specs.declared.expr.Expr.TheVariants.{Bin};
-ghost use Rattle.zbx_types.specs.declared.expr.Op.TheVariants.{Gt};
-ghost use Rattle.zbx_types.specs.Tree.{call, constant};
 
+use crate::built::is_plain;
 use crate::fault::FlatError;
 use crate::inheritance::Inheritance;
-use crate::meanings::{Meaning, Scope, meaning_of};
+use crate::meanings::Scope;
 use crate::owned_names::OwnedNames;
 use crate::owners::{Owner, owner_at};
 use crate::refusals::{refused_element, refused_member};
+use crate::resolving::{Meaning, meaning_of};
 use crate::templates::sources::Source;
 use config_read::{RawHost, RawTrigger};
-use macro_text::{Expansion, expand_front, expand_within};
+use macro_text::expand_front;
 use std::alloc::Global;
-use zbx_types::{
-    Bytes, Cause, Expr, Fix, LONGEST_EXPRESSION, Many, Op, Operand, OutOfMemory, Tag, Text,
-    Trigger, copy_tags,
-};
+use zbx_types::{Cause, Many, OutOfMemory, Tag, Text, Trigger, copy_tags};
 
 /// The most triggers of all hosts (this project's own).
 const MOST_TRIGGERS: usize = 50_000;
@@ -43,24 +37,6 @@ const LONGEST_TITLE: usize = 2048;
 pub(crate) struct TriggerList {
     pub triggers: Many<Trigger>,
     pub names: OwnedNames,
-}
-
-/// A list of one.
-fn one<T: Drop>(alloc: Global, item: T) -> Result<Many<T>, OutOfMemory>
-    ensures { IfOk result (λ made. made ≡ item ∷ []) }
-{
-    let mut made = Many::new(alloc);
-    made.push(item)?;
-    Ok(made)
-}
-
-/// The expression that the one call is above a limit.
-fn above(alloc: Global, limit: Fix) -> Result<Expr, OutOfMemory>
-    ensures { IfOk result (λ made. made ≡ Bin Gt (call 0) (constant limit)) }
-{
-    let call = Operand::new(alloc, Expr::Call(0))?;
-    let limit = Operand::new(alloc, Expr::Const(limit))?;
-    Ok(Expr::Bin(Op::Gt, call, limit))
 }
 
 /// What a trigger takes over as it is written.
@@ -98,18 +74,15 @@ fn make(
         close_tag,
         tags,
     } = write(alloc, raw)?;
-    let expr = above(alloc, meaning.limit)?;
-    let calls = one(alloc, meaning.call)?;
-    let call_items = one(alloc, meaning.item)?;
     Ok(Trigger {
         host,
         name,
         title,
-        expr,
+        expr: meaning.expr,
         recovery: raw.recovery,
-        recovery_expr: None,
-        calls,
-        call_items,
+        recovery_expr: meaning.recovery_expr,
+        calls: meaning.calls,
+        call_items: meaning.call_items,
         multiple: raw.multiple,
         close_tag,
         severity: raw.severity,
@@ -120,19 +93,24 @@ fn make(
     })
 }
 
-/// What decides of the expression of a trigger of a host.
-#[tactic(auto, unfolding(crate::specs::Expressions::deciding))]
-fn deciding(alloc: Global, owner: &Owner<'_, '_>, raw: &RawTrigger) -> Result<Bytes, OutOfMemory>
-    ensures { IfOk result (λ made. made ≡ deciding (expanded owner.now.macros raw.now.expression)) }
+/// What the expressions of a trigger mean, where they are built.
+fn built_meaning(
+    alloc: Global,
+    scope: &Scope<'_>,
+    owner: &Owner<'_, '_>,
+    source: &Source<'_>,
+    index: usize,
+    raw: &RawTrigger,
+) -> Result<Meaning, FlatError>
+    requires scope { IsScope scope.now }
+    requires sources { KnowsSources owner.now.names (sources_now owner.now) }
+    ensures { GivesAs meant_now result (built_meant scope.now.raw.now scope.now.items.now.items (owner_now owner.now) owner.now.macros (placed_trigger source.now index raw.now)) }
 {
-    match expand_within(alloc, &raw.expression, &owner.macros, LONGEST_EXPRESSION)? {
-        Expansion::Whole(text) => Bytes::of(alloc, text.as_bytes()),
-        Expansion::Longer(front) => {
-            let mut front = front;
-            front.extend(b"0")?;
-            Ok(front)
-        }
+    let meaning = meaning_of(alloc, scope, owner, source, index, raw)?;
+    if !is_plain(&meaning) {
+        return Err(FlatError::Unbuilt);
     }
+    Ok(meaning)
 }
 
 /// The trigger of a host, its name and the number of triggers before it being right.
@@ -148,8 +126,7 @@ fn meant_trigger(
     requires sources { KnowsSources owner.now.names (sources_now owner.now) }
     ensures { Gives result (meant_trigger scope.now.raw.now scope.now.items.now.items (owner_now owner.now) owner.now.macros (placed_trigger source.now index raw.now)) }
 {
-    let expression = deciding(alloc, owner, raw)?;
-    let meaning = meaning_of(alloc, scope, owner, source, index, expression.as_slice())?;
+    let meaning = built_meaning(alloc, scope, owner, source, index, raw)?;
     let title = expand_front(alloc, &raw.name, &owner.macros, LONGEST_TITLE)?;
     Ok(make(alloc, owner.id, title, raw, meaning)?)
 }
