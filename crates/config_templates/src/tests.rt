@@ -10,6 +10,7 @@ use zbx_types::{
 
 mod faults;
 mod lengths;
+mod patterns;
 
 /// A template with a macro, an item and a trigger; a host with a macro of its own is linked to it, and one without.
 fn linked() -> &'static str {
