@@ -6,23 +6,26 @@ use Rattle.zbx_types.specs.declared.triggers.Trigger.{Trigger}
 use Rattle.macro_text.specs.declared.macros.Macro.{Macro}
 use Rattle.config_read.specs.declared.raw.RawConf.{RawConf}
 use Rattle.config_read.specs.declared.raw.RawTrigger.{RawTrigger}
-use Rattle.config_templates.specs.Answers.{Gives}
+use Rattle.config_templates.specs.Answers.{GivesAs}
 use Rattle.config_templates.specs.Places.{Placed}
-use Rattle.config_templates.specs.Triggers.{Owner, has_trigger, trigger_of, most_triggers}
+use Rattle.config_templates.specs.Referenced.{Owner}
+use Rattle.config_templates.specs.Triggers.{has_trigger, trigger_of, most_triggers}
 use Rattle.config_templates.specs.Names.{Named, has_named, named_triggers}
 use Rattle.config_templates.proofs.Taken.{has_trigger_named}
-use Rattle.config_templates.specs.Written.{meant_trigger}
+use Rattle.config_templates.specs.Written.{free_trigger}
+use Rattle.config_templates.specs.declared.triggers.Found.{Found}
 use Rattle.config_templates.specs.declared.fault.FlatError.{FlatError}
 
-as_meant : (raw : RawConf) (items : List Item) (owner : Owner) (macros : List Macro) (before : List Trigger) (p : Placed RawTrigger)
-    → has_trigger before owner.id p.body.name ≡ false → nat_le most_triggers (length before) ≡ false → trigger_of raw items owner macros before p ≡ meant_trigger raw items owner macros p
+as_free : (raw : RawConf) (items : List Item) (owner : Owner) (macros : List Macro) (found : Found) (p : Placed RawTrigger)
+    → has_trigger found.triggers owner.id p.body.name ≡ false → nat_le most_triggers (length found.triggers) ≡ false → trigger_of raw items owner macros found p ≡ free_trigger raw items owner macros found p
 unfolding trigger_of
-as_meant raw items owner macros before p h g = rw (h, g) refl
+as_free raw items owner macros found p h g = rw (h, g) refl
 
 -- what a call gives of it is what it gives of the trigger, where its name is free and there is room
-pub gives_free : (r : Result Trigger FlatError) (raw : RawConf) (items : List Item) (owner : Owner) (macros : List Macro) (before : List Trigger) (p : Placed RawTrigger)
-    → has_trigger before owner.id p.body.name ≡ false → nat_le most_triggers (length before) ≡ false → Gives r (meant_trigger raw items owner macros p) → Gives r (trigger_of raw items owner macros before p)
-gives_free r raw items owner macros before p h g f = subst (λ laid. Gives r laid) (sym (as_meant raw items owner macros before p h g)) f
+pub gives_free : (seen : Trigger → Found) (r : Result Trigger FlatError) (raw : RawConf) (items : List Item) (owner : Owner) (macros : List Macro) (found : Found) (p : Placed RawTrigger)
+    → has_trigger found.triggers owner.id p.body.name ≡ false → nat_le most_triggers (length found.triggers) ≡ false → GivesAs seen r (free_trigger raw items owner macros found p)
+    → GivesAs seen r (trigger_of raw items owner macros found p)
+gives_free seen r raw items owner macros found p h g f = subst (λ laid. GivesAs seen r laid) (sym (as_free raw items owner macros found p h g)) f
 
 not_true : (b : Bool) → not b ≡ true → b ≡ false
 not_true true h = absurd cc

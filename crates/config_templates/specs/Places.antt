@@ -4,10 +4,9 @@ use Rattle.std.specs.Fmt.{decimal}
 use Rattle.zbx_types.specs.declared.causes.Cause.{Cause}
 use Rattle.json_form.specs.Faults.{Fault}
 
--- Why a document has no flat configuration: its first fault, or a form that isn't built.
+-- Why a document has no flat configuration: its first fault.
 pub data Flaw : Type 0 where
   refused : (fault : Fault) → Flaw
-  unbuilt : Flaw
 
 -- one step after the other, up to the first flaw
 infixl 10 ◌>>=◌
@@ -54,7 +53,7 @@ abbrev pub each : {A B : Type 0} → (List B → A → Result B Flaw) → List B
 each make before [] = Ok before
 each make before (a ∷ rest) = make before a >>= λ b. each make (before ++ b ∷ []) rest
 
--- the same of several lists
-abbrev pub each_list : {A B : Type 0} → (List B → A → Result (List B) Flaw) → List B → List A → Result (List B) Flaw
-each_list make before [] = Ok before
-each_list make before (a ∷ rest) = make before a >>= λ behind. each_list make behind rest
+-- what all elements make, each in order of what those before it made
+abbrev pub each_list : {A S : Type 0} → (S → A → Result S Flaw) → S → List A → Result S Flaw
+each_list make made [] = Ok made
+each_list make made (a ∷ rest) = make made a >>= λ more. each_list make more rest

@@ -8,8 +8,10 @@ use zbx_types::{
     Call, Conf, Expr, Fun, Item, Op, Operand, OutOfMemory, Range, Text, Trigger, ValueType,
 };
 
+mod expressions;
 mod faults;
 mod lengths;
+mod patterns;
 
 /// A template with a macro, an item and a trigger; a host with a macro of its own is linked to it, and one without.
 fn linked() -> &'static str {

@@ -1,66 +1,50 @@
 //! The triggers of the flat configuration.
 
-ghost use Rattle.std.specs.Prelude.{◌≡◌, ◌+◌, ◌++◌, ◌∷◌, [], ◌<◌, length, Some, slice_get, IfOk, OnOk};
+ghost use Rattle.std.specs.Prelude.{◌≡◌, ◌++◌, ◌∷◌, [], ◌<◌, List, length, Some, slice_get, IfOk, OnOk};
 ghost use Rattle.config_templates.specs.Answers.{Gives, GivesAs};
 ghost use Rattle.config_templates.specs.Elements.{placed_trigger, placed_host, own_triggers};
-ghost use Rattle.config_templates.specs.Expressions.{deciding};
 ghost use Rattle.config_templates.specs.Inherited.{Inherits};
 ghost use Rattle.config_templates.specs.Links.{placed_hosts};
 ghost use Rattle.config_templates.specs.Meanings.{meant_now};
-ghost use Rattle.config_templates.specs.Names.{named_trigger, named_triggers};
+ghost use Rattle.config_templates.specs.Names.{named, named_trigger, named_triggers};
 ghost use Rattle.config_templates.specs.Owners.{owner_now, sources_now, KnowsSources, IsScope};
-ghost use Rattle.config_templates.specs.Places.{each};
-ghost use Rattle.config_templates.specs.Triggers.{trigger_made, trigger_of, placed_triggers, owner_of, triggers_from, triggers_of};
-ghost use Rattle.config_templates.specs.Written.{written, meant_trigger};
-ghost use Rattle.macro_text.specs.Expanded.{expanded};
-ghost use Rattle.zbx_types.specs.declared.expr.Expr.TheVariants.{Bin};
-ghost use Rattle.zbx_types.specs.declared.expr.Op.TheVariants.{Gt};
-ghost use Rattle.zbx_types.specs.Tree.{call, constant};
+ghost use Rattle.config_templates.specs.Depends.{written_triggers};
+ghost use Rattle.config_templates.specs.Places.{each_list};
+ghost use Rattle.config_templates.specs.Triggers.{trigger_made, users_of, trigger_of, placed_triggers, owner_of, triggers_from, triggers_of};
+ghost use Rattle.config_templates.specs.Members.{users_now};
+ghost use Rattle.config_templates.specs.Written.{written, free_trigger, more_found};
+ghost use Rattle.zbx_types.specs.declared.triggers.Trigger.{Trigger};
 
 use crate::fault::FlatError;
 use crate::inheritance::Inheritance;
-use crate::meanings::{Meaning, Scope, meaning_of};
+use crate::meanings::Scope;
 use crate::owned_names::OwnedNames;
 use crate::owners::{Owner, owner_at};
+use crate::patterns::PatternList;
 use crate::refusals::{refused_element, refused_member};
+use crate::resolving::{Meaning, meaning_of};
 use crate::templates::sources::Source;
+use crate::titles::{tags, title};
+use crate::uses::{Users, join_trigger};
 use config_read::{RawHost, RawTrigger};
-use macro_text::{Expansion, expand_front, expand_within};
 use std::alloc::Global;
-use zbx_types::{
-    Bytes, Cause, Expr, Fix, LONGEST_EXPRESSION, Many, Op, Operand, OutOfMemory, Tag, Text,
-    Trigger, copy_tags,
-};
+use zbx_types::{Cause, Many, OutOfMemory, Tag, Text, Trigger};
 
 /// The most triggers of all hosts (this project's own).
 const MOST_TRIGGERS: usize = 50_000;
 
-/// The most bytes of a title, which are as many as the name of an event has (this project's own).
-const LONGEST_TITLE: usize = 2048;
+/// Triggers, and the patterns that the items and they use.
+#[derive(Drop)]
+pub(crate) struct Found {
+    pub triggers: Many<Trigger>,
+    pub patterns: PatternList,
+}
 
-/// Triggers, and their names.
+/// Triggers with the patterns, and their names.
 #[derive(Drop)]
 pub(crate) struct TriggerList {
-    pub triggers: Many<Trigger>,
+    pub found: Found,
     pub names: OwnedNames,
-}
-
-/// A list of one.
-fn one<T: Drop>(alloc: Global, item: T) -> Result<Many<T>, OutOfMemory>
-    ensures { IfOk result (λ made. made ≡ item ∷ []) }
-{
-    let mut made = Many::new(alloc);
-    made.push(item)?;
-    Ok(made)
-}
-
-/// The expression that the one call is above a limit.
-fn above(alloc: Global, limit: Fix) -> Result<Expr, OutOfMemory>
-    ensures { IfOk result (λ made. made ≡ Bin Gt (call 0) (constant limit)) }
-{
-    let call = Operand::new(alloc, Expr::Call(0))?;
-    let limit = Operand::new(alloc, Expr::Const(limit))?;
-    Ok(Expr::Bin(Op::Gt, call, limit))
 }
 
 /// What a trigger takes over as it is written.
@@ -68,7 +52,6 @@ fn above(alloc: Global, limit: Fix) -> Result<Expr, OutOfMemory>
 struct Written {
     pub name: Text,
     pub close_tag: Text,
-    pub tags: Many<Tag>,
 }
 
 fn write(alloc: Global, raw: &RawTrigger) -> Result<Written, OutOfMemory>
@@ -76,40 +59,31 @@ fn write(alloc: Global, raw: &RawTrigger) -> Result<Written, OutOfMemory>
 {
     let name = raw.name.copy(alloc)?;
     let close_tag = raw.close_tag.copy(alloc)?;
-    let tags = copy_tags(alloc, &raw.tags)?;
-    Ok(Written {
-        name,
-        close_tag,
-        tags,
-    })
+    Ok(Written { name, close_tag })
 }
 
 fn make(
     alloc: Global,
     host: u32,
     title: Text,
+    tags: Many<Tag>,
     raw: &RawTrigger,
     meaning: Meaning,
 ) -> Result<Trigger, OutOfMemory>
-    ensures { IfOk result (λ made. made ≡ trigger_made host title raw.now (meant_now meaning)) }
+    ensures { IfOk result (λ made. made ≡ trigger_made host title tags raw.now (meant_now meaning)) }
 {
-    let Written {
-        name,
-        close_tag,
-        tags,
-    } = write(alloc, raw)?;
-    let expr = above(alloc, meaning.limit)?;
-    let calls = one(alloc, meaning.call)?;
-    let call_items = one(alloc, meaning.item)?;
+    let Written { name, close_tag } = write(alloc, raw)?;
+    let mut calls = meaning.calls;
+    calls.append(meaning.recovery_calls)?;
     Ok(Trigger {
         host,
         name,
         title,
-        expr,
+        expr: meaning.expr,
         recovery: raw.recovery,
-        recovery_expr: None,
+        recovery_expr: meaning.recovery_expr,
         calls,
-        call_items,
+        call_items: meaning.call_items,
         multiple: raw.multiple,
         close_tag,
         severity: raw.severity,
@@ -120,41 +94,41 @@ fn make(
     })
 }
 
-/// What decides of the expression of a trigger of a host.
-#[tactic(auto, unfolding(crate::specs::Expressions::deciding))]
-fn deciding(alloc: Global, owner: &Owner<'_, '_>, raw: &RawTrigger) -> Result<Bytes, OutOfMemory>
-    ensures { IfOk result (λ made. made ≡ deciding (expanded owner.now.macros raw.now.expression)) }
+/// What a trigger with this title and these tags uses patterns in.
+fn users_of<'t>(title: &'t Text, tags: &'t Many<Tag>, meaning: &'t Meaning) -> Users<'t>
+    ensures { users_now result ≡ users_of title.now tags.now (meant_now meaning.now) }
 {
-    match expand_within(alloc, &raw.expression, &owner.macros, LONGEST_EXPRESSION)? {
-        Expansion::Whole(text) => Bytes::of(alloc, text.as_bytes()),
-        Expansion::Longer(front) => {
-            let mut front = front;
-            front.extend(b"0")?;
-            Ok(front)
-        }
+    Users {
+        title,
+        calls: meaning.calls.as_slice(),
+        recovery_calls: meaning.recovery_calls.as_slice(),
+        tags,
     }
 }
 
-/// The trigger of a host, its name and the number of triggers before it being right.
-fn meant_trigger(
+/// The trigger of a host, its name and the number of triggers before it being right. Joins its patterns.
+fn free_trigger(
     alloc: Global,
     scope: &Scope<'_>,
     owner: &Owner<'_, '_>,
+    patterns: &mut PatternList,
     source: &Source<'_>,
     index: usize,
     raw: &RawTrigger,
 ) -> Result<Trigger, FlatError>
     requires scope { IsScope scope.now }
     requires sources { KnowsSources owner.now.names (sources_now owner.now) }
-    ensures { Gives result (meant_trigger scope.now.raw.now scope.now.items.now.items (owner_now owner.now) owner.now.macros (placed_trigger source.now index raw.now)) }
+    ensures gives { (before : List Trigger) → GivesAs (more_found before patterns.new) result (free_trigger scope.now.raw.now scope.now.items.now.items (owner_now owner.now) owner.now.macros (record { triggers = before; patterns = patterns.old }) (placed_trigger source.now index raw.now)) }
+    ensures named { IfOk result (λ t. named_trigger t ≡ named owner.now.id raw.now.name) }
 {
-    let expression = deciding(alloc, owner, raw)?;
-    let meaning = meaning_of(alloc, scope, owner, source, index, expression.as_slice())?;
-    let title = expand_front(alloc, &raw.name, &owner.macros, LONGEST_TITLE)?;
-    Ok(make(alloc, owner.id, title, raw, meaning)?)
+    let meaning = meaning_of(alloc, scope, owner, source, index, raw)?;
+    let title = title(alloc, raw, &owner.macros)?;
+    let tags = tags(alloc, raw, &owner.macros)?;
+    join_trigger(alloc, patterns, source, index, users_of(&title, &tags, &meaning))?;
+    Ok(make(alloc, owner.id, title, tags, raw, meaning)?)
 }
 
-/// The trigger of a host, behind those before it.
+/// The trigger of a host, behind those before it. Joins its patterns.
 #[tactic(auto, using(crate::proofs::Failing::refusal, crate::proofs::Taken::has_trigger_named), unfolding(crate::specs::Triggers::trigger_of))]
 fn trigger(
     alloc: Global,
@@ -167,19 +141,20 @@ fn trigger(
 ) -> Result<Trigger, FlatError>
     requires scope { IsScope scope.now }
     requires sources { KnowsSources owner.now.names (sources_now owner.now) }
-    requires names { list.old.names ≡ named_triggers list.old.triggers }
-    ensures gives { Gives result (trigger_of scope.now.raw.now scope.now.items.now.items (owner_now owner.now) owner.now.macros list.old.triggers (placed_trigger source.now index raw.now)) }
-    ensures triggers { IfOk result (λ t. list.new.triggers ≡ list.old.triggers) }
+    requires names { list.old.names ≡ named_triggers list.old.found.triggers }
+    ensures gives { GivesAs (more_found list.old.found.triggers list.new.found.patterns) result (trigger_of scope.now.raw.now scope.now.items.now.items (owner_now owner.now) owner.now.macros list.old.found (placed_trigger source.now index raw.now)) }
+    ensures triggers { IfOk result (λ t. list.new.found.triggers ≡ list.old.found.triggers) }
     ensures names { IfOk result (λ t. list.new.names ≡ list.old.names ++ named_trigger t ∷ []) }
 {
     if !list.names.take(alloc, owner.id, raw.name.as_bytes())? {
         let cause = Cause::Duplicate;
         return Err(refused_member(alloc, source, "/triggers", index, "/name", cause));
     }
-    if MOST_TRIGGERS <= list.triggers.len() {
+    if MOST_TRIGGERS <= list.found.triggers.len() {
         return Err(refused_element(alloc, source, "/triggers", index, Cause::TooMany));
     }
-    meant_trigger(alloc, scope, owner, source, index, raw)
+    let patterns = &mut list.found.patterns;
+    free_trigger(alloc, scope, owner, patterns, source, index, raw)
 }
 
 /// Adds a trigger of a host.
@@ -194,12 +169,12 @@ fn add_trigger(
 ) -> Result<(), FlatError>
     requires scope { IsScope scope.now }
     requires sources { KnowsSources owner.now.names (sources_now owner.now) }
-    requires names { list.old.names ≡ named_triggers list.old.triggers }
-    ensures gives { GivesAs (λ _. list.new.triggers) result (each (trigger_of scope.now.raw.now scope.now.items.now.items (owner_now owner.now) owner.now.macros) list.old.triggers (placed_trigger source.now index raw.now ∷ [])) }
-    ensures names { OnOk result (list.new.names ≡ named_triggers list.new.triggers) }
+    requires names { list.old.names ≡ named_triggers list.old.found.triggers }
+    ensures gives { GivesAs (λ _. list.new.found) result (each_list (trigger_of scope.now.raw.now scope.now.items.now.items (owner_now owner.now) owner.now.macros) list.old.found (placed_trigger source.now index raw.now ∷ [])) }
+    ensures names { OnOk result (list.new.names ≡ named_triggers list.new.found.triggers) }
 {
     let trigger = trigger(alloc, scope, owner, list, source, index, raw)?;
-    list.triggers.push(trigger)?;
+    list.found.triggers.push(trigger)?;
     Ok(())
 }
 
@@ -213,9 +188,9 @@ fn add_triggers(
 ) -> Result<(), FlatError>
     requires scope { IsScope scope.now }
     requires sources { KnowsSources owner.now.names (sources_now owner.now) }
-    requires names { list.old.names ≡ named_triggers list.old.triggers }
-    ensures gives { GivesAs (λ _. list.new.triggers) result (each (trigger_of scope.now.raw.now scope.now.items.now.items (owner_now owner.now) owner.now.macros) list.old.triggers (own_triggers source.now)) }
-    ensures names { OnOk result (list.new.names ≡ named_triggers list.new.triggers) }
+    requires names { list.old.names ≡ named_triggers list.old.found.triggers }
+    ensures gives { GivesAs (λ _. list.new.found) result (each_list (trigger_of scope.now.raw.now scope.now.items.now.items (owner_now owner.now) owner.now.macros) list.old.found (own_triggers source.now)) }
+    ensures names { OnOk result (list.new.names ≡ named_triggers list.new.found.triggers) }
 {
     for (index, raw) in source.body.triggers.as_slice().iter().enumerate() {
         add_trigger(alloc, scope, owner, list, source, index, raw)?;
@@ -224,7 +199,7 @@ fn add_triggers(
 }
 
 /// Adds the triggers of all sources of a host.
-#[tactic(auto, using(crate::proofs::Steps::source_then, crate::proofs::Steps::source_fails))]
+#[tactic(auto, using(crate::proofs::PassLemmas::source_then, crate::proofs::PassLemmas::source_fails))]
 fn add_owned(
     alloc: Global,
     scope: &Scope<'_>,
@@ -233,9 +208,9 @@ fn add_owned(
 ) -> Result<(), FlatError>
     requires scope { IsScope scope.now }
     requires sources { KnowsSources owner.now.names (sources_now owner.now) }
-    requires names { list.old.names ≡ named_triggers list.old.triggers }
-    ensures gives { GivesAs (λ _. list.new.triggers) result (each (trigger_of scope.now.raw.now scope.now.items.now.items (owner_now owner.now) owner.now.macros) list.old.triggers (placed_triggers (sources_now owner.now))) }
-    ensures names { OnOk result (list.new.names ≡ named_triggers list.new.triggers) }
+    requires names { list.old.names ≡ named_triggers list.old.found.triggers }
+    ensures gives { GivesAs (λ _. list.new.found) result (each_list (trigger_of scope.now.raw.now scope.now.items.now.items (owner_now owner.now) owner.now.macros) list.old.found (placed_triggers (sources_now owner.now))) }
+    ensures names { OnOk result (list.new.names ≡ named_triggers list.new.found.triggers) }
 {
     for source in owner.sources.as_slice() {
         add_triggers(alloc, scope, owner, list, source)?;
@@ -257,27 +232,34 @@ fn add_host<'r>(
     requires place { place < length scope.now.raw.now.hosts }
     requires there { slice_get (placed_hosts scope.now.raw.now) place ≡ Some (placed_host place host.now) }
     requires inheritance { Inherits scope.now.raw.now inheritance.now }
-    requires names { list.old.names ≡ named_triggers list.old.triggers }
-    ensures gives { GivesAs (λ _. list.new.triggers) result (triggers_from scope.now.raw.now scope.now.items.now.items (owner_of scope.now.raw.now (placed_host place host.now)) list.old.triggers) }
-    ensures names { OnOk result (list.new.names ≡ named_triggers list.new.triggers) }
+    requires names { list.old.names ≡ named_triggers list.old.found.triggers }
+    ensures gives { GivesAs (λ _. list.new.found) result (triggers_from scope.now.raw.now scope.now.items.now.items (owner_of scope.now.raw.now (placed_host place host.now)) list.old.found) }
+    ensures names { OnOk result (list.new.names ≡ named_triggers list.new.found.triggers) }
 {
     let owner = owner_at(alloc, scope.raw, inheritance, place, host)?;
     add_owned(alloc, scope, &owner, list)
 }
 
-/// The triggers of all hosts, in the order of the hosts, over the items of all hosts.
+/// The triggers of all hosts, in the order of the hosts, over the items of all hosts, and the patterns that they use behind
+/// those of the items.
 #[tactic(auto, unfolding(crate::specs::Triggers::triggers_of))]
 pub(crate) fn triggers<'r>(
     alloc: Global,
     scope: &Scope<'r>,
     inheritance: &Inheritance<'r>,
+    patterns: PatternList,
 ) -> Result<TriggerList, FlatError>
     requires scope { IsScope scope.now }
     requires inheritance { Inherits scope.now.raw.now inheritance.now }
-    ensures { GivesAs (λ l. l.triggers) result (triggers_of scope.now.raw.now scope.now.items.now.items) }
+    ensures gives { GivesAs (λ l. l.found) result (triggers_of scope.now.raw.now scope.now.items.now.items patterns) }
+    ensures names { IfOk result (λ l. l.names ≡ named_triggers l.found.triggers) }
+    ensures written { IfOk result (λ l. length l.found.triggers ≡ length (written_triggers scope.now.raw.now)) }
 {
     let mut list = TriggerList {
-        triggers: Many::new(alloc),
+        found: Found {
+            triggers: Many::new(alloc),
+            patterns,
+        },
         names: OwnedNames::new(alloc),
     };
     for (place, host) in scope.raw.hosts.as_slice().iter().enumerate() {

@@ -6,7 +6,7 @@ use Rattle.config_templates.proofs.triggers.triggers.Given as goal
 
 abbrev pub invariant-loop-place : goal.invariant-loop-place
 invariant-loop-place l = record {
-  gives : each_list (λ before h. triggers_from l.scope.raw.now l.scope.items.now.items (owner_of l.scope.raw.now h) before) l.list.triggers (placed_from (codes "/hosts") l.place (drop l.place l.scope.raw.now.hosts))
-      ≡ triggers_of l.scope.raw.now l.scope.items.now.items;
-  names : l.list.names ≡ named_triggers l.list.triggers;
+  gives : each_list (λ found h. triggers_from l.scope.raw.now l.scope.items.now.items (owner_of l.scope.raw.now h) found) l.list.found (placed_from (codes "/hosts") l.place (drop l.place l.scope.raw.now.hosts))
+      ≡ triggers_of l.scope.raw.now l.scope.items.now.items l.fn.patterns;
+  names : l.list.names ≡ named_triggers l.list.found.triggers;
 }

@@ -1,0 +1,4 @@
+pub mod Levels
+pub mod Once
+pub mod Rising
+pub mod Settled

@@ -1,0 +1,4 @@
+pub mod Walks
+pub mod Cycles
+pub mod Depths
+pub mod Tables
