@@ -113,8 +113,12 @@ fn lists<'r>(
         hosts: &hosts,
         items: &items,
     };
-    let TriggerList { found, names } =
-        triggers(alloc, &scope, inheritance, PatternList::new(alloc))?;
+    let TriggerList { found, names } = triggers(
+        alloc,
+        &scope,
+        inheritance,
+        PatternList::new(alloc),
+    )?;
     let list = NamedTriggers {
         triggers: found.triggers,
         names,
