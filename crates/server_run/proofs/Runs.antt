@@ -11,7 +11,7 @@ use Rattle.outside.specs.Causes.{Rose}
 use Rattle.outside.specs.Tells.{SinkTells, WireTells}
 use Rattle.outside.specs.declared.event.WireEvent.{WireEvent}
 use Rattle.config_templates.specs.Flat.{flat_of}
-use Rattle.config_templates.specs.Places.Flaw.{refused, unbuilt}
+use Rattle.config_templates.specs.Places.Flaw.{refused}
 use Rattle.event_text.specs.Lines.{lines_of}
 use Rattle.entry_step.specs.Log.{log_of}
 use Rattle.entry_step.specs.Records.{replay, out_of}
@@ -26,6 +26,7 @@ use Rattle.server_words.specs.Words.{plan_of}
 use Rattle.server_words.specs.Printed.{printed_text}
 use Rattle.server_run.specs.declared.book.Ledger.{Ledger}
 use Rattle.server_run.specs.Ports.{IsTextUpTo, ReadsUpTo, Grew, GrewByFront}
+use Rattle.server_run.specs.Built.{is_built, IsUnbuilt}
 use Rattle.server_run.specs.Standing.{Applied, log_lines}
 use Rattle.server_run.specs.Statuses.{Ending, never, at_closed, at_limit, at_wire_fault, anywhere, at_refusal, course_of, cut_short, IsRefusal, IsEnding, IsCourse, IsUnprinted, EndsPrinted, EndsAs, LeftIs}
 use Rattle.server_run.specs.Outbox.{UpToDate}
@@ -36,11 +37,16 @@ use Rattle.server_run.proofs.Texts.{text_told, flaw_told, at_end_of}
 some_plan : (o : Option Plan) (plan : Plan) → o ≡ Some plan → IsSome o
 some_plan o plan is = ap is_some is
 
+-- where a text that was read isn't built, neither is the source's
+unbuilt_told : (source : Option (List ℕ)) (bytes : List ℕ) → IfSome source (λ all. IsTextUpTo 16777216 all bytes) → IsUnbuilt bytes → IfSome source IsUnbuilt
+unbuilt_told None bytes read u = tt
+unbuilt_told (Some all) bytes read u = subst IsUnbuilt (text_told (Some all) bytes u.conf read u.conf_is) u
+
 -- a configuration that couldn't be taken
 pub refuses : (words : List (List ℕ)) (plan : Plan) (source : Option (List ℕ)) (faults faults' : ℕ) (bytes : List ℕ) (s : Status)
     → plan_of words ≡ Some plan → IfSome source (λ all. IsTextUpTo 16777216 all bytes) → IsUntaken bytes s → Refuses words source faults faults' s
 refuses words plan source faults faults' bytes status.OutOfMemory is read spent = tt
-refuses words plan source faults faults' bytes status.Unbuilt is read flaw = (some_plan (plan_of words) plan is, flaw_told source bytes unbuilt read flaw)
+refuses words plan source faults faults' bytes status.Unbuilt is read flaw = (some_plan (plan_of words) plan is, unbuilt_told source bytes read flaw)
 refuses words plan source faults faults' bytes (status.ConfigRefused path cause) is read flaw =
     (some_plan (plan_of words) plan is, flaw_told source bytes (refused (record { path = path; cause = cause })) read flaw)
 refuses words plan source faults faults' bytes _ is read none = absurd none
@@ -48,9 +54,9 @@ refuses words plan source faults faults' bytes _ is read none = absurd none
 -- what a run begins with
 pub opened : (words : List (List ℕ)) (plan : Plan) (source source' : Option (List ℕ)) (bytes text : List ℕ) (conf : Conf) (intake : Intake) (ledger : Ledger)
     → plan_of words ≡ Some plan → IfSome source (λ all. IsTextUpTo 16777216 all bytes) → (length bytes ≤ 16777216 → IsAtEnd source')
-    → flat_of bytes ≡ Ok conf → text ≡ bytes → intake ≡ start text
+    → flat_of bytes ≡ Ok conf → is_built conf ≡ true → text ≡ bytes → intake ≡ start text
     → Applied conf ledger.cells ledger.tally (log_of (start text).entries) → Opened words source source' plan.turns conf intake ledger
-opened words plan source source' bytes text conf intake ledger is read end found same begun applied = record {
+opened words plan source source' bytes text conf intake ledger is read end found built same begun applied = record {
   plan = plan;
   plan_is = is;
   turns_are = refl;
@@ -58,6 +64,7 @@ opened words plan source source' bytes text conf intake ledger is read end found
   text_is = subst (λ t. IfSome source (λ all. t ≡ all)) (sym same) (text_told source bytes conf read found);
   at_end = end (at_end_of bytes conf found);
   conf_is = ap flat_of same ∙ found;
+  built = built;
   intake_is = begun;
   applied = applied;
 }
@@ -88,6 +95,7 @@ followed words source source' turns conf intake ledger entries out wire wire' s 
   text_is = o.text_is;
   conf = conf;
   conf_is = o.conf_is;
+  built = o.built;
   finished = subst (λ n. Finished conf (start o.text) out n wire wire' (course_of s).ending) o.turns_are
       (subst (λ (i : Intake). Finished conf i out turns wire wire' (course_of s).ending) o.intake_is
       (subst (λ es. Finished conf intake es turns wire wire' (course_of s).ending) (sym same) f));
@@ -145,7 +153,7 @@ followed_printed words source wire wire' s ended entries (own, inl same) f = sub
 followed_printed words source wire wire' s ended entries (own, inr (inr (cut, well))) f =
     let g : Followed words source wire wire' status.Ok entries = subst (λ t. Followed words source wire wire' t entries) well f in
     subst (λ t. Followed words source wire wire' t entries) (sym cut)
-    (record { plan = g.plan; plan_is = g.plan_is; text = g.text; text_is = g.text_is; conf = g.conf; conf_is = g.conf_is; finished = g.finished })
+    (record { plan = g.plan; plan_is = g.plan_is; text = g.text; text_is = g.text_is; conf = g.conf; conf_is = g.conf_is; built = g.built; finished = g.finished })
 followed_printed words source wire wire' s ended entries (own, inr (inl spent)) f =
     subst (λ t. Followed words source wire wire' t entries) (sym spent) (record {
       plan = f.plan;
@@ -154,6 +162,7 @@ followed_printed words source wire wire' s ended entries (own, inr (inl spent)) 
       text_is = f.text_is;
       conf = f.conf;
       conf_is = f.conf_is;
+      built = f.built;
       finished = finished_refused f.conf (start f.text) entries f.plan.turns wire wire' (course_of s).ending f.finished;
     })
 

@@ -1,4 +1,5 @@
 pub mod Ports
+pub mod Built
 pub mod Replayed
 pub mod Tally
 pub mod Standing

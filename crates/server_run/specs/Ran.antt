@@ -10,7 +10,6 @@ use Rattle.outside.specs.Tells.{SinkTells, WireTells}
 use Rattle.outside.specs.declared.event.WireEvent.{WireEvent}
 use Rattle.config_templates.specs.Flat.{flat_of}
 use Rattle.config_templates.specs.Places.{refuse}
-use Rattle.config_templates.specs.Places.Flaw.{unbuilt}
 use Rattle.intake_front.specs.Intake.{start}
 use Rattle.intake_front.specs.Served.{served}
 use Rattle.intake_front.specs.declared.answer.Stop.TheVariants as stop
@@ -18,6 +17,7 @@ use Rattle.server_words.specs.Words.{plan_of}
 use Rattle.server_words.specs.declared.words.Plan.{Plan}
 use Rattle.server_words.specs.declared.status.Status.{Status}
 use Rattle.server_words.specs.declared.status.Status.TheVariants as status
+use Rattle.server_run.specs.Built.{is_built, IsUnbuilt}
 use Rattle.server_run.specs.Statuses.{course_of, IsRefusal, IsCourse}
 use Rattle.server_run.specs.Outbox.{LinesAre, SizeIs}
 use Rattle.server_run.specs.Ports.{ReadsUpTo}
@@ -33,10 +33,6 @@ pub record Objects : Type 0 where
   pub outbox : SinkTells
   pub printer : SinkTells
 
--- the text has a form that isn't built
-abbrev pub IsUnbuilt : List ℕ → Type 0
-IsUnbuilt text = flat_of text ≡ Err unbuilt
-
 -- no count of faults rose
 pub record NoneRose (before after : Objects) : Type 0 where
   pub source : Rose before.source_faults after.source_faults → ⊥
@@ -51,7 +47,7 @@ pub record IsRun (words : List (List ℕ)) (before after : Objects) (began : Boo
   pub taken : ReadsUpTo 16777216 before.source after.source
   pub to_the_end : began ≡ true → IsAtEnd after.source
   pub unbuilt : s ≡ status.Unbuilt → IfSome before.source IsUnbuilt
-  pub not_built : (text : List ℕ) → before.source ≡ Some text → IsUnbuilt text → (s ≡ status.Unbuilt) ⊎ ((s ≡ status.SourceFault) ⊎ ((s ≡ status.Usage) ⊎ (s ≡ status.OutOfMemory)))
+  pub not_built : (text : List ℕ) (conf : Conf) → before.source ≡ Some text → flat_of text ≡ Ok conf → is_built conf ≡ false → (s ≡ status.Unbuilt) ⊎ ((s ≡ status.SourceFault) ⊎ ((s ≡ status.Usage) ⊎ (s ≡ status.OutOfMemory)))
   pub config_refused : (path : List ℕ) (cause : Cause) → s ≡ status.ConfigRefused path cause → IfSome before.source (λ text. flat_of text ≡ refuse path cause)
   pub refused_text : (text path : List ℕ) (cause : Cause) → before.source ≡ Some text → flat_of text ≡ refuse path cause → (s ≡ status.ConfigRefused path cause) ⊎ ((s ≡ status.SourceFault) ⊎ ((s ≡ status.Usage) ⊎ (s ≡ status.OutOfMemory)))
   pub source : s ≡ status.SourceFault → Rose before.source_faults after.source_faults
@@ -64,7 +60,7 @@ pub record IsRun (words : List (List ℕ)) (before after : Objects) (began : Boo
   pub lines : began ≡ true → LinesAre (course_of s).out before.outbox after.outbox (run_lines entries)
   pub size : began ≡ true → SizeIs (course_of s).out before.outbox after.outbox (run_lines entries)
   pub printed : Prints s (run_counts entries) before.printer after.printer
-  pub complete : (plan : Plan) (text : List ℕ) (conf : Conf) (all : List WireEvent) → plan_of words ≡ Some plan → before.source ≡ Some text → flat_of text ≡ Ok conf
+  pub complete : (plan : Plan) (text : List ℕ) (conf : Conf) (all : List WireEvent) → plan_of words ≡ Some plan → before.source ≡ Some text → flat_of text ≡ Ok conf → is_built conf ≡ true
       → before.wire.left ≡ Some all → (served conf (start text) (take plan.turns all)).stop ≡ Some stop.Closed → NoneRose before after
       → (s ≡ status.Ok) ⊎ (s ≡ status.OutOfMemory)
 

@@ -17,9 +17,9 @@ use Rattle.server_words.specs.Words.{plan_of}
 use Rattle.server_words.specs.Printed.{ok_text, printed_text}
 use Rattle.config_templates.specs.Flat.{flat_of}
 use Rattle.config_templates.specs.Places.{refuse}
-use Rattle.config_templates.specs.Places.Flaw.{unbuilt}
 use Rattle.entry_step.specs.Log.{log_of}
 use Rattle.server_run.specs.declared.book.Ledger.{Ledger}
+use Rattle.server_run.specs.Built.{is_built, IsUnbuilt}
 use Rattle.server_run.specs.Standing.{Applied}
 use Rattle.server_run.specs.Ports.{Grew, GrewByFront}
 use Rattle.server_run.specs.Sending.{Shows}
@@ -29,7 +29,7 @@ use Rattle.server_run.specs.Statuses.{Ending, Printing, whole_line, own_line, fr
 -- first fault
 abbrev pub IsUntaken : List ℕ → Status → Type 0
 IsUntaken text status.OutOfMemory = ⊤
-IsUntaken text status.Unbuilt = flat_of text ≡ Err unbuilt
+IsUntaken text status.Unbuilt = IsUnbuilt text
 IsUntaken text (status.ConfigRefused path cause) = flat_of text ≡ refuse path cause
 IsUntaken text _ = ⊥
 
@@ -39,7 +39,7 @@ abbrev pub Refuses : List (List ℕ) → Option (List ℕ) → ℕ → ℕ → S
 Refuses words source faults faults' status.Usage = plan_of words ≡ None
 Refuses words source faults faults' status.SourceFault = IsSome (plan_of words) × Rose faults faults'
 Refuses words source faults faults' status.OutOfMemory = ⊤
-Refuses words source faults faults' status.Unbuilt = IsSome (plan_of words) × IfSome source (λ text. flat_of text ≡ Err unbuilt)
+Refuses words source faults faults' status.Unbuilt = IsSome (plan_of words) × IfSome source IsUnbuilt
 Refuses words source faults faults' (status.ConfigRefused path cause) =
     IsSome (plan_of words) × IfSome source (λ text. flat_of text ≡ refuse path cause)
 Refuses words source faults faults' _ = ⊥
@@ -54,6 +54,7 @@ pub record Opened (words : List (List ℕ)) (source source' : Option (List ℕ))
   pub text_is : IfSome source (λ all. text ≡ all)
   pub at_end : IsAtEnd source'
   pub conf_is : flat_of text ≡ Ok conf
+  pub built : is_built conf ≡ true
   pub intake_is : intake ≡ start text
   pub applied : Applied conf ledger.cells ledger.tally (log_of (start text).entries)
 
@@ -78,6 +79,7 @@ pub record Followed (words : List (List ℕ)) (source : Option (List ℕ)) (wire
   pub text_is : IfSome source (λ all. text ≡ all)
   pub conf : Conf
   pub conf_is : flat_of text ≡ Ok conf
+  pub built : is_built conf ≡ true
   pub finished : Finished conf (start text) entries plan.turns wire wire' (course_of s).ending
 
 -- some of a text from the front was printed, since the printer failed

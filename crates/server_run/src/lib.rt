@@ -19,6 +19,7 @@
 #![tactic(auto)]
 
 mod book;
+mod built;
 mod delivery;
 mod reading;
 mod run;

@@ -11,10 +11,10 @@ ghost use Rattle.server_words.specs.declared.words.Plan.{Plan};
 ghost use Rattle.server_words.specs.Words.{plan_of};
 ghost use Rattle.config_templates.specs.Flat.{flat_of};
 ghost use Rattle.config_templates.specs.Places.{refuse};
-ghost use Rattle.config_templates.specs.Places.Flaw.{unbuilt};
 ghost use Rattle.zbx_types.specs.declared.causes.Cause.{Cause};
 ghost use Rattle.zbx_types.specs.declared.conf.Conf.{Conf};
 ghost use Rattle.entry_step.specs.Log.{log_of};
+ghost use Rattle.server_run.specs.Built.{is_built, IsUnbuilt};
 ghost use Rattle.server_run.specs.Ports.{ReadsUpTo};
 ghost use Rattle.server_run.specs.Replayed.{run_lines};
 ghost use Rattle.server_run.specs.Standing.{Applied};
@@ -24,6 +24,7 @@ ghost use Rattle.server_run.specs.Runs.{IsUntaken, Opened, Refuses, Followed, Pr
 ghost use Rattle.server_run.specs.Statuses.{course_of, cut_short, IsRefusal, IsCourse, IsUnprinted, EndsPrinted};
 
 use crate::book::Ledger;
+use crate::built::is_built;
 use crate::reading::{ReadError, read_all};
 use crate::serving::serve;
 use crate::tally::Tally;
@@ -59,15 +60,26 @@ struct Begun {
     ledger: Ledger,
 }
 
+/// A configuration, where a run can do what it says.
+fn only_built(conf: Conf) -> Result<Conf, Status>
+    ensures ok { IfOk result (λ made. (made ≡ conf) × (is_built conf ≡ true)) }
+    ensures err { IfErr result (λ status. (status ≡ Status.Unbuilt) × (is_built conf ≡ false)) }
+{
+    if is_built(&conf) {
+        Ok(conf)
+    } else {
+        Err(Status::Unbuilt)
+    }
+}
+
 /// The flat configuration of these bytes.
 fn configure(alloc: Global, bytes: &[u8]) -> Result<Conf, Status>
-    ensures ok { IfOk result (λ conf. flat_of bytes.now ≡ Ok conf) }
+    ensures ok { IfOk result (λ conf. (flat_of bytes.now ≡ Ok conf) × (is_built conf ≡ true)) }
     ensures err { IfErr result (IsUntaken bytes.now) }
 {
     match flat(alloc, bytes) {
-        Ok(conf) => Ok(conf),
+        Ok(conf) => only_built(conf),
         Err(FlatError::Refused { path, cause }) => Err(Status::ConfigRefused { path, cause }),
-        Err(FlatError::Unbuilt) => Err(Status::Unbuilt),
         Err(FlatError::OutOfMemory) => Err(Status::OutOfMemory),
     }
 }
@@ -83,7 +95,7 @@ fn made_ready(alloc: Global, conf: Conf) -> Result<(Ready, Text), OutOfMemory>
 
 /// Makes the configuration of these bytes ready, with its text.
 fn prepare(alloc: Global, bytes: &[u8]) -> Result<(Ready, Text), Status>
-    ensures ok { IfOk result (λ made. (flat_of bytes.now ≡ Ok made.0) × (made.1 ≡ bytes.now)) }
+    ensures ok { IfOk result (λ made. (flat_of bytes.now ≡ Ok made.0) × (is_built made.0 ≡ true) × (made.1 ≡ bytes.now)) }
     ensures err { IfErr result (IsUntaken bytes.now) }
 {
     let conf = match configure(alloc, bytes) {
@@ -270,8 +282,8 @@ pub fn run_single<S: Source, W: Wire, O: Sink, P: Sink>(
     ensures to_the_end { result.began ≡ true → IsAtEnd (S.left config.new) }
 
     // Unbuilt comes exactly where the configuration has a form that isn't built.
-    ensures unbuilt { result.status ≡ Status.Unbuilt → IfSome (S.left config.old) (λ text. flat_of text ≡ Err unbuilt) }
-    ensures not_built { (text : List ℕ) → S.left config.old ≡ Some text → flat_of text ≡ Err unbuilt
+    ensures unbuilt { result.status ≡ Status.Unbuilt → IfSome (S.left config.old) IsUnbuilt }
+    ensures not_built { (text : List ℕ) (conf : Conf) → S.left config.old ≡ Some text → flat_of text ≡ Ok conf → is_built conf ≡ false
         → (result.status ≡ Status.Unbuilt) ⊎ ((result.status ≡ Status.SourceFault)
         ⊎ ((result.status ≡ Status.Usage) ⊎ (result.status ≡ Status.OutOfMemory))) }
 
@@ -308,7 +320,7 @@ pub fn run_single<S: Source, W: Wire, O: Sink, P: Sink>(
 
     // What is accepted and doesn't fail ends well, if memory is there.
     ensures complete { (plan : Plan) (text : List ℕ) (conf : Conf) (all : List WireEvent)
-        → plan_of words.now ≡ Some plan → S.left config.old ≡ Some text → flat_of text ≡ Ok conf
+        → plan_of words.now ≡ Some plan → S.left config.old ≡ Some text → flat_of text ≡ Ok conf → is_built conf ≡ true
         → (W.tells wire.old).left ≡ Some all → (served conf (start text) (take plan.turns all)).stop ≡ Some stop.Closed
         → (Rose (S.faults config.old) (S.faults config.new) → ⊥)
         → (Rose (W.tells wire.old).faults (W.tells wire.new).faults → ⊥)
