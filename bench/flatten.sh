@@ -15,16 +15,22 @@ source "$here/middle.sh"
 cd "$folder"
 echo '100.000000000 closed' > script
 printf '%6s %8s %9s %9s %7s\n' hosts items triggers seconds growth
-before=
-for hosts in $((most / 10)) "$most"; do
-    python3 "$here/hosts.py" "$hosts" > config.json
-    middle=$(middle "$hosts hosts" "$program" config.json script)
-    awk -v hosts="$hosts" -v us="$middle" -v before="$before" 'BEGIN {
-        growth = before == "" ? "" : sprintf("%.1f", us / before)
-        printf "%6d %8d %9d %9.3f %7s\n", hosts, hosts * 100, hosts * 10, us / 1e6, growth
-    }'
-    before=$middle
-done
+# templates TRIGGERS [WORD]: times of a tenth of the hosts and of all, of a template with so many triggers.
+templates() {
+    local hosts middle before=
+    for hosts in $((most / 10)) "$most"; do
+        python3 "$here/hosts.py" "$hosts" "${@:2}" > config.json
+        middle=$(middle "$hosts hosts" "$program" config.json script)
+        awk -v hosts="$hosts" -v triggers="$1" -v us="$middle" -v before="$before" 'BEGIN {
+            growth = before == "" ? "" : sprintf("%.1f", us / before)
+            printf "%6d %8d %9d %9.3f %7s\n", hosts, hosts * 100, hosts * triggers, us / 1e6, growth
+        }'
+        before=$middle
+    done
+}
+templates 10
+# ten calls, four tags and a dependency each
+templates 50 calls
 
 # macros KIND: times of a tenth of the macros and of all, over hosts or items of which each names the last macro.
 macros() {
