@@ -1,7 +1,7 @@
 -- The masters of each trigger, in rows by ids.
 use Rattle.std.proofs.Common.{◌≡◌, ℕ, zero, suc, ◌+◌, ◌<◌, ◌≤◌, List, [], ◌∷◌, ◌++◌, Option, Some, None, length, map, take, get_or, slice_get, refl, sym, ◌∙◌, ap, arith}
 use Rattle.std.proofs.lemmas.List.{take_more, take_all}
-use Rattle.zbx_types.specs.Ids.{at_id, ids_from}
+use Rattle.zbx_types.specs.Ids.{ids_from}
 use Rattle.zbx_types.specs.Masters.{depends_by, masters_of}
 use Rattle.zbx_types.specs.declared.conf.Conf.{Conf}
 use Rattle.zbx_types.specs.declared.triggers.Trigger.{Trigger}

@@ -13,7 +13,7 @@ use Rattle.std.proofs.lemmas.Bool.Decides.{leb_tells}
 use Rattle.std.proofs.lemmas.Option.{slice_get_past}
 use Rattle.entry_step.proofs.Landing.{LandIn, only, land_off, evaluated_lands, evaluated_none}
 use Rattle.entry_step.specs.Represents.{problems_at, AllAtHome}
-use Rattle.entry_step.specs.Changes.{with_row, outcome_records, outcome_opens, outcome_rows, AreTidy, Runs}
+use Rattle.entry_step.specs.Changes.{with_row, changed, outcome_records, outcome_opens, outcome_rows, AreTidy, Runs}
 use Rattle.trigger_state.specs.declared.problems.Open.{Open}
 use Rattle.entry_step.specs.declared.changes.Outcome.{Outcome}
 use Rattle.entry_step.proofs.Items.{at_zero, at_suc, slice_get_set_same, slice_get_set_other}
@@ -66,7 +66,7 @@ length_row rows (suc k) os = ap length (with_suc rows k os) ∙ length-set rows 
 
 length_outcome : (rows : List (List Open)) (id : ℕ) (o : Option Outcome) → length (outcome_rows rows id o) ≡ length rows
 length_outcome rows id None = refl
-length_outcome rows id (Some o) = length_row rows id o.opens
+length_outcome rows id (Some o) = length_row rows id (changed (problems_at rows id) o.change)
 
 pub none_same : {A B : Type 0} (xs : List A) (ys : List B) (id : ℕ) → length xs ≡ length ys → at_id xs id ≡ None → at_id ys id ≡ None
 none_same xs ys zero l e = at_zero ys
@@ -90,20 +90,20 @@ module _ (conf : Conf) (rows : List (List Open)) (id : ℕ) (o : Option Outcome)
     where
       go : (x : Option Outcome) → o ≡ x → problems_at (outcome_rows rows id o) id ≡ absorbed_all conf id (problems_at rows id) (outcome_records o)
       go None e = ap (λ y. problems_at (outcome_rows rows id y) id) e ∙ sym (ap (outcome_opens (problems_at rows id)) e) ∙ opens
-      go (Some out) e = ap (λ y. problems_at (outcome_rows rows id y) id) e ∙ row_same rows id out.opens ∙ at (at_id rows id) refl
+      go (Some out) e = ap (λ y. problems_at (outcome_rows rows id y) id) e ∙ row_same rows id (changed (problems_at rows id) out.change) ∙ at (at_id rows id) refl
         where
-          at : (r : Option (List Open)) → at_id rows id ≡ r → unwrap_or (option_map (λ _. out.opens) (at_id rows id)) [] ≡ absorbed_all conf id (problems_at rows id) (outcome_records o)
+          at : (r : Option (List Open)) → at_id rows id ≡ r → unwrap_or (option_map (λ _. changed (problems_at rows id) out.change) (at_id rows id)) [] ≡ absorbed_all conf id (problems_at rows id) (outcome_records o)
           at None q = unfold problems_at in
-              ap (λ y. unwrap_or (option_map (λ _. out.opens) y) []) q
+              ap (λ y. unwrap_or (option_map (λ _. changed (problems_at rows id) out.change) y) []) q
               ∙ sym (ap (λ rs. absorbed_all conf id (unwrap_or (at_id rows id) []) rs) (none (none_same rows conf.triggers id size q)) ∙ ap (λ y. unwrap_or y []) q)
-          at (Some os) q = ap (λ y. unwrap_or (option_map (λ _. out.opens) y) []) q ∙ sym (ap (outcome_opens (problems_at rows id)) e) ∙ opens
+          at (Some os) q = ap (λ y. unwrap_or (option_map (λ _. changed (problems_at rows id) out.change) y) []) q ∙ sym (ap (outcome_opens (problems_at rows id)) e) ∙ opens
 
   row_off : (j : ℕ) → (id == j) ≡ false → problems_at (outcome_rows rows id o) j ≡ problems_at rows j
   row_off j n = go o
     where
       go : (x : Option Outcome) → problems_at (outcome_rows rows id x) j ≡ problems_at rows j
       go None = refl
-      go (Some out) = row_other rows id j out.opens (λ q. let t : (id == j) ≡ true = eq-eqb id j q in cc)
+      go (Some out) = row_other rows id j (changed (problems_at rows id) out.change) (λ q. let t : (id == j) ≡ true = eq-eqb id j q in cc)
 
   pub rows_after : (j : ℕ) → problems_at (outcome_rows rows id o) j ≡ absorbed_all conf j (problems_at rows j) (outcome_records o)
   rows_after j = go (id == j) refl

@@ -1,5 +1,5 @@
 -- The values of nodes.
-use Rattle.std.proofs.Common.{◌≡◌, ℕ, zero, suc, ◌-◌, ◌==◌, Bool, true, false, cond, ◌&&◌, List, [], ◌∷◌, Option, Some, None, ℤ, refl, sym, ◌∙◌, ap, subst, slice_get, option_map, length, map, take, get_or, ◌+◌, ◌<◌, ◌++◌, append-nil, arith}
+use Rattle.std.proofs.Common.{◌≡◌, ℕ, zero, suc, ◌-◌, ◌==◌, Bool, true, false, cond, ◌&&◌, List, [], ◌∷◌, Option, Some, None, ℤ, refl, sym, ◌∙◌, ap, subst, slice_get, option_map, length, map, take, get_or, ◌+◌, ◌<◌, ◌++◌, arith}
 use Rattle.std.proofs.lemmas.List.{length-map}
 use Rattle.std.specs.Prelude.{option_and_then}
 use Rattle.std.specs.Option.{unwrap_or}
@@ -15,7 +15,6 @@ use Rattle.expr_eval.specs.Values.{value_over}
 use Rattle.entry_step.specs.Evaluation.{last_number, up_to, function_value, call_value}
 use Rattle.entry_step.specs.Calls.{histories, values_of}
 use Rattle.entry_step.specs.Plans.{node_of, call_node, flat, plan_of}
-use Rattle.zbx_types.specs.Trees.{tree_of}
 use Rattle.entry_step.proofs.Packing.{IsPacked, packed_more}
 use Rattle.entry_step.specs.declared.evaluation.Calls.{Calls}
 use Rattle.entry_step.specs.declared.plans.Node.{Node}

@@ -1,5 +1,5 @@
 -- How a step changes what is kept of the triggers, and how that is put back.
-use Rattle.std.specs.Prelude.{◌≡◌, ℕ, ◌-◌, ◌==◌, Bool, true, List, [], ◌∷◌, reverse, length, Option, Some, None, if◌then◌else◌, slice_set}
+use Rattle.std.specs.Prelude.{◌≡◌, ℕ, ◌-◌, ◌==◌, Bool, true, List, [], ◌∷◌, ◌++◌, reverse, take, length, Option, Some, None, if◌then◌else◌, slice_set, slice_index_or}
 use Rattle.zbx_types.specs.declared.conf.Conf.{Conf}
 use Rattle.zbx_types.specs.declared.triggers.Trigger.{Trigger}
 use Rattle.zbx_types.specs.declared.entries.EventId.{EventId}
@@ -14,6 +14,10 @@ use Rattle.entry_step.specs.Records.{verdict_records, expression_value, recovery
 use Rattle.entry_step.specs.Represents.{CellsView, problems_at, AllAtHome}
 use Rattle.entry_step.specs.Kept.{kept, with_value}
 use Rattle.trigger_state.specs.declared.problems.Open.{Open}
+use Rattle.entry_step.specs.declared.changes.Before.{Before}
+use Rattle.entry_step.specs.declared.changes.Before.TheVariants as before
+use Rattle.entry_step.specs.declared.changes.Change.{Change}
+use Rattle.entry_step.specs.declared.changes.Change.TheVariants as change
 use Rattle.entry_step.specs.declared.changes.Row.{Row}
 use Rattle.entry_step.specs.declared.changes.Outcome.{Outcome}
 
@@ -21,14 +25,24 @@ use Rattle.entry_step.specs.declared.changes.Outcome.{Outcome}
 unfoldable pub with_row : List (List Open) → ℕ → List Open → List (List Open)
 with_row rows id os = if id == 0 then rows else slice_set rows (id - 1) os
 
--- the rows with some more rows in their places, one after another
+-- open problems as they were before
+abbrev pub restored : List Open → Before → List Open
+restored os (before.First count) = take count os
+restored os (before.All all) = all
+
+-- the rows with some of them as they were before, one after another
 abbrev pub with_rows : List (List Open) → List Row → List (List Open)
 with_rows rows [] = rows
-with_rows rows (r ∷ rs) = with_rows (slice_set rows r.index r.opens) rs
+with_rows rows (r ∷ rs) = with_rows (slice_set rows r.index (restored (slice_index_or rows r.index []) r.before)) rs
 
 -- the rows once those that were taken out are put back, the last first
 unfoldable pub put_back : List (List Open) → List Row → List (List Open)
 put_back rows taken = with_rows rows (reverse taken)
+
+-- open problems behind a change
+abbrev pub changed : List Open → Change → List Open
+changed os (change.Add one) = os ++ one ∷ []
+changed os (change.Leave all) = all
 
 -- what an outcome adds, and the rows behind it. No outcome: nothing changes.
 abbrev pub outcome_records : Option Outcome → List Rec
@@ -37,11 +51,11 @@ outcome_records (Some o) = o.records
 
 abbrev pub outcome_opens : List Open → Option Outcome → List Open
 outcome_opens os None = os
-outcome_opens os (Some o) = o.opens
+outcome_opens os (Some o) = changed os o.change
 
 abbrev pub outcome_rows : List (List Open) → ℕ → Option Outcome → List (List Open)
 outcome_rows rows id None = rows
-outcome_rows rows id (Some o) = with_row rows id o.opens
+outcome_rows rows id (Some o) = with_row rows id (changed (problems_at rows id) o.change)
 
 -- each event that a verdict closes has the property
 abbrev pub Closes : (EventId → Type 0) → Verdict → Type 0

@@ -1,24 +1,44 @@
 //! What a step changes, and how that is put back.
 
-ghost use Rattle.std.specs.Prelude.{◌≡◌, ◌++◌, OnOk};
-ghost use Rattle.entry_step.specs.Changes.{with_row, put_back, outcome_records, outcome_rows};
+ghost use Rattle.std.specs.Prelude.{◌≡◌, ◌++◌, ◌∷◌, [], OnOk};
+ghost use Rattle.entry_step.specs.Represents.{problems_at};
+ghost use Rattle.entry_step.specs.Changes.{with_row, restored, put_back, outcome_records, outcome_rows};
 
+use std::alloc::Global;
 use std::mem::replace;
 use trigger_state::Open;
 use zbx_types::{Many, OutOfMemory, Rec};
 
-/// What a trigger adds, and its open problems behind that.
+/// How the open problems of a trigger change.
+#[derive(Drop)]
+pub(crate) enum Change {
+    /// One more.
+    Add(Open),
+    /// These in place of all.
+    Leave(Many<Open>),
+}
+
+/// What a trigger adds, and how its open problems change with that.
 #[derive(Drop)]
 pub(crate) struct Outcome {
     pub(crate) records: Many<Rec>,
-    pub(crate) opens: Many<Open>,
+    pub(crate) change: Change,
 }
 
-/// The open problems that a trigger had before. The trigger goes by its place, counted from 0.
+/// What the open problems of a trigger were before.
+#[derive(Drop)]
+pub(crate) enum Before {
+    /// The first of those that are open now, so many.
+    First(usize),
+    /// These.
+    All(Many<Open>),
+}
+
+/// What the open problems of a trigger were before. The trigger goes by its place, counted from 0.
 #[derive(Drop)]
 pub(crate) struct Row {
     pub(crate) index: usize,
-    pub(crate) opens: Many<Open>,
+    pub(crate) before: Before,
 }
 
 /// What the triggers over an item have made so far, and what they had before, in the order in which it was taken out.
@@ -28,9 +48,24 @@ pub(crate) struct Draft {
     pub(crate) taken: Many<Row>,
 }
 
+/// Makes the open problems of a trigger what they were before. Takes no memory.
+fn restore(alloc: Global, opens: &mut Many<Open>, before: Before)
+    ensures { opens.new ≡ restored opens.old before }
+{
+    match before {
+        Before::All(all) => *opens = all,
+        Before::First(count) => {
+            let mut items = replace(opens, Many::new(alloc)).into_vec();
+            items.truncate(count);
+            *opens = Many::from_vec(items);
+        }
+    }
+}
+
 /// Puts other open problems into the row of the trigger with an id, and keeps what it had. At `Err` the row is as before.
 #[tactic(auto, using(crate::proofs::Writes::row_none, crate::proofs::Writes::row_past, crate::proofs::Writes::row_in, crate::proofs::Writes::back_more, crate::proofs::Writes::back_same))]
 fn exchange(
+    alloc: Global,
     problems: &mut Vec<Many<Open>>,
     taken: &mut Many<Row>,
     id: u32,
@@ -49,20 +84,48 @@ fn exchange(
     let before = replace(&mut problems[index], opens);
     match taken.push(Row {
         index,
-        opens: before,
+        before: Before::All(before),
     }) {
         Ok(()) => Ok(()),
         Err(failed) => {
-            problems[index] = failed.value.opens;
+            restore(alloc, &mut problems[index], failed.value.before);
             Err(OutOfMemory)
         }
     }
+}
+
+/// Adds an open problem to the row of the trigger with an id, and keeps how many it had. At `Err` the row is as before.
+#[tactic(auto, using(crate::proofs::Writes::row_none, crate::proofs::Writes::row_past, crate::proofs::Writes::row_more, crate::proofs::Writes::back_first, crate::proofs::Writes::back_refused))]
+fn add(
+    problems: &mut Vec<Many<Open>>,
+    taken: &mut Many<Row>,
+    id: u32,
+    one: Open,
+) -> Result<(), OutOfMemory>
+    ensures rows { OnOk result (problems.new.items ≡ with_row problems.old.items id (problems_at problems.old.items id ++ one ∷ [])) }
+    ensures same { put_back problems.new.items taken.new ≡ put_back problems.old.items taken.old }
+{
+    if id == 0 {
+        return Ok(());
+    }
+    let index = id as usize - 1;
+    if index >= problems.len() {
+        return Ok(());
+    }
+    let count = problems[index].len();
+    taken.push(Row {
+        index,
+        before: Before::First(count),
+    })?;
+    problems[index].push(one)?;
+    Ok(())
 }
 
 impl Draft {
     /// Adds the outcome of the trigger with an id, whose open problems change with it.
     pub(crate) fn take(
         &mut self,
+        alloc: Global,
         problems: &mut Vec<Many<Open>>,
         id: u32,
         outcome: Option<Outcome>,
@@ -73,7 +136,10 @@ impl Draft {
     {
         if let Some(outcome) = outcome {
             self.records.append(outcome.records)?;
-            exchange(problems, &mut self.taken, id, outcome.opens)?;
+            match outcome.change {
+                Change::Add(one) => add(problems, &mut self.taken, id, one)?,
+                Change::Leave(all) => exchange(alloc, problems, &mut self.taken, id, all)?,
+            }
         }
         Ok(())
     }
@@ -81,14 +147,14 @@ impl Draft {
 
 /// Puts back what was taken out, the last first. Takes no memory.
 #[tactic(auto, using(crate::proofs::Writes::rows_push, crate::proofs::Writes::rows_past), unfolding(crate::specs::Changes::put_back))]
-pub(crate) fn put_back(problems: &mut Vec<Many<Open>>, taken: Many<Row>)
+pub(crate) fn put_back(alloc: Global, problems: &mut Vec<Many<Open>>, taken: Many<Row>)
     ensures { problems.new.items ≡ put_back problems.old.items taken }
 {
     let mut rows = taken.into_vec();
     rows.reverse();
     for row in rows {
         if row.index < problems.len() {
-            problems[row.index] = row.opens;
+            restore(alloc, &mut problems[row.index], row.before);
         }
     }
 }

@@ -57,17 +57,6 @@ fn copied(alloc: Global, one: &Open) -> Result<Open, OutOfMemory>
     })
 }
 
-/// Copies of open problems.
-pub(crate) fn copies(alloc: Global, opens: &[Open]) -> Result<Many<Open>, OutOfMemory>
-    ensures { IfOk result (λ made. made ≡ opens.now) }
-{
-    let mut made = Many::new(alloc);
-    for one in opens {
-        made.push(copied(alloc, one)?)?;
-    }
-    Ok(made)
-}
-
 /// Whether an event is among these.
 fn is_among(events: &[EventId], event: EventId) -> bool
     ensures { result ≡ list_any (same_event event) events.now }

@@ -1,19 +1,19 @@
 //! The records that an entry makes.
 
-ghost use Rattle.std.specs.Prelude.{◌≡◌, ◌∷◌, [], ℕ, map, Some, IfOk};
+ghost use Rattle.std.specs.Prelude.{◌≡◌, ◌∷◌, [], ℕ, List, map, Some, IfOk};
 ghost use Rattle.zbx_types.specs.declared.conf.Conf.{Conf};
 ghost use Rattle.zbx_types.specs.Ids.{at_id};
 ghost use Rattle.trigger_state.specs.Problems.{home, absorbed_all};
 ghost use Rattle.entry_step.specs.Records.{host_name, problem_of, recovery_of, failure_of, verdict_records};
 ghost use Rattle.entry_step.specs.Each.{Each};
 ghost use Rattle.entry_step.specs.Represents.{AllAtHome};
-ghost use Rattle.entry_step.specs.Changes.{outcome_records, outcome_opens, Closes, judged};
+ghost use Rattle.entry_step.specs.Changes.{outcome_records, outcome_opens, changed, Closes, judged};
 ghost use Rattle.entry_step.specs.Calls.{histories};
 ghost use Rattle.entry_step.specs.Plans.{plan_of, recovery_plan_of};
 
-use crate::changes::Outcome;
+use crate::changes::{Change, Outcome};
 use crate::evaluation::{Calls, plan_value, recovery_value};
-use crate::opens::{copies, copies_without};
+use crate::opens::copies_without;
 use crate::plans::Node;
 use std::alloc::Global;
 use trigger_state::{Open, Verdict, verdict_over};
@@ -99,7 +99,7 @@ fn recoveries(
     Ok(made)
 }
 
-/// A new problem of a trigger, behind those that are open.
+/// A new problem of a trigger, behind those that are open, whichever they are.
 #[tactic(auto, using(crate::proofs::Problems::one_opened))]
 fn begin(
     alloc: Global,
@@ -108,22 +108,20 @@ fn begin(
     now: Moment,
     id: u32,
     trigger: &Trigger,
-    opens: &[Open],
 ) -> Result<Outcome, OutOfMemory>
     ensures records { IfOk result (λ made. made.records ≡ problem_of conf.now number now id trigger.now ∷ []) }
-    ensures opens { IfOk result (λ made. at_id conf.now.triggers id ≡ Some trigger.now → made.opens ≡ absorbed_all conf.now id opens.now (problem_of conf.now number now id trigger.now ∷ [])) }
+    ensures opens { IfOk result (λ made. (opens : List Open) → at_id conf.now.triggers id ≡ Some trigger.now → changed opens made.change ≡ absorbed_all conf.now id opens (problem_of conf.now number now id trigger.now ∷ [])) }
 {
     let mut records = Many::new(alloc);
     records.push(problem_of(alloc, conf, number, now, id, trigger)?)?;
-    let mut all = copies(alloc, opens)?;
-    all.push(Open {
+    let one = Open {
         problem: problem_of(alloc, conf, number, now, id, trigger)?,
         steps: Many::new(alloc),
         depth: trigger.depth,
-    })?;
+    };
     Ok(Outcome {
         records,
-        opens: all,
+        change: Change::Add(one),
     })
 }
 
@@ -137,11 +135,11 @@ fn end(
     events: &[EventId],
 ) -> Result<Outcome, OutOfMemory>
     ensures records { IfOk result (λ made. made.records ≡ map (recovery_of number now) events.now) }
-    ensures opens { IfOk result (λ made. (conf : Conf) (id : ℕ) → Each (λ e. home conf e ≡ id) events.now → made.opens ≡ absorbed_all conf id opens.now (map (recovery_of number now) events.now)) }
+    ensures opens { IfOk result (λ made. (conf : Conf) (id : ℕ) → Each (λ e. home conf e ≡ id) events.now → changed opens.now made.change ≡ absorbed_all conf id opens.now (map (recovery_of number now) events.now)) }
 {
     Ok(Outcome {
         records: recoveries(alloc, number, now, events)?,
-        opens: copies_without(alloc, opens, events)?,
+        change: Change::Leave(copies_without(alloc, opens, events)?),
     })
 }
 
@@ -162,7 +160,7 @@ fn settled(
 {
     match verdict {
         Verdict::Nothing => Ok(None),
-        Verdict::New => Ok(Some(begin(alloc, conf, number, now, id, trigger, opens)?)),
+        Verdict::New => Ok(Some(begin(alloc, conf, number, now, id, trigger)?)),
         Verdict::Close(events) => Ok(Some(end(alloc, number, now, opens, events.as_slice())?)),
     }
 }

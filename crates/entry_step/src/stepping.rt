@@ -99,7 +99,7 @@ fn evaluate_all<L: Ledger>(
             stored,
             *id,
         )?;
-        draft.take(problems, *id, outcome)?;
+        draft.take(alloc, problems, *id, outcome)?;
         steps.tick();
     }
     Ok(())
@@ -145,7 +145,7 @@ fn take_value<L: Ledger>(
             Ok(draft.records)
         }
         Err(OutOfMemory) => {
-            put_back(&mut cells.problems, draft.taken);
+            put_back(alloc, &mut cells.problems, draft.taken);
             Err(OutOfMemory)
         }
     }
