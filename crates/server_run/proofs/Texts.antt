@@ -10,9 +10,11 @@ use Rattle.zbx_types.specs.declared.conf.Conf.{Conf}
 use Rattle.json_form.specs.Json.{json_within}
 use Rattle.config_read.specs.declared.raw.RawConf.{RawConf}
 use Rattle.config_read.specs.Document.{conf_of}
-use Rattle.config_templates.specs.Flat.{conf_made, read_of, built, laid_out, flat_of}
+use Rattle.config_templates.specs.Depends.{depending}
+use Rattle.config_templates.specs.Flat.{conf_made, read_of, laid_out, flat_of}
 use Rattle.config_templates.specs.Items.{items_of}
 use Rattle.config_templates.specs.Links.{unknown_links, cycles}
+use Rattle.config_templates.specs.NamedHosts.{unknown_hosts}
 use Rattle.config_templates.specs.Places.{Flaw, refuse, unless, ◌>>=◌}
 use Rattle.config_templates.specs.Triggers.{triggers_of}
 use Rattle.server_run.specs.Ports.{IsTextUpTo, ReadsUpTo}
@@ -63,13 +65,14 @@ step_ok (Err flaw) f b is = absurd (cc)
 made_text : (text : List ℕ) (raw : RawConf) (conf : Conf) → laid_out text raw ≡ Ok conf → conf.text ≡ text
 unfolding laid_out
 made_text text raw conf is =
-    let first = step_ok (built raw) _ conf is in
-    let second = step_ok (unless first.0 (unknown_links first.0)) _ conf first.1 in
-    let third = step_ok (unless second.0 (cycles second.0)) _ conf second.1 in
-    let fourth = step_ok (items_of third.0) _ conf third.1 in
-    let fifth = step_ok (triggers_of third.0 fourth.0) _ conf fourth.1 in
-    let same = fifth.1 in
-    let equal : conf_made text third.0 fourth.0 fifth.0 ≡ conf = cc in
+    let first = step_ok (unless raw (unknown_links raw)) _ conf is in
+    let second = step_ok (unless first.0 (cycles first.0)) _ conf first.1 in
+    let third = step_ok (items_of second.0) _ conf second.1 in
+    let fourth = step_ok (triggers_of second.0 third.0 []) _ conf third.1 in
+    let fifth = step_ok (depending second.0 fourth.0.triggers) _ conf fourth.1 in
+    let sixth = step_ok (unless second.0 (unknown_hosts second.0)) _ conf fifth.1 in
+    let same = sixth.1 in
+    let equal : conf_made text sixth.0 third.0 fifth.0 fourth.0.patterns ≡ conf = cc in
     sym (ap (λ c. c.text) equal)
 
 pub text_kept : (text : List ℕ) (conf : Conf) → flat_of text ≡ Ok conf → conf.text ≡ text

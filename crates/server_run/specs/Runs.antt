@@ -1,5 +1,5 @@
 -- What a run answers for: how it opened, what it took, and what it printed.
-use Rattle.std.specs.Prelude.{◌≡◌, ◌⊎◌, ◌≤◌, ◌+◌, ℕ, List, ◌++◌, length, Option, Some, None, Ok, Err, IfSome, IsSome, ⊤}
+use Rattle.std.specs.Prelude.{◌≡◌, ◌⊎◌, ◌≤◌, ◌+◌, ℕ, List, ◌++◌, length, Option, Some, None, Ok, Err, IfSome, IsSome, true, ⊤}
 use Rattle.std.specs.Option.{option_to_list}
 use Rattle.std.specs.Io.KnownBytes.{IsAtEnd}
 use Rattle.zbx_types.specs.declared.conf.Conf.{Conf}

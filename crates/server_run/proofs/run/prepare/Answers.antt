@@ -7,4 +7,4 @@ use Rattle.server_run.proofs.run.prepare.Goals as goal
 pub returns-in-Ok-made_ready-clause-ok : goal.returns-in-Ok-made_ready-clause-ok
 returns-in-Ok-made_ready-clause-ok c =
     let made = c.in-Ok-made_ready.ensures in
-    (c.in-Ok.ensures.ok.0 ∙ ap (λ conf. Ok conf) (sym made.0), (ap is_built made.0 ∙ c.in-Ok.ensures.ok.1, made.1 ∙ text_kept c.args.bytes.now c.in-Ok.conf c.in-Ok.ensures.ok.0))
+    (c.in-Ok.ensures.ok.0 ∙ ap (λ conf. Ok conf) (sym made.0), ap is_built made.0 ∙ c.in-Ok.ensures.ok.1, made.1 ∙ text_kept c.args.bytes.now c.in-Ok.conf c.in-Ok.ensures.ok.0)
