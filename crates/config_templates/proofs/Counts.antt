@@ -22,17 +22,17 @@ module _ {A B : Type 0} (make : List B → A → Result B Flaw) where
   each-length before (x ∷ xs) after h =
       omega (arith, one_more before xs after (make before x) (λ b k. each-length (before ++ b ∷ []) xs after k) h)
 
-module _ {H A B : Type 0} (own : H → List A) (make : List B → H → Result (List B) Flaw) (step : (before : List B) (h : H) (after : List B) → make before h ≡ Ok after → length after ≡ length before + length (own h)) where
-  list_more : (before : List B) (h : H) (hs : List H) (after : List B) (r : Result (List B) Flaw) → ((behind : List B) → r ≡ Ok behind → length behind ≡ length before + length (own h))
-      → ((behind : List B) → each_list make behind hs ≡ Ok after → length after ≡ length behind + length (flat_map own hs))
-      → (r >>= λ behind. each_list make behind hs) ≡ Ok after → length after ≡ length before + length (own h ++ flat_map own hs)
+module _ {H A S : Type 0} (size : S → ℕ) (own : H → List A) (make : S → H → Result S Flaw) (step : (before : S) (h : H) (after : S) → make before h ≡ Ok after → size after ≡ size before + length (own h)) where
+  list_more : (before : S) (h : H) (hs : List H) (after : S) (r : Result S Flaw) → ((behind : S) → r ≡ Ok behind → size behind ≡ size before + length (own h))
+      → ((behind : S) → each_list make behind hs ≡ Ok after → size after ≡ size behind + length (flat_map own hs))
+      → (r >>= λ behind. each_list make behind hs) ≡ Ok after → size after ≡ size before + length (own h ++ flat_map own hs)
   list_more before h hs after (Ok behind) one rest e =
       omega (arith, one behind refl, rest behind e, length-append (own h) (flat_map own hs))
   list_more before h hs after (Err f) one rest e = absurd cc
 
   -- one for each of several lists
-  pub each_list-length : (before : List B) (hs : List H) (after : List B) → each_list make before hs ≡ Ok after → length after ≡ length before + length (flat_map own hs)
-  each_list-length before [] after e = let same : before ≡ after = cc in omega (arith, ap length same)
+  pub each_list-length : (before : S) (hs : List H) (after : S) → each_list make before hs ≡ Ok after → size after ≡ size before + length (flat_map own hs)
+  each_list-length before [] after e = let same : before ≡ after = cc in omega (arith, ap size same)
   each_list-length before (h ∷ hs) after e =
       list_more before h hs after (make before h) (λ behind k. step before h behind k) (λ behind k. each_list-length behind hs after k) e
 
@@ -47,6 +47,6 @@ unfolding dependings_of
 as_many raw triggers made h =
     omega (
       arith,
-      each_list-length (λ h. placed_triggers (sources_of raw h)) (λ before h. dependings_from raw triggers (h.place + 1) (sources_of raw h) before)
+      each_list-length length (λ h. placed_triggers (sources_of raw h)) (λ before h. dependings_from raw triggers (h.place + 1) (sources_of raw h) before)
           (λ before h after e. from_host raw triggers (h.place + 1) (sources_of raw h) before after e) [] (placed_hosts raw) made h,
     )

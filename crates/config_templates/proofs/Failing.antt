@@ -2,7 +2,7 @@
 use Rattle.std.proofs.Common.{◌≡◌, ℕ, List, ap, ◌∙◌, Result, Err}
 use Rattle.zbx_types.specs.declared.causes.Cause.{Cause}
 use Rattle.config_templates.specs.declared.fault.FlatError.{FlatError}
-use Rattle.config_templates.specs.declared.fault.FlatError.TheVariants.{Refused, Unbuilt, OutOfMemory}
+use Rattle.config_templates.specs.declared.fault.FlatError.TheVariants.{Refused, OutOfMemory}
 use Rattle.config_templates.specs.Places.{Flaw, refuse}
 use Rattle.config_templates.specs.Places.Flaw.{refused}
 use Rattle.config_templates.specs.Answers.{Fails}
@@ -12,4 +12,3 @@ use Rattle.config_templates.specs.Elements.{IsRefusal}
 pub refusal : {A : Type 0} (e : FlatError) (path : List ℕ) (cause : Cause) (laid : Result A Flaw) → IsRefusal path cause e → laid ≡ refuse path cause → Fails e laid
 refusal OutOfMemory path cause laid r h = tt
 refusal (Refused p which) path cause laid r h = let e : refused (record { path = path; cause = cause }) ≡ refused (record { path = p; cause = which }) = cc in h ∙ ap (λ (f : Flaw). Err f) e
-refusal Unbuilt path cause laid r h = absurd r

@@ -6,7 +6,7 @@ use Rattle.json_form.specs.Faults.{Fault}
 use Rattle.config_templates.specs.Places.{Placed, fault_or, first_fault}
 use Rattle.config_templates.specs.Answers.{Tells}
 use Rattle.config_templates.specs.declared.fault.FlatError.{FlatError}
-use Rattle.config_templates.specs.declared.fault.FlatError.TheVariants.{Refused, Unbuilt, OutOfMemory}
+use Rattle.config_templates.specs.declared.fault.FlatError.TheVariants.{Refused, OutOfMemory}
 
 fault_or-option_or : (cause : Option Cause) (path : List ℕ) (x y : Option Fault) → fault_or cause path (option_or x y) ≡ option_or (fault_or cause path x) y
 fault_or-option_or None path x y = refl
@@ -23,4 +23,3 @@ first_fault-append check (x ∷ xs) ys =
 pub tells_front : (e : FlatError) (x y : Option Fault) → Tells e x → Tells e (option_or x y)
 tells_front OutOfMemory x y told = tt
 tells_front (Refused path cause) x y told = ap (λ f. option_or f y) told
-tells_front Unbuilt x y told = absurd told

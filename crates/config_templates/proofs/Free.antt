@@ -8,7 +8,8 @@ use Rattle.config_read.specs.declared.raw.RawConf.{RawConf}
 use Rattle.config_read.specs.declared.raw.RawTrigger.{RawTrigger}
 use Rattle.config_templates.specs.Answers.{GivesAs}
 use Rattle.config_templates.specs.Places.{Placed}
-use Rattle.config_templates.specs.Triggers.{Owner, has_trigger, trigger_of, most_triggers}
+use Rattle.config_templates.specs.Referenced.{Owner}
+use Rattle.config_templates.specs.Triggers.{has_trigger, trigger_of, most_triggers}
 use Rattle.config_templates.specs.Names.{Named, has_named, named_triggers}
 use Rattle.config_templates.proofs.Taken.{has_trigger_named}
 use Rattle.config_templates.specs.Written.{free_trigger}

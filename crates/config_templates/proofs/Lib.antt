@@ -1,12 +1,13 @@
 pub mod Taken
-pub mod Braces
 pub mod KeyFronts
 pub mod FirstNames
 pub mod Failing
 pub mod Steps
 pub mod PassLemmas
-pub mod Fronts
 pub mod Meant
+pub mod Parsing
+pub mod CallLists
+pub mod Both
 pub mod Free
 pub mod LaidOut
 pub mod TextsRead
@@ -23,6 +24,7 @@ pub mod Ranked
 pub mod Sourced
 pub mod MacroLists
 pub mod Counts
+pub mod FoundCounts
 pub mod Linked
 pub mod HostFaults
 pub mod KeptPatterns

@@ -16,7 +16,7 @@ use Rattle.config_templates.specs.Depends.{Depending, trigger_placed, dependings
 use Rattle.config_templates.specs.Dependings.{depending_now, dependings_now}
 use Rattle.config_templates.specs.declared.depends.Dependencies.{Dependencies as Held}
 use Rattle.config_templates.specs.declared.fault.FlatError.{FlatError}
-use Rattle.config_templates.specs.declared.fault.FlatError.TheVariants.{Refused, Unbuilt, OutOfMemory}
+use Rattle.config_templates.specs.declared.fault.FlatError.TheVariants.{Refused, OutOfMemory}
 
 lens_placed : (host : ℕ) (name : List ℕ) (ts : List Trigger) → position_or_len (is_named host name) (named_triggers ts) ≡ position_or_len (λ t. (t.host == host) && bytes_eq t.name name) ts
 lens_placed host name [] = refl
@@ -79,17 +79,16 @@ given raw triggers after ds h none e =
 bound_fails : {A B : Type 0} (e : FlatError) (r : Result A Flaw) (k : A → Result B Flaw) → Fails e r → Fails e (r >>= k)
 bound_fails OutOfMemory r k h = tt
 bound_fails (Refused path cause) r k h = ap (λ x. x >>= k) h
-bound_fails Unbuilt r k h = ap (λ x. x >>= k) h
 
 -- a name isn't known
 pub found_fails : (e : FlatError) (raw : RawConf) (triggers : List Trigger) → Fails e (dependings_of raw triggers) → Fails e (depending raw triggers)
 unfolding depending
 found_fails e raw triggers h = bound_fails e (dependings_of raw triggers) (λ found. unless found (cyclic found) >>= λ dependings. Ok (all_linked triggers (links_of dependings))) h
 
-told_fails : {A B : Type 0} (e : FlatError) (fault : Option Fault) (a : A) (k : A → Result B Flaw) → Tells e fault → Fails e (unless a fault >>= k)
+-- what is told where something isn't known
+pub told_fails : {A B : Type 0} (e : FlatError) (fault : Option Fault) (a : A) (k : A → Result B Flaw) → Tells e fault → Fails e (unless a fault >>= k)
 told_fails OutOfMemory fault a k t = tt
 told_fails (Refused path cause) fault a k t = ap (λ f. unless a f >>= k) t
-told_fails Unbuilt fault a k t = absurd t
 
 -- a dependency lies on a cycle
 pub cycle_fails : (e : FlatError) (raw : RawConf) (triggers : List Trigger) (ds : List Depending) → dependings_of raw triggers ≡ Ok ds → Tells e (cyclic ds) → Fails e (depending raw triggers)

@@ -31,11 +31,3 @@ from_map f t n (x ∷ xs) = ap (λ o. cond (t (f x)) (Some n) o) (from_map f t (
 pub stands_at : (host : ℕ) (key : List ℕ) (names : List Named) (items : List Item) → names ≡ named_items items → position (is_named host key) names ≡ position (is_keyed host key) items
 stands_at host key names items e =
     ap (position (is_named host key)) e ∙ position_from-zero (is_named host key) (named_items items) ∙ from_map named_item (is_named host key) 0 items ∙ sym (position_from-zero (is_keyed host key) items)
-
-key_of_test : (b : Bool) (a key : List ℕ) → (b && bytes_eq a key) ≡ true → a ≡ key
-key_of_test true a key h = (bytes_eq-Decides a key).0 h
-key_of_test false a key h = absurd cc
-
--- the item that stands there has the key
-pub found_key : (host : ℕ) (key : List ℕ) (items : List Item) (place : ℕ) (i : Item) → position (is_keyed host key) items ≡ Some place → i ≡ get_or items place i → i.key ≡ key
-found_key host key items place i p s = key_of_test (i.host == host) i.key key (ap (is_keyed host key) s ∙ (position-Some (is_keyed host key) items place i p).1)

@@ -5,7 +5,7 @@ use Rattle.config_read.specs.declared.raw.RawHost.{RawHost}
 use Rattle.config_templates.specs.declared.templates.sources.Source.{Source}
 use Rattle.config_templates.specs.Sources.{placed_of}
 use Rattle.config_templates.specs.declared.fault.FlatError.{FlatError}
-use Rattle.config_templates.specs.declared.fault.FlatError.TheVariants.{Refused, Unbuilt, OutOfMemory}
+use Rattle.config_templates.specs.declared.fault.FlatError.TheVariants.{Refused, OutOfMemory}
 use Rattle.config_templates.specs.Places.{Flaw, ◌>>=◌, each_list, Placed, placed_from}
 use Rattle.config_templates.specs.Answers.{Fails}
 use Rattle.config_templates.proofs.Steps.{on_ok, on_err, from_drop}
@@ -27,7 +27,6 @@ module _ {A S : Type 0} (visit : S → A → Result S Flaw) where
   pub all_fails : (before : S) (xs ys : List A) (e : FlatError) → Fails e (each_list visit before xs) → Fails e (each_list visit before (xs ++ ys))
   all_fails before xs ys OutOfMemory h = tt
   all_fails before xs ys (Refused path cause) h = err_stays before xs ys _ h
-  all_fails before xs ys Unbuilt h = err_stays before xs ys _ h
 
 module _ {A S : Type 0} (visit : S → A → Result S Flaw) (own : Placed RawHost → List A) where
   -- behind what the source at this place has, what the others have follows

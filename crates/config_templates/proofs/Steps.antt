@@ -6,7 +6,7 @@ use Rattle.config_read.specs.declared.raw.RawHost.{RawHost}
 use Rattle.config_templates.specs.declared.templates.sources.Source.{Source}
 use Rattle.config_templates.specs.Sources.{placed_of}
 use Rattle.config_templates.specs.declared.fault.FlatError.{FlatError}
-use Rattle.config_templates.specs.declared.fault.FlatError.TheVariants.{Refused, Unbuilt, OutOfMemory}
+use Rattle.config_templates.specs.declared.fault.FlatError.TheVariants.{Refused, OutOfMemory}
 use Rattle.config_templates.specs.Places.{Flaw, ◌>>=◌, each, Placed}
 use Rattle.config_templates.specs.Answers.{Fails}
 
@@ -35,7 +35,6 @@ module _ {A B : Type 0} (make : List B → A → Result B Flaw) where
   pub each_fails : (before : List B) (xs ys : List A) (e : FlatError) → Fails e (each make before xs) → Fails e (each make before (xs ++ ys))
   each_fails before xs ys OutOfMemory h = tt
   each_fails before xs ys (Refused path cause) h = err_stays before xs ys _ h
-  each_fails before xs ys Unbuilt h = err_stays before xs ys _ h
 
 pub from_drop : {A : Type 0} (xs : List A) (i : ℕ) (x : A) → i < length xs → x ≡ get_or xs i x → drop i xs ≡ x ∷ drop (i + 1) xs
 from_drop xs i x h e = let z : suc i ≡ i + 1 = omega arith in drop-cons xs i x h ∙ (ap (λ y. y ∷ drop (suc i) xs) (sym e) ∙ ap (λ n. x ∷ drop n xs) z)

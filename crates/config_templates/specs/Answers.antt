@@ -2,15 +2,14 @@
 use Rattle.std.specs.Prelude.{◌≡◌, Option, Some, Result, Ok, Err}
 use Rattle.json_form.specs.Faults.{Fault}
 use Rattle.config_templates.specs.Places.{Flaw}
-use Rattle.config_templates.specs.Places.Flaw.{refused, unbuilt}
+use Rattle.config_templates.specs.Places.Flaw.{refused}
 use Rattle.config_templates.specs.declared.fault.FlatError.{FlatError}
-use Rattle.config_templates.specs.declared.fault.FlatError.TheVariants.{Refused, Unbuilt, OutOfMemory}
+use Rattle.config_templates.specs.declared.fault.FlatError.TheVariants.{Refused, OutOfMemory}
 
 -- a call that failed had no memory, or tells the flaw that the definition has
 abbrev pub Fails : {A : Type 0} → FlatError → Result A Flaw → Type 0
 Fails OutOfMemory laid = Unit {0}
 Fails (Refused path cause) laid = laid ≡ Err (refused (record { path = path; cause = cause }))
-Fails Unbuilt laid = laid ≡ Err unbuilt
 
 -- a call gives what the definition gives, value or flaw, unless it had no memory
 abbrev pub Gives : {A : Type 0} → Result A FlatError → Result A Flaw → Type 0
@@ -26,4 +25,3 @@ GivesAs seen (Err e) laid = Fails e laid
 abbrev pub Tells : FlatError → Option Fault → Type 0
 Tells OutOfMemory fault = Unit {0}
 Tells (Refused path cause) fault = fault ≡ Some (record { path = path; cause = cause })
-Tells Unbuilt fault = ⊥

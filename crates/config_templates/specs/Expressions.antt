@@ -1,72 +1,134 @@
--- The plain expression, `last(/HOST/KEY)>NUMBER`.
-use Rattle.std.specs.Prelude.{ℕ, zero, suc, ◌+◌, ◌-◌, nat_le, nat_eq, min, Bool, true, ◌&&◌, ◌==◌, List, [], ◌∷◌, ◌++◌, length, take, drop, Option, Some, None, is_some, if◌then◌else◌, codes}
-use Rattle.std.specs.List.{starts_with, prefix_len}
-use Rattle.zbx_types.specs.Numerals.{all_digits, front_digits, behind_digits, read_number}
-use Rattle.zbx_types.specs.NameBytes.{is_host_name_byte}
-use Rattle.config_templates.specs.Items.{longest_up_to, key_length}
+-- What the expressions of a trigger mean, over the items of all hosts.
+use Rattle.std.specs.Prelude.{ℕ, ◌+◌, Bool, false, List, [], ◌∷◌, ◌++◌, map, length, Option, Some, None, option_map, if◌then◌else◌, Result, Ok, codes}
+use Rattle.std.specs.List.{list_any}
+use Rattle.std.specs.Option.{option_or}
+use Rattle.zbx_types.specs.Operators.{is_dated}
+use Rattle.zbx_types.specs.Tree.{Tree, constant, call, negative, negation, binary}
+use Rattle.zbx_types.specs.declared.expr.Expr.{Expr}
+use Rattle.zbx_types.specs.declared.expr.Expr.TheVariants.{Const, Call as CallAt, Neg, Not, Bin}
+use Rattle.zbx_types.specs.declared.items.Item.{Item}
+use Rattle.zbx_types.specs.declared.calls.Call.{Call}
+use Rattle.zbx_types.specs.declared.causes.Cause.{Cause}
+use Rattle.zbx_types.specs.declared.causes.Cause.TheVariants.{BadExpression, UnknownName, WrongValueType}
+use Rattle.zbx_types.specs.declared.triggers.RecoveryMode.{RecoveryMode}
+use Rattle.zbx_types.specs.declared.triggers.RecoveryMode.TheVariants.{Expression, RecoveryExpression, Nothing}
+use Rattle.macro_text.specs.Expanded.{expanded}
+use Rattle.macro_text.specs.declared.macros.Macro.{Macro}
+use Rattle.config_read.specs.declared.raw.RawTrigger.{RawTrigger}
+use Rattle.config_read.specs.declared.raw.RawConf.{RawConf}
+use Rattle.config_templates.specs.Places.{Flaw, Placed, unless, ◌>>=◌}
+use Rattle.config_templates.specs.Functions.{takes, lacks_number}
+use Rattle.config_templates.specs.Reading.{expression_at}
+use Rattle.config_templates.specs.Referenced.{Owner, Looked, looked_at}
 
--- one step after the other, where each has an answer
-infixl 10 ◌>>=◌
-abbrev pub ◌>>=◌ : {A B : Type 0} → Option A → (A → Option B) → Option B
-None >>= f = None
-(Some x) >>= f = f x
+-- ---- calls by the items that they look at
 
--- the most bytes of an expression (this project's own)
-abbrev pub longest_expression : ℕ
-longest_expression = 4096
+-- the call by the name of the item's host
+abbrev pub call_of : Call → Option Looked → Call
+call_of c None = c
+call_of c (Some item) = record { fun = c.fun; host = item.host; key = c.key; range = c.range; shift = c.shift; op = c.op; arg = c.arg }
 
--- what decides of an expression: all of it, or where it is too long the front that it may have, and a digit for what follows
-unfoldable pub deciding : List ℕ → List ℕ
-deciding text = if nat_le (length text) longest_expression then text else take longest_expression text ++ codes "0"
+-- the id of the item, 0 where there is none
+abbrev pub id_of : Option Looked → ℕ
+id_of None = 0
+id_of (Some item) = item.id
 
--- what a plain expression says: its host, its key, and the text of its number
-pub record Plain : Type 0 where
-  pub host : List ℕ
-  pub key : List ℕ
-  pub number : List ℕ
+-- its argument must be a number, and is none
+abbrev pub is_misread : Call → Option Looked → Bool
+is_misread c None = false
+is_misread c (Some item) = lacks_number c item.value_type
 
--- a front and what stands behind it
-pub record Split : Type 0 where
-  pub front : List ℕ
-  pub rest : List ℕ
+-- what else is wrong with it; a function of date or time looks at no item
+abbrev pub call_cause : Call → Option Looked → Option Cause
+call_cause c None = if is_dated c.fun then None else Some UnknownName
+call_cause c (Some item) = if takes c item.value_type then None else Some WrongValueType
 
--- what stands behind a front
-unfoldable pub behind : List ℕ → List ℕ → Option (List ℕ)
-behind front text = if starts_with nat_eq text front then Some (drop (length front) text) else None
+-- the cause of the first element that has one
+abbrev pub first_cause : {A : Type 0} → (A → Option Cause) → List A → Option Cause
+first_cause check [] = None
+first_cause check (a ∷ rest) = option_or (check a) (first_cause check rest)
 
--- a text parted behind so many bytes, of which there are some
-abbrev pub parted : ℕ → List ℕ → Option Split
-parted zero text = None
-parted (suc n) text = Some (record { front = take (suc n) text; rest = drop (suc n) text })
+-- what is wrong with the calls of an expression: an argument that is no number, or else the first thing
+abbrev pub calls_cause : (Call → Option Looked) → List Call → Option Cause
+calls_cause look calls =
+    if list_any (λ c. is_misread c (look c)) calls then Some (BadExpression 0) else first_cause (λ c. call_cause c (look c)) calls
 
--- the name of a host at the front of a text, of at most 128 bytes
-unfoldable pub host_front : List ℕ → Option Split
-host_front text = if nat_le (prefix_len is_host_name_byte text) 128 then parted (prefix_len is_host_name_byte text) text else None
+-- ---- one expression
 
--- the key at the front of a text
-unfoldable pub key_front : List ℕ → Option Split
-key_front text = parted (key_length text) text
+-- an expression whose calls name items by their hosts: its tree, its calls, and the ids of their items
+pub record Resolved : Type 0 where
+  pub tree : Tree
+  pub calls : List Call
+  pub call_items : List ℕ
 
--- nothing, or a point and digits
-abbrev pub is_number_end : List ℕ → Bool
-is_number_end [] = true
-is_number_end (c ∷ rest) = (c == 46) && nat_le 1 (length rest) && all_digits rest
+-- the expression with these calls, by the items that they look at
+abbrev pub resolved : (Call → Option Looked) → Tree × List Call → Resolved
+resolved look e = record { tree = e.0; calls = map (λ c. call_of c (look c)) e.1; call_items = map (λ c. id_of (look c)) e.1 }
 
--- digits, and maybe a point and digits
-unfoldable pub number_text : List ℕ → Option (List ℕ)
-number_text text = if nat_le 1 (length (front_digits text)) && is_number_end (behind_digits text) then Some text else None
+-- no cause, or the refusal
+abbrev pub refused_by : {A : Type 0} → List ℕ → Option Cause → A → Result A Flaw
+refused_by path cause a = unless a (option_map (λ c. record { path = path; cause = c }) cause)
 
--- the parts of a plain expression
-unfoldable pub plain_of : List ℕ → Option Plain
-plain_of text =
-    behind (codes "last(/") text >>= host_front >>= λ host. behind (codes "/") host.rest >>= key_front >>= λ key.
-    behind (codes ")>") key.rest >>= number_text >>= λ number. Some (record { host = host.front; key = key.front; number = number })
+-- an expression by the items that its calls look at, where nothing is wrong with them
+unfoldable pub by_items : (Call → Option Looked) → List ℕ → Tree × List Call → Result Resolved Flaw
+by_items look path e = refused_by path (calls_cause look e.1) (resolved look e)
 
--- a number text is one in range
-abbrev pub in_range : List ℕ → Bool
-in_range text = is_some (read_number text)
+-- the expression at a path
+unfoldable pub resolved_at : (Call → Option Looked) → List ℕ → List ℕ → Result Resolved Flaw
+resolved_at look path text = expression_at path text >>= by_items look path
 
--- how many bytes of a plain expression stand before the first digit with which its number is out of range, of as many
--- digits as an expression may have bytes
-unfoldable pub range_end : List ℕ → Plain → ℕ
-range_end text plain = length text - length plain.number + longest_up_to in_range plain.number (min (length plain.number) longest_expression)
+-- ---- both expressions of a trigger
+
+-- a tree whose calls stand so many places later
+abbrev pub later : ℕ → Tree → Tree
+later n (constant z) = constant z
+later n (call place) = call (place + n)
+later n (negative a) = negative (later n a)
+later n (negation a) = negation (later n a)
+later n (binary op a b) = binary op (later n a) (later n b)
+
+-- the expression of a tree
+abbrev pub expr_of : Tree → Expr
+expr_of (constant z) = Const z
+expr_of (call place) = CallAt place
+expr_of (negative a) = Neg a
+expr_of (negation a) = Not a
+expr_of (binary op a b) = Bin op a b
+
+-- what the expressions of a trigger mean: the trees, the calls of each, and the ids of the items of both's
+pub record Meant : Type 0 where
+  pub expr : Expr
+  pub recovery_expr : Option Expr
+  pub calls : List Call
+  pub recovery_calls : List Call
+  pub call_items : List ℕ
+
+-- without a recovery expression
+abbrev pub alone : Resolved → Meant
+alone e = record { expr = expr_of e.tree; recovery_expr = None; calls = e.calls; recovery_calls = []; call_items = e.call_items }
+
+-- with one, to whose places among the calls those of the expression are added
+abbrev pub joined : Resolved → Resolved → Meant
+joined e r = record {
+  expr = expr_of e.tree;
+  recovery_expr = Some (expr_of (later (length e.calls) r.tree));
+  calls = e.calls;
+  recovery_calls = r.calls;
+  call_items = e.call_items ++ r.call_items;
+}
+
+-- the recovery expression is read in its mode alone
+abbrev pub with_recovery : RecoveryMode → Result Resolved Flaw → Resolved → Result Meant Flaw
+with_recovery RecoveryExpression recovery e = recovery >>= λ r. Ok (joined e r)
+with_recovery Expression recovery e = Ok (alone e)
+with_recovery Nothing recovery e = Ok (alone e)
+
+-- what the expressions of a trigger mean with these macros, over the items that calls look at
+abbrev pub meant_by : (Call → Option Looked) → List Macro → Placed RawTrigger → Result Meant Flaw
+meant_by look macros p =
+    resolved_at look (p.path ++ codes "/expression") (expanded macros p.body.expression)
+    >>= with_recovery p.body.recovery (resolved_at look (p.path ++ codes "/recovery_expression") (expanded macros p.body.recovery_expression))
+
+-- what the expressions of a trigger of a host mean
+unfoldable pub expressions_of : RawConf → List Item → Owner → List Macro → Placed RawTrigger → Result Meant Flaw
+expressions_of raw items owner macros p = meant_by (looked_at raw items owner) macros p

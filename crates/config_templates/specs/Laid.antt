@@ -1,12 +1,19 @@
--- The lists of the flat configuration.
-use Rattle.std.specs.Prelude.{List, [], Result, Ok}
-use Rattle.zbx_types.specs.declared.items.Item.{Item}
+-- The flat configuration of a document whose links are right.
+use Rattle.std.specs.Prelude.{ℕ, List, [], Result, Ok}
+use Rattle.zbx_types.specs.declared.conf.Conf.{Conf}
 use Rattle.config_read.specs.declared.raw.RawConf.{RawConf}
-use Rattle.config_templates.specs.Places.{Flaw, ◌>>=◌}
+use Rattle.config_templates.specs.Places.{Flaw, unless, ◌>>=◌}
 use Rattle.config_templates.specs.Items.{items_of}
 use Rattle.config_templates.specs.Triggers.{triggers_of}
-use Rattle.config_templates.specs.declared.triggers.Found.{Found}
+use Rattle.config_templates.specs.Depends.{depending}
+use Rattle.config_templates.specs.NamedHosts.{unknown_hosts}
+use Rattle.config_templates.specs.Flat.{conf_made}
 
--- the items of a document whose links are right, and its triggers with their patterns
-abbrev pub lists_of : RawConf → Result (List Item × Found) Flaw
-lists_of raw = items_of raw >>= λ items. triggers_of raw items [] >>= λ found. Ok (items, found)
+-- what is laid out behind the links
+abbrev pub behind_links : List ℕ → RawConf → Result Conf Flaw
+behind_links text raw = do
+  items ← items_of raw
+  found ← triggers_of raw items []
+  triggers ← depending raw found.triggers
+  raw ← unless raw (unknown_hosts raw)
+  Ok (conf_made text raw items triggers found.patterns)

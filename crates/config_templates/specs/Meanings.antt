@@ -1,14 +1,26 @@
 -- What expressions mean, as the code holds it.
-use Rattle.std.specs.Prelude.{ℕ, min, List, ◌++◌, codes}
-use Rattle.zbx_types.specs.declared.causes.Cause.{Cause}
-use Rattle.zbx_types.specs.declared.causes.Cause.TheVariants.{BadExpression}
-use Rattle.config_templates.specs.Expressions.{Plain, range_end, longest_expression}
+use Rattle.std.specs.Prelude.{ℕ, List, ◌++◌, codes, Option, option_map}
+use Rattle.zbx_types.specs.Tree.{Tree}
+use Rattle.zbx_types.specs.Trees.{tree_of}
+use Rattle.zbx_types.specs.declared.calls.Call.{Call}
+use Rattle.expr_parser.specs.declared.reading.Parsed.{Parsed}
 use Rattle.config_templates.specs.Elements.{element_path}
-use Rattle.config_templates.specs.Triggers.{NamedHost, NamedItem, Meant}
+use Rattle.config_templates.specs.Referenced.{NamedHost, NamedItem, Looked}
+use Rattle.config_templates.specs.Expressions.{Resolved, Meant}
+use Rattle.config_templates.specs.declared.refusals.Member.{Member}
 use Rattle.config_templates.specs.declared.meanings.HostReferenced.{HostReferenced}
 use Rattle.config_templates.specs.declared.meanings.ItemFound.{ItemFound}
-use Rattle.config_templates.specs.declared.meanings.Meaning.{Meaning}
-use Rattle.config_templates.specs.declared.templates.sources.Source.{Source}
+use Rattle.config_templates.specs.declared.meanings.LookedAt.{LookedAt}
+use Rattle.config_templates.specs.declared.resolving.Resolution.{Resolution}
+use Rattle.config_templates.specs.declared.resolving.Meaning.{Meaning}
+
+-- the pointer to a member of a trigger
+abbrev pub member_path : Member → List ℕ
+member_path m = element_path m.source.now (codes "/triggers") m.index ++ m.name.now
+
+-- an expression that was read
+abbrev pub parsed_now : Parsed → Tree × List Call
+parsed_now p = (tree_of p.expr, p.calls)
 
 -- a host and an item that an expression names
 abbrev pub host_now : HostReferenced → NamedHost
@@ -17,14 +29,16 @@ host_now h = record { id = h.id; name = h.name }
 abbrev pub item_now : ItemFound → NamedItem
 item_now i = record { id = i.id; value_type = i.value_type }
 
--- what the expression comes to
+-- the item that a call looks at
+abbrev pub looked_now : LookedAt → Looked
+looked_now l = record { host = l.host; id = l.id; value_type = l.value_type }
+
+abbrev pub looked_maybe : Option LookedAt → Option Looked
+looked_maybe l = option_map looked_now l
+
+-- an expression by its items, and what the expressions of a trigger mean
+abbrev pub resolved_now : Resolution → Resolved
+resolved_now r = record { tree = tree_of r.expr; calls = r.calls; call_items = r.call_items }
+
 abbrev pub meant_now : Meaning → Meant
-meant_now m = record { call = m.call; item = m.item; limit = m.limit }
-
--- the pointer to the expression of a trigger of a source
-abbrev pub expression_path : Source → ℕ → List ℕ
-expression_path s index = element_path s (codes "/triggers") index ++ codes "/expression"
-
--- what is wrong where the number is out of range
-abbrev pub number_cause : List ℕ → Plain → Cause
-number_cause text plain = BadExpression (min (range_end text plain) longest_expression)
+meant_now m = record { expr = m.expr; recovery_expr = m.recovery_expr; calls = m.calls; recovery_calls = m.recovery_calls; call_items = m.call_items }

@@ -1,11 +1,12 @@
 -- Hosts as the code reads their items and triggers.
-use Rattle.std.specs.Prelude.{◌≡◌, ℕ, List, map, position}
+use Rattle.std.specs.Prelude.{◌≡◌, ℕ, List, map, position, Option}
 use Rattle.std.specs.Str.{bytes_eq}
+use Rattle.zbx_types.specs.declared.calls.Call.{Call}
 use Rattle.config_read.specs.declared.raw.RawHost.{RawHost}
 use Rattle.config_templates.specs.Places.{Placed}
 use Rattle.config_templates.specs.Sources.{placed_of}
 use Rattle.config_templates.specs.Firsts.{place_in}
-use Rattle.config_templates.specs.Triggers.{Owner}
+use Rattle.config_templates.specs.Referenced.{Owner, Looked, looked_at}
 use Rattle.config_templates.specs.declared.firsts.FirstPlaces.{FirstPlaces}
 use Rattle.config_templates.specs.Names.{named_items}
 use Rattle.config_templates.specs.declared.meanings.Scope.{Scope}
@@ -31,3 +32,7 @@ KnowsSources places sources = (sought : List ℕ) → place_in places sought ≡
 pub record IsScope (scope : Scope) : Type 0 where
   pub hosts : KnowsHosts scope.hosts.now scope.raw.now.hosts
   pub items : scope.items.now.names ≡ named_items scope.items.now.items
+
+-- the items that calls in a host's expressions look at
+abbrev pub seen_by : Scope → Held → Call → Option Looked
+seen_by scope owner = looked_at scope.raw.now scope.items.now.items (owner_now owner)

@@ -4,10 +4,9 @@ use Rattle.std.specs.Fmt.{decimal}
 use Rattle.zbx_types.specs.declared.causes.Cause.{Cause}
 use Rattle.json_form.specs.Faults.{Fault}
 
--- Why a document has no flat configuration: its first fault, or a form that isn't built.
+-- Why a document has no flat configuration: its first fault.
 pub data Flaw : Type 0 where
   refused : (fault : Fault) → Flaw
-  unbuilt : Flaw
 
 -- one step after the other, up to the first flaw
 infixl 10 ◌>>=◌

@@ -16,16 +16,23 @@ ghost use Rattle.config_templates.specs.Triggers.{placed_triggers};
 use crate::fault::FlatError;
 use crate::firsts::FirstPlaces;
 use crate::inheritance::Inheritance;
+use crate::owned_names::OwnedNames;
 use crate::pointers::element;
 use crate::refusals::element_pointer;
 use crate::templates::links::sources;
 use crate::templates::sources::Source;
-use crate::triggers::TriggerList;
 use config_read::{RawConf, RawDepend, RawHost, RawTrigger};
 use dependency_graph::{depths, first_on_cycle};
 use std::alloc::Global;
 use std::convert::AsStr;
 use zbx_types::{Cause, Many, OutOfMemory, Text, Trigger, id_of};
+
+/// The triggers of all hosts, and their names.
+#[derive(Drop)]
+pub(crate) struct NamedTriggers {
+    pub triggers: Many<Trigger>,
+    pub names: OwnedNames,
+}
 
 /// What the names in dependencies are looked up in.
 #[derive(Clone, Copy)]
@@ -35,7 +42,7 @@ pub(crate) struct Known<'r, 'l> {
     /// The places of the hosts' names.
     pub hosts: &'l FirstPlaces,
     /// The triggers of all hosts.
-    pub list: &'l TriggerList,
+    pub list: &'l NamedTriggers,
 }
 
 /// A trigger that depends on others: where it is written, and the places of those among the triggers of all hosts.
@@ -404,7 +411,7 @@ pub(crate) fn depending<'r>(
     raw: &'r RawConf,
     hosts: &FirstPlaces,
     inheritance: &Inheritance<'r>,
-    list: TriggerList,
+    list: NamedTriggers,
 ) -> Result<Many<Trigger>, FlatError>
     requires hosts { KnowsHosts hosts.now raw.now.hosts }
     requires inheritance { Inherits raw.now inheritance.now }

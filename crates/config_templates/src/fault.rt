@@ -19,9 +19,6 @@ pub enum FlatError {
         /// What is wrong.
         cause: Cause,
     },
-    /// The document has a form that isn't built. This project's own.
-    #[error("configurations of this form are not built")]
-    Unbuilt,
     /// No memory was to be had.
     #[error("out of memory")]
     OutOfMemory,

@@ -1,26 +1,26 @@
 //! From a text to the flat configuration.
 
-ghost use Rattle.std.specs.Prelude.{◌≡◌, ℕ, List, Ok, Err, map, IfOk, IsErrOf, IsUtf8};
+ghost use Rattle.std.specs.Prelude.{◌≡◌, ℕ, List, Ok, map, IfOk, IsErrOf, IsUtf8};
 ghost use Rattle.config_read.specs.Document.{conf_of};
 ghost use Rattle.config_templates.specs.Answers.{Gives, GivesAs};
 ghost use Rattle.config_templates.specs.Flat.{host_made, conf_made, read_of, laid_out, flat_of};
-ghost use Rattle.config_templates.specs.Laid.{lists_of};
+ghost use Rattle.config_templates.specs.Laid.{behind_links};
 ghost use Rattle.config_templates.specs.Inherited.{Inherits};
 ghost use Rattle.config_templates.specs.Places.{refuse};
-ghost use Rattle.config_templates.specs.Places.Flaw.{unbuilt};
 ghost use Rattle.zbx_types.specs.declared.causes.Cause.{Cause};
 
-use crate::built::is_built;
+use crate::depends::{NamedTriggers, depending};
 use crate::fault::FlatError;
+use crate::hosts::known_hosts;
 use crate::inheritance::Inheritance;
 use crate::items::items;
 use crate::meanings::Scope;
 use crate::owners::host_names;
 use crate::patterns::PatternList;
-use crate::triggers::{Found, triggers};
+use crate::triggers::{TriggerList, triggers};
 use config_read::{RawConf, RawHost, ReadError, read};
 use std::alloc::Global;
-use zbx_types::{Conf, Host, Item, Many, OutOfMemory, Text, copy_texts};
+use zbx_types::{Conf, Host, Item, Many, OutOfMemory, Text, Trigger, copy_texts};
 
 /// The document of a text.
 fn document(alloc: Global, text: &[u8]) -> Result<RawConf, FlatError>
@@ -66,27 +66,29 @@ fn hosts(alloc: Global, raws: &Many<RawHost>) -> Result<Many<Host>, OutOfMemory>
     Ok(made)
 }
 
-/// The configuration of a document with these items, triggers and patterns.
-fn conf(
-    alloc: Global,
-    text: &[u8],
-    raw: RawConf,
-    items: Many<Item>,
-    found: Found,
-) -> Result<Conf, OutOfMemory>
+/// What a document is laid out to.
+#[derive(Drop)]
+struct Layout {
+    pub items: Many<Item>,
+    pub triggers: Many<Trigger>,
+    pub patterns: PatternList,
+}
+
+/// The configuration of a document that is laid out to these lists.
+fn conf(alloc: Global, text: &[u8], raw: RawConf, lists: Layout) -> Result<Conf, OutOfMemory>
     requires { IsUtf8 text.now }
-    ensures { IfOk result (λ made. made ≡ conf_made text.now raw items found) }
+    ensures { IfOk result (λ made. made ≡ conf_made text.now raw lists.items lists.triggers lists.patterns) }
 {
     let text = text_of(alloc, text)?;
     let hosts = hosts(alloc, &raw.hosts)?;
-    let patterns = found.patterns.texts(alloc)?;
-    let pattern_paths = found.patterns.paths(alloc)?;
+    let patterns = lists.patterns.texts(alloc)?;
+    let pattern_paths = lists.patterns.paths(alloc)?;
     Ok(Conf {
         text,
         utc_offset: raw.utc_offset,
         hosts,
-        items,
-        triggers: found.triggers,
+        items: lists.items,
+        triggers: lists.triggers,
         correlations: raw.correlations,
         maintenances: raw.maintenances,
         actions: raw.actions,
@@ -95,14 +97,15 @@ fn conf(
     })
 }
 
-/// The items and the triggers of a document whose links are right.
+/// What a document whose links are right is laid out to.
+#[tactic(auto, using(crate::proofs::Linked::told_fails))]
 fn lists<'r>(
     alloc: Global,
     raw: &'r RawConf,
     inheritance: &Inheritance<'r>,
-) -> Result<(Many<Item>, Found), FlatError>
+) -> Result<Layout, FlatError>
     requires { Inherits raw.now inheritance.now }
-    ensures { Gives result (lists_of raw.now) }
+    ensures { (text : List ℕ) → GivesAs (λ l. conf_made text raw.now l.items l.triggers l.patterns) result (behind_links text raw.now) }
 {
     let items = items(alloc, raw, inheritance)?;
     let hosts = host_names(alloc, &raw.hosts)?;
@@ -111,19 +114,26 @@ fn lists<'r>(
         hosts: &hosts,
         items: &items,
     };
-    let patterns = PatternList::new(alloc);
-    let found = triggers(alloc, &scope, inheritance, patterns)?.found;
-    Ok((items.items, found))
+    let TriggerList { found, names } =
+        triggers(alloc, &scope, inheritance, PatternList::new(alloc))?;
+    let list = NamedTriggers {
+        triggers: found.triggers,
+        names,
+    };
+    let triggers = depending(alloc, scope.raw, scope.hosts, inheritance, list)?;
+    known_hosts(alloc, scope.raw, scope.hosts)?;
+    Ok(Layout {
+        items: items.items,
+        triggers,
+        patterns: found.patterns,
+    })
 }
 
-/// The items and the triggers of a document.
-#[tactic(auto, using(crate::proofs::LaidOut::not_built, crate::proofs::LaidOut::links_fail, crate::proofs::LaidOut::lists_give))]
-fn laid_lists(alloc: Global, raw: &RawConf) -> Result<(Many<Item>, Found), FlatError>
-    ensures { (text : List ℕ) → GivesAs (λ l. conf_made text raw.now l.0 l.1) result (laid_out text raw.now) }
+/// What a document is laid out to.
+#[tactic(auto, using(crate::proofs::LaidOut::links_fail))]
+fn laid_lists(alloc: Global, raw: &RawConf) -> Result<Layout, FlatError>
+    ensures { (text : List ℕ) → GivesAs (λ l. conf_made text raw.now l.items l.triggers l.patterns) result (laid_out text raw.now) }
 {
-    if !is_built(raw) {
-        return Err(FlatError::Unbuilt);
-    }
     let inheritance = Inheritance::of(alloc, raw)?;
     lists(alloc, raw, &inheritance)
 }
@@ -133,17 +143,15 @@ fn flattened(alloc: Global, text: &[u8], raw: RawConf) -> Result<Conf, FlatError
     requires { IsUtf8 text.now }
     ensures { Gives result (laid_out text.now raw) }
 {
-    let (items, found) = laid_lists(alloc, &raw)?;
-    Ok(conf(alloc, text, raw, items, found)?)
+    let lists = laid_lists(alloc, &raw)?;
+    Ok(conf(alloc, text, raw, lists)?)
 }
 
 /// The flat configuration of a configuration document, a JSON text of at most 16,777,216 bytes.
 ///
 /// `Refused` comes with the document's first fault and its path: what the reading of the document refuses, then links, the
-/// items of the hosts in their order, and the triggers of the hosts in theirs. `Unbuilt` comes where the document can be
-/// read and has a form that isn't built, and where an expression isn't plain and nothing before it is refused.
-/// Of an expression of more than 4,096 bytes these alone are looked at, and it is refused where they begin a plain one.
-/// `OutOfMemory` may come on any text, and says nothing of it.
+/// items of the hosts in their order, the triggers of the hosts in theirs, what triggers depend on, and the hosts that
+/// maintenances and actions name. `OutOfMemory` may come on any text, and says nothing of it.
 ///
 /// The form of the document is this project's own. How hosts inherit is from the Zabbix 6.0 manual, "Linking/unlinking",
 /// and "User macros".
@@ -152,7 +160,6 @@ pub fn flat(alloc: Global, text: &[u8]) -> Result<Conf, FlatError>
     ensures gives { Gives result (flat_of text.now) }
     ensures ok { IfOk result (λ conf. flat_of text.now ≡ Ok conf) }
     ensures refused { (path : List ℕ) (cause : Cause) → IsErrOf result (FlatError.Refused path cause) → flat_of text.now ≡ refuse path cause }
-    ensures unbuilt { IsErrOf result FlatError.Unbuilt → flat_of text.now ≡ Err unbuilt }
 {
     let raw = document(alloc, text)?;
     flattened(alloc, text, raw)

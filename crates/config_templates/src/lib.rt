@@ -24,13 +24,13 @@
 //! ```
 #![tactic(auto)]
 
-mod built;
 mod copying;
 mod depends;
 mod expressions;
 mod fault;
 mod firsts;
 mod flattening;
+mod functions;
 mod hosts;
 mod inheritance;
 mod items;
@@ -42,6 +42,7 @@ mod owners;
 mod patterns;
 mod pointers;
 mod refusals;
+mod resolving;
 mod templates;
 mod titles;
 mod triggers;

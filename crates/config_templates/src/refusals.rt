@@ -2,6 +2,7 @@
 
 ghost use Rattle.std.specs.Prelude.{◌≡◌, ◌++◌, IfOk};
 ghost use Rattle.config_templates.specs.Elements.{element_path, IsRefusal};
+ghost use Rattle.config_templates.specs.Meanings.{member_path};
 
 use crate::fault::FlatError;
 use crate::pointers::{element, list_pointer};
@@ -69,5 +70,29 @@ pub(crate) fn refused_member(
     match member_pointer(alloc, source, list, index, member) {
         Ok(path) => FlatError::Refused { path, cause },
         Err(OutOfMemory) => FlatError::OutOfMemory,
+    }
+}
+
+/// A member of a trigger of a host or a template. It is named with its `/`.
+#[derive(Clone, Copy)]
+pub(crate) struct Member<'s, 'r> {
+    pub source: &'s Source<'r>,
+    pub index: usize,
+    pub name: &'s str,
+}
+
+impl Member<'_, '_> {
+    /// Its refusal.
+    pub(crate) fn refused(&self, alloc: Global, cause: Cause) -> FlatError
+        ensures { IsRefusal (member_path self.now) cause result }
+    {
+        refused_member(
+            alloc,
+            self.source,
+            "/triggers",
+            self.index,
+            self.name,
+            cause,
+        )
     }
 }

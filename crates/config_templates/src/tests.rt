@@ -8,6 +8,7 @@ use zbx_types::{
     Call, Conf, Expr, Fun, Item, Op, Operand, OutOfMemory, Range, Text, Trigger, ValueType,
 };
 
+mod expressions;
 mod faults;
 mod lengths;
 

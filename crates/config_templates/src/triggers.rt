@@ -3,38 +3,32 @@
 ghost use Rattle.std.specs.Prelude.{◌≡◌, ◌++◌, ◌∷◌, [], ◌<◌, List, length, Some, slice_get, IfOk, OnOk};
 ghost use Rattle.config_templates.specs.Answers.{Gives, GivesAs};
 ghost use Rattle.config_templates.specs.Elements.{placed_trigger, placed_host, own_triggers};
-ghost use Rattle.config_templates.specs.Expressions.{deciding};
 ghost use Rattle.config_templates.specs.Inherited.{Inherits};
 ghost use Rattle.config_templates.specs.Links.{placed_hosts};
 ghost use Rattle.config_templates.specs.Meanings.{meant_now};
 ghost use Rattle.config_templates.specs.Names.{named, named_trigger, named_triggers};
 ghost use Rattle.config_templates.specs.Owners.{owner_now, sources_now, KnowsSources, IsScope};
+ghost use Rattle.config_templates.specs.Depends.{written_triggers};
 ghost use Rattle.config_templates.specs.Places.{each_list};
-ghost use Rattle.config_templates.specs.Triggers.{trigger_made, meant_trigger, users_of, trigger_of, placed_triggers, owner_of, triggers_from, triggers_of};
+ghost use Rattle.config_templates.specs.Triggers.{trigger_made, users_of, trigger_of, placed_triggers, owner_of, triggers_from, triggers_of};
 ghost use Rattle.config_templates.specs.Members.{users_now};
 ghost use Rattle.config_templates.specs.Written.{written, free_trigger, more_found};
 ghost use Rattle.zbx_types.specs.declared.triggers.Trigger.{Trigger};
-ghost use Rattle.macro_text.specs.Expanded.{expanded};
-ghost use Rattle.zbx_types.specs.declared.expr.Expr.TheVariants.{Bin};
-ghost use Rattle.zbx_types.specs.declared.expr.Op.TheVariants.{Gt};
-ghost use Rattle.zbx_types.specs.Tree.{call, constant};
 
 use crate::fault::FlatError;
 use crate::inheritance::Inheritance;
-use crate::meanings::{Meaning, Scope, meaning_of};
+use crate::meanings::Scope;
 use crate::owned_names::OwnedNames;
 use crate::owners::{Owner, owner_at};
 use crate::patterns::PatternList;
 use crate::refusals::{refused_element, refused_member};
+use crate::resolving::{Meaning, meaning_of};
 use crate::templates::sources::Source;
 use crate::titles::{tags, title};
 use crate::uses::{Users, join_trigger};
 use config_read::{RawHost, RawTrigger};
-use macro_text::{Expansion, expand_within};
 use std::alloc::Global;
-use zbx_types::{
-    Bytes, Cause, Expr, Fix, LONGEST_EXPRESSION, Many, Op, Operand, OutOfMemory, Tag, Text, Trigger,
-};
+use zbx_types::{Cause, Many, OutOfMemory, Tag, Text, Trigger};
 
 /// The most triggers of all hosts (this project's own).
 const MOST_TRIGGERS: usize = 50_000;
@@ -51,24 +45,6 @@ pub(crate) struct Found {
 pub(crate) struct TriggerList {
     pub found: Found,
     pub names: OwnedNames,
-}
-
-/// A list of one.
-fn one<T: Drop>(alloc: Global, item: T) -> Result<Many<T>, OutOfMemory>
-    ensures { IfOk result (λ made. made ≡ item ∷ []) }
-{
-    let mut made = Many::new(alloc);
-    made.push(item)?;
-    Ok(made)
-}
-
-/// The expression that the one call is above a limit.
-fn above(alloc: Global, limit: Fix) -> Result<Expr, OutOfMemory>
-    ensures { IfOk result (λ made. made ≡ Bin Gt (call 0) (constant limit)) }
-{
-    let call = Operand::new(alloc, Expr::Call(0))?;
-    let limit = Operand::new(alloc, Expr::Const(limit))?;
-    Ok(Expr::Bin(Op::Gt, call, limit))
 }
 
 /// What a trigger takes over as it is written.
@@ -97,18 +73,17 @@ fn make(
     ensures { IfOk result (λ made. made ≡ trigger_made host title tags raw.now (meant_now meaning)) }
 {
     let Written { name, close_tag } = write(alloc, raw)?;
-    let expr = above(alloc, meaning.limit)?;
-    let calls = one(alloc, meaning.call)?;
-    let call_items = one(alloc, meaning.item)?;
+    let mut calls = meaning.calls;
+    calls.append(meaning.recovery_calls)?;
     Ok(Trigger {
         host,
         name,
         title,
-        expr,
+        expr: meaning.expr,
         recovery: raw.recovery,
-        recovery_expr: None,
+        recovery_expr: meaning.recovery_expr,
         calls,
-        call_items,
+        call_items: meaning.call_items,
         multiple: raw.multiple,
         close_tag,
         severity: raw.severity,
@@ -119,51 +94,15 @@ fn make(
     })
 }
 
-/// What decides of the expression of a trigger of a host.
-#[tactic(auto, unfolding(crate::specs::Expressions::deciding))]
-fn deciding(alloc: Global, owner: &Owner<'_, '_>, raw: &RawTrigger) -> Result<Bytes, OutOfMemory>
-    ensures { IfOk result (λ made. made ≡ deciding (expanded owner.now.macros raw.now.expression)) }
-{
-    match expand_within(alloc, &raw.expression, &owner.macros, LONGEST_EXPRESSION)? {
-        Expansion::Whole(text) => Bytes::of(alloc, text.as_bytes()),
-        Expansion::Longer(front) => {
-            let mut front = front;
-            front.extend(b"0")?;
-            Ok(front)
-        }
-    }
-}
-
-/// The trigger of a host.
-fn meant_trigger(
-    alloc: Global,
-    scope: &Scope<'_>,
-    owner: &Owner<'_, '_>,
-    source: &Source<'_>,
-    index: usize,
-    raw: &RawTrigger,
-) -> Result<Trigger, FlatError>
-    requires scope { IsScope scope.now }
-    requires sources { KnowsSources owner.now.names (sources_now owner.now) }
-    ensures gives { Gives result (meant_trigger scope.now.raw.now scope.now.items.now.items (owner_now owner.now) owner.now.macros (placed_trigger source.now index raw.now)) }
-    ensures named { IfOk result (λ t. named_trigger t ≡ named owner.now.id raw.now.name) }
-{
-    let expression = deciding(alloc, owner, raw)?;
-    let meaning = meaning_of(alloc, scope, owner, source, index, expression.as_slice())?;
-    let title = title(alloc, raw, &owner.macros)?;
-    let tags = tags(alloc, raw, &owner.macros)?;
-    Ok(make(alloc, owner.id, title, tags, raw, meaning)?)
-}
-
-/// What a trigger uses patterns in.
-fn users_of(trigger: &Trigger) -> Users<'_>
-    ensures { users_now result ≡ users_of trigger.now }
+/// What a trigger with this title and these tags uses patterns in.
+fn users_of<'t>(title: &'t Text, tags: &'t Many<Tag>, meaning: &'t Meaning) -> Users<'t>
+    ensures { users_now result ≡ users_of title.now tags.now (meant_now meaning.now) }
 {
     Users {
-        title: &trigger.title,
-        calls: trigger.calls.as_slice(),
-        recovery_calls: &[],
-        tags: &trigger.tags,
+        title,
+        calls: meaning.calls.as_slice(),
+        recovery_calls: meaning.recovery_calls.as_slice(),
+        tags,
     }
 }
 
@@ -182,9 +121,11 @@ fn free_trigger(
     ensures gives { (before : List Trigger) → GivesAs (more_found before patterns.new) result (free_trigger scope.now.raw.now scope.now.items.now.items (owner_now owner.now) owner.now.macros (record { triggers = before; patterns = patterns.old }) (placed_trigger source.now index raw.now)) }
     ensures named { IfOk result (λ t. named_trigger t ≡ named owner.now.id raw.now.name) }
 {
-    let trigger = meant_trigger(alloc, scope, owner, source, index, raw)?;
-    join_trigger(alloc, patterns, source, index, users_of(&trigger))?;
-    Ok(trigger)
+    let meaning = meaning_of(alloc, scope, owner, source, index, raw)?;
+    let title = title(alloc, raw, &owner.macros)?;
+    let tags = tags(alloc, raw, &owner.macros)?;
+    join_trigger(alloc, patterns, source, index, users_of(&title, &tags, &meaning))?;
+    Ok(make(alloc, owner.id, title, tags, raw, meaning)?)
 }
 
 /// The trigger of a host, behind those before it. Joins its patterns.
@@ -301,7 +242,7 @@ fn add_host<'r>(
 
 /// The triggers of all hosts, in the order of the hosts, over the items of all hosts, and the patterns that they use behind
 /// those of the items.
-#[tactic(auto, unfolding(crate::specs::Triggers::triggers_of))]
+#[tactic(auto, using(crate::proofs::FoundCounts::as_many_triggers), unfolding(crate::specs::Triggers::triggers_of))]
 pub(crate) fn triggers<'r>(
     alloc: Global,
     scope: &Scope<'r>,
@@ -310,7 +251,9 @@ pub(crate) fn triggers<'r>(
 ) -> Result<TriggerList, FlatError>
     requires scope { IsScope scope.now }
     requires inheritance { Inherits scope.now.raw.now inheritance.now }
-    ensures { GivesAs (λ l. l.found) result (triggers_of scope.now.raw.now scope.now.items.now.items patterns) }
+    ensures gives { GivesAs (λ l. l.found) result (triggers_of scope.now.raw.now scope.now.items.now.items patterns) }
+    ensures names { IfOk result (λ l. l.names ≡ named_triggers l.found.triggers) }
+    ensures written { IfOk result (λ l. length l.found.triggers ≡ length (written_triggers scope.now.raw.now)) }
 {
     let mut list = TriggerList {
         found: Found {

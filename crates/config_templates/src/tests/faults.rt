@@ -18,8 +18,6 @@ fn unbuilt_hosts() -> &'static str {
 "name":"h","items":[{"key":"k"}],"triggers":[{"name":"t","expression":"last(/h/k)>5"},{"name":"u","expression":"last(/h/k)>5","depends":[{"trigger":"t"}]}]
 "name":"h","items":[{"key":"k"}],"triggers":[{"name":"on {HOST.NAME}","expression":"last(/h/k)>5"}]
 "name":"h","items":[{"key":"k"}],"triggers":[{"name":"t","expression":"last(/h/k)<5"}]
-"name":"h","items":[{"key":"k"}],"triggers":[{"name":"t","expression":"last(/h/k)>"}]
-"name":"h","items":[{"key":"k"}],"triggers":[{"name":"t","expression":"last(/h/k)>1e3"}]
 "name":"h","items":[{"key":"k"}],"triggers":[{"name":"t","expression":"min(/h/k,5m)>5"}]"#
 }
 

@@ -75,7 +75,12 @@ fn long_texts() -> [(usize, &'static str, &'static str, &'static str); 9] {
             "last(/h/k)>1.{$M}x",
             "BadExpression{at:4096} /hosts/0/triggers/0/expression",
         ),
-        (5000, "k", "last(/h/k)>x{$M}", "Unbuilt"),
+        (
+            5000,
+            "k",
+            "last(/h/k)>x{$M}",
+            "BadExpression{at:11} /hosts/0/triggers/0/expression",
+        ),
     ]
 }
 
