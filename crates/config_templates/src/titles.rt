@@ -1,6 +1,6 @@
 //! Titles of triggers, and their tags.
 
-ghost use Rattle.std.specs.Prelude.{◌≡◌, length, map, IfOk};
+ghost use Rattle.std.specs.Prelude.{◌≡◌, IfOk};
 ghost use Rattle.config_templates.specs.Titles.{has_brace, filled, shown, title_of, tag_of, tags_of};
 
 use config_read::RawTrigger;

@@ -27,7 +27,7 @@ fn document(
     Ok(made)
 }
 
-fn add_copies(made: &mut Text, text: &str, count: usize) -> Result<(), OutOfMemory> {
+pub(super) fn add_copies(made: &mut Text, text: &str, count: usize) -> Result<(), OutOfMemory> {
     for _ in 0..count {
         made.push_str(text)?;
     }
