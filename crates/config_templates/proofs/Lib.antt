@@ -4,6 +4,14 @@ pub mod KeyFronts
 pub mod FirstNames
 pub mod Failing
 pub mod Steps
+pub mod PassLemmas
+pub mod Refusing
+pub mod Fellows
+pub mod Finding
+pub mod Putting
+pub mod PathFaults
+pub mod Shorts
+pub mod KeptPatterns
 pub mod Fronts
 pub mod Meant
 pub mod Free

@@ -10,12 +10,12 @@ use Rattle.config_templates.specs.declared.fault.FlatError.TheVariants.{Refused,
 use Rattle.config_templates.specs.Places.{Flaw, ◌>>=◌, each, Placed}
 use Rattle.config_templates.specs.Answers.{Fails}
 
-on_ok : {B C : Type 0} (r : Result B Flaw) (k m : B → Result C Flaw) (after : C) (whole : Result C Flaw)
+pub on_ok : {B C : Type 0} (r : Result B Flaw) (k m : B → Result C Flaw) (after : C) (whole : Result C Flaw)
     → (r >>= k) ≡ Ok after → ((b : B) → k b ≡ Ok after → m b ≡ whole) → (r >>= m) ≡ whole
 on_ok (Ok b) k m after whole h f = f b h
 on_ok (Err e) k m after whole h f = absurd cc
 
-on_err : {B C : Type 0} (r : Result B Flaw) (k m : B → Result C Flaw) (e : Flaw) → (r >>= k) ≡ Err e → ((b : B) → k b ≡ Err e → m b ≡ Err e) → (r >>= m) ≡ Err e
+pub on_err : {B C : Type 0} (r : Result B Flaw) (k m : B → Result C Flaw) (e : Flaw) → (r >>= k) ≡ Err e → ((b : B) → k b ≡ Err e → m b ≡ Err e) → (r >>= m) ≡ Err e
 on_err (Ok b) k m e h f = f b h
 on_err (Err d) k m e h f = cc
 
@@ -37,7 +37,7 @@ module _ {A B : Type 0} (make : List B → A → Result B Flaw) where
   each_fails before xs ys (Refused path cause) h = err_stays before xs ys _ h
   each_fails before xs ys Unbuilt h = err_stays before xs ys _ h
 
-from_drop : {A : Type 0} (xs : List A) (i : ℕ) (x : A) → i < length xs → x ≡ get_or xs i x → drop i xs ≡ x ∷ drop (i + 1) xs
+pub from_drop : {A : Type 0} (xs : List A) (i : ℕ) (x : A) → i < length xs → x ≡ get_or xs i x → drop i xs ≡ x ∷ drop (i + 1) xs
 from_drop xs i x h e = let z : suc i ≡ i + 1 = omega arith in drop-cons xs i x h ∙ (ap (λ y. y ∷ drop (suc i) xs) (sym e) ∙ ap (λ n. x ∷ drop n xs) z)
 
 module _ {A B : Type 0} (make : List B → A → Result B Flaw) (own : Placed RawHost → List A) where

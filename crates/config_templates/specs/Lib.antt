@@ -4,6 +4,14 @@ pub mod Links
 pub mod Macros
 pub mod Items
 pub mod Expressions
+pub mod OwnedItems
+pub mod Masters
+pub mod Counting
+pub mod Patterns
+pub mod Kept
+pub mod Prepared
+pub mod PlacedSteps
+pub mod StepPatterns
 pub mod Triggers
 pub mod Built
 pub mod Flat

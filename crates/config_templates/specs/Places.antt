@@ -54,7 +54,7 @@ abbrev pub each : {A B : Type 0} → (List B → A → Result B Flaw) → List B
 each make before [] = Ok before
 each make before (a ∷ rest) = make before a >>= λ b. each make (before ++ b ∷ []) rest
 
--- the same of several lists
-abbrev pub each_list : {A B : Type 0} → (List B → A → Result (List B) Flaw) → List B → List A → Result (List B) Flaw
-each_list make before [] = Ok before
-each_list make before (a ∷ rest) = make before a >>= λ behind. each_list make behind rest
+-- what all elements make, each in order of what those before it made
+abbrev pub each_list : {A S : Type 0} → (S → A → Result S Flaw) → S → List A → Result S Flaw
+each_list make made [] = Ok made
+each_list make made (a ∷ rest) = make made a >>= λ more. each_list make more rest

@@ -25,7 +25,6 @@
 #![tactic(auto)]
 
 mod built;
-mod copying;
 mod expressions;
 mod fault;
 mod firsts;
@@ -34,11 +33,18 @@ mod inheritance;
 mod items;
 mod keys;
 mod macros;
+mod mastering;
 mod meanings;
 mod owned_names;
 mod owners;
+mod passes;
+mod pattern_steps;
+mod patterns;
 mod pointers;
+mod preparing;
 mod refusals;
+mod step_params;
+mod step_places;
 mod templates;
 mod triggers;
 

@@ -25,7 +25,7 @@ fn element_pointer(
 }
 
 /// The pointer to a member of such an element. The member is named with its `/`.
-fn member_pointer(
+pub(crate) fn member_pointer(
     alloc: Global,
     source: &Source<'_>,
     list: &str,
