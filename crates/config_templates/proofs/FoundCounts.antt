@@ -1,5 +1,5 @@
 -- As many triggers are found as are written.
-use Rattle.std.proofs.Common.{◌≡◌, ℕ, ◌+◌, Bool, true, false, List, [], ◌∷◌, ◌++◌, length, refl, ap, arith, length-append, flat_map, if◌then◌else◌, codes, Result, Ok, Err}
+use Rattle.std.proofs.Common.{◌≡◌, ℕ, suc, ◌+◌, Bool, true, false, List, [], ◌∷◌, ◌++◌, length, refl, ap, arith, length-append, flat_map, if◌then◌else◌, codes, Result, Ok, Err}
 use Rattle.std.specs.Prelude.{nat_le}
 use Rattle.zbx_types.specs.declared.causes.Cause.TheVariants.{Duplicate, TooMany}
 use Rattle.zbx_types.specs.declared.items.Item.{Item}
@@ -49,7 +49,7 @@ module _ (raw : RawConf) (items : List Item) where
 
   singles : {A : Type 0} (xs : List A) → length (flat_map (λ x. x ∷ []) xs) ≡ length xs
   singles [] = refl
-  singles (x ∷ xs) = ap (λ n. n + 1) (singles xs)
+  singles (x ∷ xs) = ap suc (singles xs)
 
   from_owner : (owner : Owner) (before after : Found) → triggers_from raw items owner before ≡ Ok after → size after ≡ size before + length (placed_triggers owner.sources)
   unfolding triggers_from

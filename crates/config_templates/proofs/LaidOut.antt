@@ -1,9 +1,17 @@
 -- A document that is laid out.
-use Rattle.std.proofs.Common.{◌≡◌, ℕ, List, refl, ap, sym, subst}
-use Rattle.std.specs.Prelude.{Result, Err, Option, Some, None}
+use Rattle.std.proofs.Common.{◌≡◌, ℕ, List, [], refl, ap, sym, subst}
+use Rattle.std.specs.Prelude.{Result, Ok, Err, Option, Some, None}
 use Rattle.std.specs.Option.{option_or}
 use Rattle.json_form.specs.Faults.{Fault}
 use Rattle.zbx_types.specs.declared.conf.Conf.{Conf}
+use Rattle.zbx_types.specs.declared.items.Item.{Item}
+use Rattle.zbx_types.specs.declared.triggers.Trigger.{Trigger}
+use Rattle.config_templates.specs.declared.triggers.Found.{Found}
+use Rattle.config_templates.specs.Items.{items_of}
+use Rattle.config_templates.specs.Triggers.{triggers_of}
+use Rattle.config_templates.specs.Depends.{depending}
+use Rattle.config_templates.specs.NamedHosts.{unknown_hosts}
+use Rattle.config_templates.proofs.Linked.{bound_fails, told_fails}
 use Rattle.config_read.specs.declared.raw.RawConf.{RawConf}
 use Rattle.config_templates.specs.declared.fault.FlatError.{FlatError}
 use Rattle.config_templates.specs.declared.fault.FlatError.TheVariants.{Refused, OutOfMemory}
@@ -43,3 +51,12 @@ laid_as text raw u c = rw (u, c) refl
 -- where the links are right, a call gives what is laid out behind them
 pub lists_give : {L : Type 0} (seen : L → Conf) (text : List ℕ) (raw : RawConf) (r : Result L FlatError) → unknown_links raw ≡ None → cycles raw ≡ None → GivesAs seen r (behind_links text raw) → GivesAs seen r (laid_out text raw)
 lists_give seen text raw r u c h = subst (λ laid. GivesAs seen r laid) (sym (laid_as text raw u c)) h
+
+module _ (text : List ℕ) (raw : RawConf) (items : List Item) (found : Found) (i : items_of raw ≡ Ok items) (f : triggers_of raw items [] ≡ Ok found) where
+  -- a dependency is at fault
+  pub dependings_fail : (e : FlatError) → Fails e (depending raw found.triggers) → Fails e (behind_links text raw)
+  dependings_fail e d = rw (i, f) (bound_fails e (depending raw found.triggers) _ d)
+
+  -- a host that is named isn't there
+  pub hosts_fail : (triggers : List Trigger) → depending raw found.triggers ≡ Ok triggers → (e : FlatError) → Tells e (unknown_hosts raw) → Fails e (behind_links text raw)
+  hosts_fail triggers d e t = rw (i, f, d) (told_fails e (unknown_hosts raw) raw _ t)

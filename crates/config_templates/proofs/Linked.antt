@@ -76,7 +76,8 @@ given raw triggers after ds h none e =
     ∙ ap (λ f. unless ds f >>= λ found. Ok (all_linked triggers (links_of found))) none
     ∙ ap (λ (ts : List Trigger). Ok ts) (sym e)
 
-bound_fails : {A B : Type 0} (e : FlatError) (r : Result A Flaw) (k : A → Result B Flaw) → Fails e r → Fails e (r >>= k)
+-- what fails fails whatever follows
+pub bound_fails : {A B : Type 0} (e : FlatError) (r : Result A Flaw) (k : A → Result B Flaw) → Fails e r → Fails e (r >>= k)
 bound_fails OutOfMemory r k h = tt
 bound_fails (Refused path cause) r k h = ap (λ x. x >>= k) h
 

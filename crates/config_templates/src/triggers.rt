@@ -242,7 +242,7 @@ fn add_host<'r>(
 
 /// The triggers of all hosts, in the order of the hosts, over the items of all hosts, and the patterns that they use behind
 /// those of the items.
-#[tactic(auto, using(crate::proofs::FoundCounts::as_many_triggers), unfolding(crate::specs::Triggers::triggers_of))]
+#[tactic(auto, unfolding(crate::specs::Triggers::triggers_of))]
 pub(crate) fn triggers<'r>(
     alloc: Global,
     scope: &Scope<'r>,

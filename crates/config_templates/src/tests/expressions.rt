@@ -7,7 +7,7 @@ use std::test::Fail;
 use zbx_types::{OutOfMemory, Text};
 
 /// What is told of an expression over the numbers `k` and the texts `w` of the host `h`, which has template `T` and not `U`.
-/// What has no fault isn't built.
+/// A `-` stands for no fault.
 fn told_expressions() -> &'static str {
     r#"BadExpression{at:0} now()>0
 BadExpression{at:11} last(/h/k)>
@@ -17,8 +17,8 @@ BadExpression{at:0} count(/h/k,5m,\"eq\",\"x\")>0
 BadExpression{at:0} count(/h/k,5m,\"le\")>0
 BadExpression{at:0} find(/h/k,,,\"x\")
 BadExpression{at:0} find(/h/k,,,\"1000000000000000000000001\")
-Unbuilt find(/h/k,,,\"1000000000000000000000000\")
-Unbuilt count(/h/k,5m,\"ge\",\"-2.5K\")>0
+- find(/h/k,,,\"1000000000000000000000000\")
+- count(/h/k,5m,\"ge\",\"-2.5K\")>0
 BadExpression{at:0} last(/g/k)>count(/T/k,5m,\"gt\",\"x\")
 UnknownName last(/g/k)>count(/T/w,5m,\"gt\",\"x\")
 UnknownName last(/U/k)>0
@@ -37,8 +37,8 @@ WrongValueType count(/h/w,5m,\"ge\",\"1\")
 WrongValueType find(/h/w,5m,\"lt\",\"1\")
 WrongValueType find(/h/w,5m,\"le\",\"1\")
 WrongValueType find(/h/k,5m,\"like\",\"1\")
-Unbuilt change(/h/w)+count(/h/w,5m,\"ne\",\"a\")+find(/h/w,5m,\"like\",\"b\")+find(/h/w,5m,,\"c\")+nodata(/h/w,30s)+changecount(/h/w,5m)
-Unbuilt count(/h/k,5m)+find(/h/k,5m,\"regexp\",\"1\")+monoinc(/h/k,5m,\"strict\")+percentile(/h/k,5m,95)"#
+- change(/h/w)+count(/h/w,5m,\"ne\",\"a\")+find(/h/w,5m,\"like\",\"b\")+find(/h/w,5m,,\"c\")+nodata(/h/w,30s)+changecount(/h/w,5m)
+- count(/h/k,5m)+find(/h/k,5m,\"regexp\",\"1\")+monoinc(/h/k,5m,\"strict\")+percentile(/h/k,5m,95)"#
 }
 
 fn document(alloc: Global, expression: &str) -> Result<Text, OutOfMemory> {
@@ -55,10 +55,11 @@ fn document(alloc: Global, expression: &str) -> Result<Text, OutOfMemory> {
 fn is_told_of(alloc: Global, expected: &str, expression: &str) -> Result<bool, OutOfMemory> {
     let text = document(alloc, expression)?;
     let met = told(alloc, text.as_str())?;
-    let mut refusal = Text::of(alloc, expected)?;
-    if expected != "Unbuilt" {
-        refusal.push_str(" /hosts/0/triggers/0/expression")?;
+    if expected == "-" {
+        return is_told(alloc, met.as_str(), "a configuration");
     }
+    let mut refusal = Text::of(alloc, expected)?;
+    refusal.push_str(" /hosts/0/triggers/0/expression")?;
     is_told(alloc, met.as_str(), refusal.as_str())
 }
 
@@ -84,7 +85,7 @@ fn calls(alloc: Global, count: usize) -> Result<Text, OutOfMemory> {
 #[test]
 fn a_thirty_third_call_is_refused_where_it_begins(rt: HostRuntime) -> Result<(), Fail> {
     let most = calls(rt.alloc(), 32)?;
-    assert!(rt; is_told_of(rt.alloc(), "Unbuilt", most.as_str())?);
+    assert!(rt; is_told_of(rt.alloc(), "-", most.as_str())?);
     let more = calls(rt.alloc(), 33)?;
     assert!(rt; is_told_of(rt.alloc(), "BadExpression{at:352}", more.as_str())?);
     Ok(())

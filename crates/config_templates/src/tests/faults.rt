@@ -6,29 +6,6 @@ use std::convert::AsStr;
 use std::test::Fail;
 use zbx_types::{OutOfMemory, Text};
 
-/// What of a host isn't built. Each line is a host without its braces.
-fn unbuilt_hosts() -> &'static str {
-    r#""name":"h","items":[{"key":"k"},{"key":"d","kind":"dependent","master":"k"}]
-"name":"h","items":[{"key":"k","steps":[{"kind":"throttle"}]}]
-"name":"h","items":[{"key":"k"}],"triggers":[{"name":"t","expression":"last(/h/k)>5","recovery":"none"}]
-"name":"h","items":[{"key":"k"}],"triggers":[{"name":"t","expression":"last(/h/k)>5","recovery":"recovery_expression","recovery_expression":"last(/h/k)>1"}]
-"name":"h","items":[{"key":"k"}],"triggers":[{"name":"t","expression":"last(/h/k)>5","multiple":true}]
-"name":"h","items":[{"key":"k"}],"triggers":[{"name":"t","expression":"last(/h/k)>5","close_tag":"c"}]
-"name":"h","items":[{"key":"k"}],"triggers":[{"name":"t","expression":"last(/h/k)>5","tags":[{"tag":"a"}]}]
-"name":"h","items":[{"key":"k"}],"triggers":[{"name":"t","expression":"last(/h/k)>5"},{"name":"u","expression":"last(/h/k)>5","depends":[{"trigger":"t"}]}]
-"name":"h","items":[{"key":"k"}],"triggers":[{"name":"on {HOST.NAME}","expression":"last(/h/k)>5"}]
-"name":"h","items":[{"key":"k"}],"triggers":[{"name":"t","expression":"last(/h/k)<5"}]
-"name":"h","items":[{"key":"k"}],"triggers":[{"name":"t","expression":"min(/h/k,5m)>5"}]"#
-}
-
-/// Rules that aren't built, each a document without its braces.
-fn unbuilt_rules() -> &'static str {
-    r#""correlations":[{"name":"r","conditions":[{"kind":"old_tag","tag":"a"}],"close":["old"]}]
-"maintenances":[{"name":"m","since":1,"till":2,"periods":[{"kind":"once","start":0,"length":"300"}]}]
-"actions":[{"name":"a","operations":[{"recipients":["x"],"subject":"","body":""}]}]
-"templates":[{"name":"T","items":[{"key":"k","steps":[{"kind":"throttle"}]}]}]"#
-}
-
 /// Faults of links and items. Each line has what is wrong, the pointer to the fault and the document.
 fn item_faults() -> &'static str {
     r#"NotJson - {"hosts":
@@ -54,7 +31,29 @@ BadExpression{at:35} /hosts/0/triggers/0/expression {"hosts":[{"name":"h","trigg
 BadExpression{at:42} /hosts/0/triggers/0/expression {"hosts":[{"name":"h","triggers":[{"name":"t","expression":"last(/h/k)>1000000000000000000000000.000001"}]}]}"#
 }
 
-/// What is told of a document, as `Unbuilt`, or as `UnknownName /hosts/0/templates/0`, with `-` for an empty pointer.
+/// Faults of masters and steps. Each line has what is wrong, the pointer to the fault and the document.
+fn step_faults() -> &'static str {
+    r#"UnknownName /hosts/1/items/1/master {"hosts":[{"name":"g","items":[{"key":"a","kind":"dependent","master":"b"},{"key":"b","kind":"dependent","master":"a"}]},{"name":"h","items":[{"key":"k"},{"key":"d","kind":"dependent","master":"a"}]}]}
+Cycle /hosts/0/items/1/master {"hosts":[{"name":"h","items":[{"key":"a","kind":"dependent","master":"b"},{"key":"b","kind":"dependent","master":"c"},{"key":"c","kind":"dependent","master":"b"}]}]}
+a configuration {"hosts":[{"name":"h","items":[{"key":"3","kind":"dependent","master":"2"},{"key":"2","kind":"dependent","master":"1"},{"key":"1","kind":"dependent","master":"0"},{"key":"0"}]}]}
+TooDeep /templates/0/items/0/master {"templates":[{"name":"T","items":[{"key":"4","kind":"dependent","master":"3","steps":[{"kind":"multiplier","params":["x"]}]}]}],"hosts":[{"name":"h","templates":["T"],"items":[{"key":"3","kind":"dependent","master":"2"},{"key":"2","kind":"dependent","master":"1"},{"key":"1","kind":"dependent","master":"0"},{"key":"0"}]}]}
+BadMember /hosts/0/items/0/steps/0/params/0 {"macros":[{"name":"{$M}","value":"x"}],"hosts":[{"name":"h","items":[{"key":"k","steps":[{"kind":"multiplier","params":["{$M}"]}]}]}]}
+BadMember /hosts/0/items/1/steps/0/params/0 {"macros":[{"name":"{$M}","value":"366d"}],"hosts":[{"name":"h","items":[{"key":"j","steps":[{"kind":"throttle_heartbeat","params":["365d"]}]},{"key":"k","steps":[{"kind":"throttle_heartbeat","params":["{$M}"]}]}]}]}
+BadMember /hosts/0/items/0/steps/1/params/1 {"macros":[{"name":"{$M}","value":"2"}],"hosts":[{"name":"h","items":[{"key":"k","steps":[{"kind":"in_range","params":["2","{$M}"]},{"kind":"in_range","params":["3","{$M}"]}]}]}]}
+BadMember /hosts/0/items/0/steps/0/params/0 {"macros":[{"name":"{$M}","value":""}],"hosts":[{"name":"h","items":[{"key":"k","steps":[{"kind":"matches","params":["{$M}"]}]}]}]}
+BadPath{at:1} /hosts/0/items/0/steps/0/params/0 {"macros":[{"name":"{$M}","value":"x"}],"hosts":[{"name":"h","items":[{"key":"k","steps":[{"kind":"jsonpath","params":["${$M}"]}]}]}]}"#
+}
+
+/// Faults of dependencies and of named hosts. Each line has what is wrong, the pointer to the fault and the document.
+fn rule_faults() -> &'static str {
+    r#"UnknownName /hosts/0/triggers/0/depends/0/host {"templates":[{"name":"T"}],"hosts":[{"name":"h","templates":["T"],"items":[{"key":"k"}],"triggers":[{"name":"t","expression":"last(/h/k)>5","depends":[{"host":"T","trigger":"t"}]}]}]}
+UnknownName /hosts/1/triggers/0/depends/0/trigger {"hosts":[{"name":"g","items":[{"key":"k"}],"triggers":[{"name":"t","expression":"last(/g/k)>5","depends":[{"trigger":"t"}]}]},{"name":"h","items":[{"key":"k"}],"triggers":[{"name":"u","expression":"last(/h/k)>5","depends":[{"trigger":"t"}]}]}]}
+Cycle /hosts/0/triggers/1/depends/0/trigger {"hosts":[{"name":"h","items":[{"key":"k"}],"triggers":[{"name":"t","expression":"last(/h/k)>5","depends":[{"host":"h","trigger":"u"}]},{"name":"u","expression":"last(/h/k)>5","depends":[{"trigger":"v"}]},{"name":"v","expression":"last(/h/k)>5","depends":[{"trigger":"u"}]}]}],"maintenances":[{"name":"m","since":1,"till":2,"hosts":["x"],"periods":[{"kind":"once","start":0,"length":"300"}]}]}
+UnknownName /maintenances/0/hosts/1 {"hosts":[{"name":"h"}],"maintenances":[{"name":"m","since":1,"till":2,"hosts":["h","x"],"periods":[{"kind":"once","start":0,"length":"300"}]}],"actions":[{"name":"a","conditions":[{"kind":"host","host":"y"}],"operations":[{"recipients":["x"],"subject":"","body":""}]}]}
+UnknownName /actions/0/conditions/1/host {"hosts":[{"name":"h"}],"actions":[{"name":"a","conditions":[{"kind":"host","host":"h"},{"kind":"host","host":"y"}],"operations":[{"recipients":["x"],"subject":"","body":""}]}]}"#
+}
+
+/// What is told of a document, as `UnknownName /hosts/0/templates/0`, with `-` for an empty pointer.
 pub(super) fn told(alloc: Global, text: &str) -> Result<Text, OutOfMemory> {
     match flat(alloc, text.as_bytes()) {
         Ok(_) => Text::of(alloc, "a configuration"),
@@ -62,7 +61,6 @@ pub(super) fn told(alloc: Global, text: &str) -> Result<Text, OutOfMemory> {
             let path = if path.len() == 0 { "-" } else { path.as_str() };
             Ok(Text::from(format!(in alloc; "{cause:?} {path}")?))
         }
-        Err(FlatError::Unbuilt) => Text::of(alloc, "Unbuilt"),
         Err(FlatError::OutOfMemory) => Err(OutOfMemory),
     }
 }
@@ -95,32 +93,6 @@ fn without_blanks(alloc: Global, text: &str) -> Result<Text, OutOfMemory> {
 }
 
 #[test]
-fn each_form_of_a_host_that_is_not_built_is_unbuilt(rt: HostRuntime) -> Result<(), Fail> {
-    for host in unbuilt_hosts().lines() {
-        let document = format!(in rt.alloc(); "{{\"hosts\":[{{{host}}}]}}")?;
-        assert_eq!(rt;
-            told(rt.alloc(), document.as_str())?.as_str(),
-            "Unbuilt",
-            "at {host}"
-        );
-    }
-    Ok(())
-}
-
-#[test]
-fn rules_and_templates_that_are_not_built_are_unbuilt(rt: HostRuntime) -> Result<(), Fail> {
-    for members in unbuilt_rules().lines() {
-        let document = format!(in rt.alloc(); "{{{members}}}")?;
-        assert_eq!(rt;
-            told(rt.alloc(), document.as_str())?.as_str(),
-            "Unbuilt",
-            "at {members}"
-        );
-    }
-    Ok(())
-}
-
-#[test]
 fn faults_of_links_and_items_are_told_where_they_are_written(rt: HostRuntime) -> Result<(), Fail> {
     assert_eq!(rt; first_not_told(rt.alloc(), item_faults())?.as_str(), "");
     Ok(())
@@ -129,5 +101,17 @@ fn faults_of_links_and_items_are_told_where_they_are_written(rt: HostRuntime) ->
 #[test]
 fn faults_of_triggers_are_told_where_they_are_written(rt: HostRuntime) -> Result<(), Fail> {
     assert_eq!(rt; first_not_told(rt.alloc(), trigger_faults())?.as_str(), "");
+    Ok(())
+}
+
+#[test]
+fn faults_of_masters_and_steps_are_told_behind_those_of_keys(rt: HostRuntime) -> Result<(), Fail> {
+    assert_eq!(rt; first_not_told(rt.alloc(), step_faults())?.as_str(), "");
+    Ok(())
+}
+
+#[test]
+fn faults_of_rules_are_told_behind_those_of_triggers(rt: HostRuntime) -> Result<(), Fail> {
+    assert_eq!(rt; first_not_told(rt.alloc(), rule_faults())?.as_str(), "");
     Ok(())
 }

@@ -133,7 +133,7 @@ fn told_of(alloc: Global, raw: &RawConf) -> Result<Text, FlatError> {
     let macros = Macros::new(MacroIndex::of(alloc, Many::new(alloc))?, &global);
     match raw.hosts.as_slice() {
         [host, ..] => shown_of(alloc, &macros, host),
-        [] => Err(FlatError::Unbuilt),
+        [] => Err(FlatError::OutOfMemory),
     }
 }
 
@@ -160,7 +160,6 @@ fn told(alloc: Global, triggers: &str) -> Result<Text, OutOfMemory> {
         Err(FlatError::Refused { path, cause }) => {
             Ok(Text::from(format!(in alloc; "{cause:?} {path} ", path = path.as_str())?))
         }
-        Err(FlatError::Unbuilt) => Text::of(alloc, "Unbuilt"),
         Err(FlatError::OutOfMemory) => Err(OutOfMemory),
     }
 }
