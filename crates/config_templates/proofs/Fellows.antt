@@ -9,7 +9,7 @@ use Rattle.std.proofs.lemmas.List.Elements.{All-nil, All-cons, All-map, All-same
 use Rattle.zbx_types.specs.Ids.{at_id}
 use Rattle.zbx_types.specs.declared.items.Item.{Item}
 use Rattle.dependency_graph.specs.Tables.{IsClosed}
-use Rattle.zbx_types.specs.declared.items.StepSpec.{StepSpec}
+use Rattle.zbx_types.specs.declared.steps.StepSpec.{StepSpec}
 use Rattle.config_templates.specs.Prepared.{with_steps}
 use Rattle.config_templates.specs.Masters.{with_master, dependents, is_full, is_crowded, master_at, place_of, master_links}
 use Rattle.config_templates.specs.Names.{named_item, named_items}

@@ -45,7 +45,7 @@ module _ (raw : RawConf) (items : List Item) where
   unfolding trigger_of
   one_found owner macros found p after h =
       unless_refused (has_trigger found.triggers owner.id p.body.name) (nat_le most_triggers (length found.triggers)) (p.path ++ codes "/name") p.path found
-          (expressions_of raw items owner macros p >>= found_with owner.id macros found p) after (λ k. with_meant owner.id macros found p (expressions_of raw items owner macros p) after k) h
+      (expressions_of raw items owner macros p >>= found_with owner.id macros found p) after (λ k. with_meant owner.id macros found p (expressions_of raw items owner macros p) after k) h
 
   singles : {A : Type 0} (xs : List A) → length (flat_map (λ x. x ∷ []) xs) ≡ length xs
   singles [] = refl

@@ -109,10 +109,13 @@ fn lists<'r>(
     requires { Inherits raw.now inheritance.now }
     ensures { (text : List ℕ) → GivesAs (λ l. conf_made text raw.now l.items l.triggers l.patterns) result (behind_links text raw.now) }
 {
-    let items = items(alloc, raw, inheritance)?;
-    let ItemList { items, names } = mastered(alloc, raw, inheritance, items)?;
-    let items = prepared(alloc, raw, inheritance, items)?;
-    let items = ItemList { items, names };
+    let keyed = items(alloc, raw, inheritance)?;
+    let held = mastered(alloc, raw, inheritance, keyed)?;
+    let made = prepared(alloc, raw, inheritance, held.items)?;
+    let items = ItemList {
+        items: made,
+        names: held.names,
+    };
     let patterns = step_patterns(alloc, raw, inheritance)?;
     let hosts = host_names(alloc, &raw.hosts)?;
     let scope = Scope {

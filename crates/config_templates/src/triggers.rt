@@ -124,7 +124,13 @@ fn free_trigger(
     let meaning = meaning_of(alloc, scope, owner, source, index, raw)?;
     let title = title(alloc, raw, &owner.macros)?;
     let tags = tags(alloc, raw, &owner.macros)?;
-    join_trigger(alloc, patterns, source, index, users_of(&title, &tags, &meaning))?;
+    join_trigger(
+        alloc,
+        patterns,
+        source,
+        index,
+        users_of(&title, &tags, &meaning),
+    )?;
     Ok(make(alloc, owner.id, title, tags, raw, meaning)?)
 }
 
