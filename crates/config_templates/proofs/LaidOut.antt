@@ -1,5 +1,5 @@
 -- A document that is laid out.
-use Rattle.std.proofs.Common.{◌≡◌, ℕ, List, [], refl, ap, sym, subst}
+use Rattle.std.proofs.Common.{◌≡◌, ℕ, List, refl, ap, sym, subst}
 use Rattle.std.specs.Prelude.{Result, Ok, Err, Option, Some, None}
 use Rattle.std.specs.Option.{option_or}
 use Rattle.json_form.specs.Faults.{Fault}
@@ -8,6 +8,10 @@ use Rattle.zbx_types.specs.declared.items.Item.{Item}
 use Rattle.zbx_types.specs.declared.triggers.Trigger.{Trigger}
 use Rattle.config_templates.specs.declared.triggers.Found.{Found}
 use Rattle.config_templates.specs.Items.{items_of}
+use Rattle.config_templates.specs.Masters.{mastered}
+use Rattle.config_templates.specs.Prepared.{prepared}
+use Rattle.config_templates.specs.StepPatterns.{step_patterns}
+use Rattle.config_templates.specs.Patterns.{Pattern}
 use Rattle.config_templates.specs.Triggers.{triggers_of}
 use Rattle.config_templates.specs.Depends.{depending}
 use Rattle.config_templates.specs.NamedHosts.{unknown_hosts}
@@ -52,11 +56,12 @@ laid_as text raw u c = rw (u, c) refl
 pub lists_give : {L : Type 0} (seen : L → Conf) (text : List ℕ) (raw : RawConf) (r : Result L FlatError) → unknown_links raw ≡ None → cycles raw ≡ None → GivesAs seen r (behind_links text raw) → GivesAs seen r (laid_out text raw)
 lists_give seen text raw r u c h = subst (λ laid. GivesAs seen r laid) (sym (laid_as text raw u c)) h
 
-module _ (text : List ℕ) (raw : RawConf) (items : List Item) (found : Found) (i : items_of raw ≡ Ok items) (f : triggers_of raw items [] ≡ Ok found) where
+module _ (text : List ℕ) (raw : RawConf) (keyed held items : List Item) (patterns : List Pattern) (found : Found) (k : items_of raw ≡ Ok keyed) (m : mastered raw keyed ≡ Ok held) (p : prepared raw held ≡ Ok items)
+    (s : step_patterns raw ≡ Ok patterns) (f : triggers_of raw items patterns ≡ Ok found) where
   -- a dependency is at fault
   pub dependings_fail : (e : FlatError) → Fails e (depending raw found.triggers) → Fails e (behind_links text raw)
-  dependings_fail e d = rw (i, f) (bound_fails e (depending raw found.triggers) _ d)
+  dependings_fail e d = rw (k, m, p, s, f) (bound_fails e (depending raw found.triggers) _ d)
 
   -- a host that is named isn't there
   pub hosts_fail : (triggers : List Trigger) → depending raw found.triggers ≡ Ok triggers → (e : FlatError) → Tells e (unknown_hosts raw) → Fails e (behind_links text raw)
-  hosts_fail triggers d e t = rw (i, f, d) (told_fails e (unknown_hosts raw) raw _ t)
+  hosts_fail triggers d e t = rw (k, m, p, s, f, d) (told_fails e (unknown_hosts raw) raw _ t)

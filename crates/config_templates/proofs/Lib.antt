@@ -4,6 +4,12 @@ pub mod FirstNames
 pub mod Failing
 pub mod Steps
 pub mod PassLemmas
+pub mod Refusing
+pub mod Fellows
+pub mod Finding
+pub mod Putting
+pub mod PathFaults
+pub mod Shorts
 pub mod Meant
 pub mod Parsing
 pub mod CallLists

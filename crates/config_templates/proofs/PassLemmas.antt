@@ -1,13 +1,21 @@
 -- Lists that are gone through in pieces.
-use Rattle.std.proofs.Common.{◌≡◌, ℕ, ◌+◌, ◌<◌, List, [], ◌∷◌, ◌++◌, ap, sym, ◌∙◌, length, get_or, drop, map, flat_map}
+use Rattle.std.proofs.Common.{◌≡◌, ℕ, ◌+◌, ◌<◌, List, [], ◌∷◌, ◌++◌, refl, ap, sym, ◌∙◌, length, get_or, drop, map, flat_map}
 use Rattle.std.specs.Prelude.{Result, Ok, Err}
 use Rattle.config_read.specs.declared.raw.RawHost.{RawHost}
 use Rattle.config_templates.specs.declared.templates.sources.Source.{Source}
 use Rattle.config_templates.specs.Sources.{placed_of}
 use Rattle.config_templates.specs.declared.fault.FlatError.{FlatError}
 use Rattle.config_templates.specs.declared.fault.FlatError.TheVariants.{Refused, OutOfMemory}
-use Rattle.config_templates.specs.Places.{Flaw, ◌>>=◌, each_list, Placed, placed_from}
+use Rattle.config_templates.specs.Places.{Flaw, ◌>>=◌, each, each_list, Placed, placed_from}
 use Rattle.config_templates.specs.Answers.{Fails}
+use Rattle.config_read.specs.declared.raw.RawConf.{RawConf}
+use Rattle.config_templates.specs.Links.{sources_of}
+use Rattle.config_templates.specs.Macros.{macros_of}
+use Rattle.config_templates.specs.OwnedItems.{owned_by, host_items, adding}
+use Rattle.config_templates.specs.Owners.{owner_now, sources_now}
+use Rattle.config_templates.specs.Referenced.{Owner}
+use Rattle.config_templates.specs.Triggers.{owner_of}
+use Rattle.config_templates.specs.declared.owners.Owner.{Owner as Held}
 use Rattle.config_templates.proofs.Steps.{on_ok, on_err, from_drop}
 use Rattle.config_templates.proofs.PlacedElements.{placed_at}
 
@@ -47,3 +55,26 @@ module _ {A S X : Type 0} (visit : S → A → Result S Flaw) (own : Placed X �
   pub element_fails : (path : List ℕ) (xs : List X) (i : ℕ) (x : X) (before : S) (e : FlatError) → i < length xs → x ≡ get_or xs i x → Fails e (each_list visit before (own (placed_at path i x)))
       → Fails e (each_list visit before (flat_map own (placed_from path i (drop i xs))))
   element_fails path xs i x before e l g f = rw (from_drop xs i x l g) (all_fails visit before (own (placed_at path i x)) (flat_map own (placed_from path (i + 1) (drop (i + 1) xs))) e f)
+
+-- the items of a host, as its owner has them
+pub owned_host : (raw : RawConf) (p : Placed RawHost) (o : Held) → owner_now o ≡ owner_of raw p → o.macros ≡ macros_of raw (sources_now o) → host_items raw p ≡ owned_by o.id o.macros (sources_now o)
+owned_host raw p o e m =
+    let i : o.id ≡ p.place + 1 = ap (λ (w : Owner). w.id) e in
+    let s : sources_now o ≡ sources_of raw p = ap (λ (w : Owner). w.sources) e in
+    rw (i, m, s) refl
+
+bind_fails : {B C : Type 0} (r : Result B Flaw) (k : B → Result C Flaw) (e : FlatError) → Fails e r → Fails e (r >>= k)
+bind_fails r k OutOfMemory h = tt
+bind_fails r k (Refused path cause) h = ap (λ x. x >>= k) h
+
+-- where the element at this place can't be made, no list from it on can
+pub one_fails : {X B : Type 0} (make : List B → Placed X → Result B Flaw) (path : List ℕ) (xs : List X) (i : ℕ) (x : X) (before : List B) (e : FlatError) → i < length xs → x ≡ get_or xs i x
+    → Fails e (make before (placed_at path i x)) → Fails e (each make before (placed_from path i (drop i xs)))
+one_fails make path xs i x before e l g f =
+    rw (from_drop xs i x l g) (bind_fails (make before (placed_at path i x)) (λ b. each make (before ++ b ∷ []) (placed_from path (i + 1) (drop (i + 1) xs))) e f)
+
+pub added_fails : {X B : Type 0} (make : Placed X → Result B Flaw) (path : List ℕ) (xs : List X) (i : ℕ) (x : X) (before : List B) (e : FlatError) → i < length xs → x ≡ get_or xs i x
+    → Fails e (make (placed_at path i x)) → Fails e (each_list (adding make) before (placed_from path i (drop i xs)))
+added_fails make path xs i x before e l g f =
+    rw (from_drop xs i x l g)
+    (bind_fails (make (placed_at path i x) >>= λ b. Ok (before ++ b ∷ [])) (λ more. each_list (adding make) more (placed_from path (i + 1) (drop (i + 1) xs))) e (bind_fails (make (placed_at path i x)) (λ b. Ok (before ++ b ∷ [])) e f))

@@ -1,5 +1,5 @@
 -- What a configuration document stands for.
-use Rattle.std.specs.Prelude.{ℕ, List, [], map, Result, Ok, Err}
+use Rattle.std.specs.Prelude.{ℕ, List, map, Result, Ok, Err}
 use Rattle.json_form.specs.Faults.{Fault}
 use Rattle.zbx_types.specs.declared.conf.Host.{Host}
 use Rattle.zbx_types.specs.declared.items.Item.{Item}
@@ -12,6 +12,9 @@ use Rattle.config_templates.specs.Places.{Flaw, unless, ◌>>=◌}
 use Rattle.config_templates.specs.Places.Flaw.{refused}
 use Rattle.config_templates.specs.Links.{unknown_links, cycles}
 use Rattle.config_templates.specs.Items.{items_of}
+use Rattle.config_templates.specs.Masters.{mastered}
+use Rattle.config_templates.specs.Prepared.{prepared}
+use Rattle.config_templates.specs.StepPatterns.{step_patterns}
 use Rattle.config_templates.specs.Triggers.{triggers_of}
 use Rattle.config_templates.specs.Depends.{depending}
 use Rattle.config_templates.specs.NamedHosts.{unknown_hosts}
@@ -47,7 +50,10 @@ laid_out text raw = do
   raw ← unless raw (unknown_links raw)
   raw ← unless raw (cycles raw)
   items ← items_of raw
-  found ← triggers_of raw items []
+  items ← mastered raw items
+  items ← prepared raw items
+  patterns ← step_patterns raw
+  found ← triggers_of raw items patterns
   triggers ← depending raw found.triggers
   raw ← unless raw (unknown_hosts raw)
   Ok (conf_made text raw items triggers found.patterns)

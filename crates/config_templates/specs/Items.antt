@@ -36,9 +36,9 @@ key_length text = longest_up_to is_key text (length text)
 abbrev pub has_item : List Item → ℕ → List ℕ → Bool
 has_item items host key = list_any (λ i. (i.host == host) && bytes_eq i.key key) items
 
--- an item of a host, with its key
+-- an item of a host, with its key; its master and its steps come later
 abbrev pub item_made : ℕ → List ℕ → RawItem → Item
-item_made host key raw = record { host = host; key = key; kind = raw.kind; master = 0; value_type = raw.value_type; enabled = raw.enabled; steps = raw.steps }
+item_made host key raw = record { host = host; key = key; kind = raw.kind; master = 0; value_type = raw.value_type; enabled = raw.enabled; steps = [] }
 
 -- an item of a host with this key, behind those before it
 unfoldable pub item_keyed_of : ℕ → List ℕ → List Item → Placed RawItem → Result Item Flaw

@@ -12,6 +12,12 @@ pub mod Kept
 pub mod Titles
 pub mod Uses
 pub mod Members
+pub mod OwnedItems
+pub mod Masters
+pub mod Counting
+pub mod Prepared
+pub mod PlacedSteps
+pub mod StepPatterns
 pub mod Triggers
 pub mod Flat
 pub mod Answers

@@ -13,10 +13,13 @@ use crate::depends::{NamedTriggers, depending};
 use crate::fault::FlatError;
 use crate::hosts::known_hosts;
 use crate::inheritance::Inheritance;
-use crate::items::items;
+use crate::items::{ItemList, items};
+use crate::mastering::mastered;
 use crate::meanings::Scope;
 use crate::owners::host_names;
+use crate::pattern_steps::step_patterns;
 use crate::patterns::PatternList;
+use crate::preparing::prepared;
 use crate::triggers::{TriggerList, triggers};
 use config_read::{RawConf, RawHost, ReadError, read};
 use std::alloc::Global;
@@ -106,19 +109,21 @@ fn lists<'r>(
     requires { Inherits raw.now inheritance.now }
     ensures { (text : List ℕ) → GivesAs (λ l. conf_made text raw.now l.items l.triggers l.patterns) result (behind_links text raw.now) }
 {
-    let items = items(alloc, raw, inheritance)?;
+    let keyed = items(alloc, raw, inheritance)?;
+    let held = mastered(alloc, raw, inheritance, keyed)?;
+    let made = prepared(alloc, raw, inheritance, held.items)?;
+    let items = ItemList {
+        items: made,
+        names: held.names,
+    };
+    let patterns = step_patterns(alloc, raw, inheritance)?;
     let hosts = host_names(alloc, &raw.hosts)?;
     let scope = Scope {
         raw,
         hosts: &hosts,
         items: &items,
     };
-    let TriggerList { found, names } = triggers(
-        alloc,
-        &scope,
-        inheritance,
-        PatternList::new(alloc),
-    )?;
+    let TriggerList { found, names } = triggers(alloc, &scope, inheritance, patterns)?;
     let list = NamedTriggers {
         triggers: found.triggers,
         names,
@@ -153,8 +158,9 @@ fn flattened(alloc: Global, text: &[u8], raw: RawConf) -> Result<Conf, FlatError
 /// The flat configuration of a configuration document, a JSON text of at most 16,777,216 bytes.
 ///
 /// `Refused` comes with the document's first fault and its path: what the reading of the document refuses, then links, the
-/// items of the hosts in their order, the triggers of the hosts in theirs, what triggers depend on, and the hosts that
-/// maintenances and actions name. `OutOfMemory` may come on any text, and says nothing of it.
+/// keys of the items of the hosts in their order, their masters, the parameters and texts of their steps and the patterns
+/// of these, the triggers of the hosts in their order, what triggers depend on, and the hosts that maintenances and actions
+/// name. `OutOfMemory` may come on any text, and says nothing of it.
 ///
 /// The form of the document is this project's own. How hosts inherit is from the Zabbix 6.0 manual, "Linking/unlinking",
 /// and "User macros".

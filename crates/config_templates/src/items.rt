@@ -13,7 +13,6 @@ ghost use Rattle.macro_text.specs.Expanded.{expanded};
 ghost use Rattle.zbx_types.specs.declared.causes.Cause.TheVariants.{BadKey};
 ghost use Rattle.zbx_types.specs.declared.items.Item.{Item};
 
-use crate::copying::copy_steps;
 use crate::fault::FlatError;
 use crate::inheritance::Inheritance;
 use crate::keys::{is_key, key_length};
@@ -24,7 +23,7 @@ use crate::templates::sources::Source;
 use config_read::{RawConf, RawHost, RawItem};
 use macro_text::{Expansion, expand_within};
 use std::alloc::Global;
-use zbx_types::{Cause, Item, LONGEST_KEY, Many, OutOfMemory, Text};
+use zbx_types::{Cause, Item, LONGEST_KEY, Many, Text};
 
 /// The most items of all hosts (this project's own).
 const MOST_ITEMS: usize = 100_000;
@@ -36,19 +35,19 @@ pub(crate) struct ItemList {
     pub names: OwnedNames,
 }
 
-fn make(alloc: Global, host: u32, key: Text, raw: &RawItem) -> Result<Item, OutOfMemory>
-    ensures { IfOk result (λ made. made ≡ item_made host key raw.now) }
+/// An item, without its master and its steps. Takes no memory.
+fn make(alloc: Global, host: u32, key: Text, raw: &RawItem) -> Item
+    ensures { result ≡ item_made host key raw.now }
 {
-    let steps = copy_steps(alloc, &raw.steps)?;
-    Ok(Item {
+    Item {
         host,
         key,
         kind: raw.kind,
         master: 0,
         value_type: raw.value_type,
         enabled: raw.enabled,
-        steps,
-    })
+        steps: Many::new(alloc),
+    }
 }
 
 /// The refusal of a key.
@@ -87,7 +86,7 @@ fn keyed_item(
     if MOST_ITEMS <= list.items.len() {
         return Err(refused_element(alloc, source, "/items", index, Cause::TooMany));
     }
-    Ok(make(alloc, host, key, raw)?)
+    Ok(make(alloc, host, key, raw))
 }
 
 /// The key of an item of a host, its macros having their values. Refused where it is longer than a key.

@@ -9,9 +9,8 @@
 //! Of an inherited object the pointer is that of the template's.
 //!
 //! ```text
-//! order of faults: what reading refuses, links, keys of all hosts' items, triggers of all hosts, what they depend on,
-//! hosts that maintenances and actions name
-//! not looked at yet: masters of dependent items, parameters and texts of steps
+//! order of faults: what reading refuses, links, keys of all hosts' items, their masters, their steps, triggers of all
+//! hosts, what they depend on, hosts that maintenances and actions name
 //! ```
 //!
 //! ```text
@@ -23,7 +22,6 @@
 //! ```
 #![tactic(auto)]
 
-mod copying;
 mod depends;
 mod expressions;
 mod fault;
@@ -35,13 +33,19 @@ mod inheritance;
 mod items;
 mod keys;
 mod macros;
+mod mastering;
 mod meanings;
 mod owned_names;
 mod owners;
+mod passes;
+mod pattern_steps;
 mod patterns;
 mod pointers;
+mod preparing;
 mod refusals;
 mod resolving;
+mod step_params;
+mod step_places;
 mod templates;
 mod titles;
 mod triggers;

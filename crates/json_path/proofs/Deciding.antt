@@ -6,7 +6,8 @@ use Rattle.json_path.specs.Grammar.{IsPathText}
 use Rattle.json_path.specs.Machine.{step, ends, start}
 use Rattle.byte_grammar.specs.Runs.{run}
 use Rattle.json_path.proofs.PathRuns.{ends_at, taken}
-use Rattle.json_path.proofs.Reaching.{sound}
+use Rattle.byte_grammar.specs.Fault.{IsViable}
+use Rattle.json_path.proofs.Reaching.{sound, viable, not_viable}
 
 ended : (text : List ℕ) (s : State) (path : Option Path) → run step (Some start) text ≡ Some s → ends s ≡ path → IsPathText text ⊎ (IsPathText text → ⊥)
 ended text s (Some path) h e = inl (path, sound text s path h e)
@@ -24,3 +25,11 @@ decided text None h = inr (λ t.
 
 pub is_path_or_not : (text : List ℕ) → IsPathText text ⊎ (IsPathText text → ⊥)
 is_path_or_not text = decided text (run step (Some start) text) refl
+
+begun : (front : List ℕ) (state : Option State) → run step (Some start) front ≡ state → IsViable IsPathText front ⊎ (IsViable IsPathText front → ⊥)
+begun front (Some s) h = inl (viable front s h)
+begun front None h = inr (not_viable front h)
+
+-- and some path begins with it or none does
+pub begins_path_or_not : (front : List ℕ) → IsViable IsPathText front ⊎ (IsViable IsPathText front → ⊥)
+begins_path_or_not front = begun front (run step (Some start) front) refl

@@ -31,6 +31,19 @@ BadExpression{at:35} /hosts/0/triggers/0/expression {"hosts":[{"name":"h","trigg
 BadExpression{at:42} /hosts/0/triggers/0/expression {"hosts":[{"name":"h","triggers":[{"name":"t","expression":"last(/h/k)>1000000000000000000000000.000001"}]}]}"#
 }
 
+/// Faults of masters and steps. Each line has what is wrong, the pointer to the fault and the document.
+fn step_faults() -> &'static str {
+    r#"UnknownName /hosts/1/items/1/master {"hosts":[{"name":"g","items":[{"key":"a","kind":"dependent","master":"b"},{"key":"b","kind":"dependent","master":"a"}]},{"name":"h","items":[{"key":"k"},{"key":"d","kind":"dependent","master":"a"}]}]}
+Cycle /hosts/0/items/1/master {"hosts":[{"name":"h","items":[{"key":"a","kind":"dependent","master":"b"},{"key":"b","kind":"dependent","master":"c"},{"key":"c","kind":"dependent","master":"b"}]}]}
+a configuration {"hosts":[{"name":"h","items":[{"key":"3","kind":"dependent","master":"2"},{"key":"2","kind":"dependent","master":"1"},{"key":"1","kind":"dependent","master":"0"},{"key":"0"}]}]}
+TooDeep /templates/0/items/0/master {"templates":[{"name":"T","items":[{"key":"4","kind":"dependent","master":"3","steps":[{"kind":"multiplier","params":["x"]}]}]}],"hosts":[{"name":"h","templates":["T"],"items":[{"key":"3","kind":"dependent","master":"2"},{"key":"2","kind":"dependent","master":"1"},{"key":"1","kind":"dependent","master":"0"},{"key":"0"}]}]}
+BadMember /hosts/0/items/0/steps/0/params/0 {"macros":[{"name":"{$M}","value":"x"}],"hosts":[{"name":"h","items":[{"key":"k","steps":[{"kind":"multiplier","params":["{$M}"]}]}]}]}
+BadMember /hosts/0/items/1/steps/0/params/0 {"macros":[{"name":"{$M}","value":"366d"}],"hosts":[{"name":"h","items":[{"key":"j","steps":[{"kind":"throttle_heartbeat","params":["365d"]}]},{"key":"k","steps":[{"kind":"throttle_heartbeat","params":["{$M}"]}]}]}]}
+BadMember /hosts/0/items/0/steps/1/params/1 {"macros":[{"name":"{$M}","value":"2"}],"hosts":[{"name":"h","items":[{"key":"k","steps":[{"kind":"in_range","params":["2","{$M}"]},{"kind":"in_range","params":["3","{$M}"]}]}]}]}
+BadMember /hosts/0/items/0/steps/0/params/0 {"macros":[{"name":"{$M}","value":""}],"hosts":[{"name":"h","items":[{"key":"k","steps":[{"kind":"matches","params":["{$M}"]}]}]}]}
+BadPath{at:1} /hosts/0/items/0/steps/0/params/0 {"macros":[{"name":"{$M}","value":"x"}],"hosts":[{"name":"h","items":[{"key":"k","steps":[{"kind":"jsonpath","params":["${$M}"]}]}]}]}"#
+}
+
 /// Faults of dependencies and of named hosts. Each line has what is wrong, the pointer to the fault and the document.
 fn rule_faults() -> &'static str {
     r#"UnknownName /hosts/0/triggers/0/depends/0/host {"templates":[{"name":"T"}],"hosts":[{"name":"h","templates":["T"],"items":[{"key":"k"}],"triggers":[{"name":"t","expression":"last(/h/k)>5","depends":[{"host":"T","trigger":"t"}]}]}]}
@@ -88,6 +101,12 @@ fn faults_of_links_and_items_are_told_where_they_are_written(rt: HostRuntime) ->
 #[test]
 fn faults_of_triggers_are_told_where_they_are_written(rt: HostRuntime) -> Result<(), Fail> {
     assert_eq!(rt; first_not_told(rt.alloc(), trigger_faults())?.as_str(), "");
+    Ok(())
+}
+
+#[test]
+fn faults_of_masters_and_steps_are_told_behind_those_of_keys(rt: HostRuntime) -> Result<(), Fail> {
+    assert_eq!(rt; first_not_told(rt.alloc(), step_faults())?.as_str(), "");
     Ok(())
 }
 
