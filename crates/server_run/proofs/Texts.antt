@@ -14,7 +14,10 @@ use Rattle.config_templates.specs.Depends.{depending}
 use Rattle.config_templates.specs.Flat.{conf_made, read_of, laid_out, flat_of}
 use Rattle.config_templates.specs.Items.{items_of}
 use Rattle.config_templates.specs.Links.{unknown_links, cycles}
+use Rattle.config_templates.specs.Masters.{mastered}
 use Rattle.config_templates.specs.NamedHosts.{unknown_hosts}
+use Rattle.config_templates.specs.Prepared.{prepared}
+use Rattle.config_templates.specs.StepPatterns.{step_patterns}
 use Rattle.config_templates.specs.Places.{Flaw, refuse, unless, ◌>>=◌}
 use Rattle.config_templates.specs.Triggers.{triggers_of}
 use Rattle.server_run.specs.Ports.{IsTextUpTo, ReadsUpTo}
@@ -68,11 +71,14 @@ made_text text raw conf is =
     let first = step_ok (unless raw (unknown_links raw)) _ conf is in
     let second = step_ok (unless first.0 (cycles first.0)) _ conf first.1 in
     let third = step_ok (items_of second.0) _ conf second.1 in
-    let fourth = step_ok (triggers_of second.0 third.0 []) _ conf third.1 in
+    let owned = step_ok (mastered second.0 third.0) _ conf third.1 in
+    let items = step_ok (prepared second.0 owned.0) _ conf owned.1 in
+    let patterns = step_ok (step_patterns second.0) _ conf items.1 in
+    let fourth = step_ok (triggers_of second.0 items.0 patterns.0) _ conf patterns.1 in
     let fifth = step_ok (depending second.0 fourth.0.triggers) _ conf fourth.1 in
     let sixth = step_ok (unless second.0 (unknown_hosts second.0)) _ conf fifth.1 in
     let same = sixth.1 in
-    let equal : conf_made text sixth.0 third.0 fifth.0 fourth.0.patterns ≡ conf = cc in
+    let equal : conf_made text sixth.0 items.0 fifth.0 fourth.0.patterns ≡ conf = cc in
     sym (ap (λ c. c.text) equal)
 
 pub text_kept : (text : List ℕ) (conf : Conf) → flat_of text ≡ Ok conf → conf.text ≡ text

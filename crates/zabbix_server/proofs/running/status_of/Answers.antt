@@ -35,6 +35,6 @@ returns g c =
         lines = r.ensures.lines;
         size = r.ensures.size;
         printed = r.ensures.printed;
-        complete = λ plan text conf all a b d e f none. r.ensures.complete plan text conf all a b d e f none.source none.wire none.outbox none.printer;
+        complete = λ plan text conf all a b d e f h none. r.ensures.complete plan text conf all a b d e f h none.source none.wire none.outbox none.printer;
       },
     )
