@@ -65,6 +65,9 @@ step_ok : {A B : Type 0} (x : Result A Flaw) (f : A → Result B Flaw) (b : B) �
 step_ok (Ok a) f b is = (a, is)
 step_ok (Err flaw) f b is = absurd (cc)
 
+same_ok : {A : Type 0} (a b : A) (x : Result A Flaw) → x ≡ Ok a → x ≡ Ok b → a ≡ b
+same_ok a b x one other = cc
+
 made_text : (text : List ℕ) (raw : RawConf) (conf : Conf) → laid_out text raw ≡ Ok conf → conf.text ≡ text
 unfolding laid_out
 made_text text raw conf is =
@@ -77,9 +80,7 @@ made_text text raw conf is =
     let fourth = step_ok (triggers_of second.0 items.0 patterns.0) _ conf patterns.1 in
     let fifth = step_ok (depending second.0 fourth.0.triggers) _ conf fourth.1 in
     let sixth = step_ok (unless second.0 (unknown_hosts second.0)) _ conf fifth.1 in
-    let same = sixth.1 in
-    let equal : conf_made text sixth.0 items.0 fifth.0 fourth.0.patterns ≡ conf = cc in
-    sym (ap (λ c. c.text) equal)
+    sym (ap (λ (c : Conf). c.text) (same_ok (conf_made text sixth.0 items.0 fifth.0 fourth.0.patterns) conf _ refl sixth.1))
 
 pub text_kept : (text : List ℕ) (conf : Conf) → flat_of text ≡ Ok conf → conf.text ≡ text
 unfolding flat_of
