@@ -65,17 +65,47 @@ fn piece(alloc: Global, elements: &[u8]) -> Result<WireEvent, Fail> {
     })
 }
 
+/// The intake behind an event, and the answer.
+fn behind(
+    alloc: Global,
+    ready: &Ready,
+    front: Front,
+    event: &WireEvent,
+) -> Result<(Front, Answer), Fail> {
+    let mut front = front;
+    let answer = front.on_event(alloc, ready, event)?;
+    Ok((front, answer))
+}
+
 /// The intake behind a connection that opened at 100 seconds and brought these elements, and the answer.
-fn brought(alloc: Global, elements: &[u8]) -> Result<(Front, Answer), Fail> {
-    let ready = ready(alloc)?;
-    let mut front = Front::new(alloc, Text::of(alloc, "conf")?)?;
+fn given(alloc: Global, ready: &Ready, elements: &[u8]) -> Result<(Front, Answer), Fail> {
+    let piece = piece(alloc, elements)?;
+    let front = Front::new(alloc, Text::of(alloc, "conf")?)?;
     let opened = WireEvent::Opened {
         conn: 1,
         at: hundred(),
     };
-    front.on_event(alloc, &ready, &opened)?;
-    let answer = front.on_event(alloc, &ready, &piece(alloc, elements)?)?;
-    Ok((front, answer))
+    let (front, _answer) = behind(alloc, ready, front, &opened)?;
+    behind(alloc, ready, front, &piece)
+}
+
+/// The same over one host with one item. (A `Ready` that is held over few errors is proved sooner.)
+fn brought(alloc: Global, elements: &[u8]) -> Result<(Front, Answer), Fail> {
+    let ready = ready(alloc)?;
+    given(alloc, &ready, elements)
+}
+
+/// The answer to the wire's closing.
+fn closed_by(alloc: Global, ready: &Ready) -> Result<Answer, Fail> {
+    let front = Front::new(alloc, Text::of(alloc, "conf")?)?;
+    let (_front, answer) = behind(alloc, ready, front, &WireEvent::Closed { at: hundred() })?;
+    Ok(answer)
+}
+
+/// The same over one host with one item.
+fn closed(alloc: Global) -> Result<Answer, Fail> {
+    let ready = ready(alloc)?;
+    closed_by(alloc, &ready)
 }
 
 fn replied(answer: &Answer) -> &[u8] {
@@ -175,9 +205,7 @@ fn a_time_is_never_after_its_moment(rt: HostRuntime) -> Result<(), Fail> {
 
 #[test]
 fn closed_is_the_last_event(rt: HostRuntime) -> Result<(), Fail> {
-    let alloc = rt.alloc();
-    let mut front = Front::new(alloc, Text::of(alloc, "conf")?)?;
-    let answer = front.on_event(alloc, &ready(alloc)?, &WireEvent::Closed { at: hundred() })?;
+    let answer = closed(rt.alloc())?;
     assert!(rt; answer.stop == Some(Stop::Closed));
     Ok(())
 }
