@@ -1,3 +1,4 @@
+#!/usr/bin/env python3
 """Runs built programs on configurations of 500, 5,000 and 100,000 items, and prints the processor time of a value.
 
 usage: bench/items.py PROGRAM.. [--values N]    N, 1,000,000 if not given, is how many values a script has.

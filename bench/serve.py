@@ -1,18 +1,20 @@
+#!/usr/bin/env python3
 """Lets clients send values to built programs over the loopback, and prints how many values a second they take, and the
 processor time of a value.
 
-usage: bench/serve.py PROGRAM.. [--seconds N]    N, 5 if not given, is how long each case lasts.
+usage: bench/serve.py PROGRAM.. [--seconds N] [--journal FOLDER]
+
+N, 3 if not given, is how long each case lasts. With a folder the program keeps a journal in it, and the bare disk is measured
+beside each case: how many frames a second one process of Python writes and syncs there, twice each, as a journal does.
 
 The cases are one client and 32 clients, with one value and with 250 values a connection, as senders send them. The clients
-are processes of Python, which share the processors with the program: what they reach is what one machine does with both.
-Last comes the most memory that the program held, after all cases.
+are small processes (bench/clients.c, which needs cc) that share the processors with the program: what they reach is what one
+machine does with both. Beside each stands the most memory that the program held.
 """
 
 import json
-import multiprocessing
 import os
 import socket
-import struct
 import subprocess
 import sys
 import tempfile
@@ -35,31 +37,11 @@ def free_port():
         return it.getsockname()[1]
 
 
-def frame(item, count):
-    values = [{"host": "h", "key": f"k{item}", "value": str(number)} for number in range(count)]
-    body = json.dumps({"request": "sender data", "data": values}).encode()
-    return b"ZBXD\x01" + struct.pack("<II", len(body), 0) + body
-
-
-def client(port, item, count, end, done):
-    """Sends frames until the end, and adds the values that were answered."""
-    sent, bytes_ = 0, frame(item, count)
-    while time.time() < end:
-        try:
-            with socket.create_connection(("127.0.0.1", port), timeout=10) as connection:
-                connection.sendall(bytes_)
-                reply = b""
-                while True:
-                    piece = connection.recv(4096)
-                    if not piece:
-                        break
-                    reply += piece
-                if f"processed: {count};".encode() in reply:
-                    sent += count
-        except OSError:
-            time.sleep(0.01)
-    with done.get_lock():
-        done.value += sent
+def clients_program(folder):
+    """The clients, compiled into the folder."""
+    source = os.path.join(os.path.dirname(os.path.abspath(__file__)), "clients.c")
+    subprocess.run(["cc", "-D_GNU_SOURCE", "-O2", "-o", f"{folder}/clients", source], check=True)
+    return f"{folder}/clients"
 
 
 def processor_time(pid):
@@ -73,44 +55,62 @@ def most_memory(pid):
         return next(int(line.split()[1]) for line in file if line.startswith("VmHWM")) / 1024
 
 
-def measure(program, seconds):
-    with tempfile.TemporaryDirectory() as folder:
+def bare_disk(folder, count, seconds):
+    """Frames a second that are written and synced twice: the group behind a closed gate, and then the gate."""
+    group, frames, at, end = b"v" * (8 + count * 30), 0, 9, time.time() + seconds
+    file = os.open(f"{folder}/bare", os.O_RDWR | os.O_CREAT | os.O_TRUNC)
+    while time.time() < end:
+        os.pwrite(file, group + b"\0", at)
+        os.fdatasync(file)
+        os.pwrite(file, b"\1", at - 1)
+        os.fdatasync(file)
+        at += len(group) + 1
+        frames += 1
+    os.close(file)
+    os.unlink(f"{folder}/bare")
+    return frames / seconds
+
+
+def measure(program, seconds, journal, clients, count):
+    """One case, over a program of its own, since a run takes 4,000,000 entries at most."""
+    with tempfile.TemporaryDirectory(dir=journal) as folder:
         with open(f"{folder}/configuration", "w") as file:
             json.dump(CONFIGURATION, file)
-        port = free_port()
+        port, program_of_clients = free_port(), clients_program(folder)
         words = [program, "--mode", "serve", "--config", f"{folder}/configuration", "--listen", f"127.0.0.1:{port}"]
+        if journal:
+            words += ["--journal", f"{folder}/journal"]
         server = subprocess.Popen([*words, "--outbox", f"{folder}/outbox"], stdout=subprocess.DEVNULL)
         time.sleep(1)
-        total = 0
-        for clients in (1, 32):
-            for count in (1, 250):
-                done, begin, end = multiprocessing.Value("q", 0), processor_time(server.pid), time.time() + seconds
-                all_ = [multiprocessing.Process(target=client, args=(port, item, count, end, done)) for item in range(clients)]
-                for it in all_:
-                    it.start()
-                for it in all_:
-                    it.join()
-                spent, values = processor_time(server.pid) - begin, done.value
-                total += values
-                print(f"{clients:7} {count:13} {values / seconds:16,.0f} {1e6 * spent / max(values, 1):10.2f}", flush=True)
-        print(f"most memory: {most_memory(server.pid):.0f} MB after {total:,} values")
+        begin = processor_time(server.pid)
+        sent = subprocess.run([program_of_clients, str(port), str(clients), str(count), str(seconds)], check=True, capture_output=True, text=True)
+        spent, values, held = processor_time(server.pid) - begin, int(sent.stdout), most_memory(server.pid)
+        bare = f" {count * bare_disk(folder, count, 1):16,.0f}" if journal else ""
+        print(f"{clients:7} {count:13} {values / seconds:16,.0f} {1e6 * spent / max(values, 1):10.2f} {held:8.0f}{bare}", flush=True)
         server.terminate()
         server.wait()
 
 
 def main():
     words = sys.argv[1:]
-    seconds = 5
+    seconds, journal = 3, None
     if "--seconds" in words:
         at = words.index("--seconds")
         seconds = int(words[at + 1])
         del words[at : at + 2]
+    if "--journal" in words:
+        at = words.index("--journal")
+        journal = words[at + 1]
+        del words[at : at + 2]
     if not words:
-        print("usage: bench/serve.py PROGRAM.. [--seconds N]", file=sys.stderr)
+        print("usage: bench/serve.py PROGRAM.. [--seconds N] [--journal FOLDER]", file=sys.stderr)
         return 2
     for program in words:
-        print(f"{program}\n{'clients':>7} {'values a conn':>13} {'values a second':>16} {'us a value':>10}")
-        measure(os.path.realpath(program), seconds)
+        bare = f" {'bare disk':>16}" if journal else ""
+        print(f"{program}\n{'clients':>7} {'values a conn':>13} {'values a second':>16} {'us a value':>10} {'MB held':>8}{bare}")
+        for clients in (1, 32):
+            for count in (1, 250):
+                measure(os.path.realpath(program), seconds, journal, clients, count)
     return 0
 
 

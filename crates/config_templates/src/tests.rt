@@ -11,6 +11,7 @@ use zbx_types::{
 mod expressions;
 mod faults;
 mod lengths;
+mod limits;
 mod patterns;
 
 /// A template with a macro, an item and a trigger; a host with a macro of its own is linked to it, and one without.

@@ -1,5 +1,6 @@
 -- Which triggers' problems an evaluation changes: its own alone.
 use Rattle.std.proofs.Common.{◌≡◌, ℕ, ◌==◌, Bool, true, false, cond, Option, Some, None, List, [], ◌∷◌, ◌++◌, map, filter, refl, sym, ◌∙◌, ap, subst, eqb-true, ℤ, pos, Result, Ok, Err, IfOk}
+use mathlib.Core.Path.{fun_ext}
 use Rattle.std.specs.Ordering.{int_eq}
 use Rattle.zbx_types.specs.Ids.{at_id}
 use Rattle.zbx_types.specs.Masters.{masters_of}
@@ -9,19 +10,30 @@ use Rattle.zbx_types.specs.declared.entries.EventId.{EventId}
 use Rattle.zbx_types.specs.declared.entries.Rec.{Rec}
 use Rattle.zbx_types.specs.declared.entries.Stored.{Stored}
 use Rattle.trigger_state.specs.Problems.{home, event_in, lands, absorbed_all, grown}
-use Rattle.entry_step.specs.Records.{problem_of, recovery_of, verdict_records, expression_value, recovery_value, judged_by, evaluated, phase}
+use Rattle.entry_step.specs.Seen.{shown_values, Seen, seen_in}
+use Rattle.entry_step.specs.Evaluation.{call_value}
+use Rattle.event_text.specs.Titles.{event_tags}
+use Rattle.zbx_types.specs.declared.entries.Held.{Held}
+use Rattle.entry_step.specs.Records.{problem_of, closed_records, verdict_records, expression_value, recovery_value, records_by, evaluated, phase}
 use Rattle.entry_step.specs.Changes.{outcome_records, outcome_opens, Closes, judged}
 use Rattle.entry_step.specs.declared.changes.Outcome.{Outcome}
 use Rattle.trigger_state.specs.Verdicts.{some_open, is_held, lets_close, makes_new, is_closed_by, closing, close_all, verdict_over, verdict_by}
 use Rattle.trigger_state.specs.declared.answer.Verdict.{Verdict}
 use Rattle.trigger_state.specs.declared.answer.Verdict.TheVariants.{Nothing, New, Close}
 use Rattle.zbx_types.specs.declared.entries.Tag.{Tag}
+use Rattle.zbx_types.specs.Records.{same_event, event_of}
+use Rattle.zbx_types.specs.declared.entries.Rec.TheVariants.{Failure, Problem, Recovery, Step, Message}
+use Rattle.escalations.specs.Escalations.{first_records_of, recovered_records}
+use Rattle.std.specs.Prelude.{flat_map}
+use Rattle.entry_step.specs.Due.{IsAbout}
+use Rattle.entry_step.proofs.Said.{due_about, closed_about}
 use Rattle.entry_step.specs.Each.{Each}
 use Rattle.entry_step.proofs.Members.{each_map, each_cond}
 use Rattle.entry_step.specs.Represents.{AllAtHome}
 use Rattle.trigger_state.specs.declared.problems.Open.{Open}
 use Rattle.trigger_state.proofs.Searches.{lands_alone}
 use Rattle.entry_step.proofs.Problems.{home_all}
+use Rattle.entry_step.specs.declared.occasions.Occasion.{Occasion}
 
 -- the records change the problems of triggers in K alone
 abbrev pub LandIn : Conf → (ℕ → Bool) → List Rec → Type 0
@@ -47,15 +59,31 @@ only id j = id == j
 at_home : (conf : Conf) (event : EventId) (id j : ℕ) → home conf event ≡ id → only id j ≡ false → (home conf event == j) ≡ false
 at_home conf event id j h e = ap (λ t. t == j) h ∙ e
 
-recoveries_land : (conf : Conf) (number now id : ℕ) (events : List EventId) → Each (λ e. home conf e ≡ id) events → LandIn conf (only id) (map (recovery_of number now) events)
-recoveries_land conf number now id [] h = tt
-recoveries_land conf number now id (e ∷ es) h = (λ j q. at_home conf e id j h.0 q, recoveries_land conf number now id es h.1)
+pub about_lands : (conf : Conf) (e : EventId) (id : ℕ) (rs : List Rec) → home conf e ≡ id → Each (IsAbout e) rs → LandIn conf (only id) rs
+about_lands conf e id [] h a = tt
+about_lands conf e id (r ∷ rs) h a = (one r a.0, about_lands conf e id rs h a.1)
+  where
+    one : (r : Rec) → IsAbout e r → (j : ℕ) → only id j ≡ false → lands conf r j ≡ false
+    one (Step event action step now) is j q = at_home conf event id j (ap (home conf) is ∙ h) q
+    one (Message event action step recipient subject body) is j q = refl
+    one (Failure number host key why) is j q = absurd is
+    one (Problem event now severity suppressed host trigger name tags) is j q = absurd is
+    one (Recovery event by now cause) is j q = absurd is
 
-verdict_lands : (conf : Conf) (number now id : ℕ) (trigger : Trigger) (v : Verdict) → Closes (λ e. home conf e ≡ id) v → LandIn conf (only id) (verdict_records conf number now id trigger v)
+closed_land : (conf : Conf) (number now id : ℕ) (os : List Open) (events : List EventId) → Each (λ e. home conf e ≡ id) events → LandIn conf (only id) (flat_map (closed_records conf number now os) events)
+closed_land conf number now id os [] h = tt
+closed_land conf number now id os (e ∷ es) h =
+    land_append conf (only id) (closed_records conf number now os e) (flat_map (closed_records conf number now os) es)
+    (λ j q. at_home conf e id j h.0 q, about_lands conf e id (flat_map (λ o. recovered_records conf o.problem o.steps now) (filter (λ o. same_event (event_in o) e) os)) h.0 (closed_about e e conf now os))
+    (closed_land conf number now id os es h.1)
+
+verdict_lands : (conf : Conf) (number now : ℕ) (values : List (Option Held)) (id : ℕ) (trigger : Trigger) (os : List Open) (v : Verdict) → Closes (λ e. home conf e ≡ id) v → LandIn conf (only id) (verdict_records conf number now values id trigger os v)
 unfolding verdict_records problem_of
-verdict_lands conf number now id trigger Nothing h = tt
-verdict_lands conf number now id trigger New h = (λ j e. e, tt)
-verdict_lands conf number now id trigger (Close events) h = recoveries_land conf number now id events h
+verdict_lands conf number now values id trigger os Nothing h = tt
+verdict_lands conf number now values id trigger os New h =
+    let problem : Rec = problem_of conf number now values id trigger in
+    (λ j e. e, about_lands conf (event_of problem) id (first_records_of conf id problem now) refl (due_about conf id problem [] now))
+verdict_lands conf number now values id trigger os (Close events) h = closed_land conf number now id os events h
 
 -- what a verdict closes is among the open problems
 module _ (P : EventId → Type 0) where
@@ -84,47 +112,52 @@ module _ (P : EventId → Type 0) where
 -- what the outcome of a verdict makes of the open problems
 pub settled_opens : {E : Type 0} (result : Result (Option Outcome) E) (conf : Conf) (id : ℕ) (trigger : Trigger) (held : Bool) (os : List Open) (p r : Option ℤ) (tags : List Tag) (is_value : Bool) (v : Verdict)
     → v ≡ verdict_over trigger held os p r tags is_value
-    → IfOk result (λ made. at_id conf.triggers id ≡ Some trigger → Closes (λ e. home conf e ≡ id) v → outcome_opens os made ≡ absorbed_all conf id os (outcome_records made))
-    → IfOk result (λ made. at_id conf.triggers id ≡ Some trigger → AllAtHome conf id os → outcome_opens os made ≡ absorbed_all conf id os (outcome_records made))
-settled_opens (Ok made) conf id trigger held os p r tags is_value v is h = λ there homes.
-    h there (subst (Closes (λ e. home conf e ≡ id)) (sym is) (closes_own (λ e. home conf e ≡ id) trigger held os p r tags is_value homes))
+    → IfOk result (λ made. Closes (λ e. home conf e ≡ id) v → outcome_opens os made ≡ absorbed_all conf id os (outcome_records made))
+    → IfOk result (λ made. AllAtHome conf id os → outcome_opens os made ≡ absorbed_all conf id os (outcome_records made))
+settled_opens (Ok made) conf id trigger held os p r tags is_value v is h = λ homes.
+    h (subst (Closes (λ e. home conf e ≡ id)) (sym is) (closes_own (λ e. home conf e ≡ id) trigger held os p r tags is_value homes))
 settled_opens (Err e) conf id trigger held os p r tags is_value v is h = tt
 
 -- what a trigger adds that is there
-pub judged_is : (conf : Conf) (number now : ℕ) (items : ℕ → List Stored) (all : ℕ → List Open) (id : ℕ) (trigger : Trigger) → at_id conf.triggers id ≡ Some trigger
-    → evaluated conf number now items all id ≡ judged conf items number now id trigger (is_held conf all id) (all id)
+pub judged_is : (conf : Conf) (occasion : Occasion) (items : ℕ → List Stored) (all : ℕ → List Open) (id : ℕ) (trigger : Trigger) → at_id conf.triggers id ≡ Some trigger
+    → evaluated conf occasion items all id ≡ judged conf occasion (seen_in items occasion conf.utc_offset trigger) id trigger (is_held conf all id) (all id)
 unfolding evaluated
-judged_is conf number now items all id trigger e =
-    ap (judged_by conf items number now all id) e
-    ∙ ap (λ t. verdict_records conf number now id trigger (verdict_by t (is_held conf all id) (all id) (expression_value items now trigger trigger.expr) (recovery_value items now trigger trigger.recovery_expr) [] true)) e
+judged_is conf occasion items all id trigger e =
+    let seen : Seen = seen_in items occasion conf.utc_offset trigger in
+    ap (records_by conf occasion items all id) e
+    ∙ ap (λ t. verdict_records conf occasion.number occasion.now seen.values id trigger (all id) (verdict_by t (is_held conf all id) (all id) (expression_value seen.calls trigger.expr) (recovery_value seen.calls trigger.recovery_expr) (event_tags conf id seen.values) occasion.is_value)) e
 
-pub outcome_is : (conf other : Conf) (number now : ℕ) (items : ℕ → List Stored) (all : ℕ → List Open) (id : ℕ) (trigger : Trigger) (held : Bool) (os : List Open) (ms : List ℕ) → other ≡ conf → at_id conf.triggers id ≡ Some trigger
-    → ms ≡ masters_of conf id → held ≡ some_open all ms → os ≡ all id → judged other items number now id trigger held os ≡ evaluated conf number now items all id
-outcome_is conf other number now items all id trigger held os ms same there m h o =
-    ap (λ c. judged c items number now id trigger held os) same ∙ ap (λ b. judged conf items number now id trigger b os) (h ∙ ap (some_open all) m)
-    ∙ ap (judged conf items number now id trigger (is_held conf all id)) o ∙ sym (judged_is conf number now items all id trigger there)
+pub outcome_is : (conf other : Conf) (occasion : Occasion) (calls : ℕ → Option ℤ) (items : ℕ → List Stored) (all : ℕ → List Open) (id : ℕ) (trigger : Trigger) (held : Bool) (os : List Open) (ms : List ℕ) → other ≡ conf
+    → ((place : ℕ) → calls place ≡ call_value items occasion conf.utc_offset trigger place) → at_id conf.triggers id ≡ Some trigger → ms ≡ masters_of conf id → held ≡ some_open all ms → os ≡ all id
+    → judged other occasion (record { calls = calls; values = shown_values items occasion.now trigger }) id trigger held os ≡ evaluated conf occasion items all id
+outcome_is conf other occasion calls items all id trigger held os ms same values there m h o =
+    let sight : (ℕ → Option ℤ) → Seen = λ v. record { calls = v; values = shown_values items occasion.now trigger } in
+    ap (λ c. judged c occasion (sight calls) id trigger held os) same ∙ ap (λ v. judged conf occasion (sight v) id trigger held os) (fun_ext values)
+    ∙ ap (λ b. judged conf occasion (seen_in items occasion conf.utc_offset trigger) id trigger b os) (h ∙ ap (some_open all) m)
+    ∙ ap (judged conf occasion (seen_in items occasion conf.utc_offset trigger) id trigger (is_held conf all id)) o ∙ sym (judged_is conf occasion items all id trigger there)
 
 -- what holds of the records of each verdict that closes some of the open problems
-pub judged_has : (P : EventId → Type 0) (R : List Rec → Type 0) (conf : Conf) (items : ℕ → List Stored) (number now id : ℕ) (trigger : Trigger) (held : Bool) (os : List Open)
-    → ((v : Verdict) → Closes P v → R (verdict_records conf number now id trigger v)) → Each (λ o. P (event_in o)) os → R (judged conf items number now id trigger held os)
-judged_has P R conf items number now id trigger held os f h =
-    let p : Option ℤ = expression_value items now trigger trigger.expr in
-    let r : Option ℤ = recovery_value items now trigger trigger.recovery_expr in
-    f (verdict_over trigger held os p r [] true) (closes_own P trigger held os p r [] true h)
+pub judged_has : (P : EventId → Type 0) (R : List Rec → Type 0) (conf : Conf) (occasion : Occasion) (seen : Seen) (id : ℕ) (trigger : Trigger) (held : Bool) (os : List Open)
+    → ((v : Verdict) → Closes P v → R (verdict_records conf occasion.number occasion.now seen.values id trigger os v)) → Each (λ o. P (event_in o)) os → R (judged conf occasion seen id trigger held os)
+judged_has P R conf occasion seen id trigger held os f h =
+    let p : Option ℤ = expression_value seen.calls trigger.expr in
+    let r : Option ℤ = recovery_value seen.calls trigger.recovery_expr in
+    let tags : List Tag = event_tags conf id seen.values in
+    f (verdict_over trigger held os p r tags occasion.is_value) (closes_own P trigger held os p r tags occasion.is_value h)
 
 -- and one that isn't
-pub evaluated_none : (conf : Conf) (number now : ℕ) (items : ℕ → List Stored) (all : ℕ → List Open) (id : ℕ) → at_id conf.triggers id ≡ None → evaluated conf number now items all id ≡ []
+pub evaluated_none : (conf : Conf) (occasion : Occasion) (items : ℕ → List Stored) (all : ℕ → List Open) (id : ℕ) → at_id conf.triggers id ≡ None → evaluated conf occasion items all id ≡ []
 unfolding evaluated
-evaluated_none conf number now items all id e = ap (judged_by conf items number now all id) e
+evaluated_none conf occasion items all id e = ap (records_by conf occasion items all id) e
 
-pub evaluated_lands : (conf : Conf) (number now : ℕ) (items : ℕ → List Stored) (all : ℕ → List Open) (id : ℕ) → AllAtHome conf id (all id) → LandIn conf (only id) (evaluated conf number now items all id)
-evaluated_lands conf number now items all id h = go (at_id conf.triggers id) refl
+pub evaluated_lands : (conf : Conf) (occasion : Occasion) (items : ℕ → List Stored) (all : ℕ → List Open) (id : ℕ) → AllAtHome conf id (all id) → LandIn conf (only id) (evaluated conf occasion items all id)
+evaluated_lands conf occasion items all id h = go (at_id conf.triggers id) refl
   where
-    go : (t : Option Trigger) → at_id conf.triggers id ≡ t → LandIn conf (only id) (evaluated conf number now items all id)
-    go None e = subst (LandIn conf (only id)) (sym (evaluated_none conf number now items all id e)) tt
+    go : (t : Option Trigger) → at_id conf.triggers id ≡ t → LandIn conf (only id) (evaluated conf occasion items all id)
+    go None e = subst (LandIn conf (only id)) (sym (evaluated_none conf occasion items all id e)) tt
     go (Some trigger) e =
-        subst (LandIn conf (only id)) (sym (judged_is conf number now items all id trigger e))
-        (judged_has (λ x. home conf x ≡ id) (LandIn conf (only id)) conf items number now id trigger (is_held conf all id) (all id) (verdict_lands conf number now id trigger) h)
+        subst (LandIn conf (only id)) (sym (judged_is conf occasion items all id trigger e))
+        (judged_has (λ x. home conf x ≡ id) (LandIn conf (only id)) conf occasion (seen_in items occasion conf.utc_offset trigger) id trigger (is_held conf all id) (all id) (verdict_lands conf occasion.number occasion.now (shown_values items occasion.now trigger) id trigger (all id)) h)
 
 -- the triggers of a phase are in K: so are those whose problems its records change
 abbrev pub AllIn : (ℕ → Bool) → List ℕ → Type 0
@@ -138,11 +171,11 @@ in_only K id j t f = go (id == j) refl
     go true e = let s : K j ≡ true = subst (λ x. K x ≡ true) (eqb-true id j e) t in cc
     go false e = refl
 
-pub phase_lands : (conf : Conf) (number now : ℕ) (items : ℕ → List Stored) (K : ℕ → Bool) (all : ℕ → List Open) (ids : List ℕ) → ((id : ℕ) → AllAtHome conf id (all id)) → AllIn K ids
-    → LandIn conf K (phase conf (evaluated conf number now items) all ids)
-phase_lands conf number now items K all [] h i = tt
-phase_lands conf number now items K all (id ∷ ids) h i =
-    let rs = evaluated conf number now items all id in
-    land_append conf K rs (phase conf (evaluated conf number now items) (grown conf all rs) ids)
-    (land_sub conf (only id) K rs (λ j e. in_only K id j i.0 e) (evaluated_lands conf number now items all id (h id)))
-    (phase_lands conf number now items K (grown conf all rs) ids (λ u. home_all conf u (all u) rs (h u)) i.1)
+pub phase_lands : (conf : Conf) (occasion : Occasion) (items : ℕ → List Stored) (K : ℕ → Bool) (all : ℕ → List Open) (ids : List ℕ) → ((id : ℕ) → AllAtHome conf id (all id)) → AllIn K ids
+    → LandIn conf K (phase conf (evaluated conf occasion items) all ids)
+phase_lands conf occasion items K all [] h i = tt
+phase_lands conf occasion items K all (id ∷ ids) h i =
+    let rs = evaluated conf occasion items all id in
+    land_append conf K rs (phase conf (evaluated conf occasion items) (grown conf all rs) ids)
+    (land_sub conf (only id) K rs (λ j e. in_only K id j i.0 e) (evaluated_lands conf occasion items all id (h id)))
+    (phase_lands conf occasion items K (grown conf all rs) ids (λ u. home_all conf u (all u) rs (h u)) i.1)

@@ -13,3 +13,12 @@ pub mod Listing
 pub mod Planned
 pub mod Packing
 pub mod Dependents
+pub mod Sight
+pub mod Showing
+pub mod Said
+pub mod Asking
+pub mod Coming
+pub mod Loops
+pub mod Taking
+pub mod Sorting
+pub mod Dues

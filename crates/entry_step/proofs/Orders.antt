@@ -1,5 +1,5 @@
 -- The laws of order.
-use Rattle.std.proofs.Common.{◌≡◌, ℕ, ◌==◌, Bool, true, false, cond, ◌&&◌, ◌⊎◌, inl, inr, Option, Some, None, List, [], ◌∷◌, ◌++◌, filter, refl, sym, ◌∙◌, ap, ap₂, subst, eq-eqb}
+use Rattle.std.proofs.Common.{◌≡◌, ℕ, ◌==◌, Bool, true, false, cond, ◌&&◌, ◌⊎◌, inl, inr, Option, Some, None, List, [], ◌∷◌, ◌++◌, filter, refl, sym, ◌∙◌, ap, ap₂, subst, eq-eqb, append-nil}
 use mathlib.Core.Path.{fun_ext}
 use Rattle.std.specs.List.{list_any}
 use Rattle.zbx_types.specs.Ids.{at_id, ids_from}
@@ -8,30 +8,23 @@ use Rattle.zbx_types.specs.declared.conf.Conf.{Conf}
 use Rattle.zbx_types.specs.declared.entries.Entry.{Entry}
 use Rattle.zbx_types.specs.declared.entries.Entry.TheVariants.{Config, Value, Tick}
 use Rattle.zbx_types.specs.declared.entries.Numbered.{Numbered}
-use Rattle.zbx_types.specs.declared.entries.Stored.{Stored}
+use Rattle.zbx_types.specs.declared.entries.Rec.{Rec}
 use Rattle.entry_step.specs.Each.{Each, In, EachPair}
 use Rattle.entry_step.specs.Log.{moment_of, first_tick}
 use Rattle.entry_step.specs.History.{stored_of, with_stored}
-use Rattle.entry_step.specs.Evaluation.{up_to}
 use Rattle.entry_step.specs.Order.{order}
+use Rattle.entry_step.specs.Due.{due_at}
 use Rattle.trigger_state.specs.Problems.{absorbed_all}
 use Rattle.entry_step.specs.Records.{evaluated, phase, is_over, triggers_at, failures_at, out_of, replay}
-use Rattle.entry_step.specs.Cells.{Key, ItemKey, TriggerKey, TickKey, CellOf, ItemCell, Cells, opens_in, touches, item_after, histories_after, records_at, records, after, look, StandFor}
-use Rattle.entry_step.specs.Represents.{first_of, IsTidy}
+use Rattle.entry_step.specs.Cells.{Key, ItemKey, TriggerKey, TickKey, CellOf, ItemCell, Cells, opens_in, touches, item_after, histories_after, judged_at, records_at, records, after, look, StandFor}
+use Rattle.entry_step.specs.Represents.{IsTidy}
 use Rattle.entry_step.specs.Laws.{Agree, IsLocal, IsConfined, Apart, AreTidyCells, Locality, SameOut, Insertion, cells_done, records_done, any_touches, BatchOnACopy, PassedApart, AppliedPart}
 use Rattle.entry_step.proofs.Members.{or_left, or_right, and_both, each_filter, or_false_left, or_false_right, each_at, any_intro, true_or_false}
 use Rattle.entry_step.proofs.Problems.{home_all}
 use Rattle.entry_step.proofs.Landing.{LandIn, land_append, land_sub, land_off, AllIn, phase_lands}
 use Rattle.entry_step.proofs.Histories.{stored_other, SameTo, HasMasters, phase_same}
-use Rattle.entry_step.proofs.Represented.{stores_none, triggers_stored, triggers_none, each_over, calls_touched, failures_land, records_are, after_is}
-
--- Each trigger that an entry evaluates is over its item
-each_triggered : (conf : Conf) (number now item time : ℕ) (value : List ℕ) (P : ℕ → Type 0) → ((id : ℕ) → In id (order conf) → is_over item (at_id conf.triggers id) ≡ true → P id) → Each P (triggers_at conf number (Value now item time value))
-each_triggered conf number now item time value P h = go (stored_of conf number (Value now item time value) item) refl
-  where
-    go : (o : Option Stored) → stored_of conf number (Value now item time value) item ≡ o → Each P (triggers_at conf number (Value now item time value))
-    go None e = subst (Each P) (sym (triggers_none conf number (Value now item time value) (stores_none conf number now item time value e))) tt
-    go (Some s) e = subst (Each P) (sym (triggers_stored conf number now item time value s e)) (each_over conf item P h)
+use Rattle.entry_step.proofs.Represented.{each_triggered, calls_touched, own_touched, failures_land, records_are, after_is}
+use Rattle.entry_step.specs.Occasions.{occasion_of}
 
 all_in : (K : ℕ → Bool) (ids : List ℕ) → Each (λ id. K id ≡ true) ids → AllIn K ids
 all_in K [] h = tt
@@ -52,10 +45,6 @@ masters_touched conf now item time value id j o =
         or_right (is_over item (at_id conf.triggers m)) (list_any (λ t. is_over item (at_id conf.triggers t) && is_master conf t m) (order conf))
         (any_intro (λ t. is_over item (at_id conf.triggers t) && is_master conf t m) id (order conf) j (and_both (is_over item (at_id conf.triggers id)) (is_master conf id m) o e))
 
-own_touched : (conf : Conf) (now item time : ℕ) (value : List ℕ) → touches conf (Value now item time value) (ItemKey item) ≡ true
-unfolding touches
-own_touched conf now item time value = or_left (item == item) (list_any (λ id. is_over item (at_id conf.triggers id) && is_over item (at_id conf.triggers id)) (order conf)) (eq-eqb item item refl)
-
 -- what an entry doesn't touch has nothing stored
 stored_untouched : (conf : Conf) (number : ℕ) (entry : Entry) (i : ℕ) → touches conf entry (ItemKey i) ≡ false → stored_of conf number entry i ≡ None
 stored_untouched conf number (Config now text) i e = unfold stored_of in refl
@@ -63,16 +52,24 @@ stored_untouched conf number (Tick now) i e = unfold stored_of in refl
 stored_untouched conf number (Value now item time value) i e =
     stored_other conf number now item time value i (λ q. let t : touches conf (Value now item time value) (ItemKey i) ≡ true = subst (λ j. touches conf (Value now item time value) (ItemKey j) ≡ true) q (own_touched conf now item time value) in cc)
 
+-- no step is due at a value
+value_records : (conf : Conf) (c : Cells) (number now item time : ℕ) (value : List ℕ) → records_at conf c number (Value now item time value) ≡ judged_at conf c number (Value now item time value)
+unfolding records_at due_at
+value_records conf c number now item time value = append-nil (judged_at conf c number (Value now item time value))
+
 -- The records of an entry land in its foot
+land_anywhere : (conf : Conf) (K : ℕ → Bool) (rs : List Rec) → ((id : ℕ) → K id ≡ true) → LandIn conf K rs
+land_anywhere conf K [] all = tt
+land_anywhere conf K (r ∷ rs) all = (λ id e. (let t = all id in cc), land_anywhere conf K rs all)
+
 records_land : (conf : Conf) (c : Cells) (number : ℕ) (entry : Entry) → IsTidy conf c → LandIn conf (λ id. touches conf entry (TriggerKey id)) (records_at conf c number entry)
-unfolding records_at
-records_land conf c number (Config now text) tidy = tt
-records_land conf c number (Tick now) tidy = tt
-records_land conf c number (Value now item time value) tidy =
-    land_append conf (λ id. touches conf entry (TriggerKey id)) (failures_at conf number entry) (phase conf (evaluated conf number now (histories_after conf c number entry)) (opens_in c) (triggers_at conf number entry))
+records_land conf c number (Config now text) tidy = land_anywhere conf (λ id. touches conf (Config now text) (TriggerKey id)) (records_at conf c number (Config now text)) (λ id. unfold touches in refl)
+records_land conf c number (Tick now) tidy = land_anywhere conf (λ id. touches conf (Tick now) (TriggerKey id)) (records_at conf c number (Tick now)) (λ id. unfold touches in refl)
+records_land conf c number (Value now item time value) tidy = subst (LandIn conf (λ id. touches conf entry (TriggerKey id))) (sym (value_records conf c number now item time value)) (unfold judged_at in
+    land_append conf (λ id. touches conf entry (TriggerKey id)) (failures_at conf number entry) (phase conf (evaluated conf (occasion_of (c TickKey) number entry) (histories_after conf c number entry)) (opens_in c) (triggers_at conf number entry))
     (land_sub conf (λ id. false) (λ id. touches conf entry (TriggerKey id)) (failures_at conf number entry) (λ id e. refl) (failures_land conf number entry))
-    (phase_lands conf number now (histories_after conf c number entry) (λ id. touches conf entry (TriggerKey id)) (opens_in c) (triggers_at conf number entry) tidy
-    (all_in (λ id. touches conf entry (TriggerKey id)) (triggers_at conf number entry) (each_triggered conf number now item time value (λ id. touches conf entry (TriggerKey id) ≡ true) (λ id j o. trigger_touched conf now item time value id o))))
+    (phase_lands conf (occasion_of (c TickKey) number entry) (histories_after conf c number entry) (λ id. touches conf entry (TriggerKey id)) (opens_in c) (triggers_at conf number entry) tidy
+    (all_in (λ id. touches conf entry (TriggerKey id)) (triggers_at conf number entry) (each_triggered conf number now item time value (λ id. touches conf entry (TriggerKey id) ≡ true) (λ id j o. trigger_touched conf now item time value id o)))))
   where
     entry : Entry
     entry = Value now item time value
@@ -98,17 +95,23 @@ agree_all conf e c d all agree =
     let same : c ≡ d = fun_ext (λ k. agree.at k (all k)) in
     record { same_records = ap (λ x. records conf x e) same; same_changes = λ k t. ap (λ x. after conf x e k) same }
 
-value_local : (conf : Conf) (number now item time : ℕ) (value : List ℕ) (c d : Cells) → Agree conf (record { number = number; entry = Value now item time value }) c d
-    → records_at conf c number (Value now item time value) ≡ records_at conf d number (Value now item time value)
-unfolding records_at
-value_local conf number now item time value c d agree =
+value_judged : (conf : Conf) (number now item time : ℕ) (value : List ℕ) (c d : Cells) → Agree conf (record { number = number; entry = Value now item time value }) c d
+    → judged_at conf c number (Value now item time value) ≡ judged_at conf d number (Value now item time value)
+unfolding judged_at
+value_judged conf number now item time value c d agree =
     ap (λ xs. failures_at conf number entry ++ xs)
-    (phase_same conf number now (λ id. touches conf entry (TriggerKey id)) (histories_after conf c number entry) (histories_after conf d number entry) (opens_in c) (opens_in d) (triggers_at conf number entry) (λ id t. agree.at (TriggerKey id) t)
-    (each_triggered conf number now item time value (λ id. HasMasters conf (λ j. touches conf entry (TriggerKey j)) id × SameTo conf now (histories_after conf c number entry) (histories_after conf d number entry) id)
-    (λ id j o. (masters_touched conf now item time value id j o, λ i calls. ap (λ cell. first_of (up_to now (item_after conf number entry i cell).history)) (agree.at (ItemKey i) (calls_touched conf now item time value id i j o calls))))))
+    (ap (λ t. phase conf (evaluated conf (occasion_of t number entry) (histories_after conf c number entry)) (opens_in c) (triggers_at conf number entry)) agree.tick
+    ∙ phase_same conf (occasion_of (d TickKey) number entry) (λ id. touches conf entry (TriggerKey id)) (histories_after conf c number entry) (histories_after conf d number entry) (opens_in c) (opens_in d) (triggers_at conf number entry) (λ id t. agree.at (TriggerKey id) t)
+    (each_triggered conf number now item time value (λ id. HasMasters conf (λ j. touches conf entry (TriggerKey j)) id × SameTo conf (histories_after conf c number entry) (histories_after conf d number entry) id)
+    (λ id j o. (masters_touched conf now item time value id j o, λ i calls. ap (λ cell. (item_after conf number entry i cell).history) (agree.at (ItemKey i) (calls_touched conf now item time value id i j o calls))))))
   where
     entry : Entry
     entry = Value now item time value
+
+value_local : (conf : Conf) (number now item time : ℕ) (value : List ℕ) (c d : Cells) → Agree conf (record { number = number; entry = Value now item time value }) c d
+    → records_at conf c number (Value now item time value) ≡ records_at conf d number (Value now item time value)
+value_local conf number now item time value c d agree =
+    value_records conf c number now item time value ∙ value_judged conf number now item time value c d agree ∙ sym (value_records conf d number now item time value)
 
 pub local : (conf : Conf) (e : Numbered) (c d : Cells) → Agree conf e c d → IsLocal conf e c d
 local conf e c d agree = subst (λ x. Agree conf (at x) c d → IsLocal conf (at x) c d) refl (go e.entry) agree

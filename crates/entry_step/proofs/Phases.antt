@@ -18,6 +18,7 @@ use Rattle.trigger_state.specs.declared.problems.Open.{Open}
 use Rattle.entry_step.specs.declared.changes.Outcome.{Outcome}
 use Rattle.entry_step.proofs.Items.{at_zero, at_suc, slice_get_set_same, slice_get_set_other}
 use Rattle.entry_step.proofs.Problems.{open_append, absorbed_append, home_all}
+use Rattle.entry_step.specs.declared.occasions.Occasion.{Occasion}
 
 -- by search, the same is made
 pub phase_is : (conf : Conf) (one : (ℕ → List Open) → ℕ → List Rec) (rs : List Rec) (ids : List ℕ) → phase conf one (open_of conf rs) ids ≡ phase_over conf one rs ids
@@ -45,7 +46,7 @@ with_suc rows k os =
     let m : suc k - 1 ≡ k = omega arith in
     rw (t, m) refl
 
-row_other : (rows : List (List Open)) (id j : ℕ) (os : List Open) → id ≢ j → problems_at (with_row rows id os) j ≡ problems_at rows j
+pub row_other : (rows : List (List Open)) (id j : ℕ) (os : List Open) → id ≢ j → problems_at (with_row rows id os) j ≡ problems_at rows j
 unfolding problems_at with_row
 row_other rows zero j os ne = refl
 row_other rows (suc i) zero os ne = ap (λ o. unwrap_or o []) (at_zero (with_row rows (suc i) os) ∙ sym (at_zero rows))
@@ -53,14 +54,14 @@ row_other rows (suc i) (suc j) os ne =
     ap (λ o. unwrap_or o [])
     (ap (λ xs. at_id xs (suc j)) (with_suc rows i os) ∙ at_suc (set rows i os) j ∙ slice_get_set_other rows i j os (λ e. ne (ap suc e)) ∙ sym (at_suc rows j))
 
-row_same : (rows : List (List Open)) (id : ℕ) (os : List Open) → problems_at (with_row rows id os) id ≡ unwrap_or (option_map (λ _. os) (at_id rows id)) []
+pub row_same : (rows : List (List Open)) (id : ℕ) (os : List Open) → problems_at (with_row rows id os) id ≡ unwrap_or (option_map (λ _. os) (at_id rows id)) []
 unfolding problems_at with_row
 row_same rows zero os = ap (λ o. unwrap_or o []) (at_zero rows ∙ ap (option_map (λ _. os)) (sym (at_zero rows)))
 row_same rows (suc k) os =
     ap (λ o. unwrap_or o [])
     (ap (λ xs. at_id xs (suc k)) (with_suc rows k os) ∙ at_suc (set rows k os) k ∙ slice_get_set_same rows k os ∙ ap (option_map (λ _. os)) (sym (at_suc rows k)))
 
-length_row : (rows : List (List Open)) (id : ℕ) (os : List Open) → length (with_row rows id os) ≡ length rows
+pub length_row : (rows : List (List Open)) (id : ℕ) (os : List Open) → length (with_row rows id os) ≡ length rows
 length_row rows zero os = unfold with_row in refl
 length_row rows (suc k) os = ap length (with_suc rows k os) ∙ length-set rows k os
 
@@ -117,12 +118,12 @@ pub run_none : (conf : Conf) (one : (ℕ → List Open) → ℕ → List Rec) (r
 run_none conf one rows made e = record { records = e; changes = λ id. ap (absorbed_all conf id (problems_at rows id)) (sym e); size = refl }
 
 -- One trigger more, as the loop has it
-pub run_more : (conf : Conf) (number now : ℕ) (items : ℕ → List Stored) (before rows next : List (List Open)) (ids : List ℕ) (k id : ℕ) (made more : List Rec) (o : Option Outcome)
-    → k < length ids → id ≡ get_or ids k 0 → outcome_records o ≡ evaluated conf number now items (problems_at rows) id
+pub run_more : (conf : Conf) (occasion : Occasion) (items : ℕ → List Stored) (before rows next : List (List Open)) (ids : List ℕ) (k id : ℕ) (made more : List Rec) (o : Option Outcome)
+    → k < length ids → id ≡ get_or ids k 0 → outcome_records o ≡ evaluated conf occasion items (problems_at rows) id
     → (AllAtHome conf id (problems_at rows id) → outcome_opens (problems_at rows id) o ≡ absorbed_all conf id (problems_at rows id) (outcome_records o))
     → more ≡ made ++ outcome_records o → next ≡ outcome_rows rows id o
-    → AreTidy conf before → Runs conf (evaluated conf number now items) before (take k ids) made rows → Runs conf (evaluated conf number now items) before (take (k + 1) ids) more next
-run_more conf number now items before rows next ids k id made more o l is r opens m n tidy runs =
+    → AreTidy conf before → Runs conf (evaluated conf occasion items) before (take k ids) made rows → Runs conf (evaluated conf occasion items) before (take (k + 1) ids) more next
+run_more conf occasion items before rows next ids k id made more o l is r opens m n tidy runs =
     record {
       records = m ∙ ap (λ xs. xs ++ outcome_records o) runs.records ∙ ap (λ xs. so_far ++ xs) (r ∙ ap (λ p. one p id) all) ∙ sym (phase_push conf one (problems_at before) (take k ids) id) ∙ ap (phase conf one (problems_at before)) (sym front);
       changes = λ j. ap (λ rs. problems_at rs j) n ∙ rows_after conf rows id o size (opens home) own none j
@@ -132,7 +133,7 @@ run_more conf number now items before rows next ids k id made more o l is r open
     }
   where
     one : (ℕ → List Open) → ℕ → List Rec
-    one = evaluated conf number now items
+    one = evaluated conf occasion items
 
     so_far : List Rec
     so_far = phase conf one (problems_at before) (take k ids)
@@ -147,10 +148,10 @@ run_more conf number now items before rows next ids k id made more o l is r open
     home = subst (AllAtHome conf id) (sym (runs.changes id)) (home_all conf id (problems_at before id) made (tidy.homes id))
 
     own : LandIn conf (only id) (outcome_records o)
-    own = subst (LandIn conf (only id)) (sym r) (evaluated_lands conf number now items (problems_at rows) id home)
+    own = subst (LandIn conf (only id)) (sym r) (evaluated_lands conf occasion items (problems_at rows) id home)
 
     none : at_id conf.triggers id ≡ None → outcome_records o ≡ []
-    none e = r ∙ evaluated_none conf number now items (problems_at rows) id e
+    none e = r ∙ evaluated_none conf occasion items (problems_at rows) id e
 
     front : take (k + 1) ids ≡ take k ids ++ id ∷ []
     front = take_more ids k 0 l ∙ ap (λ i. take k ids ++ i ∷ []) (sym is)

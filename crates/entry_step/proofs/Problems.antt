@@ -1,5 +1,5 @@
 -- Open problems and more records.
-use Rattle.std.proofs.Common.{◌≡◌, ℕ, ◌==◌, Bool, true, false, cond, not, ◌||◌, List, [], ◌∷◌, ◌++◌, Some, map, filter, refl, sym, ◌∙◌, ap, eq-eqb, eqb-true}
+use Rattle.std.proofs.Common.{◌≡◌, ℕ, ◌==◌, Bool, true, false, cond, not, ◌||◌, suc, List, [], ◌∷◌, ◌++◌, length, Option, Some, map, filter, arith, refl, sym, ◌∙◌, ap, eq-eqb, eqb-true}
 use Rattle.std.specs.List.{list_any}
 use Rattle.zbx_types.specs.Ids.{at_id}
 use Rattle.zbx_types.specs.declared.conf.Conf.{Conf}
@@ -10,50 +10,28 @@ use Rattle.zbx_types.specs.declared.entries.Rec.TheVariants.{Failure, Problem, R
 use Rattle.zbx_types.specs.Records.{same_event, event_of}
 use Rattle.trigger_state.specs.Problems.{home, event_in, opened, open_of, with_step, stepped, absorbed, absorbed_all}
 use Rattle.trigger_state.proofs.Searches.{search_grows}
-use Rattle.entry_step.specs.Records.{problem_of, recovery_of}
+use Rattle.escalations.specs.Escalations.{first_records_of}
+use Rattle.entry_step.specs.Records.{problem_of, begun_records}
+use Rattle.zbx_types.specs.declared.entries.Held.{Held}
 use Rattle.entry_step.specs.Each.{Each}
 use Rattle.entry_step.specs.Represents.{AllAtHome}
 use Rattle.trigger_state.specs.declared.problems.Open.{Open}
 
-pub one_opened : (conf : Conf) (number now id : ℕ) (trigger : Trigger) (os : List Open) → at_id conf.triggers id ≡ Some trigger
-    → os ++ record { problem = problem_of conf number now id trigger; steps = []; depth = trigger.depth } ∷ [] ≡ absorbed_all conf id os (problem_of conf number now id trigger ∷ [])
+pub one_opened : (conf : Conf) (number now : ℕ) (values : List (Option Held)) (id : ℕ) (trigger : Trigger) (os : List Open) → at_id conf.triggers id ≡ Some trigger
+    → os ++ record { problem = problem_of conf number now values id trigger; steps = []; depth = trigger.depth } ∷ [] ≡ absorbed_all conf id os (problem_of conf number now values id trigger ∷ [])
 unfolding problem_of absorbed
-one_opened conf number now id trigger os e = rw (eq-eqb id id refl, e) refl
+one_opened conf number now values id trigger os e = rw (eq-eqb id id refl, e) refl
 
--- without some, and then without one more
-filter_twice : (e : EventId) (es : List EventId) (os : List Open)
-    → filter (λ o. not (list_any (same_event (event_in o)) es)) (filter (λ o. not (same_event (event_in o) e)) os) ≡ filter (λ o. not (list_any (same_event (event_in o)) (e ∷ es))) os
-filter_twice e es [] = refl
-filter_twice e es (o ∷ os) = go (same_event (event_in o) e) (list_any (same_event (event_in o)) es) refl (filter_twice e es os)
+-- a new problem about which no action does anything
+pub one_begun : (conf : Conf) (number now : ℕ) (values : List (Option Held)) (id : ℕ) (trigger : Trigger) (os : List Open) (made : List Rec) → made ≡ begun_records conf id (problem_of conf number now values id trigger) now → length made ≡ 1 → at_id conf.triggers id ≡ Some trigger
+    → os ++ record { problem = problem_of conf number now values id trigger; steps = []; depth = trigger.depth } ∷ [] ≡ absorbed_all conf id os made
+one_begun conf number now values id trigger os made e l is =
+    let problem : Rec = problem_of conf number now values id trigger in
+    one_opened conf number now values id trigger os is ∙ ap (absorbed_all conf id os) (sym (e ∙ ap (λ more. problem ∷ more) (alone (first_records_of conf id problem now) (sym (ap length e) ∙ l))))
   where
-    p : Open → Bool
-    p x = not (list_any (same_event (event_in x)) es)
-
-    rest : List Open
-    rest = filter (λ x. not (same_event (event_in x) e)) os
-
-    all : List Open
-    all = filter (λ x. not (list_any (same_event (event_in x)) (e ∷ es))) os
-
-    go : (a b : Bool) → list_any (same_event (event_in o)) es ≡ b → filter p rest ≡ all → filter p (cond (not a) (o ∷ rest) rest) ≡ cond (not (a || b)) (o ∷ all) all
-    go true b q ih = ih
-    go false b q ih = ap (λ t. cond (not t) (o ∷ filter p rest) (filter p rest)) q ∙ ap (λ ys. cond (not b) (o ∷ ys) ys) ih
-
-close_one : (conf : Conf) (number now id : ℕ) (e : EventId) (os : List Open) → home conf e ≡ id → absorbed conf id os (recovery_of number now e) ≡ filter (λ o. not (same_event (event_in o) e)) os
-unfolding absorbed
-close_one conf number now id e os h = rw (eq-eqb (home conf e) id h) refl
-
-filter_all : (os : List Open) → filter (λ (o : Open). not false) os ≡ os
-filter_all [] = refl
-filter_all (o ∷ os) = ap (λ ys. o ∷ ys) (filter_all os)
-
--- the recoveries of events leave the other open problems
-pub rest_closed : (conf : Conf) (number now id : ℕ) (events : List EventId) (os : List Open) → Each (λ e. home conf e ≡ id) events
-    → absorbed_all conf id os (map (recovery_of number now) events) ≡ filter (λ o. not (list_any (same_event (event_in o)) events)) os
-rest_closed conf number now id [] os h = sym (filter_all os)
-rest_closed conf number now id (e ∷ es) os h =
-    ap (λ ys. absorbed_all conf id ys (map (recovery_of number now) es)) (close_one conf number now id e os h.0)
-    ∙ rest_closed conf number now id es (filter (λ o. not (same_event (event_in o) e)) os) h.1 ∙ filter_twice e es os
+    alone : (more : List Rec) → suc (length more) ≡ 1 → more ≡ []
+    alone [] q = refl
+    alone (m ∷ ms) q = absurd (omega arith)
 
 -- the search with some more records
 pub open_append : (conf : Conf) (id : ℕ) (rs more : List Rec) → open_of conf (rs ++ more) id ≡ absorbed_all conf id (open_of conf rs id) more

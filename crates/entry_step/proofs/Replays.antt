@@ -17,20 +17,30 @@ use Rattle.std.specs.Str.{bytes_eq}
 use Rattle.entry_step.specs.History.{history_of}
 use Rattle.entry_step.specs.Order.{level, by_depth, above_depths, order}
 use Rattle.zbx_types.specs.Records.{event_of}
-use Rattle.trigger_state.specs.Problems.{event_in, opens, recovers, opened, open_of}
-use Rattle.entry_step.specs.Records.{problem_of, recovery_of, verdict_records, evaluated, phase_over, has_call, stores, triggers_at, failure_by, failure_of, failures_at, out_of, replay}
+use Rattle.trigger_state.specs.Problems.{home, event_in, opens, recovers, opened, open_of}
+use Rattle.entry_step.specs.Records.{problem_of, begun_records, closed_records, verdict_records, evaluated, phase_over, has_call, is_timed_trigger, timed_triggers, stores, triggers_at, failure_by, failure_of, failures_at, judged_of, out_of, replay}
 use Rattle.trigger_state.specs.Verdicts.{is_held}
 use Rattle.trigger_state.specs.declared.answer.Verdict.{Verdict}
 use Rattle.trigger_state.specs.declared.answer.Verdict.TheVariants.{Nothing, New, Close}
 use Rattle.entry_step.specs.Changes.{Closes}
 use Rattle.entry_step.proofs.Landing.{judged_is, judged_has, evaluated_none}
-use Rattle.entry_step.specs.Log.{last_number, IsRising}
+use Rattle.entry_step.specs.Log.{last_number, first_tick, IsRising}
 use Rattle.entry_step.specs.Named.{is_named, host_of, AreDistinct, OpenByNames}
 use Rattle.std.specs.List.{All}
 use Rattle.std.proofs.lemmas.List.Elements.{All-nil, All-cons}
 use Rattle.trigger_state.specs.Laws.{OpenFirst}
 use Rattle.trigger_state.proofs.Searches.{open_by_test}
 use Rattle.entry_step.proofs.Members.{each_append, each_sub, and_both}
+use Rattle.entry_step.specs.Occasions.{occasion_of}
+use Rattle.entry_step.specs.declared.occasions.Occasion.{Occasion}
+use Rattle.entry_step.specs.Seen.{shown_values, seen_in}
+use Rattle.zbx_types.specs.Records.{same_event}
+use Rattle.std.specs.Prelude.{flat_map}
+use Rattle.escalations.specs.Escalations.{first_records_of, recovered_records}
+use Rattle.entry_step.specs.Due.{IsAbout, by_making, due_for, due_over, due_at}
+use Rattle.entry_step.proofs.Said.{each_flat_map, due_about, closed_about}
+use Rattle.zbx_types.specs.declared.entries.Held.{Held}
+use Rattle.trigger_state.specs.declared.problems.Open.{Open}
 
 -- Each trigger stands once in the order
 abbrev Once : List ℕ → Type 0
@@ -241,9 +251,31 @@ open_done conf n done (r ∷ rs) id e = go (opens conf id r) refl (not (list_any
     go true q false ih = ih
     go false q b ih = ih
 
-recoveries_right : (n now : ℕ) (done : List ℕ) (events : List EventId) → Each (Done n done) events → Each IsQuiet (map (recovery_of n now) events) × Each (IsDone n done) (map (recovery_of n now) events)
-recoveries_right n now done [] e = (tt, tt)
-recoveries_right n now done (x ∷ xs) e = let r = recoveries_right n now done xs e.1 in ((tt, r.0), (e.0, r.1))
+about_right : (e : EventId) (n : ℕ) (done : List ℕ) (rs : List Rec) → Each (IsAbout e) rs → Each IsQuiet rs × Each (IsDone n done) rs
+about_right e n done rs a = (each_sub (IsAbout e) IsQuiet rs quiet a, each_sub (IsAbout e) (IsDone n done) rs right a)
+  where
+    quiet : (r : Rec) → IsAbout e r → IsQuiet r
+    quiet (Step event action step now) is = tt
+    quiet (Message event action step recipient subject body) is = tt
+    quiet (Failure number host key why) is = tt
+    quiet (Problem event now severity suppressed host trigger name tags) is = absurd is
+    quiet (Recovery event by now cause) is = tt
+
+    right : (r : Rec) → IsAbout e r → IsDone n done r
+    right (Step event action step now) is = tt
+    right (Message event action step recipient subject body) is = tt
+    right (Failure number host key why) is = tt
+    right (Problem event now severity suppressed host trigger name tags) is = absurd is
+    right (Recovery event by now cause) is = absurd is
+
+closed_right : (conf : Conf) (n now : ℕ) (os : List Open) (done : List ℕ) (events : List EventId) → Each (Done n done) events → Each IsQuiet (flat_map (closed_records conf n now os) events) × Each (IsDone n done) (flat_map (closed_records conf n now os) events)
+closed_right conf n now os done [] e = (tt, tt)
+closed_right conf n now os done (x ∷ xs) e =
+    let sent : List Rec = flat_map (λ o. recovered_records conf o.problem o.steps now) (filter (λ o. same_event (event_in o) x) os) in
+    let rest : List Rec = flat_map (closed_records conf n now os) xs in
+    let s = about_right x n done sent (closed_about x x conf now os) in
+    let r = closed_right conf n now os done xs e.1 in
+    ((tt, each_append IsQuiet sent rest s.0 r.0), (e.0, each_append (IsDone n done) sent rest s.1 r.1))
 
 quiet_right : (conf : Conf) (n : ℕ) (done : List ℕ) (qs : List Rec) → Each IsQuiet qs → Each (IsDone n done) qs → Right conf n done qs
 quiet_right conf n done qs q d = record { early = quiet_early qs q; ids = d; named = quiet_named conf qs q }
@@ -261,7 +293,13 @@ fresh n id done out (Recovery event by now cause) (inr d) = ap (λ b. (n == even
     off true = refl
     off false = refl
 
-module _ (conf : Conf) (n now : ℕ) (items : ℕ → List Stored) (done : List ℕ) (id : ℕ) (rs : List Rec) (right : Right conf n done rs) (out : In id done → ⊥) where
+module _ (conf : Conf) (occasion : Occasion) (items : ℕ → List Stored) (done : List ℕ) (id : ℕ) (rs : List Rec) (right : Right conf occasion.number done rs) (out : In id done → ⊥) where
+  abbrev n : ℕ
+  n = occasion.number
+
+  abbrev now : ℕ
+  now = occasion.now
+
   abbrev Next : List Rec → Type 0
   Next new = Right conf n (id ∷ done) (rs ++ new)
 
@@ -271,40 +309,44 @@ module _ (conf : Conf) (n now : ℕ) (items : ℕ → List Stored) (done : List 
   none_next : Next []
   none_next = subst (Right conf n (id ∷ done)) (sym (append-nil rs)) weaker
 
-  close_next : (events : List EventId) → Each (Done n (id ∷ done)) events → Next (map (recovery_of n now) events)
-  close_next events e =
-      let r = recoveries_right n now (id ∷ done) events e in
-      right_append conf n (id ∷ done) rs (map (recovery_of n now) events) weaker (quiet_right conf n (id ∷ done) (map (recovery_of n now) events) r.0 r.1) (quiet_all rs (map (recovery_of n now) events) r.0)
+  close_next : (os : List Open) (events : List EventId) → Each (Done n (id ∷ done)) events → Next (flat_map (closed_records conf n now os) events)
+  close_next os events e =
+      let made : List Rec = flat_map (closed_records conf n now os) events in
+      let r = closed_right conf n now os (id ∷ done) events e in
+      right_append conf n (id ∷ done) rs made weaker (quiet_right conf n (id ∷ done) made r.0 r.1) (quiet_all rs made r.0)
 
-  begin_next : (t : Trigger) → at_id conf.triggers id ≡ Some t → Next (problem_of conf n now id t ∷ [])
+  begin_next : (values : List (Option Held)) (t : Trigger) → at_id conf.triggers id ≡ Some t → Next (begun_records conf id (problem_of conf n now values id t) now)
   unfolding problem_of
-  begin_next t is =
-      right_append conf n (id ∷ done) rs (problem_of conf n now id t ∷ []) weaker
-      (record { early = (tt, tt); ids = (inr (refl, inl refl), tt); named = ((t, is, refl, refl), tt) })
-      (each_sub (IsDone n done) (λ x. Each (NotAgain x) (problem_of conf n now id t ∷ [])) rs (λ x d. (fresh n id done out x d, tt)) right.ids)
+  begin_next values t is =
+      let problem : Rec = problem_of conf n now values id t in
+      let first : List Rec = first_records_of conf id problem now in
+      let a = about_right (event_of problem) n (id ∷ done) first (due_about conf id problem [] now) in
+      right_append conf n (id ∷ done) rs (problem ∷ first) weaker
+      (record { early = (quiet_again problem first a.0, quiet_early first a.0); ids = (inr (refl, inl refl), a.1); named = ((t, is, refl, refl), quiet_named conf first a.0) })
+      (each_sub (IsDone n done) (λ x. Each (NotAgain x) (problem ∷ first)) rs (λ x d. (fresh n id done out x d, quiet_again x first a.0)) right.ids)
 
-  verdict_next : (t : Trigger) → at_id conf.triggers id ≡ Some t → (v : Verdict) → Closes (Done n (id ∷ done)) v → Next (verdict_records conf n now id t v)
+  verdict_next : (values : List (Option Held)) (t : Trigger) → at_id conf.triggers id ≡ Some t → (os : List Open) (v : Verdict) → Closes (Done n (id ∷ done)) v → Next (verdict_records conf n now values id t os v)
   unfolding verdict_records
-  verdict_next t is Nothing h = none_next
-  verdict_next t is New h = begin_next t is
-  verdict_next t is (Close events) h = close_next events h
+  verdict_next values t is os Nothing h = none_next
+  verdict_next values t is os New h = begin_next values t is
+  verdict_next values t is os (Close events) h = close_next os events h
 
-  one_next : Next (evaluated conf n now items (open_of conf rs) id)
+  one_next : Next (evaluated conf occasion items (open_of conf rs) id)
   one_next = go (at_id conf.triggers id) refl
     where
-      go : (t : Option Trigger) → at_id conf.triggers id ≡ t → Next (evaluated conf n now items (open_of conf rs) id)
-      go None e = subst Next (sym (evaluated_none conf n now items (open_of conf rs) id e)) none_next
+      go : (t : Option Trigger) → at_id conf.triggers id ≡ t → Next (evaluated conf occasion items (open_of conf rs) id)
+      go None e = subst Next (sym (evaluated_none conf occasion items (open_of conf rs) id e)) none_next
       go (Some t) e =
-          subst Next (sym (judged_is conf n now items (open_of conf rs) id t e))
-          (judged_has (Done n (id ∷ done)) Next conf items n now id t (is_held conf (open_of conf rs) id) (open_of conf rs id) (verdict_next t e) (open_done conf n (id ∷ done) rs id weaker.ids))
+          subst Next (sym (judged_is conf occasion items (open_of conf rs) id t e))
+          (judged_has (Done n (id ∷ done)) Next conf occasion (seen_in items occasion conf.utc_offset t) id t (is_held conf (open_of conf rs) id) (open_of conf rs id) (verdict_next (shown_values items occasion.now t) t e (open_of conf rs id)) (open_done conf n (id ∷ done) rs id weaker.ids))
 
-phase_next : (conf : Conf) (n now : ℕ) (items : ℕ → List Stored) (done ids : List ℕ) (rs : List Rec) → Right conf n done rs → Once ids → ((x : ℕ) → In x ids → In x done → ⊥)
-    → (all : List ℕ) × Right conf n all (rs ++ phase_over conf (evaluated conf n now items) rs ids)
-phase_next conf n now items done [] rs right once apart = (done, subst (Right conf n done) (sym (append-nil rs)) right)
-phase_next conf n now items done (id ∷ ids) rs right once apart =
-    let new = evaluated conf n now items (open_of conf rs) id in
-    let r = phase_next conf n now items (id ∷ done) ids (rs ++ new) (one_next conf n now items done id rs right (apart id (inl refl))) once.1 still in
-    (r.0, subst (Right conf n r.0) (append_assoc rs new (phase_over conf (evaluated conf n now items) (rs ++ new) ids)) r.1)
+phase_next : (conf : Conf) (occasion : Occasion) (items : ℕ → List Stored) (done ids : List ℕ) (rs : List Rec) → Right conf occasion.number done rs → Once ids → ((x : ℕ) → In x ids → In x done → ⊥)
+    → (all : List ℕ) × Right conf occasion.number all (rs ++ phase_over conf (evaluated conf occasion items) rs ids)
+phase_next conf occasion items done [] rs right once apart = (done, subst (Right conf occasion.number done) (sym (append-nil rs)) right)
+phase_next conf occasion items done (id ∷ ids) rs right once apart =
+    let new = evaluated conf occasion items (open_of conf rs) id in
+    let r = phase_next conf occasion items (id ∷ done) ids (rs ++ new) (one_next conf occasion items done id rs right (apart id (inl refl))) once.1 still in
+    (r.0, subst (Right conf occasion.number r.0) (append_assoc rs new (phase_over conf (evaluated conf occasion items) (rs ++ new) ids)) r.1)
   where
     still : (x : ℕ) → In x ids → In x (id ∷ done) → ⊥
     still x i (inl q) = once.0 (subst (λ y. In y ids) q i)
@@ -328,22 +370,47 @@ failures_quiet conf number (Value now item time value) = go (stores conf number 
     go true = (tt, tt)
     go false = failure_quiet conf number item
 
-out_next : (conf : Conf) (log : List Numbered) (e : Numbered) (entry : Entry) (rs : List Rec) → Right conf e.number [] rs → (all : List ℕ) × Right conf e.number all (rs ++ out_of conf log e entry rs)
-unfolding out_of triggers_at
-out_next conf log e (Config now text) rs right = ([], subst (Right conf e.number []) (sym (append-nil rs)) right)
-out_next conf log e (Tick now) rs right = ([], subst (Right conf e.number []) (sym (append-nil rs)) right)
-out_next conf log e (Value now item time value) rs right =
+once_triggers : (conf : Conf) (number : ℕ) (entry : Entry) → Once (triggers_at conf number entry)
+unfolding triggers_at timed_triggers
+once_triggers conf number (Config now text) = tt
+once_triggers conf number (Tick now) = once_filter (λ id. is_timed_trigger (at_id conf.triggers id)) (order conf) (once_order conf)
+once_triggers conf number (Value now item time value) = once_filter (λ id. has_call (stores conf number (Value now item time value)) (at_id conf.triggers id)) (order conf) (once_order conf)
+
+judged_next : (conf : Conf) (log : List Numbered) (e : Numbered) (rs : List Rec) → Right conf e.number [] rs → (all : List ℕ) × Right conf e.number all (rs ++ judged_of conf log e e.entry rs)
+unfolding judged_of
+judged_next conf log e rs right =
     let f = failures_at conf e.number e.entry in
     let q = failures_quiet conf e.number e.entry in
     let ids = triggers_at conf e.number e.entry in
-    let r = phase_next conf e.number now (history_of conf (e ∷ log)) [] ids (rs ++ f) (right_append conf e.number [] rs f right (quiet_right conf e.number [] f q.0 q.1) (quiet_all rs f q.0))
-    (once_filter (λ id. has_call (stores conf e.number e.entry) (at_id conf.triggers id)) (order conf) (once_order conf)) (λ x i j. j) in
-    (r.0, subst (Right conf e.number r.0) (append_assoc rs f (phase_over conf (evaluated conf e.number now (history_of conf (e ∷ log))) (rs ++ f) ids)) r.1)
+    let r = phase_next conf (occasion_of (first_tick log) e.number e.entry) (history_of conf (e ∷ log)) [] ids (rs ++ f) (right_append conf e.number [] rs f right (quiet_right conf e.number [] f q.0 q.1) (quiet_all rs f q.0))
+    (once_triggers conf e.number e.entry) (λ x i j. j) in
+    (r.0, subst (Right conf e.number r.0) (append_assoc rs f (phase_over conf (evaluated conf (occasion_of (first_tick log) e.number e.entry) (history_of conf (e ∷ log))) (rs ++ f) ids)) r.1)
+
+due_quiet : (conf : Conf) (n : ℕ) (done : List ℕ) (entry : Entry) (all : ℕ → List Open) → Each IsQuiet (due_at conf entry all) × Each (IsDone n done) (due_at conf entry all)
+unfolding due_at due_over
+due_quiet conf n done (Config now text) all = (tt, tt)
+due_quiet conf n done (Value now item time value) all = (tt, tt)
+due_quiet conf n done (Tick now) all = (
+  each_flat_map IsQuiet (due_for conf now) (by_making conf all) (λ o. (right o).0),
+  each_flat_map (IsDone n done) (due_for conf now) (by_making conf all) (λ o. (right o).1),
+)
+  where
+    right : (o : Open) → Each IsQuiet (due_for conf now o) × Each (IsDone n done) (due_for conf now o)
+    right o = about_right (event_in o) n done (due_for conf now o) (due_about conf (home conf (event_in o)) o.problem o.steps now)
+
+out_next : (conf : Conf) (log : List Numbered) (e : Numbered) (rs : List Rec) → Right conf e.number [] rs → (all : List ℕ) × Right conf e.number all (rs ++ out_of conf log e e.entry rs)
+unfolding out_of
+out_next conf log e rs right =
+    let r = judged_next conf log e rs right in
+    let judged : List Rec = judged_of conf log e e.entry rs in
+    let due : List Rec = due_at conf e.entry (open_of conf (rs ++ judged)) in
+    let q = due_quiet conf e.number r.0 e.entry (open_of conf (rs ++ judged)) in
+    (r.0, subst (Right conf e.number r.0) (append_assoc rs judged due) (right_append conf e.number r.0 (rs ++ judged) due r.1 (quiet_right conf e.number r.0 due q.0 q.1) (quiet_all (rs ++ judged) due q.0)))
 
 replay_right : (conf : Conf) (log : List Numbered) → IsRising log → (m : ℕ) → last_number log < m → Right conf m [] (replay conf log)
 replay_right conf [] r m l = record { early = tt; ids = tt; named = tt }
 replay_right conf (e ∷ log) r m l =
-    let here = out_next conf log e e.entry (replay conf log) (replay_right conf log r.1 e.number r.0) in
+    let here = out_next conf log e (replay conf log) (replay_right conf log r.1 e.number r.0) in
     right_sub conf e.number m here.0 [] (replay conf (e ∷ log)) (later here.0) here.1
   where
     later : (all : List ℕ) (event : EventId) → Done e.number all event → Done m [] event

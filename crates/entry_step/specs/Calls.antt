@@ -1,23 +1,41 @@
 -- The calls of a trigger over cells.
-use Rattle.std.specs.Prelude.{◌≡◌, ℕ, List, Option, ℤ}
+use Rattle.std.specs.Prelude.{◌≡◌, ℕ, List, Option, None, ℤ, slice_index_or}
 use Rattle.zbx_types.specs.Tree.{Tree}
+use Rattle.zbx_types.specs.declared.entries.Held.{Held}
 use Rattle.zbx_types.specs.declared.entries.Stored.{Stored}
 use Rattle.expr_eval.specs.Values.{value_over}
+use Rattle.entry_step.specs.Kept.{still_to_come, SeesFor}
 use Rattle.entry_step.specs.Evaluation.{call_value}
-use Rattle.entry_step.specs.Kept.{kept, with_value}
-use Rattle.entry_step.specs.declared.evaluation.Calls.{Calls}
+use Rattle.entry_step.specs.Seen.{shown_values, Seen}
+use Rattle.entry_step.specs.declared.calls.Calls.{Calls}
 use Rattle.entry_step.specs.declared.evaluation.Found.{Found}
 use Rattle.entry_step.specs.declared.plans.Node.{Node}
 
--- the histories of the items with the one more value
-abbrev pub histories : Calls → ℕ → List Stored
-histories calls id = kept (with_value calls.latest.now calls.item calls.stored.now) id
+-- what is kept shows the trigger these histories
+abbrev pub Shown : Calls → (ℕ → List Stored) → Type 0
+Shown calls items = SeesFor calls.ready.now calls.items.now (still_to_come calls.item calls.stored.now) calls.occasion.now items calls.id
 
--- the values of the calls, by their places
-abbrev pub values_of : Calls → ℕ → Option ℤ
-values_of calls place = call_value (histories calls) calls.now calls.trigger.now place
+-- the values of the calls, by their places, over histories
+abbrev pub values_of : Calls → (ℕ → List Stored) → ℕ → Option ℤ
+values_of calls items = call_value items calls.occasion calls.ready.now.utc_offset calls.trigger.now
+
+-- values by their places; None behind the last
+abbrev pub value_in : List (Option ℤ) → ℕ → Option ℤ
+value_in values place = slice_index_or values place None
+
+-- these are the values of the calls over all histories that the trigger is shown
+abbrev pub AreValues : Calls → List (Option ℤ) → Type 0
+AreValues calls values = (items : ℕ → List Stored) → Shown calls items → (place : ℕ) → value_in values place ≡ values_of calls items place
+
+-- these are the values that events show, over all histories that the trigger is shown
+abbrev pub AreShown : Calls → List (Option Held) → Type 0
+AreShown calls values = (items : ℕ → List Stored) → Shown calls items → values ≡ shown_values items calls.occasion.now calls.trigger.now
+
+-- what the trigger sees of histories, where its calls have these values
+abbrev pub sight_of : Calls → List (Option ℤ) → (ℕ → List Stored) → Seen
+sight_of calls values items = record { calls = value_in values; values = shown_values items calls.occasion.now calls.trigger.now }
 
 -- what is found is the value of a tree, and these nodes behind it
-pub record Evaluates (calls : Calls) (t : Tree) (more : List Node) (found : Found) : Type 0 where
-  pub value : found.value ≡ value_over (values_of calls) t
+pub record Evaluates (calls : ℕ → Option ℤ) (t : Tree) (more : List Node) (found : Found) : Type 0 where
+  pub value : found.value ≡ value_over calls t
   pub rest : found.rest.now ≡ more

@@ -10,9 +10,11 @@ use Rattle.zbx_types.specs.declared.entries.Numbered.{Numbered}
 use Rattle.zbx_types.specs.declared.entries.Rec.{Rec}
 use Rattle.zbx_types.specs.declared.entries.Stored.{Stored}
 use Rattle.entry_step.specs.Log.{moment_of, tick_with, first_tick}
+use Rattle.entry_step.specs.Occasions.{occasion_of}
 use Rattle.entry_step.specs.History.{stored_of, with_stored, history_of}
 use Rattle.entry_step.specs.Order.{order}
-use Rattle.trigger_state.specs.Problems.{open_of, absorbed_all}
+use Rattle.entry_step.specs.Due.{due_at}
+use Rattle.trigger_state.specs.Problems.{open_of, absorbed_all, grown}
 use Rattle.entry_step.specs.Records.{evaluated, phase, is_over, triggers_at, failures_at, replay}
 use Rattle.trigger_state.specs.declared.problems.Open.{Open}
 
@@ -61,13 +63,16 @@ item_after conf number entry i cell = record {
 abbrev pub histories_after : Conf → Cells → ℕ → Entry → ℕ → List Stored
 histories_after conf c number entry i = (item_after conf number entry i (c (ItemKey i))).history
 
--- the records that an entry makes over cells: for a value its failures, and then those of the triggers that it evaluates
+-- what an entry makes over cells before any step is due: its failures, and then the records of the triggers that it evaluates
+unfoldable pub judged_at : Conf → Cells → ℕ → Entry → List Rec
+judged_at conf c number entry =
+    failures_at conf number entry
+    ++ phase conf (evaluated conf (occasion_of (c TickKey) number entry) (histories_after conf c number entry)) (opens_in c) (triggers_at conf number entry)
+
+-- the records that an entry makes over cells: with those, at a Tick, the steps that are due for what is open then
 unfoldable pub records_at : Conf → Cells → ℕ → Entry → List Rec
-records_at conf c number (Config now text) = []
-records_at conf c number (Tick now) = []
-records_at conf c number (Value now item time value) =
-    failures_at conf number (Value now item time value)
-    ++ phase conf (evaluated conf number now (histories_after conf c number (Value now item time value))) (opens_in c) (triggers_at conf number (Value now item time value))
+records_at conf c number entry =
+    judged_at conf c number entry ++ due_at conf entry (grown conf (opens_in c) (judged_at conf c number entry))
 
 abbrev pub records : Conf → Cells → Numbered → List Rec
 records conf c e = records_at conf c e.number e.entry

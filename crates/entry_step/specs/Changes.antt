@@ -1,19 +1,27 @@
 -- How a step changes what is kept of the triggers, and how that is put back.
-use Rattle.std.specs.Prelude.{◌≡◌, ℕ, ◌-◌, ◌==◌, Bool, true, List, [], ◌∷◌, ◌++◌, reverse, take, length, Option, Some, None, if◌then◌else◌, slice_set, slice_index_or}
+use Rattle.std.specs.Prelude.{◌≡◌, ℕ, ◌-◌, ◌==◌, Bool, true, List, [], ◌∷◌, ◌++◌, reverse, take, length, Option, Some, None, ℤ, if◌then◌else◌, slice_set, slice_index_or}
+use Rattle.std.specs.Option.{unwrap_or}
 use Rattle.zbx_types.specs.declared.conf.Conf.{Conf}
 use Rattle.zbx_types.specs.declared.triggers.Trigger.{Trigger}
 use Rattle.zbx_types.specs.declared.entries.EventId.{EventId}
 use Rattle.zbx_types.specs.declared.entries.Rec.{Rec}
 use Rattle.zbx_types.specs.declared.entries.Stored.{Stored}
-use Rattle.trigger_state.specs.Problems.{absorbed_all}
+use Rattle.trigger_state.specs.Problems.{event_in, absorbed_all}
 use Rattle.trigger_state.specs.Verdicts.{verdict_over}
 use Rattle.trigger_state.specs.declared.answer.Verdict.{Verdict}
 use Rattle.trigger_state.specs.declared.answer.Verdict.TheVariants.{Nothing, New, Close}
+use Rattle.zbx_types.specs.declared.entries.Tag.{Tag}
+use Rattle.event_text.specs.Titles.{event_tags}
 use Rattle.entry_step.specs.Each.{Each}
-use Rattle.entry_step.specs.Records.{verdict_records, expression_value, recovery_value, evaluated, phase, triggers_over, failure_of}
+use Rattle.entry_step.specs.Due.{due_for, due_over}
+use Rattle.entry_step.specs.declared.due.Due.{Due}
+use Rattle.entry_step.specs.Seen.{Seen}
+use Rattle.entry_step.specs.Records.{verdict_records, expression_value, recovery_value, evaluated, phase, triggers_over, timed_triggers, failure_of}
 use Rattle.entry_step.specs.Represents.{CellsView, problems_at, AllAtHome}
-use Rattle.entry_step.specs.Kept.{kept, with_value}
+use Rattle.value_cache.specs.Cells.{CellView}
+use Rattle.entry_step.specs.Kept.{still_to_come, SeesFor, CameIn}
 use Rattle.trigger_state.specs.declared.problems.Open.{Open}
+use Rattle.entry_step.specs.declared.occasions.Occasion.{Occasion}
 use Rattle.entry_step.specs.declared.changes.Before.{Before}
 use Rattle.entry_step.specs.declared.changes.Before.TheVariants as before
 use Rattle.entry_step.specs.declared.changes.Change.{Change}
@@ -63,14 +71,16 @@ Closes P Nothing = Unit {0}
 Closes P New = Unit {0}
 Closes P (Close events) = Each P events
 
--- what a trigger adds that is held or not, and has these open problems
-abbrev pub judged : Conf → (ℕ → List Stored) → ℕ → ℕ → ℕ → Trigger → Bool → List Open → List Rec
-judged conf items number now id trigger held os =
-    verdict_records conf number now id trigger (verdict_over trigger held os (expression_value items now trigger trigger.expr) (recovery_value items now trigger trigger.recovery_expr) [] true)
+-- what a trigger adds that sees this, is held or not, and has these open problems
+abbrev pub judged : Conf → Occasion → Seen → ℕ → Trigger → Bool → List Open → List Rec
+judged conf occasion seen id trigger held os =
+    verdict_records conf occasion.number occasion.now seen.values id trigger os
+    (verdict_over trigger held os (expression_value seen.calls trigger.expr) (recovery_value seen.calls trigger.recovery_expr) (event_tags conf id seen.values) occasion.is_value)
 
--- what a trigger adds where an item stored a value
-abbrev pub one_of : Conf → ℕ → ℕ → List (Option Stored) → ℕ → Stored → (ℕ → List Open) → ℕ → List Rec
-one_of conf number now latest item s = evaluated conf number now (kept (with_value latest item s))
+-- tags serve a trigger in place of others: with both it has the same verdict over its open problems
+abbrev pub Serve : Trigger → List Open → List Tag → List Tag → Type 0
+Serve trigger os tags others =
+    (held : Bool) (p r : Option ℤ) (is_value : Bool) → verdict_over trigger held os p r tags is_value ≡ verdict_over trigger held os p r others is_value
 
 -- each trigger has a row, and each open problem is in the row of its own trigger
 pub record AreTidy (conf : Conf) (rows : List (List Open)) : Type 0 where
@@ -83,13 +93,48 @@ pub record Runs (conf : Conf) (one : (ℕ → List Open) → ℕ → List Rec) (
   pub changes : (id : ℕ) → problems_at rows id ≡ absorbed_all conf id (problems_at before id) made
   pub size : length rows ≡ length before
 
+-- triggers are evaluated on an occasion, over whichever histories they are shown by cells with what is still to come
+abbrev pub RunsOver : Conf → Occasion → List CellView → (ℕ → Option Stored) → List (List Open) → List ℕ → List Rec → List (List Open) → Type 0
+RunsOver conf occasion cells stored before ids made rows =
+    (items : ℕ → List Stored) → Each (SeesFor conf cells stored occasion.now items) ids → AreTidy conf before → Runs conf (evaluated conf occasion items) before ids made rows
+
 -- the cells take in a value that an item stored
-pub record TakesIn (conf : Conf) (number now item : ℕ) (s : Stored) (before : CellsView) (made : List Rec) (after : CellsView) : Type 0 where
-  pub runs : Runs conf (one_of conf number now before.latest item s) before.problems (triggers_over conf item) made after.problems
-  pub latest : after.latest ≡ with_value before.latest item s
+pub record TakesIn (conf : Conf) (occasion : Occasion) (item : ℕ) (s : Stored) (before : CellsView) (made : List Rec) (after : CellsView) : Type 0 where
+  pub runs : RunsOver conf occasion before.items (still_to_come item (Some s)) before.problems (triggers_over conf item) made after.problems
+  pub came : CameIn before.items item s occasion.now after.items
   pub tick : after.tick ≡ before.tick
 
 -- the cells take a value of an item, which may store it
-abbrev pub Takes : Conf → ℕ → ℕ → ℕ → Option Stored → CellsView → List Rec → CellsView → Type 0
-Takes conf number now item None before made after = (made ≡ failure_of conf number item) × (after ≡ before)
-Takes conf number now item (Some s) before made after = AreTidy conf before.problems → TakesIn conf number now item s before made after
+abbrev pub Takes : Conf → Occasion → ℕ → Option Stored → CellsView → List Rec → CellsView → Type 0
+Takes conf occasion item None before made after = (made ≡ failure_of conf occasion.number item) × (after ≡ before)
+Takes conf occasion item (Some s) before made after = TakesIn conf occasion item s before made after
+
+-- records change the rows that were there before into these
+pub record Absorbed (conf : Conf) (before : List (List Open)) (made : List Rec) (rows : List (List Open)) : Type 0 where
+  pub each : (id : ℕ) → problems_at rows id ≡ absorbed_all conf id (problems_at before id) made
+  pub size : length rows ≡ length before
+
+-- the cells take a Tick: the triggers are evaluated, and then the steps run that are due over the rows that these leave
+pub record TakesTick (conf : Conf) (occasion : Occasion) (before : CellsView) (made : List Rec) (after : CellsView) : Type 0 where
+  pub judged : List Rec
+  pub rows : List (List Open)
+  pub runs : RunsOver conf occasion before.items (λ id. None) before.problems (timed_triggers conf) judged rows
+  pub records : made ≡ judged ++ due_over conf occasion.now (problems_at rows)
+  pub changes : Absorbed conf rows (due_over conf occasion.now (problems_at rows)) after.problems
+  pub items : after.items ≡ before.items
+  pub tick : after.tick ≡ occasion.tick
+
+-- what is due for an open problem, with its event
+abbrev pub due_of : Conf → ℕ → Open → Due
+due_of conf now o = record { event = event_in o; records = due_for conf now o }
+
+-- rows with a fresh one in a place, where there is one
+abbrev pub with_fresh : List (List Open) → ℕ → Option (List Open) → List (List Open)
+with_fresh rows index None = rows
+with_fresh rows index (Some row) = slice_set rows index row
+
+-- rows, where fresh ones are there in place of them
+abbrev pub laid : List (List Open) → List (Option (List Open)) → List (List Open)
+laid [] fresh = []
+laid (row ∷ rows) [] = row ∷ rows
+laid (row ∷ rows) (f ∷ fresh) = unwrap_or f row ∷ laid rows fresh

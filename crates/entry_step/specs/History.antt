@@ -1,5 +1,5 @@
 -- What entries store of an item.
-use Rattle.std.specs.Prelude.{ℕ, ◌==◌, nat_le, List, [], ◌∷◌, Option, Some, None, if◌then◌else◌, option_map}
+use Rattle.std.specs.Prelude.{ℕ, ◌==◌, List, [], ◌∷◌, Option, Some, None, if◌then◌else◌, option_map}
 use Rattle.zbx_types.specs.Ids.{at_id}
 use Rattle.zbx_types.specs.Numerals.{read_number}
 use Rattle.zbx_types.specs.declared.conf.Conf.{Conf}
@@ -13,6 +13,7 @@ use Rattle.zbx_types.specs.declared.entries.Held.{Held}
 use Rattle.zbx_types.specs.declared.entries.Held.TheVariants as held
 use Rattle.zbx_types.specs.declared.entries.Stored.{Stored}
 use Rattle.zbx_types.specs.Blanks.{unpadded}
+use Rattle.value_cache.specs.Histories.{placed}
 
 -- a value as an item of this type keeps it: a number item's as the number that it writes between blanks, where it writes
 -- one; an item's of texts as it stands
@@ -32,11 +33,7 @@ stored_of conf number (Tick now) id = None
 stored_of conf number (Value now item time value) id =
     if item == id then option_map (λ kept. record { time = time; number = number; value = kept }) (kept_by (at_id conf.items id) value) else None
 
--- with one more value, which has the greatest number: before the first that isn't later
-abbrev pub placed : Stored → List Stored → List Stored
-placed s [] = s ∷ []
-placed s (x ∷ xs) = if nat_le x.time s.time then s ∷ x ∷ xs else x ∷ placed s xs
-
+-- with one more value, by its time and its number
 abbrev pub with_stored : Option Stored → List Stored → List Stored
 with_stored None history = history
 with_stored (Some s) history = placed s history

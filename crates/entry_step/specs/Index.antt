@@ -6,9 +6,13 @@ use Rattle.std.specs.Option.{option_or}
 use Rattle.zbx_types.specs.Masters.{masters_of}
 use Rattle.zbx_types.specs.declared.conf.Conf.{Conf}
 use Rattle.entry_step.specs.Names.{host_named, item_keyed}
-use Rattle.entry_step.specs.Records.{triggers_over}
+use Rattle.jiff_core.specs.Calendar.{IsWithin}
+use Rattle.entry_step.specs.Asked.{places_of, ArePlaced}
+use Rattle.entry_step.specs.Order.{order}
+use Rattle.entry_step.specs.Records.{triggers_over, timed_triggers}
 use Rattle.entry_step.specs.Plans.{plan_of, recovery_plan_of}
 use Rattle.entry_step.specs.Packed.{row_at}
+use Rattle.entry_step.specs.Seen.{ArePatterned}
 use Rattle.entry_step.specs.declared.packed.Packed.{Packed}
 use Rattle.entry_step.specs.declared.plans.Node.{Node}
 
@@ -21,12 +25,19 @@ abbrev pub listed : List (List ℕ) → ℕ → List ℕ
 listed rows number = slice_index_or rows number []
 
 -- the indexes are those of the configuration
-pub record IsIndex {A S T : Type 0} (conf : Conf) (hosts : HashMap (String A) ℕ S) (keys : List (HashMap (String A) ℕ T)) (over : Packed ℕ) (plans recoveries : Packed Node) (masters : Packed ℕ) : Type 0 where
+pub record IsIndex {A S T : Type 0} (conf : Conf) (hosts : HashMap (String A) ℕ S) (keys : List (HashMap (String A) ℕ T)) (over : Packed ℕ) (plans recoveries : Packed Node) (masters : Packed ℕ) (patterns : List (List ℕ)) (places : Packed ℕ) (timed all : List ℕ) : Type 0 where
   pub by_name : (name : List ℕ) → get_by_text hosts name ≡ host_named conf name
   pub by_key : (host : ℕ) (key : List ℕ) → id_at keys host key ≡ item_keyed conf host key
   pub by_item : (item : ℕ) → row_at over.starts over.items item ≡ triggers_over conf item
   pub by_trigger : (number : ℕ) → row_at plans.starts plans.items number ≡ slice_index_or (map plan_of conf.triggers) number []
   pub by_recovery : (number : ℕ) → row_at recoveries.starts recoveries.items number ≡ slice_index_or (map recovery_plan_of conf.triggers) number []
+  pub by_place : patterns ≡ conf.patterns
+  pub by_text : ArePatterned conf
+  pub by_call : (number : ℕ) → row_at places.starts places.items number ≡ slice_index_or (map (places_of patterns) conf.triggers) number []
+  pub asked : ArePlaced patterns conf
+  pub timed_are : timed ≡ timed_triggers conf
+  pub all_are : all ≡ order conf
+  pub offset : IsWithin 50400 conf.utc_offset
   pub by_dependent : (id : ℕ) → row_at masters.starts masters.items id ≡ masters_of conf id
 
 -- the id of a name with one more item, which may have the name: the first one counts

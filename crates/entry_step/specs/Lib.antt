@@ -1,13 +1,17 @@
 pub mod Each
 pub mod Log
+pub mod Occasions
 pub mod History
 pub mod Evaluation
+pub mod Seen
 pub mod Order
+pub mod Due
 pub mod Records
 pub mod Cells
 pub mod Represents
 pub mod Laws
 pub mod Named
+pub mod Asked
 pub mod Kept
 pub mod Calls
 pub mod Plans

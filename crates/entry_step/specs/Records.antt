@@ -1,8 +1,11 @@
 -- The records that entries make.
-use Rattle.std.specs.Prelude.{ℕ, ◌==◌, Bool, false, true, ◌&&◌, List, [], ◌∷◌, ◌++◌, map, filter, Option, Some, None, is_some, if◌then◌else◌, ℤ, codes}
+use Rattle.std.specs.Prelude.{ℕ, ◌==◌, Bool, false, true, ◌&&◌, List, [], ◌∷◌, ◌++◌, filter, flat_map, Option, Some, None, is_some, if◌then◌else◌, ℤ, codes}
 use Rattle.std.specs.List.{list_any}
 use Rattle.zbx_types.specs.Ids.{at_id}
+use Rattle.zbx_types.specs.Operators.{is_dated}
 use Rattle.zbx_types.specs.Trees.{tree_of}
+use Rattle.zbx_types.specs.declared.calls.Fun.{Fun}
+use Rattle.zbx_types.specs.declared.calls.Fun.TheVariants.{NoData}
 use Rattle.zbx_types.specs.declared.conf.Conf.{Conf}
 use Rattle.zbx_types.specs.declared.conf.Host.{Host}
 use Rattle.zbx_types.specs.declared.items.Item.{Item}
@@ -15,54 +18,79 @@ use Rattle.zbx_types.specs.declared.entries.Numbered.{Numbered}
 use Rattle.zbx_types.specs.declared.entries.Rec.{Rec}
 use Rattle.zbx_types.specs.declared.entries.Rec.TheVariants.{Failure, Problem, Recovery}
 use Rattle.zbx_types.specs.declared.entries.Cause2.TheVariants as causes
+use Rattle.zbx_types.specs.declared.entries.Held.{Held}
 use Rattle.zbx_types.specs.declared.entries.Stored.{Stored}
+use Rattle.entry_step.specs.Log.{first_tick}
+use Rattle.entry_step.specs.Occasions.{occasion_of}
 use Rattle.entry_step.specs.History.{stored_of, history_of}
 use Rattle.expr_eval.specs.Values.{value_over}
-use Rattle.entry_step.specs.Evaluation.{call_value}
+use Rattle.entry_step.specs.Seen.{Seen, seen_in}
+use Rattle.event_text.specs.Titles.{name_of, event_tags}
+use Rattle.maintenance.specs.Suppression.{is_suppressed}
+use Rattle.escalations.specs.Escalations.{first_records_of, recovered_records}
+use Rattle.zbx_types.specs.Records.{same_event}
 use Rattle.entry_step.specs.Order.{order}
-use Rattle.trigger_state.specs.Problems.{open_of, grown}
+use Rattle.entry_step.specs.Due.{due_at}
+use Rattle.trigger_state.specs.Problems.{event_in, open_of, grown}
 use Rattle.trigger_state.specs.Verdicts.{verdict_of}
 use Rattle.trigger_state.specs.declared.answer.Verdict.{Verdict}
 use Rattle.trigger_state.specs.declared.answer.Verdict.TheVariants.{Nothing, New, Close}
 use Rattle.trigger_state.specs.declared.problems.Open.{Open}
+use Rattle.entry_step.specs.declared.occasions.Occasion.{Occasion}
 
 abbrev pub host_name : Option Host → List ℕ
 host_name None = []
 host_name (Some host) = host.name
 
--- the Problem record of a trigger at an entry. Its name is the trigger's title: macros of event names aren't built.
-unfoldable pub problem_of : Conf → ℕ → ℕ → ℕ → Trigger → Rec
-problem_of conf number now id trigger =
-    Problem (record { number = number; trigger = id }) now trigger.severity false (host_name (at_id conf.hosts trigger.host)) trigger.name trigger.title []
+-- the Problem record of a trigger at an entry, at which its events show these values. It is suppressed where its trigger is,
+-- at this moment and for its own tags.
+unfoldable pub problem_of : Conf → ℕ → ℕ → List (Option Held) → ℕ → Trigger → Rec
+problem_of conf number now values id trigger =
+    Problem (record { number = number; trigger = id }) now trigger.severity (is_suppressed conf id (event_tags conf id values) now)
+    (host_name (at_id conf.hosts trigger.host)) trigger.name (name_of conf id values) (event_tags conf id values)
 
 -- the Recovery record of an event at an entry
 abbrev pub recovery_of : ℕ → ℕ → EventId → Rec
 recovery_of number now event = Recovery event number now causes.Expression
 
--- the records that a verdict on a trigger makes: a new problem, or the recoveries of those that close
-unfoldable pub verdict_records : Conf → ℕ → ℕ → ℕ → Trigger → Verdict → List Rec
-verdict_records conf number now id trigger Nothing = []
-verdict_records conf number now id trigger New = problem_of conf number now id trigger ∷ []
-verdict_records conf number now id trigger (Close events) = map (recovery_of number now) events
+-- what a new problem of a trigger makes: its record, then step 1 of each action that matches it and isn't paused
+abbrev pub begun_records : Conf → ℕ → Rec → ℕ → List Rec
+begun_records conf id problem now = problem ∷ first_records_of conf id problem now
 
--- the value of an expression of a trigger over the histories of the items, and of one that it may not have
-abbrev pub expression_value : (ℕ → List Stored) → ℕ → Trigger → Expr → Option ℤ
-expression_value items now trigger expr = value_over (call_value items now trigger) (tree_of expr)
+-- what the end of one of these open problems makes: its Recovery, then the recovery messages of the actions that ran a step
+-- for it
+abbrev pub closed_records : Conf → ℕ → ℕ → List Open → EventId → List Rec
+closed_records conf number now os event =
+    recovery_of number now event ∷ flat_map (λ o. recovered_records conf o.problem o.steps now) (filter (λ o. same_event (event_in o) event) os)
 
-abbrev pub recovery_value : (ℕ → List Stored) → ℕ → Trigger → Option Expr → Option ℤ
-recovery_value items now trigger None = None
-recovery_value items now trigger (Some expr) = expression_value items now trigger expr
+-- the records that a verdict on a trigger makes with these open problems: a new one, or the ends of those that close
+unfoldable pub verdict_records : Conf → ℕ → ℕ → List (Option Held) → ℕ → Trigger → List Open → Verdict → List Rec
+verdict_records conf number now values id trigger os Nothing = []
+verdict_records conf number now values id trigger os New = begun_records conf id (problem_of conf number now values id trigger) now
+verdict_records conf number now values id trigger os (Close events) = flat_map (closed_records conf number now os) events
 
-abbrev pub judged_by : Conf → (ℕ → List Stored) → ℕ → ℕ → (ℕ → List Open) → ℕ → Option Trigger → List Rec
-judged_by conf items number now all id None = []
-judged_by conf items number now all id (Some trigger) =
-    verdict_records conf number now id trigger
-    (verdict_of conf all id (expression_value items now trigger trigger.expr) (recovery_value items now trigger trigger.recovery_expr) [] true)
+-- the value of an expression over the values of the calls, and of one that a trigger may not have
+abbrev pub expression_value : (ℕ → Option ℤ) → Expr → Option ℤ
+expression_value calls expr = value_over calls (tree_of expr)
 
--- What the trigger with an id adds at a value, over the histories of the items and the open problems of the triggers: the
--- records of its verdict. Its problems have no tags: tags of events aren't built.
-unfoldable pub evaluated : Conf → ℕ → ℕ → (ℕ → List Stored) → (ℕ → List Open) → ℕ → List Rec
-evaluated conf number now items all id = judged_by conf items number now all id (at_id conf.triggers id)
+abbrev pub recovery_value : (ℕ → Option ℤ) → Option Expr → Option ℤ
+recovery_value calls None = None
+recovery_value calls (Some expr) = expression_value calls expr
+
+-- the records of the verdict on a trigger that sees this: its tags are those that it has now
+abbrev pub judged_by : Conf → Occasion → Seen → (ℕ → List Open) → ℕ → Trigger → List Rec
+judged_by conf occasion seen all id trigger =
+    verdict_records conf occasion.number occasion.now seen.values id trigger (all id)
+    (verdict_of conf all id (expression_value seen.calls trigger.expr) (recovery_value seen.calls trigger.recovery_expr) (event_tags conf id seen.values) occasion.is_value)
+
+abbrev pub records_by : Conf → Occasion → (ℕ → List Stored) → (ℕ → List Open) → ℕ → Option Trigger → List Rec
+records_by conf occasion items all id None = []
+records_by conf occasion items all id (Some trigger) = judged_by conf occasion (seen_in items occasion conf.utc_offset trigger) all id trigger
+
+-- What the trigger with an id adds on an occasion, over the histories of the items and the open problems of the triggers: the
+-- records of its verdict.
+unfoldable pub evaluated : Conf → Occasion → (ℕ → List Stored) → (ℕ → List Open) → ℕ → List Rec
+evaluated conf occasion items all id = records_by conf occasion items all id (at_id conf.triggers id)
 
 -- triggers evaluated one after another, each over the open problems that those before it leave
 abbrev pub phase : Conf → ((ℕ → List Open) → ℕ → List Rec) → (ℕ → List Open) → List ℕ → List Rec
@@ -91,9 +119,26 @@ triggers_over conf item = filter (λ id. is_over item (at_id conf.triggers id)) 
 abbrev pub stores : Conf → ℕ → Entry → ℕ → Bool
 stores conf number entry item = is_some (stored_of conf number entry item)
 
--- the triggers that an entry evaluates: those with a call over an item that it stores a value of
+-- a function's value may change with time alone: `nodata`, and those of date or time
+abbrev pub is_timed : Fun → Bool
+is_timed NoData = true
+is_timed fun = is_dated fun
+
+-- a trigger is enabled and one of its expressions calls such a function
+abbrev pub is_timed_trigger : Option Trigger → Bool
+is_timed_trigger None = false
+is_timed_trigger (Some trigger) = trigger.enabled && list_any (λ call. is_timed call.fun) trigger.calls
+
+-- the triggers that a Tick evaluates, in the order of evaluation
+unfoldable pub timed_triggers : Conf → List ℕ
+timed_triggers conf = filter (λ id. is_timed_trigger (at_id conf.triggers id)) (order conf)
+
+-- the triggers that an entry evaluates: at a value those with a call over an item that it stores a value of
 unfoldable pub triggers_at : Conf → ℕ → Entry → List ℕ
-triggers_at conf number entry = filter (λ id. has_call (stores conf number entry) (at_id conf.triggers id)) (order conf)
+triggers_at conf number (Config now text) = []
+triggers_at conf number (Tick now) = timed_triggers conf
+triggers_at conf number (Value now item time value) =
+    filter (λ id. has_call (stores conf number (Value now item time value)) (at_id conf.triggers id)) (order conf)
 
 -- the Failure record of a value that this item can't keep
 abbrev pub failure_by : Conf → ℕ → Option Item → List Rec
@@ -110,13 +155,18 @@ failures_at conf number (Config now text) = []
 failures_at conf number (Tick now) = []
 failures_at conf number (Value now item time value) = if stores conf number (Value now item time value) item then [] else failure_of conf number item
 
--- the records that an entry adds to those before it, behind this log: for a value its failures, and then those of the
--- triggers that it evaluates
+-- what an entry makes before any step is due, behind this log and the records before it: its failures, and then the records
+-- of the triggers that it evaluates
+unfoldable pub judged_of : Conf → List Numbered → Numbered → Entry → List Rec → List Rec
+judged_of conf log e entry rs =
+    failures_at conf e.number entry
+    ++ phase_over conf (evaluated conf (occasion_of (first_tick log) e.number entry) (history_of conf (e ∷ log))) (rs ++ failures_at conf e.number entry) (triggers_at conf e.number entry)
+
+-- the records that an entry adds to those before it, behind this log: with those, at a Tick, the steps that are due for what
+-- is open then
 unfoldable pub out_of : Conf → List Numbered → Numbered → Entry → List Rec → List Rec
-out_of conf log e (Config now text) rs = []
-out_of conf log e (Tick now) rs = []
-out_of conf log e (Value now item time value) rs =
-    failures_at conf e.number e.entry ++ phase_over conf (evaluated conf e.number now (history_of conf (e ∷ log))) (rs ++ failures_at conf e.number e.entry) (triggers_at conf e.number e.entry)
+out_of conf log e entry rs =
+    judged_of conf log e entry rs ++ due_at conf entry (open_of conf (rs ++ judged_of conf log e entry rs))
 
 -- all records that the entries of a log make, one thread taking them in the order of their numbers
 abbrev pub replay : Conf → List Numbered → List Rec

@@ -1,28 +1,23 @@
 -- What the cells of a run stand for.
-use Rattle.std.specs.Prelude.{◌≡◌, ◌≤◌, ℕ, true, List, [], ◌∷◌, length, Option, Some, None}
+use Rattle.std.specs.Prelude.{◌≡◌, ◌≤◌, ℕ, true, List, [], ◌∷◌, length, Option}
 use Rattle.std.specs.Option.{unwrap_or}
 use Rattle.zbx_types.specs.Ids.{at_id}
 use Rattle.zbx_types.specs.declared.conf.Conf.{Conf}
 use Rattle.zbx_types.specs.declared.entries.Numbered.{Numbered}
 use Rattle.zbx_types.specs.declared.entries.Rec.{Rec}
-use Rattle.zbx_types.specs.declared.entries.Stored.{Stored}
 use Rattle.entry_step.specs.Each.{Each}
 use Rattle.entry_step.specs.Log.{moment_of, IsFitting}
-use Rattle.entry_step.specs.Evaluation.{up_to}
 use Rattle.trigger_state.specs.Problems.{home, event_in}
-use Rattle.entry_step.specs.Kept.{latest_at}
+use Rattle.value_cache.specs.Cells.{CellView}
+use Rattle.entry_step.specs.Kept.{Keeps}
 use Rattle.entry_step.specs.Cells.{Cells, ItemKey, TriggerKey, TickKey, opens_in, touches, records, after, StandFor}
 use Rattle.trigger_state.specs.declared.problems.Open.{Open}
 
--- the latest stored value of each item and the open problems of each trigger, in the order of ids, and the first Tick
+-- the cells of the items and the open problems of each trigger, in the order of ids, and the first Tick
 pub record CellsView : Type 0 where
-  pub latest : List (Option Stored)
+  pub items : List CellView
   pub problems : List (List Open)
   pub tick : Option ℕ
-
-abbrev pub first_of : List Stored → Option Stored
-first_of [] = None
-first_of (s ∷ rest) = Some s
 
 -- the open problems of the trigger with this id
 unfoldable pub problems_at : List (List Open) → ℕ → List Open
@@ -36,12 +31,12 @@ AllAtHome conf id os = Each (λ o. home conf (event_in o) ≡ id) os
 abbrev pub IsTidy : Conf → Cells → Type 0
 IsTidy conf c = (id : ℕ) → AllAtHome conf id (opens_in c id)
 
--- What a run keeps represents cells: the same open problems and first Tick, and of each item the value that is the latest
--- at every moment from the last one on that its cell has seen. The cells are tidy.
+-- What a run keeps represents cells: the same open problems and first Tick, and of each item what stands for its history
+-- from the last moment on that its cell has seen. The cells are tidy.
 pub record Represents (conf : Conf) (held : CellsView) (c : Cells) : Type 0 where
-  pub items : length held.latest ≡ length conf.items
+  pub items : length held.items ≡ length conf.items
   pub triggers : length held.problems ≡ length conf.triggers
-  pub latest : (id now : ℕ) → (c (ItemKey id)).seen ≤ now → first_of (up_to now (c (ItemKey id)).history) ≡ latest_at held.latest id
+  pub histories : (id : ℕ) → Keeps conf id (c (ItemKey id)).seen (c (ItemKey id)).history (at_id held.items id)
   pub problems : (id : ℕ) → problems_at held.problems id ≡ c (TriggerKey id)
   pub tick : held.tick ≡ c TickKey
   pub tidy : IsTidy conf c

@@ -1,23 +1,56 @@
 //! A configuration made ready for a run: indexes by which its hosts, items and triggers are found.
 
-ghost use Rattle.std.specs.Prelude.{◌≡◌, Some, IfOk};
+ghost use Rattle.std.specs.Prelude.{◌≡◌, ◌-◌, ◌+◌, ◌≤◌, slice_get, ℕ, List, All, Contains, Some, Err, IfOk, take};
 ghost use Rattle.zbx_types.specs.Ids.{at_id};
 ghost use Rattle.zbx_types.specs.declared.triggers.Trigger.{Trigger};
 ghost use Rattle.zbx_types.specs.Masters.{masters_of};
+ghost use Rattle.event_text.specs.Titles.{name_of, event_tags};
 ghost use Rattle.entry_step.specs.Plans.{plan_of, recovery_plan_of};
+ghost use Rattle.pattern_set.specs.Patterns.{IsPattern, IsNoPattern};
 ghost use Rattle.entry_step.specs.Names.{host_named, item_keyed};
-ghost use Rattle.entry_step.specs.Records.{triggers_over};
+ghost use Rattle.zbx_types.specs.Operators.{call_pattern};
+ghost use Rattle.zbx_types.specs.declared.calls.Call.{Call};
+ghost use Rattle.jiff_core.specs.Calendar.{IsWithin};
+ghost use Rattle.value_cache.specs.Keeps.{seconds_in, most_seconds};
+ghost use Rattle.entry_step.specs.Order.{order};
+ghost use Rattle.entry_step.specs.Records.{triggers_over, timed_triggers};
 
+use crate::asked::{near, place_in, places_of_all};
+use crate::fault::BuildError;
 use crate::lists::lists_of;
 use crate::masters::masters_of_all;
 use crate::names::{hosts_of, keys_of};
+use crate::order::order;
 use crate::packed::{Packed, row};
+use crate::patterned::patterned;
 use crate::plans::{Node, plans_of, recovery_plans_of};
+use crate::timed::timed_triggers;
+use event_text::{name, tags};
+use pattern_set::Patterns;
 use std::alloc::Global;
 use std::collections::HashMap;
 use std::convert::AsStr;
 use std::marker::Model;
-use zbx_types::{Conf, OutOfMemory, Text};
+use zbx_types::{Conf, Held, Many, OutOfMemory, Tag, Text};
+
+/// The patterns of these texts, built.
+fn patterns_of(alloc: Global, texts: &Many<Text>) -> Result<Patterns, BuildError>
+    ensures ok { IfOk result (λ patterns. (patterns ≡ texts.now) × All IsPattern texts.now) }
+    ensures refused { (place : ℕ) → result ≡ Err (BuildError.Refused place) → (text : List ℕ) × (at_id texts.now place ≡ Some text) × IsNoPattern text }
+    ensures first { (place : ℕ) → result ≡ Err (BuildError.Refused place) → All IsPattern (take (place - 1) texts.now) }
+    ensures large { (place : ℕ) → result ≡ Err (BuildError.TooLarge place) → (text : List ℕ) × (at_id texts.now place ≡ Some text) × IsPattern text × Contains text 123 }
+    ensures first_large { (place : ℕ) → result ≡ Err (BuildError.TooLarge place) → All IsPattern (take (place - 1) texts.now) }
+{
+    if texts.len() > u32::MAX as usize {
+        return Err(BuildError::OutOfMemory);
+    }
+    match Patterns::build(alloc, texts) {
+        Ok(patterns) => Ok(patterns),
+        Err(pattern_set::BuildError::Refused { place }) => Err(BuildError::Refused { place }),
+        Err(pattern_set::BuildError::TooLarge { place }) => Err(BuildError::TooLarge { place }),
+        Err(pattern_set::BuildError::OutOfMemory) => Err(BuildError::OutOfMemory),
+    }
+}
 
 /// A configuration with its indexes, which are made once (this project's own). Contracts see the configuration alone.
 ///
@@ -31,6 +64,10 @@ pub struct Ready {
     plans: Packed<Node>,
     recoveries: Packed<Node>,
     masters: Packed<u32>,
+    patterns: Patterns,
+    places: Packed<u32>,
+    timed: Many<u32>,
+    all: Many<u32>,
 }
 
 impl Model for Ready {
@@ -45,7 +82,7 @@ impl Model for Ready {
 
     ghost view = { λ r. r.conf };
 
-    ghost invariant = { λ r. IsIndex r.conf r.hosts r.keys.items r.over r.plans r.recoveries r.masters };
+    ghost invariant = { λ r. IsIndex r.conf r.hosts r.keys.items r.over r.plans r.recoveries r.masters r.patterns r.places r.timed r.all };
 }
 
 impl Ready {
@@ -54,13 +91,29 @@ impl Ready {
     ///
     /// # Errors
     ///
+    /// `Refused` where a pattern isn't read by the grammar or nests too deeply, and `TooLarge` where one is too large when it
+    /// is built, each with the pattern's place.
+    ///
     /// `OutOfMemory` where memory was refused, which a configuration whose hosts, items or triggers can't be counted in
     /// 32 bits stands for too, and one with a trigger whose depth isn't greater than that of each trigger that it depends
-    /// on. There is room for each id of a host or an item that is named and for each depth, up to the greatest of them,
+    /// on, one whose local time differs from UTC by more than 14 hours, and one with a call or with an event name or a tag
+    /// whose pattern isn't among the configuration's, or with a call whose shift and period together are 2^32 seconds or
+    /// more. There is room for each id of a host or an item that is named and for each depth, up to the greatest of them,
     /// whether it is in the configuration or not.
-    pub fn build(alloc: Global, conf: Conf) -> Result<Ready, OutOfMemory>
-        ensures { IfOk result (λ ready. ready ≡ conf) }
+    pub fn build(alloc: Global, conf: Conf) -> Result<Ready, BuildError>
+        ensures ok { IfOk result (λ ready. ready ≡ conf) }
+        ensures patterns { IfOk result (λ _. All IsPattern conf.patterns) }
+        ensures refused { (place : ℕ) → result ≡ Err (BuildError.Refused place) → (text : List ℕ) × (at_id conf.patterns place ≡ Some text) × IsNoPattern text }
+        ensures first { (place : ℕ) → result ≡ Err (BuildError.Refused place) → All IsPattern (take (place - 1) conf.patterns) }
+        ensures large { (place : ℕ) → result ≡ Err (BuildError.TooLarge place) → (text : List ℕ) × (at_id conf.patterns place ≡ Some text) × IsPattern text × Contains text 123 }
+        ensures first_large { (place : ℕ) → result ≡ Err (BuildError.TooLarge place) → All IsPattern (take (place - 1) conf.patterns) }
     {
+        near(&conf)?;
+        let patterns = patterns_of(alloc, &conf.patterns)?;
+        patterned(alloc, &conf)?;
+        let places = places_of_all(alloc, &conf, &patterns)?;
+        let timed = timed_triggers(alloc, &conf)?;
+        let all = order(alloc, &conf)?;
         let hosts = hosts_of(alloc, &conf)?;
         let keys = keys_of(alloc, &conf)?;
         let over = lists_of(alloc, &conf)?;
@@ -75,6 +128,10 @@ impl Ready {
             plans,
             recoveries,
             masters,
+            patterns,
+            places,
+            timed,
+            all,
         })
     }
 
@@ -120,6 +177,68 @@ impl Ready {
         ensures { (trigger : Trigger) → at_id self.now.triggers id ≡ Some trigger → result.now ≡ recovery_plan_of trigger }
     {
         row(&self.recoveries, id.saturating_sub(1))
+    }
+
+    /// The ids of the triggers that a Tick evaluates, in the order of evaluation.
+    pub(crate) fn timed(&self) -> &[u32]
+        ensures { result.now ≡ timed_triggers self.now }
+    {
+        self.timed.as_slice()
+    }
+
+    /// The ids of all triggers, in the order of evaluation.
+    pub(crate) fn order(&self) -> &[u32]
+        ensures { result.now ≡ order self.now }
+    {
+        self.all.as_slice()
+    }
+
+    /// Local time less UTC, in seconds.
+    pub(crate) fn offset(&self) -> i32
+        ensures value { result ≡ self.now.utc_offset }
+        ensures within { IsWithin 50400 result }
+    {
+        self.conf.utc_offset
+    }
+
+    /// The place of the pattern of a call of the trigger with an id, 0 where it has none. Calls go by places from 0 on.
+    pub(crate) fn place_of(&self, id: u32, place: usize) -> u32
+        ensures { (trigger : Trigger) (call : Call) → at_id self.now.triggers id ≡ Some trigger → slice_get trigger.calls place ≡ Some call → (at_id self.now.patterns result ≡ call_pattern call) × (call.shift + seconds_in call.range ≤ most_seconds) }
+    {
+        place_in(row(&self.places, id.saturating_sub(1)), place)
+    }
+
+    /// The patterns of the configuration.
+    pub(crate) fn patterns(&self) -> &Patterns
+        ensures { result.now ≡ self.now.patterns }
+    {
+        &self.patterns
+    }
+
+    /// The name of the events of the trigger with an id, where its items have these values.
+    #[tactic(auto, using(crate::proofs::Sight::title_patterns))]
+    pub(crate) fn name_of(
+        &self,
+        alloc: Global,
+        id: u32,
+        values: &[Option<Held>],
+    ) -> Result<Text, OutOfMemory>
+        ensures { IfOk result (λ made. made ≡ name_of self.now id values.now) }
+    {
+        name(alloc, &self.conf, id, values, &self.patterns)
+    }
+
+    /// The tags of the problems of the trigger with an id, where its items have these values.
+    #[tactic(auto, using(crate::proofs::Sight::tag_patterns))]
+    pub(crate) fn tags_of(
+        &self,
+        alloc: Global,
+        id: u32,
+        values: &[Option<Held>],
+    ) -> Result<Many<Tag>, OutOfMemory>
+        ensures { IfOk result (λ made. made ≡ event_tags self.now id values.now) }
+    {
+        tags(alloc, &self.conf, id, values, &self.patterns)
     }
 
     /// The masters of the trigger with an id, in the order of ids.

@@ -2,7 +2,7 @@
 //!
 //! `Ready` is a configuration with indexes that are made once: hosts by their names, items by their keys, triggers by the
 //! items that they have calls over. So what is done for a value takes no walk over the configuration. `Cells` keep what a
-//! run needs between entries: the latest stored value of each item, the open problems of each trigger, and the first Tick.
+//! run needs between entries: the values that a later window can see, the open problems of each trigger, the first Tick.
 //! `step` takes one numbered entry and answers the records that it makes.
 //!
 //! The contract: whatever cells it is that the kept ones represent (`specs/Represents.antt`), `step` answers the records
@@ -14,13 +14,18 @@
 //! triggers with a call over it are evaluated one after another, by depth and then by id (`specs/Order.antt`,
 //! `specs/Evaluation.antt`, `specs/Records.antt`): the verdict of the crate `trigger_state`, over the problems that are open
 //! then, makes a problem or closes some. A number item reads a value without the blanks around it. A value that its item
-//! can't keep makes a Failure. Entries of other kinds make no records.
+//! can't keep makes a Failure. A Tick evaluates in the same way the enabled triggers with a function that changes with time
+//! alone, as `nodata` and `time`, and then runs the steps that are due for the problems that are open, in the order of
+//! making (`specs/Due.antt`). A Config makes no records.
 //!
 //! The module `laws` has the laws of order as clauses: an entry's records and changes depend on its foot alone, and an entry
 //! that conflicts with no later one joins in its place.
 //!
-//! Built so far of the functions is `last(#1)`; the others are unknown. Operators are those of the crate `expr_eval`.
-//! Problems get no tags so far, so a trigger with a close tag closes none.
+//! The value of a call is that of `history_functions` over the window of the item's whole history; what is kept of it, in
+//! the cells of `value_cache`, shows the same window. Operators are those of the crate `expr_eval`.
+//! A problem's record has its name and tags with the latest values in them, and tells whether it is suppressed. Behind it
+//! comes step 1 of each action that matches it and isn't paused, and behind each Recovery its recovery messages. Global
+//! correlation isn't built.
 //!
 //! ```text
 //! let ready = Ready::build(alloc, conf)?;
@@ -30,28 +35,40 @@
 //! ```
 #![tactic(auto)]
 
+mod asked;
+mod call_values;
+mod calls;
 mod cells;
 mod changes;
+mod due;
 mod evaluation;
+mod fault;
 mod history;
 mod index;
 pub mod laws;
 mod lists;
 mod masters;
 mod names;
+mod occasions;
 mod opens;
 mod order;
 mod packed;
+mod patterned;
 mod plans;
 mod records;
 mod rows;
+mod seen;
 mod stepping;
 mod steps;
+mod timed;
 
 pub use cells::Cells;
+pub use fault::BuildError;
 pub use index::Ready;
 pub use stepping::step;
 pub use steps::Steps;
 
+#[cfg(test)]
+mod event_tests;
 #[cfg(test)]
 mod tests;

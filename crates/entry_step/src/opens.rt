@@ -1,14 +1,12 @@
 //! Open problems of a trigger: copies, and how they are looked up.
 
-ghost use Rattle.std.specs.Prelude.{◌≡◌, not, filter, IfOk};
-ghost use Rattle.std.specs.List.{list_any};
-ghost use Rattle.zbx_types.specs.Records.{same_event};
-ghost use Rattle.trigger_state.specs.Problems.{event_in};
+ghost use Rattle.std.specs.Prelude.{◌≡◌, IfOk};
+ghost use Rattle.trigger_state.specs.Problems.{absorbed_all};
 ghost use Rattle.entry_step.specs.Represents.{problems_at};
 
 use std::alloc::Global;
-use trigger_state::{Open, Opens};
-use zbx_types::{EventId, Many, OutOfMemory, Rec, by_id};
+use trigger_state::{Open, Opens, absorb_into};
+use zbx_types::{Conf, Many, OutOfMemory, Rec, by_id};
 
 /// The open problems of the trigger with an id.
 #[tactic(auto, unfolding(crate::specs::Represents::problems_at))]
@@ -57,31 +55,43 @@ fn copied(alloc: Global, one: &Open) -> Result<Open, OutOfMemory>
     })
 }
 
-/// Whether an event is among these.
-fn is_among(events: &[EventId], event: EventId) -> bool
-    ensures { result ≡ list_any (same_event event) events.now }
-{
-    for other in events {
-        if event.number == other.number && event.trigger == other.trigger {
-            return true;
-        }
-    }
-    false
-}
-
-/// Copies of the open problems whose event isn't among these.
-pub(crate) fn copies_without(
-    alloc: Global,
-    opens: &[Open],
-    events: &[EventId],
-) -> Result<Many<Open>, OutOfMemory>
-    ensures { IfOk result (λ made. made ≡ filter (λ o. not (list_any (same_event (event_in o)) events.now)) opens.now) }
+/// Copies of open problems.
+fn copies(alloc: Global, opens: &[Open]) -> Result<Many<Open>, OutOfMemory>
+    ensures { IfOk result (λ made. made ≡ opens.now) }
 {
     let mut made = Many::new(alloc);
     for one in opens {
-        if !is_among(events, one.problem.event()) {
-            made.push(copied(alloc, one)?)?;
-        }
+        made.push(copied(alloc, one)?)?;
     }
     Ok(made)
+}
+
+/// The open problems of the trigger with an id, brought up to more records.
+pub(crate) fn absorbed(
+    alloc: Global,
+    conf: &Conf,
+    id: u32,
+    opens: Many<Open>,
+    more: &[Rec],
+) -> Result<Many<Open>, OutOfMemory>
+    ensures { IfOk result (λ made. made ≡ absorbed_all conf.now id opens more.now) }
+{
+    let mut made = opens;
+    for rec in more {
+        absorb_into(alloc, conf, id, &mut made, rec)?;
+    }
+    Ok(made)
+}
+
+/// Copies of the open problems of the trigger with an id, brought up to more records.
+pub(crate) fn absorbed_row(
+    alloc: Global,
+    conf: &Conf,
+    id: u32,
+    opens: &[Open],
+    more: &[Rec],
+) -> Result<Many<Open>, OutOfMemory>
+    ensures { IfOk result (λ made. made ≡ absorbed_all conf.now id opens.now more.now) }
+{
+    absorbed(alloc, conf, id, copies(alloc, opens)?, more)
 }

@@ -2,23 +2,21 @@
 
 ghost use Rattle.std.specs.Prelude.{◌≡◌, ◌++◌, [], ℕ, List, map, slice_index_or, OnOk, IfOk};
 ghost use Rattle.zbx_types.specs.Trees.{tree_of};
-ghost use Rattle.entry_step.specs.Plans.{node_of, call_node, flat, plan_of, recovery_plan_of};
+ghost use Rattle.entry_step.specs.Plans.{flat, plan_of, recovery_plan_of};
 ghost use Rattle.entry_step.specs.Packed.{row_at};
 ghost use Rattle.entry_step.specs.declared.plans.Node.{Node};
 
 use crate::packed::{Packed, begin};
 use std::alloc::Global;
-use zbx_types::{Call, Expr, Fix, Fun, Many, Op, OutOfMemory, Range, Trigger};
+use zbx_types::{Expr, Fix, Many, Op, OutOfMemory, Trigger};
 
 /// A node of an expression.
 #[derive(Clone, Copy)]
 pub(crate) enum Node {
     /// A constant.
     Const(Fix),
-    /// The latest value of the item with this id.
-    Last(u32),
-    /// A call that isn't built.
-    Unknown,
+    /// The value of the call at this place.
+    Called(u32),
     /// `-`, before its operand.
     Neg,
     /// `not`, before its operand.
@@ -27,50 +25,25 @@ pub(crate) enum Node {
     Bin(Op),
 }
 
-/// The node of a history function of an item.
-fn node_of(call: &Call, item: u32) -> Node
-    ensures { result ≡ node_of call.now.fun call.now.range call.now.shift item }
-{
-    if call.fun != Fun::Last || call.range != Range::Count(1) || call.shift != 0 {
-        Node::Unknown
-    } else {
-        Node::Last(item)
-    }
-}
-
-/// The node of a call of a trigger, by its place.
-#[tactic(auto, unfolding(crate::specs::Plans::call_node))]
-fn call_node(trigger: &Trigger, place: u32) -> Node
-    ensures { result ≡ call_node trigger.now place }
-{
-    let Some(call) = trigger.calls.as_slice().get(place as usize) else {
-        return Node::Unknown;
-    };
-    match trigger.call_items.as_slice().get(place as usize) {
-        None => Node::Unknown,
-        Some(item) => node_of(call, *item),
-    }
-}
-
-/// Adds the nodes of an expression of a trigger.
-fn add(nodes: &mut Many<Node>, trigger: &Trigger, expr: &Expr) -> Result<(), OutOfMemory>
-    ensures { OnOk result ((rest : List Node) → nodes.new ++ rest ≡ nodes.old ++ flat (call_node trigger.now) (tree_of expr.now) rest) }
+/// Adds the nodes of an expression.
+fn add(nodes: &mut Many<Node>, expr: &Expr) -> Result<(), OutOfMemory>
+    ensures { OnOk result ((rest : List Node) → nodes.new ++ rest ≡ nodes.old ++ flat (tree_of expr.now) rest) }
 {
     match expr {
         Expr::Const(number) => nodes.push(Node::Const(*number))?,
-        Expr::Call(place) => nodes.push(call_node(trigger, *place))?,
+        Expr::Call(place) => nodes.push(Node::Called(*place))?,
         Expr::Neg(operand) => {
             nodes.push(Node::Neg)?;
-            add(nodes, trigger, operand.expr())?;
+            add(nodes, operand.expr())?;
         }
         Expr::Not(operand) => {
             nodes.push(Node::Not)?;
-            add(nodes, trigger, operand.expr())?;
+            add(nodes, operand.expr())?;
         }
         Expr::Bin(op, left, right) => {
             nodes.push(Node::Bin(*op))?;
-            add(nodes, trigger, left.expr())?;
-            add(nodes, trigger, right.expr())?;
+            add(nodes, left.expr())?;
+            add(nodes, right.expr())?;
         }
     }
     Ok(())
@@ -81,7 +54,7 @@ fn add_recovery(nodes: &mut Many<Node>, trigger: &Trigger) -> Result<(), OutOfMe
     ensures { OnOk result (nodes.new ≡ nodes.old ++ recovery_plan_of trigger.now) }
 {
     if let Some(expr) = &trigger.recovery_expr {
-        add(nodes, trigger, expr)?;
+        add(nodes, expr)?;
     }
     Ok(())
 }
@@ -96,7 +69,7 @@ pub(crate) fn plans_of(alloc: Global, triggers: &[Trigger]) -> Result<Packed<Nod
     };
     for trigger in triggers {
         begin(&mut made)?;
-        add(&mut made.items, trigger, &trigger.expr)?;
+        add(&mut made.items, &trigger.expr)?;
     }
     Ok(made)
 }

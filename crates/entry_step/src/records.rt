@@ -1,23 +1,35 @@
 //! The records that an entry makes.
 
-ghost use Rattle.std.specs.Prelude.{◌≡◌, ◌∷◌, [], ℕ, List, map, Some, IfOk};
+ghost use Rattle.std.specs.Prelude.{◌≡◌, ◌++◌, ℕ, List, filter, flat_map, Some, IfOk, OnOk};
+ghost use Rattle.escalations.specs.Escalations.{recovered_records};
 ghost use Rattle.zbx_types.specs.declared.conf.Conf.{Conf};
 ghost use Rattle.zbx_types.specs.Ids.{at_id};
-ghost use Rattle.trigger_state.specs.Problems.{home, absorbed_all};
-ghost use Rattle.entry_step.specs.Records.{host_name, problem_of, recovery_of, failure_of, verdict_records};
+ghost use Rattle.zbx_types.specs.Records.{same_event};
+ghost use Rattle.trigger_state.specs.Problems.{home, event_in, absorbed_all};
+ghost use Rattle.entry_step.specs.Records.{host_name, problem_of, begun_records, closed_records, failure_of, verdict_records};
 ghost use Rattle.entry_step.specs.Each.{Each};
 ghost use Rattle.entry_step.specs.Represents.{AllAtHome};
-ghost use Rattle.entry_step.specs.Changes.{outcome_records, outcome_opens, changed, Closes, judged};
-ghost use Rattle.entry_step.specs.Calls.{histories};
+ghost use Rattle.entry_step.specs.Changes.{outcome_records, outcome_opens, changed, Closes, judged, Serve};
+ghost use Rattle.event_text.specs.Titles.{event_tags};
+ghost use Rattle.zbx_types.specs.declared.entries.Stored.{Stored};
+ghost use Rattle.entry_step.specs.Calls.{Shown, sight_of};
+ghost use Rattle.entry_step.specs.Seen.{shown_values};
 ghost use Rattle.entry_step.specs.Plans.{plan_of, recovery_plan_of};
 
+use crate::calls::Calls;
 use crate::changes::{Change, Outcome};
-use crate::evaluation::{Calls, plan_value, recovery_value};
-use crate::opens::copies_without;
+use crate::evaluation::{plan_value, recovery_value};
+use crate::index::Ready;
+use crate::opens::absorbed_row;
 use crate::plans::Node;
+use crate::seen::shown_values;
+use escalations::{first_of, recovered};
+use maintenance::suppressed;
 use std::alloc::Global;
 use trigger_state::{Open, Verdict, verdict_over};
-use zbx_types::{Cause2, Conf, EventId, Many, Moment, OutOfMemory, Rec, Text, Trigger, by_id};
+use zbx_types::{
+    Cause2, Conf, EventId, Fix, Held, Many, Moment, OutOfMemory, Rec, Tag, Text, Trigger, by_id,
+};
 
 /// A copy of a host's name, empty where there is no host with this id.
 fn host_name(alloc: Global, conf: &Conf, id: u32) -> Result<Text, OutOfMemory>
@@ -55,14 +67,18 @@ pub(crate) fn failure_of(
 #[tactic(auto, unfolding(crate::specs::Records::problem_of))]
 fn problem_of(
     alloc: Global,
-    conf: &Conf,
+    ready: &Ready,
     number: u64,
     now: Moment,
+    values: &[Option<Held>],
     id: u32,
     trigger: &Trigger,
 ) -> Result<Rec, OutOfMemory>
-    ensures { IfOk result (λ made. made ≡ problem_of conf.now number now id trigger.now) }
+    ensures { IfOk result (λ made. made ≡ problem_of ready.now number now values.now id trigger.now) }
 {
+    let conf = ready.conf();
+    let tags = ready.tags_of(alloc, id, values)?;
+    let suppressed = suppressed(conf, id, tags.as_slice(), now);
     Ok(Rec::Problem {
         event: EventId {
             number,
@@ -70,76 +86,151 @@ fn problem_of(
         },
         now,
         severity: trigger.severity,
-        suppressed: false,
+        suppressed,
         host: host_name(alloc, conf, trigger.host)?,
         trigger: trigger.name.copy(alloc)?,
-        name: trigger.title.copy(alloc)?,
-        tags: Many::new(alloc),
+        name: ready.name_of(alloc, id, values)?,
+        tags,
     })
 }
 
-/// The Recovery records of events at an entry.
-fn recoveries(
+/// Whether an open problem is of an event.
+fn is_of(one: &Open, event: EventId) -> bool
+    ensures { result ≡ same_event (event_in one.now) event }
+{
+    let own = one.problem.event();
+    own.number == event.number && own.trigger == event.trigger
+}
+
+/// Adds what is sent as the open problem of an event closes: the recovery messages of the actions that ran a step for it.
+fn push_sent(
     alloc: Global,
+    conf: &Conf,
+    now: Moment,
+    opens: &[Open],
+    event: EventId,
+    out: &mut Many<Rec>,
+) -> Result<(), OutOfMemory>
+    ensures { OnOk result (out.new ≡ out.old ++ flat_map (λ o. recovered_records conf.now o.problem o.steps now) (filter (λ o. same_event (event_in o) event) opens.now)) }
+{
+    for one in opens {
+        if is_of(one, event) {
+            let sent = recovered(alloc, conf, &one.problem, one.steps.as_slice(), now)?;
+            out.append(sent)?;
+        }
+    }
+    Ok(())
+}
+
+/// Adds what the end of a problem makes: its Recovery, then the recovery messages.
+fn push_closed(
+    alloc: Global,
+    conf: &Conf,
     number: u64,
     now: Moment,
+    opens: &[Open],
+    event: EventId,
+    out: &mut Many<Rec>,
+) -> Result<(), OutOfMemory>
+    ensures { OnOk result (out.new ≡ out.old ++ closed_records conf.now number now opens.now event) }
+{
+    out.push(Rec::Recovery {
+        event,
+        by: number,
+        now,
+        cause: Cause2::Expression,
+    })?;
+    push_sent(alloc, conf, now, opens, event, out)
+}
+
+/// What the ends of the problems with these events make.
+fn closings(
+    alloc: Global,
+    conf: &Conf,
+    number: u64,
+    now: Moment,
+    opens: &[Open],
     events: &[EventId],
 ) -> Result<Many<Rec>, OutOfMemory>
-    ensures { IfOk result (λ made. made ≡ map (recovery_of number now) events.now) }
+    ensures { IfOk result (λ made. made ≡ flat_map (closed_records conf.now number now opens.now) events.now) }
 {
     let mut made = Many::new(alloc);
     for event in events {
-        made.push(Rec::Recovery {
-            event: *event,
-            by: number,
-            now,
-            cause: Cause2::Expression,
-        })?;
+        push_closed(alloc, conf, number, now, opens, *event, &mut made)?;
     }
     Ok(made)
 }
 
-/// A new problem of a trigger, behind those that are open, whichever they are.
-#[tactic(auto, using(crate::proofs::Problems::one_opened))]
+/// What a new problem of the trigger with an id makes: its record, then step 1 of each action.
+fn begun(
+    alloc: Global,
+    conf: &Conf,
+    id: u32,
+    problem: &Rec,
+    now: Moment,
+) -> Result<Many<Rec>, OutOfMemory>
+    ensures { IfOk result (λ made. made ≡ begun_records conf.now id problem.now now) }
+{
+    let mut made = Many::new(alloc);
+    made.push(problem.copy(alloc)?)?;
+    let first = first_of(alloc, conf, id, problem, now)?;
+    made.append(first)?;
+    Ok(made)
+}
+
+/// A new problem of a trigger, behind those that are open. Where no action does anything about it, they stay where they are.
+#[tactic(auto, using(crate::proofs::Problems::one_begun))]
 fn begin(
+    alloc: Global,
+    ready: &Ready,
+    number: u64,
+    now: Moment,
+    values: &[Option<Held>],
+    id: u32,
+    trigger: &Trigger,
+    opens: &[Open],
+) -> Result<Outcome, OutOfMemory>
+    ensures records { IfOk result (λ made. made.records ≡ begun_records ready.now id (problem_of ready.now number now values.now id trigger.now) now) }
+    ensures opens { IfOk result (λ made. at_id ready.now.triggers id ≡ Some trigger.now → changed opens.now made.change ≡ absorbed_all ready.now id opens.now made.records) }
+{
+    let conf = ready.conf();
+    let problem = problem_of(alloc, ready, number, now, values, id, trigger)?;
+    let records = begun(alloc, conf, id, &problem, now)?;
+    if records.len() == 1 {
+        return Ok(Outcome {
+            records,
+            change: Change::Add(Open {
+                problem,
+                steps: Many::new(alloc),
+                depth: trigger.depth,
+            }),
+        });
+    }
+    let all = absorbed_row(alloc, conf, id, opens, records.as_slice())?;
+    Ok(Outcome {
+        records,
+        change: Change::Leave(all),
+    })
+}
+
+/// The end of the open problems with these events.
+fn end(
     alloc: Global,
     conf: &Conf,
     number: u64,
     now: Moment,
     id: u32,
-    trigger: &Trigger,
-) -> Result<Outcome, OutOfMemory>
-    ensures records { IfOk result (λ made. made.records ≡ problem_of conf.now number now id trigger.now ∷ []) }
-    ensures opens { IfOk result (λ made. (opens : List Open) → at_id conf.now.triggers id ≡ Some trigger.now → changed opens made.change ≡ absorbed_all conf.now id opens (problem_of conf.now number now id trigger.now ∷ [])) }
-{
-    let mut records = Many::new(alloc);
-    records.push(problem_of(alloc, conf, number, now, id, trigger)?)?;
-    let one = Open {
-        problem: problem_of(alloc, conf, number, now, id, trigger)?,
-        steps: Many::new(alloc),
-        depth: trigger.depth,
-    };
-    Ok(Outcome {
-        records,
-        change: Change::Add(one),
-    })
-}
-
-/// The end of the open problems with these events.
-#[tactic(auto, using(crate::proofs::Problems::rest_closed))]
-fn end(
-    alloc: Global,
-    number: u64,
-    now: Moment,
     opens: &[Open],
     events: &[EventId],
 ) -> Result<Outcome, OutOfMemory>
-    ensures records { IfOk result (λ made. made.records ≡ map (recovery_of number now) events.now) }
-    ensures opens { IfOk result (λ made. (conf : Conf) (id : ℕ) → Each (λ e. home conf e ≡ id) events.now → changed opens.now made.change ≡ absorbed_all conf id opens.now (map (recovery_of number now) events.now)) }
+    ensures records { IfOk result (λ made. made.records ≡ flat_map (closed_records conf.now number now opens.now) events.now) }
+    ensures opens { IfOk result (λ made. changed opens.now made.change ≡ absorbed_all conf.now id opens.now made.records) }
 {
+    let records = closings(alloc, conf, number, now, opens, events)?;
+    let all = absorbed_row(alloc, conf, id, opens, records.as_slice())?;
     Ok(Outcome {
-        records: recoveries(alloc, number, now, events)?,
-        change: Change::Leave(copies_without(alloc, opens, events)?),
+        records,
+        change: Change::Leave(all),
     })
 }
 
@@ -147,52 +238,77 @@ fn end(
 #[tactic(auto, unfolding(crate::specs::Records::verdict_records))]
 fn settled(
     alloc: Global,
-    conf: &Conf,
-    number: u64,
-    now: Moment,
-    id: u32,
-    trigger: &Trigger,
+    calls: &Calls,
     opens: &[Open],
     verdict: &Verdict,
 ) -> Result<Option<Outcome>, OutOfMemory>
-    ensures records { IfOk result (λ made. outcome_records made ≡ verdict_records conf.now number now id trigger.now verdict.now) }
-    ensures opens { IfOk result (λ made. at_id conf.now.triggers id ≡ Some trigger.now → Closes (λ e. home conf.now e ≡ id) verdict.now → outcome_opens opens.now made ≡ absorbed_all conf.now id opens.now (outcome_records made)) }
+    requires { at_id calls.now.ready.now.triggers calls.now.id ≡ Some calls.now.trigger.now }
+    ensures records { IfOk result (λ made. (items : ℕ → List Stored) → Shown calls.now items → outcome_records made ≡ verdict_records calls.now.ready.now calls.now.occasion.number calls.now.occasion.now (shown_values items calls.now.occasion.now calls.now.trigger.now) calls.now.id calls.now.trigger.now opens.now verdict.now) }
+    ensures opens { IfOk result (λ made. Closes (λ e. home calls.now.ready.now e ≡ calls.now.id) verdict.now → outcome_opens opens.now made ≡ absorbed_all calls.now.ready.now calls.now.id opens.now (outcome_records made)) }
 {
+    let ready = calls.ready;
+    let id = calls.id;
+    let number = calls.occasion.number;
+    let now = calls.occasion.now;
     match verdict {
         Verdict::Nothing => Ok(None),
-        Verdict::New => Ok(Some(begin(alloc, conf, number, now, id, trigger)?)),
-        Verdict::Close(events) => Ok(Some(end(alloc, number, now, opens, events.as_slice())?)),
+        Verdict::New => {
+            let values = shown_values(alloc, calls)?;
+            Ok(Some(begin(
+                alloc,
+                ready,
+                number,
+                now,
+                values.as_slice(),
+                id,
+                calls.trigger,
+                opens,
+            )?))
+        }
+        Verdict::Close(events) => {
+            let conf = ready.conf();
+            Ok(Some(end(alloc, conf, number, now, id, opens, events.as_slice())?))
+        }
     }
 }
 
-/// What a trigger adds where it is evaluated, and is held or not. None: nothing changes.
+/// The tags that a trigger has now, as far as its verdict needs them: only open problems that close by a tag do.
+#[tactic(auto, using(crate::proofs::Sight::serve_same, crate::proofs::Sight::serve_untagged, crate::proofs::Sight::serve_none))]
+fn closing_tags(alloc: Global, calls: &Calls, opens: &[Open]) -> Result<Many<Tag>, OutOfMemory>
+    requires { at_id calls.now.ready.now.triggers calls.now.id ≡ Some calls.now.trigger.now }
+    ensures { IfOk result (λ made. (items : ℕ → List Stored) → Shown calls.now items → Serve calls.now.trigger.now opens.now made (event_tags calls.now.ready.now calls.now.id (shown_values items calls.now.occasion.now calls.now.trigger.now))) }
+{
+    if calls.trigger.close_tag.len() == 0 {
+        return Ok(Many::new(alloc));
+    }
+    if opens.len() == 0 {
+        return Ok(Many::new(alloc));
+    }
+    let values = shown_values(alloc, calls)?;
+    calls.ready.tags_of(alloc, calls.id, values.as_slice())
+}
+
+/// What a trigger adds where it is evaluated, whose calls have these values, and is held or not. None: nothing changes.
 pub(crate) fn judge(
     alloc: Global,
-    conf: &Conf,
-    number: u64,
-    id: u32,
     calls: &Calls,
+    values: &[Option<Fix>],
     plan: &[Node],
     recovery: &[Node],
     held: bool,
     opens: &[Open],
 ) -> Result<Option<Outcome>, OutOfMemory>
+    requires there { at_id calls.now.ready.now.triggers calls.now.id ≡ Some calls.now.trigger.now }
     requires plan { plan.now ≡ plan_of calls.now.trigger.now }
     requires recovery { recovery.now ≡ recovery_plan_of calls.now.trigger.now }
-    ensures records { IfOk result (λ made. outcome_records made ≡ judged conf.now (histories calls.entry.now) number calls.entry.now.now id calls.entry.now.trigger.now held opens.now) }
-    ensures opens { IfOk result (λ made. at_id conf.now.triggers id ≡ Some calls.entry.now.trigger.now → AllAtHome conf.now id opens.now → outcome_opens opens.now made ≡ absorbed_all conf.now id opens.now (outcome_records made)) }
+    ensures records { IfOk result (λ made. (items : ℕ → List Stored) → Shown calls.now items → outcome_records made ≡ judged calls.now.ready.now calls.now.occasion (sight_of calls.now values.now items) calls.now.id calls.now.trigger.now held opens.now) }
+    ensures opens { IfOk result (λ made. AllAtHome calls.now.ready.now calls.now.id opens.now → outcome_opens opens.now made ≡ absorbed_all calls.now.ready.now calls.now.id opens.now (outcome_records made)) }
 {
-    let p = plan_value(calls, plan);
-    let r = recovery_value(calls, recovery);
-    let verdict = verdict_over(alloc, calls.trigger, held, opens, p, r, &[], true)?;
-    settled(
-        alloc,
-        conf,
-        number,
-        calls.now,
-        id,
-        calls.trigger,
-        opens,
-        &verdict,
-    )
+    let trigger = calls.trigger;
+    let tags = closing_tags(alloc, calls, opens)?;
+    let p = plan_value(values, trigger, plan);
+    let r = recovery_value(values, trigger, recovery);
+    let is_value = calls.occasion.is_value;
+    let verdict = verdict_over(alloc, trigger, held, opens, p, r, tags.as_slice(), is_value)?;
+    settled(alloc, calls, opens, &verdict)
 }

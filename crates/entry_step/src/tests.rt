@@ -12,7 +12,7 @@ use zbx_types::{
 };
 
 /// A list of one.
-fn one<T: Drop>(alloc: Global, made: T) -> Result<Many<T>, OutOfMemory> {
+pub(crate) fn one<T: Drop>(alloc: Global, made: T) -> Result<Many<T>, OutOfMemory> {
     let mut list = Many::new(alloc);
     list.push(made)?;
     Ok(list)
@@ -26,7 +26,15 @@ fn configuration(alloc: Global) -> Result<Conf, OutOfMemory> {
     of_these(alloc, hosts, items, triggers)
 }
 
-fn of_these(
+/// The configuration made ready, where it has no faulty pattern.
+fn ready_of(alloc: Global, conf: Conf) -> Result<Ready, OutOfMemory> {
+    match Ready::build(alloc, conf) {
+        Ok(ready) => Ok(ready),
+        Err(_) => Err(OutOfMemory),
+    }
+}
+
+pub(crate) fn of_these(
     alloc: Global,
     hosts: Many<Host>,
     items: Many<Item>,
@@ -46,7 +54,7 @@ fn of_these(
     })
 }
 
-fn host(alloc: Global, name: &str) -> Result<Host, OutOfMemory> {
+pub(crate) fn host(alloc: Global, name: &str) -> Result<Host, OutOfMemory> {
     Ok(Host {
         name: Text::of(alloc, name)?,
         groups: Many::new(alloc),
@@ -54,7 +62,7 @@ fn host(alloc: Global, name: &str) -> Result<Host, OutOfMemory> {
     })
 }
 
-fn item(alloc: Global, host: u32, key: &str) -> Result<Item, OutOfMemory> {
+pub(crate) fn item(alloc: Global, host: u32, key: &str) -> Result<Item, OutOfMemory> {
     Ok(Item {
         host,
         key: Text::of(alloc, key)?,
@@ -67,7 +75,7 @@ fn item(alloc: Global, host: u32, key: &str) -> Result<Item, OutOfMemory> {
 }
 
 /// A trigger with two calls over one item.
-fn trigger(alloc: Global, item: u32, depth: u32) -> Result<Trigger, OutOfMemory> {
+pub(crate) fn trigger(alloc: Global, item: u32, depth: u32) -> Result<Trigger, OutOfMemory> {
     let mut calls = Many::new(alloc);
     calls.push(call(alloc)?)?;
     calls.push(call(alloc)?)?;
@@ -137,7 +145,7 @@ fn records_counted<L: Ledger>(
     requires parts { blank.parts ≡ L.parts }
     requires some { 0 < L.parts }
 {
-    let ready = Ready::build(alloc, configuration(alloc)?)?;
+    let ready = ready_of(alloc, configuration(alloc)?)?;
     let mut cells = Cells::new(alloc, ready.conf())?;
     let mut steps = Steps::<L>::new(blank);
     last_records(alloc, &ready, &mut cells, values, &mut steps)
@@ -274,7 +282,7 @@ fn a_late_value_is_not_the_latest(rt: HostRuntime) -> Result<(), Fail> {
 
 /// The id of the item with a key of the host with a name.
 fn found(alloc: Global, name: &str, key: &str) -> Result<Option<u32>, OutOfMemory> {
-    let ready = Ready::build(alloc, configuration(alloc)?)?;
+    let ready = ready_of(alloc, configuration(alloc)?)?;
     found_in(alloc, &ready, name, key)
 }
 
@@ -340,20 +348,20 @@ fn many_items(alloc: Global, count: u32) -> Result<Conf, OutOfMemory> {
 
 /// A run, and how many records it made.
 #[derive(Drop)]
-struct Run<L: Ledger> {
-    ready: Ready,
-    cells: Cells,
-    steps: Steps<L>,
+pub(crate) struct Run<L: Ledger> {
+    pub(crate) ready: Ready,
+    pub(crate) cells: Cells,
+    pub(crate) steps: Steps<L>,
     made: usize,
 }
 
 impl<L: Ledger> Run<L> {
-    fn over(alloc: Global, conf: Conf, blank: Blank) -> Result<Run<L>, OutOfMemory>
+    pub(crate) fn over(alloc: Global, conf: Conf, blank: Blank) -> Result<Run<L>, OutOfMemory>
         requires name { blank.name ≡ L.name }
         requires parts { blank.parts ≡ L.parts }
         requires some { 0 < L.parts }
     {
-        let ready = Ready::build(alloc, conf)?;
+        let ready = ready_of(alloc, conf)?;
         let cells = Cells::new(alloc, ready.conf())?;
         Ok(Run {
             ready,
@@ -532,5 +540,112 @@ fn verdicts_hang_on_masters_and_on_the_way_to_recover(rt: HostRuntime) -> Result
         ],
     )?;
     assert_eq!(rt; made.as_slice(), [1, 2, 3, 5, 6, 6, 7].as_slice());
+    Ok(())
+}
+
+/// `avg(#3) > 5` over item 1, `nodata` of a minute over item 2, and the same, disabled.
+fn of_windows(alloc: Global) -> Result<Conf, OutOfMemory> {
+    let hosts = one(alloc, host(alloc, "h")?)?;
+    let mut triggers = Many::new(alloc);
+    triggers.push(asking(alloc, 1, Fun::Avg, Range::Count(3))?)?;
+    triggers.push(absent(alloc, true)?)?;
+    triggers.push(absent(alloc, false)?)?;
+    of_these(alloc, hosts, items_of(alloc, 2)?, triggers)
+}
+
+/// A trigger whose first call is of a function over a range.
+fn asking(alloc: Global, item: u32, fun: Fun, range: Range) -> Result<Trigger, OutOfMemory> {
+    let mut made = trigger(alloc, item, 0)?;
+    let mut first = call(alloc)?;
+    first.fun = fun;
+    first.range = range;
+    made.calls = one(alloc, first)?;
+    made.call_items = one(alloc, item)?;
+    Ok(made)
+}
+
+fn absent(alloc: Global, enabled: bool) -> Result<Trigger, OutOfMemory> {
+    let mut made = asking(alloc, 2, Fun::NoData, Range::Period(60))?;
+    made.expr = Expr::Call(0);
+    made.enabled = enabled;
+    Ok(made)
+}
+
+/// An entry at so many seconds: a value of an item, or of item 0 a Tick.
+pub(crate) fn entry_at(
+    alloc: Global,
+    number: u64,
+    sec: u32,
+    item: u32,
+    text: &str,
+) -> Result<Numbered, OutOfMemory> {
+    let now = Moment { sec, ns: 0 };
+    let entry = if item == 0 {
+        Entry::Tick { now }
+    } else {
+        Entry::Value {
+            now,
+            item,
+            time: now,
+            value: Text::of(alloc, text)?,
+        }
+    };
+    Ok(Numbered { number, entry })
+}
+
+impl<L: Ledger> Run<L> {
+    /// Takes entries, and tells how many records there are behind each.
+    fn behind(
+        &mut self,
+        alloc: Global,
+        entries: &[(u32, u32, &str)],
+    ) -> Result<Many<usize>, OutOfMemory> {
+        let mut counts = Many::new(alloc);
+        for (place, (sec, item, text)) in entries.iter().enumerate() {
+            let entry = entry_at(alloc, place as u64 + 1, *sec, *item, text)?;
+            let made = step(alloc, &self.ready, &mut self.cells, &entry, &mut self.steps)?;
+            self.made = self.made.saturating_add(made.len());
+            counts.push(self.made)?;
+        }
+        Ok(counts)
+    }
+}
+
+/// How many records there are behind each of these entries.
+fn behind_each(alloc: Global, entries: &[(u32, u32, &str)]) -> Result<Many<usize>, OutOfMemory> {
+    behind_counted::<Brand>(alloc, entries, Blank::new(1))
+}
+
+fn behind_counted<L: Ledger>(
+    alloc: Global,
+    entries: &[(u32, u32, &str)],
+    blank: Blank,
+) -> Result<Many<usize>, OutOfMemory>
+    requires name { blank.name ≡ L.name }
+    requires parts { blank.parts ≡ L.parts }
+    requires some { 0 < L.parts }
+{
+    let mut run = Run::<L>::over(alloc, of_windows(alloc)?, blank)?;
+    run.behind(alloc, entries)
+}
+
+#[test]
+fn functions_look_at_windows_and_ticks_at_absence(rt: HostRuntime) -> Result<(), Fail> {
+    let made = behind_each(
+        rt.alloc(),
+        &[
+            (90, 1, "4"),
+            (91, 1, "9"),
+            (92, 1, "1"),
+            (93, 1, "1"),
+            (100, 0, ""),
+            (159, 0, ""),
+            (160, 0, ""),
+            (170, 2, "0"),
+            (229, 0, ""),
+            (230, 0, ""),
+        ],
+    )?;
+    assert_eq!(rt; made.as_slice(), [0, 1, 2, 2, 2, 2, 3, 4, 4, 5].as_slice());
     Ok(())
 }

@@ -4,13 +4,15 @@ use Rattle.std.specs.Prelude.{fold, filter_map, flat_map, option_to_list, nat_le
 use Rattle.std.specs.List.{reduce, last_or, slice_index}
 use Rattle.std.specs.List.Sorted.{IsStrictlyIncreasing}
 use Rattle.std.proofs.lemmas.Bool.{lt-leb}
-use Rattle.zbx_types.specs.Records.{event_of}
+use Rattle.zbx_types.specs.Records.{event_of, tags_of}
 use Rattle.zbx_types.specs.declared.actions.Action.{Action}
 use Rattle.zbx_types.specs.declared.conf.Conf.{Conf}
 use Rattle.zbx_types.specs.declared.entries.EventId.{EventId}
 use Rattle.zbx_types.specs.declared.entries.Rec.{Rec}
+use Rattle.maintenance.specs.Suppression.{is_suppressed}
+use Rattle.escalations.specs.Triggers.{trigger_of}
 use Rattle.escalations.specs.Conditions.{is_matched}
-use Rattle.escalations.specs.Escalations.{records_at, next_step, next_records, recovery_records}
+use Rattle.escalations.specs.Escalations.{records_at, next_step, next_records, recovery_records, due_records_of}
 use Rattle.escalations.specs.Laws.{KeepsLast, LastStepsSuffice}
 use Rattle.escalations.specs.Messages.{sending_records}
 use Rattle.escalations.specs.Steps.{ran_of, later, last_step, step_due}
@@ -52,10 +54,10 @@ same_flat_map : {X A : Type 0} (f g : X → List A) (xs : List X) → ((x : X) �
 same_flat_map f g [] h = refl
 same_flat_map f g (x ∷ xs) h = rw (h x, same_flat_map f g xs h) refl
 
-same_due : (conf : Conf) (is_suppressed : Bool) (problem : Rec) (steps kept : List Rec) (now : ℕ) → ((action : List ℕ) → KeepsLast (event_of problem) steps kept action) → (action : Action) → next_records conf is_suppressed problem kept now action ≡ next_records conf is_suppressed problem steps now action
+same_due : (conf : Conf) (quiet : Bool) (problem : Rec) (steps kept : List Rec) (now : ℕ) → ((action : List ℕ) → KeepsLast (event_of problem) steps kept action) → (action : Action) → next_records conf quiet problem kept now action ≡ next_records conf quiet problem steps now action
 unfolding next_records next_step
-same_due conf is_suppressed problem steps kept now h action =
-    ap (λ last. records_at conf problem now action (if is_matched conf action problem && not (action.pause_suppressed && is_suppressed) then step_due action now last else None))
+same_due conf quiet problem steps kept now h action =
+    ap (λ last. records_at conf problem now action (if is_matched conf action problem && not (action.pause_suppressed && quiet) then step_due action now last else None))
     (last_kept (event_of problem) steps kept action.name (h action.name))
 
 same_recovery : (conf : Conf) (problem : Rec) (steps kept : List Rec) (now : ℕ) → ((action : List ℕ) → KeepsLast (event_of problem) steps kept action) → (action : Action) → recovery_records conf problem kept now action ≡ recovery_records conf problem steps now action
@@ -63,8 +65,14 @@ same_recovery conf problem steps kept now h action =
     ap (λ last. if is_some last then flat_map (sending_records conf problem now action.name) action.recovery else [])
     (last_kept (event_of problem) steps kept action.name (h action.name))
 
+same_steps : (conf : Conf) (problem : Rec) (steps kept : List Rec) (now : ℕ) → ((action : List ℕ) → KeepsLast (event_of problem) steps kept action) → (trigger : ℕ) → due_records_of conf trigger problem kept now ≡ due_records_of conf trigger problem steps now
+unfolding due_records_of
+same_steps conf problem steps kept now h trigger =
+    same_flat_map _ _ conf.actions (same_due conf (is_suppressed conf trigger (tags_of problem) now) problem steps kept now h)
+
 pub last_steps_suffice : LastStepsSuffice
-last_steps_suffice conf is_suppressed problem steps kept now h = (
-  same_flat_map _ _ conf.actions (same_due conf is_suppressed problem steps kept now h),
+last_steps_suffice conf problem steps kept now h = (
+  same_steps conf problem steps kept now h,
+  same_steps conf problem steps kept now h (trigger_of conf problem),
   same_flat_map _ _ conf.actions (same_recovery conf problem steps kept now h),
 )

@@ -1,3 +1,3 @@
 mod Gathered
 mod LastSteps
-mod Determined
+pub mod Asking

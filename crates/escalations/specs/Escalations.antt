@@ -1,19 +1,20 @@
 -- What actions do about a problem (the Zabbix 6.0 manual, "Escalations").
-use Rattle.std.specs.Prelude.{◌≡◌, ℕ, Bool, not, ◌&&◌, List, [], flat_map, Option, Some, None, is_some, if◌then◌else◌}
-use Rattle.zbx_types.specs.Records.{event_of}
+use Rattle.std.specs.Prelude.{ℕ, Bool, not, ◌&&◌, List, [], flat_map, Option, Some, None, is_some, if◌then◌else◌}
+use Rattle.zbx_types.specs.Records.{event_of, tags_of}
 use Rattle.zbx_types.specs.declared.actions.Action.{Action}
 use Rattle.zbx_types.specs.declared.conf.Conf.{Conf}
 use Rattle.zbx_types.specs.declared.entries.Rec.{Rec}
 use Rattle.escalations.specs.Conditions.{is_matched}
 use Rattle.escalations.specs.Messages.{step_records, sending_records}
 use Rattle.escalations.specs.Steps.{last_step, step_due}
-use Rattle.escalations.specs.Triggers.{TellsSuppression}
+use Rattle.escalations.specs.Triggers.{trigger_of}
+use Rattle.maintenance.specs.Suppression.{is_suppressed}
 
 -- the step of an action that runs next for a problem, where these steps ran and its trigger is suppressed or not: the one
 -- behind the last, where it is due, the action matches the problem, and it isn't paused
 unfoldable pub next_step : Conf → Bool → List Rec → Rec → Action → ℕ → Option ℕ
-next_step conf is_suppressed steps problem action now =
-    if is_matched conf action problem && not (action.pause_suppressed && is_suppressed)
+next_step conf quiet steps problem action now =
+    if is_matched conf action problem && not (action.pause_suppressed && quiet)
     then step_due action now (last_step steps (event_of problem) action.name) else None
 
 -- what a step makes, where there is one
@@ -23,16 +24,25 @@ records_at conf problem now action (Some step) = step_records conf problem now a
 
 -- what the next step of an action makes
 unfoldable pub next_records : Conf → Bool → Rec → List Rec → ℕ → Action → List Rec
-next_records conf is_suppressed problem steps now action =
-    records_at conf problem now action (next_step conf is_suppressed steps problem action now)
+next_records conf quiet problem steps now action =
+    records_at conf problem now action (next_step conf quiet steps problem action now)
 
--- what the next steps of all actions make, in file order
-abbrev pub due_records : Conf → Bool → Rec → List Rec → ℕ → List Rec
-due_records conf is_suppressed problem steps now = flat_map (next_records conf is_suppressed problem steps now) conf.actions
+-- What the next steps of all actions make, in file order, about a problem of the trigger with an id. Actions pause while
+-- this trigger is suppressed for the problem's tags.
+unfoldable pub due_records_of : Conf → ℕ → Rec → List Rec → ℕ → List Rec
+due_records_of conf trigger problem steps now =
+    flat_map (next_records conf (is_suppressed conf trigger (tags_of problem) now) problem steps now) conf.actions
 
 -- what the first steps of all actions make: no step ran
-abbrev pub first_records : Conf → Bool → Rec → ℕ → List Rec
-first_records conf is_suppressed problem now = due_records conf is_suppressed problem [] now
+abbrev pub first_records_of : Conf → ℕ → Rec → ℕ → List Rec
+first_records_of conf trigger problem now = due_records_of conf trigger problem [] now
+
+-- the same, where the trigger is the one that has the names of the problem's trigger and host
+abbrev pub due_records : Conf → Rec → List Rec → ℕ → List Rec
+due_records conf problem steps now = due_records_of conf (trigger_of conf problem) problem steps now
+
+abbrev pub first_records : Conf → Rec → ℕ → List Rec
+first_records conf problem now = due_records conf problem [] now
 
 -- what the recovery operations of an action send: nothing where it ran no step for the problem
 abbrev pub recovery_records : Conf → Rec → List Rec → ℕ → Action → List Rec
@@ -43,13 +53,3 @@ recovery_records conf problem steps now action =
 -- what the recovery operations of all actions send, in file order
 abbrev pub recovered_records : Conf → Rec → List Rec → ℕ → List Rec
 recovered_records conf problem steps now = flat_map (recovery_records conf problem steps now) conf.actions
-
--- These are the records of the first steps, and of the steps that are due, at a moment. Whether the trigger is suppressed
--- then decides which actions pause.
-abbrev pub AreFirst : Conf → Rec → ℕ → List Rec → Type 0
-AreFirst conf problem now records =
-    (is_suppressed : Bool) × TellsSuppression conf problem now is_suppressed × (records ≡ first_records conf is_suppressed problem now)
-
-abbrev pub AreDue : Conf → Rec → List Rec → ℕ → List Rec → Type 0
-AreDue conf problem steps now records =
-    (is_suppressed : Bool) × TellsSuppression conf problem now is_suppressed × (records ≡ due_records conf is_suppressed problem steps now)

@@ -1,14 +1,13 @@
 -- The triggers of problems, and whether they are suppressed.
-use Rattle.std.specs.Prelude.{ℕ, ◌+◌, Bool, false, ◌&&◌, ◌↔◌, List, bytes_eq, Option, Some, None, IsTrue}
+use Rattle.std.specs.Prelude.{ℕ, ◌+◌, Bool, false, ◌&&◌, List, bytes_eq, Option, Some, None}
 use Rattle.std.specs.List.{list_any, position_from}
 use Rattle.zbx_types.specs.Ids.{at_id}
-use Rattle.zbx_types.specs.Records.{host_of, tags_of, trigger_name_of}
+use Rattle.zbx_types.specs.Records.{host_of, trigger_name_of}
 use Rattle.zbx_types.specs.declared.actions.Action.{Action}
 use Rattle.zbx_types.specs.declared.conf.Conf.{Conf}
 use Rattle.zbx_types.specs.declared.conf.Host.{Host}
 use Rattle.zbx_types.specs.declared.entries.Rec.{Rec}
 use Rattle.zbx_types.specs.declared.triggers.Trigger.{Trigger}
-use Rattle.maintenance.specs.Suppression.{IsSuppressed}
 use Rattle.escalations.specs.Conditions.{is_matched}
 
 -- a host is there and has this name
@@ -33,10 +32,3 @@ trigger_of conf problem = id_at (position_from (is_trigger_of conf problem) 0 co
 -- some of the actions matches a problem, and pauses where it is suppressed
 abbrev pub some_pauses : Conf → Rec → List Action → Bool
 some_pauses conf problem actions = list_any (λ action. action.pause_suppressed && is_matched conf action problem) actions
-
--- Whether the problem's trigger is suppressed at a moment, with the problem's tags. It tells nothing where no action that
--- matches the problem pauses.
-abbrev pub TellsSuppression : Conf → Rec → ℕ → Bool → Type 0
-TellsSuppression conf problem now is_suppressed =
-    IsTrue (some_pauses conf problem conf.actions)
-    → IsTrue is_suppressed ↔ IsSuppressed conf (trigger_of conf problem) (tags_of problem) now

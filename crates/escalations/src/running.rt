@@ -2,23 +2,22 @@
 
 ghost use Rattle.std.specs.Prelude.{◌≡◌, ◌++◌, flat_map, IfOk, OnOk};
 ghost use Rattle.zbx_types.specs.Groups.{groups_of};
-ghost use Rattle.escalations.specs.Escalations.{next_step, next_records, recovery_records, recovered_records, AreFirst, AreDue};
-ghost use Rattle.escalations.specs.Triggers.{trigger_of};
+ghost use Rattle.escalations.specs.Escalations.{next_step, next_records, due_records_of, due_records, first_records_of, first_records, recovery_records, recovered_records};
 
 use crate::conditions::{Case, is_matched};
 use crate::messages::{push_sendings, push_step};
 use crate::steps::{last_step, step_due};
-use crate::triggers::{is_suppressed, trigger_of};
+use crate::triggers::{is_quiet, trigger_of};
 use std::alloc::Global;
 use zbx_types::{Action, Conf, Many, Moment, OutOfMemory, Rec, groups_of};
 
 /// The step of an action that runs next, where these steps ran.
 #[tactic(auto, unfolding(crate::specs::Escalations::next_step))]
-fn next_step(case: &Case, is_suppressed: bool, steps_run: &[Rec], action: &Action) -> Option<u32>
+fn next_step(case: &Case, quiet: bool, steps_run: &[Rec], action: &Action) -> Option<u32>
     requires { case.now.groups.now ≡ groups_of case.now.conf.now case.now.problem.now }
-    ensures { result ≡ next_step case.now.conf.now is_suppressed steps_run.now case.now.problem.now action.now case.now.moment }
+    ensures { result ≡ next_step case.now.conf.now quiet steps_run.now case.now.problem.now action.now case.now.moment }
 {
-    if is_matched(case, action) && !(action.pause_suppressed && is_suppressed) {
+    if is_matched(case, action) && !(action.pause_suppressed && quiet) {
         let last = last_step(steps_run, case.problem.event(), &action.name);
         step_due(action, case.moment, last)
     } else {
@@ -31,16 +30,16 @@ fn next_step(case: &Case, is_suppressed: bool, steps_run: &[Rec], action: &Actio
 fn push_next(
     alloc: Global,
     case: &Case,
-    is_suppressed: bool,
+    quiet: bool,
     steps_run: &[Rec],
     action: &Action,
     out: &mut Many<Rec>,
 ) -> Result<(), OutOfMemory>
     requires { case.now.groups.now ≡ groups_of case.now.conf.now case.now.problem.now }
-    ensures { OnOk result (out.new ≡ out.old ++ next_records case.now.conf.now is_suppressed case.now.problem.now steps_run.now case.now.moment action.now) }
+    ensures { OnOk result (out.new ≡ out.old ++ next_records case.now.conf.now quiet case.now.problem.now steps_run.now case.now.moment action.now) }
 {
     let (conf, problem) = (case.conf, case.problem);
-    match next_step(case, is_suppressed, steps_run, action) {
+    match next_step(case, quiet, steps_run, action) {
         Some(step) => push_step(alloc, conf, problem, case.moment, action, step, out),
         None => Ok(()),
     }
@@ -50,16 +49,16 @@ fn push_next(
 fn next_records(
     alloc: Global,
     case: &Case,
-    is_suppressed: bool,
+    quiet: bool,
     steps_run: &[Rec],
     actions: &[Action],
 ) -> Result<Many<Rec>, OutOfMemory>
     requires { case.now.groups.now ≡ groups_of case.now.conf.now case.now.problem.now }
-    ensures { IfOk result (λ made. made ≡ flat_map (next_records case.now.conf.now is_suppressed case.now.problem.now steps_run.now case.now.moment) actions.now) }
+    ensures { IfOk result (λ made. made ≡ flat_map (next_records case.now.conf.now quiet case.now.problem.now steps_run.now case.now.moment) actions.now) }
 {
     let mut out = Many::new(alloc);
     for action in actions {
-        push_next(alloc, case, is_suppressed, steps_run, action, &mut out)?;
+        push_next(alloc, case, quiet, steps_run, action, &mut out)?;
     }
     Ok(out)
 }
@@ -122,13 +121,13 @@ pub fn first(
     problem: &Rec,
     now: Moment,
 ) -> Result<Many<Rec>, OutOfMemory>
-    ensures { IfOk result (λ made. AreFirst conf.now problem.now now made) }
+    ensures { IfOk result (λ made. made ≡ first_records conf.now problem.now now) }
 {
     first_of(alloc, conf, trigger_of(conf, problem)?, problem, now)
 }
 
-/// The same as [`first`], where `trigger` is known to be the id of the problem's trigger: of the first one that has its name
-/// and whose host has its host's name, or 0 where there is none.
+/// The same as [`first`] for a problem of the trigger with this id: an action that pauses does so while this trigger is
+/// suppressed. It is quicker, since no trigger is looked for by its name.
 pub fn first_of(
     alloc: Global,
     conf: &Conf,
@@ -136,8 +135,7 @@ pub fn first_of(
     problem: &Rec,
     now: Moment,
 ) -> Result<Many<Rec>, OutOfMemory>
-    requires { trigger ≡ trigger_of conf.now problem.now }
-    ensures { IfOk result (λ made. AreFirst conf.now problem.now now made) }
+    ensures { IfOk result (λ made. made ≡ first_records_of conf.now trigger problem.now now) }
 {
     due_of(alloc, conf, trigger, problem, &[], now)
 }
@@ -158,7 +156,7 @@ pub fn due(
     steps_run: &[Rec],
     now: Moment,
 ) -> Result<Many<Rec>, OutOfMemory>
-    ensures { IfOk result (λ made. AreDue conf.now problem.now steps_run.now now made) }
+    ensures { IfOk result (λ made. made ≡ due_records conf.now problem.now steps_run.now now) }
 {
     due_of(
         alloc,
@@ -170,7 +168,8 @@ pub fn due(
     )
 }
 
-/// The same as [`due`], where `trigger` is known to be the id of the problem's trigger, as in [`first_of`].
+/// The same as [`due`] for a problem of the trigger with this id, as [`first_of`].
+#[tactic(auto, using(crate::proofs::Asking::asked_once), unfolding(crate::specs::Escalations::due_records_of))]
 pub fn due_of(
     alloc: Global,
     conf: &Conf,
@@ -179,8 +178,7 @@ pub fn due_of(
     steps_run: &[Rec],
     now: Moment,
 ) -> Result<Many<Rec>, OutOfMemory>
-    requires { trigger ≡ trigger_of conf.now problem.now }
-    ensures { IfOk result (λ made. AreDue conf.now problem.now steps_run.now now made) }
+    ensures { IfOk result (λ made. made ≡ due_records_of conf.now trigger problem.now steps_run.now now) }
 {
     let case = Case {
         conf,
@@ -188,14 +186,8 @@ pub fn due_of(
         groups: groups_of(conf, problem),
         moment: now,
     };
-    let is_suppressed = is_suppressed(&case, trigger);
-    next_records(
-        alloc,
-        &case,
-        is_suppressed,
-        steps_run,
-        conf.actions.as_slice(),
-    )
+    let quiet = is_quiet(&case, trigger);
+    next_records(alloc, &case, quiet, steps_run, conf.actions.as_slice())
 }
 
 /// What actions do at the moment at which a problem closes (the Zabbix 6.0 manual, "Recovery operations"): for each action

@@ -1,9 +1,11 @@
 //! The triggers of problems, and whether they are suppressed.
 
-ghost use Rattle.std.specs.Prelude.{◌≡◌, IfOk, option_copied};
+ghost use Rattle.std.specs.Prelude.{◌≡◌, ◌&&◌, IfOk, option_copied};
 ghost use Rattle.std.specs.List.{position_from};
 ghost use Rattle.zbx_types.specs.Groups.{groups_of};
-ghost use Rattle.escalations.specs.Triggers.{is_named, is_trigger_of, trigger_of, some_pauses, TellsSuppression};
+ghost use Rattle.zbx_types.specs.Records.{tags_of};
+ghost use Rattle.maintenance.specs.Suppression.{is_suppressed};
+ghost use Rattle.escalations.specs.Triggers.{is_named, is_trigger_of, trigger_of, some_pauses};
 
 use crate::conditions::{Case, is_matched};
 use maintenance::suppressed;
@@ -62,12 +64,11 @@ fn some_pauses(case: &Case, actions: &[Action]) -> bool
     false
 }
 
-/// Whether the problem's trigger, which has this id, is suppressed at the moment. It is asked only where some action pauses
-/// for this.
-pub(crate) fn is_suppressed(case: &Case, trigger: u32) -> bool
-    requires trigger { trigger ≡ trigger_of case.now.conf.now case.now.problem.now }
-    requires groups { case.now.groups.now ≡ groups_of case.now.conf.now case.now.problem.now }
-    ensures { TellsSuppression case.now.conf.now case.now.problem.now case.now.moment result }
+/// Whether the problem's trigger, which has this id, is suppressed at the moment, and some action pauses for this: else it
+/// isn't asked.
+pub(crate) fn is_quiet(case: &Case, trigger: u32) -> bool
+    requires { case.now.groups.now ≡ groups_of case.now.conf.now case.now.problem.now }
+    ensures { result ≡ (some_pauses case.now.conf.now case.now.problem.now case.now.conf.now.actions && is_suppressed case.now.conf.now trigger (tags_of case.now.problem.now) case.now.moment) }
 {
     some_pauses(case, case.conf.actions.as_slice())
         && suppressed(case.conf, trigger, case.problem.tags(), case.moment)

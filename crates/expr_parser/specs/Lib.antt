@@ -8,4 +8,5 @@ pub mod Figures
 pub mod Parts
 pub mod Machine
 pub mod View
+pub mod Staying
 pub mod Written

@@ -41,6 +41,7 @@ mod range_bytes;
 mod reading;
 mod slots;
 mod states;
+mod staying;
 mod whole_numbers;
 mod writing;
 

@@ -7,6 +7,7 @@ ghost use Rattle.expr_parser.specs.Calls as calls;
 ghost use Rattle.expr_parser.specs.Parts as parts;
 ghost use Rattle.expr_parser.specs.Figures as figures;
 ghost use Rattle.expr_parser.specs.Machine as machine;
+ghost use Rattle.expr_parser.specs.Staying.{reach};
 ghost use Rattle.expr_parser.specs.View.{state, slot_list, whole_of};
 ghost use Rattle.expr_parser.specs.declared.parts.Value.TheVariants.{Said};
 ghost use Rattle.expr_parser.specs.declared.pending.Pending.TheVariants.{Waits};
@@ -18,39 +19,35 @@ use crate::figures::value;
 use crate::operand_bytes::{blank_or, constant, number, operand, word};
 use crate::operator_bytes::{behind, behind_greater, behind_less, joint_byte};
 use crate::pending::reduce;
-use crate::states::{Base, Mode, State, Whole, blank};
+use crate::states::{Base, Mode, Moved, State, Whole, blank};
 use std::alloc::Global;
+use std::mem::replace;
 use zbx_types::{Expr, OutOfMemory};
 
-/// The state behind one byte more, or none where no expression goes on with it.
-pub(crate) fn move_on(alloc: Global, s: State, byte: u8) -> Result<Option<State>, OutOfMemory>
-    ensures { IfOk result (λ r. option_map state r ≡ machine.step false (state s) byte) }
+/// Goes on by one byte.
+#[inline(always)]
+pub(crate) fn move_on(alloc: Global, s: &mut State, byte: u8) -> Moved
+    ensures { IfOk result (λ on. reach on (state s.new) ≡ machine.step false (state s.old) byte) }
 {
-    let State { mode, last, base } = s;
-    match mode {
-        Mode::Begin => operand(alloc, last, base, byte),
-        Mode::Operand => blank_or(alloc, last, base, byte),
-        Mode::Word(nots, text) => word(alloc, nots, text, base, byte),
-        Mode::Number(figures) => number(alloc, figures, last, base, byte),
-        Mode::Slash(fun) => Ok(slash(fun, alloc, base, byte)),
-        Mode::Host(fun, text) => host(alloc, fun, text, base, byte),
+    match replace(&mut s.mode, Mode::Begin) {
+        Mode::Begin => operand(alloc, s, byte),
+        Mode::Operand => blank_or(alloc, s, byte),
+        Mode::Word(nots, text) => word(alloc, nots, text, s, byte),
+        Mode::Number(figures) => number(alloc, figures, s, byte),
+        Mode::Slash(fun) => Ok(slash(fun, alloc, s, byte)),
+        Mode::Host(fun, text) => host(alloc, fun, text, s, byte),
         Mode::Key(fun, host, key, place, character) => {
-            key_byte(alloc, (fun, host, key), place, character, base, byte)
+            key_byte(alloc, (fun, host, key), place, character, s, byte)
         }
         Mode::Argument(fresh, call, slot, slots, place) => {
-            let at = ArgumentPlace {
-                call,
-                slot,
-                slots,
-                base,
-            };
-            argument(alloc, fresh, place, at, byte)
+            let at = ArgumentPlace { call, slot, slots };
+            argument(alloc, fresh, place, at, s, byte)
         }
-        Mode::Close(call) => close(call, base, byte),
-        Mode::Done(left) => behind(alloc, left, last, base, byte),
-        Mode::Less(left) => behind_less(alloc, left, last, base, byte),
-        Mode::Greater(left) => behind_greater(alloc, left, last, base, byte),
-        Mode::Joint(op, rest, left) => joint_byte(alloc, op, rest, left, base, byte),
+        Mode::Close(call) => close(call, s, byte),
+        Mode::Done(left) => behind(alloc, left, s, byte),
+        Mode::Less(left) => behind_less(alloc, left, s, byte),
+        Mode::Greater(left) => behind_greater(alloc, left, s, byte),
+        Mode::Joint(op, rest, left) => joint_byte(alloc, op, rest, left, s, byte),
     }
 }
 

@@ -1,12 +1,13 @@
 //! The bytes of operands: words, numbers, signs and parentheses.
 
-ghost use Rattle.std.specs.Prelude.{◌≡◌, ◌≤◌, ◌<◌, ◌++◌, ◌∷◌, [], IfOk, reverse, nat_le, nat_lt, Some, None, true, false, option_map, length, if◌then◌else◌, pos, is_some};
+ghost use Rattle.std.specs.Prelude.{◌≡◌, ◌≤◌, ◌<◌, ◌++◌, ◌∷◌, [], IfOk, OnOk, reverse, nat_le, nat_lt, Some, None, true, false, option_map, length, if◌then◌else◌, pos, is_some};
 ghost use Rattle.std.specs.Str.{is_utf8};
 ghost use Rattle.expr_parser.specs.Bytes as bytes;
 ghost use Rattle.expr_parser.specs.Calls as calls;
 ghost use Rattle.expr_parser.specs.Parts as parts;
 ghost use Rattle.expr_parser.specs.Figures as figures;
 ghost use Rattle.expr_parser.specs.Machine as machine;
+ghost use Rattle.expr_parser.specs.Staying.{reach};
 ghost use Rattle.expr_parser.specs.View.{state, slot_list, whole_of};
 ghost use Rattle.expr_parser.specs.declared.parts.Value.TheVariants.{Said};
 ghost use Rattle.expr_parser.specs.declared.pending.Pending.TheVariants.{Waits};
@@ -18,189 +19,141 @@ use crate::figures::{Figures, figure, first_figure, is_figure, longer, value};
 use crate::names::{begun, is_not, named};
 use crate::operator_bytes::behind;
 use crate::pending::{Half, floor};
-use crate::states::{Base, MOST_CALLS, Mode, State, blank, gap, opened, waiting};
+use crate::states::{MOST_CALLS, Mode, Moved, State, blank, gap, opened, to, waiting};
 use crate::whole_numbers::GREATEST;
 use std::alloc::Global;
 use zbx_types::{Bytes, Expr, Fix, Fun, OutOfMemory, Text};
 
-pub(crate) fn word_byte(
-    nots: bool,
-    text: Bytes,
-    byte: u8,
-    base: Base,
-) -> Result<Option<State>, OutOfMemory>
-    ensures { IfOk result (λ r. option_map state r ≡ machine.word_byte nots text byte base.open_ones (reverse base.stack.items) base.calls) }
+#[inline(always)]
+pub(crate) fn word_byte(nots: bool, text: Bytes, byte: u8, s: &mut State) -> Moved
+    ensures { IfOk result (λ on. reach on (state s.new) ≡ machine.word_byte nots text byte s.old.base.open_ones (reverse s.old.base.stack.items) s.old.base.calls) }
 {
     let text = longer(text, byte)?;
-    if begun(nots, base.calls.len() < MOST_CALLS, text.as_slice()) {
-        Ok(Some(State {
-            mode: Mode::Word(nots, text),
-            last: byte,
-            base,
-        }))
+    if begun(nots, s.base.calls.len() < MOST_CALLS, text.as_slice()) {
+        Ok(to(s, Mode::Word(nots, text), byte))
     } else {
-        Ok(None)
+        Ok(false)
     }
 }
 
-pub(crate) fn numbered(made: Option<Figures>, byte: u8, base: Base) -> Option<State>
-    ensures { option_map state result ≡ machine.numbered made byte base.open_ones (reverse base.stack.items) base.calls }
+#[inline(always)]
+pub(crate) fn numbered(made: Option<Figures>, byte: u8, s: &mut State) -> bool
+    ensures { reach result (state s.new) ≡ machine.numbered made byte s.old.base.open_ones (reverse s.old.base.stack.items) s.old.base.calls }
 {
     match made {
-        Some(figures) => Some(State {
-            mode: Mode::Number(figures),
-            last: byte,
-            base,
-        }),
-        None => None,
+        Some(figures) => to(s, Mode::Number(figures), byte),
+        None => false,
     }
 }
 
-pub(crate) fn signed(byte: u8, base: Base) -> Result<Option<State>, OutOfMemory>
-    ensures { IfOk result (λ r. option_map state r ≡ machine.signed byte base.open_ones (reverse base.stack.items) base.calls) }
+#[inline(always)]
+pub(crate) fn signed(byte: u8, s: &mut State) -> Moved
+    ensures { IfOk result (λ on. reach on (state s.new) ≡ machine.signed byte s.old.base.open_ones (reverse s.old.base.stack.items) s.old.base.calls) }
 {
-    if floor(&base.stack) <= 7 {
-        let base = waiting(Half::Negated, base)?;
-        Ok(Some(State {
-            mode: Mode::Operand,
-            last: byte,
-            base,
-        }))
+    if floor(&s.base.stack) <= 7 {
+        waiting(Half::Negated, &mut s.base)?;
+        Ok(to(s, Mode::Operand, byte))
     } else {
-        Ok(None)
+        Ok(false)
     }
 }
 
-pub(crate) fn operand(
-    alloc: Global,
-    last: u8,
-    base: Base,
-    byte: u8,
-) -> Result<Option<State>, OutOfMemory>
-    ensures { IfOk result (λ r. option_map state r ≡ machine.operand last base.open_ones (reverse base.stack.items) base.calls byte) }
+#[inline(always)]
+pub(crate) fn operand(alloc: Global, s: &mut State, byte: u8) -> Moved
+    ensures { IfOk result (λ on. reach on (state s.new) ≡ machine.operand s.old.last s.old.base.open_ones (reverse s.old.base.stack.items) s.old.base.calls byte) }
 {
     if byte <= b'9' {
         if b'0' <= byte {
-            Ok(numbered(first_figure(alloc, GREATEST, byte)?, byte, base))
+            Ok(numbered(first_figure(alloc, GREATEST, byte)?, byte, s))
         } else if byte == b'(' {
-            opened(base)
+            opened(s)
         } else if byte == b'-' {
-            signed(byte, base)
+            signed(byte, s)
         } else {
-            Ok(None)
+            Ok(false)
         }
     } else {
-        let nots = gap(last) && floor(&base.stack) <= 6;
-        word_byte(nots, Bytes::new(alloc), byte, base)
+        let nots = gap(s.last) && floor(&s.base.stack) <= 6;
+        word_byte(nots, Bytes::new(alloc), byte, s)
     }
 }
 
-pub(crate) fn blank_or(
-    alloc: Global,
-    last: u8,
-    base: Base,
-    byte: u8,
-) -> Result<Option<State>, OutOfMemory>
-    ensures { IfOk result (λ r. option_map state r ≡ machine.blank_or last base.open_ones (reverse base.stack.items) base.calls byte) }
+#[inline(always)]
+pub(crate) fn blank_or(alloc: Global, s: &mut State, byte: u8) -> Moved
+    ensures { IfOk result (λ on. reach on (state s.new) ≡ machine.blank_or s.old.last s.old.base.open_ones (reverse s.old.base.stack.items) s.old.base.calls byte) }
 {
     if blank(byte) {
-        Ok(Some(State {
-            mode: Mode::Operand,
-            last: byte,
-            base,
-        }))
+        Ok(to(s, Mode::Operand, byte))
     } else {
-        operand(alloc, last, base, byte)
+        operand(alloc, s, byte)
     }
 }
 
-pub(crate) fn behind_word(base: Base, byte: u8) -> Result<Option<State>, OutOfMemory>
-    ensures { IfOk result (λ r. option_map state r ≡ machine.behind_word base.open_ones (reverse base.stack.items) base.calls byte) }
+#[inline(always)]
+pub(crate) fn behind_word(s: &mut State, byte: u8) -> Moved
+    ensures { IfOk result (λ on. reach on (state s.new) ≡ machine.behind_word s.old.base.open_ones (reverse s.old.base.stack.items) s.old.base.calls byte) }
 {
     if blank(byte) {
-        Ok(Some(State {
-            mode: Mode::Operand,
-            last: byte,
-            base,
-        }))
+        Ok(to(s, Mode::Operand, byte))
     } else if byte == b'(' {
-        opened(base)
+        opened(s)
     } else {
-        Ok(None)
+        Ok(false)
     }
 }
 
-pub(crate) fn denied(text: &[u8], nots: bool, base: Base) -> Result<Option<State>, OutOfMemory>
-    ensures { IfOk result (λ r. option_map state r ≡ machine.denied text.now nots base.open_ones (reverse base.stack.items) base.calls) }
+pub(crate) fn denied(text: &[u8], nots: bool, s: &mut State) -> Moved
+    ensures { IfOk result (λ on. reach on (state s.new) ≡ machine.denied text.now nots s.old.base.open_ones (reverse s.old.base.stack.items) s.old.base.calls) }
 {
     if nots && is_not(text) {
-        opened(waiting(Half::Denied, base)?)
+        waiting(Half::Denied, &mut s.base)?;
+        opened(s)
     } else {
-        Ok(None)
+        Ok(false)
     }
 }
 
-pub(crate) fn calling(alloc: Global, fun: Fun, base: Base) -> State
-    ensures { state result ≡ machine.calling fun base.open_ones (reverse base.stack.items) base.calls }
+#[inline(always)]
+pub(crate) fn calling(alloc: Global, fun: Fun, s: &mut State) -> bool
+    ensures { reach result (state s.new) ≡ Some (machine.calling fun s.old.base.open_ones (reverse s.old.base.stack.items) s.old.base.calls) }
 {
     if fun.is_dated() {
         let call = plain_call(alloc, fun, Text::new(alloc), Text::new(alloc));
-        State {
-            mode: Mode::Close(call),
-            last: b'(',
-            base,
-        }
+        to(s, Mode::Close(call), b'(')
     } else {
-        State {
-            mode: Mode::Slash(fun),
-            last: b'(',
-            base,
-        }
+        to(s, Mode::Slash(fun), b'(')
     }
 }
 
-pub(crate) fn called(
-    alloc: Global,
-    nots: bool,
-    text: &[u8],
-    base: Base,
-) -> Result<Option<State>, OutOfMemory>
-    ensures { IfOk result (λ r. option_map state r ≡ machine.called (if machine.has_room base.calls then machine.function_of text.now else None) nots text.now base.open_ones (reverse base.stack.items) base.calls) }
+#[inline(always)]
+pub(crate) fn called(alloc: Global, nots: bool, text: &[u8], s: &mut State) -> Moved
+    ensures { IfOk result (λ on. reach on (state s.new) ≡ machine.called (if machine.has_room s.old.base.calls then machine.function_of text.now else None) nots text.now s.old.base.open_ones (reverse s.old.base.stack.items) s.old.base.calls) }
 {
-    if base.calls.len() < MOST_CALLS {
+    if s.base.calls.len() < MOST_CALLS {
         match named(text) {
-            Some(fun) => Ok(Some(calling(alloc, fun, base))),
-            None => denied(text, nots, base),
+            Some(fun) => Ok(calling(alloc, fun, s)),
+            None => denied(text, nots, s),
         }
     } else {
-        denied(text, nots, base)
+        denied(text, nots, s)
     }
 }
 
-pub(crate) fn word(
-    alloc: Global,
-    nots: bool,
-    text: Bytes,
-    base: Base,
-    byte: u8,
-) -> Result<Option<State>, OutOfMemory>
-    ensures { IfOk result (λ r. option_map state r ≡ machine.word nots text base.open_ones (reverse base.stack.items) base.calls byte) }
+#[inline(always)]
+pub(crate) fn word(alloc: Global, nots: bool, text: Bytes, s: &mut State, byte: u8) -> Moved
+    ensures { IfOk result (λ on. reach on (state s.new) ≡ machine.word nots text s.old.base.open_ones (reverse s.old.base.stack.items) s.old.base.calls byte) }
 {
     if byte == b'(' {
-        called(alloc, nots, text.as_slice(), base)
+        called(alloc, nots, text.as_slice(), s)
     } else if blank(byte) {
         if nots && is_not(text.as_slice()) {
-            let base = waiting(Half::Denied, base)?;
-            Ok(Some(State {
-                mode: Mode::Operand,
-                last: byte,
-                base,
-            }))
+            waiting(Half::Denied, &mut s.base)?;
+            Ok(to(s, Mode::Operand, byte))
         } else {
-            Ok(None)
+            Ok(false)
         }
     } else {
-        word_byte(nots, text, byte, base)
+        word_byte(nots, text, byte, s)
     }
 }
 
@@ -218,36 +171,26 @@ pub(crate) fn constant(millionths: u128) -> Option<Expr>
     }
 }
 
-pub(crate) fn number_end(
-    alloc: Global,
-    value: Option<u128>,
-    last: u8,
-    base: Base,
-    byte: u8,
-) -> Result<Option<State>, OutOfMemory>
-    ensures { IfOk result (λ r. option_map state r ≡ machine.number_end value last base.open_ones (reverse base.stack.items) base.calls byte) }
+#[inline(always)]
+pub(crate) fn number_end(alloc: Global, value: Option<u128>, s: &mut State, byte: u8) -> Moved
+    ensures { IfOk result (λ on. reach on (state s.new) ≡ machine.number_end value s.old.last s.old.base.open_ones (reverse s.old.base.stack.items) s.old.base.calls byte) }
 {
     match value {
-        None => Ok(None),
+        None => Ok(false),
         Some(n) => match constant(n) {
-            None => Ok(None),
-            Some(left) => behind(alloc, left, last, base, byte),
+            None => Ok(false),
+            Some(left) => behind(alloc, left, s, byte),
         },
     }
 }
 
-pub(crate) fn number(
-    alloc: Global,
-    figures: Figures,
-    last: u8,
-    base: Base,
-    byte: u8,
-) -> Result<Option<State>, OutOfMemory>
-    ensures { IfOk result (λ r. option_map state r ≡ machine.number figures last base.open_ones (reverse base.stack.items) base.calls byte) }
+#[inline(always)]
+pub(crate) fn number(alloc: Global, figures: Figures, s: &mut State, byte: u8) -> Moved
+    ensures { IfOk result (λ on. reach on (state s.new) ≡ machine.number figures s.old.last s.old.base.open_ones (reverse s.old.base.stack.items) s.old.base.calls byte) }
 {
     if is_figure(byte) {
-        Ok(numbered(figure(GREATEST, figures, byte)?, byte, base))
+        Ok(numbered(figure(GREATEST, figures, byte)?, byte, s))
     } else {
-        number_end(alloc, value(&figures), last, base, byte)
+        number_end(alloc, value(&figures), s, byte)
     }
 }

@@ -1,12 +1,13 @@
 //! The bytes behind operands: operators and the parentheses that close.
 
-ghost use Rattle.std.specs.Prelude.{◌≡◌, ◌≤◌, ◌<◌, ◌++◌, ◌∷◌, [], IfOk, reverse, nat_le, nat_lt, Some, None, true, false, option_map, length, if◌then◌else◌, pos, is_some};
+ghost use Rattle.std.specs.Prelude.{◌≡◌, ◌≤◌, ◌<◌, ◌++◌, ◌∷◌, [], IfOk, OnOk, reverse, nat_le, nat_lt, Some, None, true, false, option_map, length, if◌then◌else◌, pos, is_some};
 ghost use Rattle.std.specs.Str.{is_utf8};
 ghost use Rattle.expr_parser.specs.Bytes as bytes;
 ghost use Rattle.expr_parser.specs.Calls as calls;
 ghost use Rattle.expr_parser.specs.Parts as parts;
 ghost use Rattle.expr_parser.specs.Figures as figures;
 ghost use Rattle.expr_parser.specs.Machine as machine;
+ghost use Rattle.expr_parser.specs.Staying.{reach};
 ghost use Rattle.expr_parser.specs.View.{state, slot_list, whole_of};
 ghost use Rattle.expr_parser.specs.declared.parts.Value.TheVariants.{Said};
 ghost use Rattle.expr_parser.specs.declared.pending.Pending.TheVariants.{Waits};
@@ -15,73 +16,54 @@ ghost use Rattle.zbx_types.specs.Trees.{tree_of};
 
 use crate::operand_bytes::{behind_word, blank_or};
 use crate::pending::{Half, Pending, Rest, level, reduce};
-use crate::states::{Base, Mode, State, blank, gap};
+use crate::states::{Base, Mode, Moved, State, blank, gap, to};
 use std::alloc::Global;
+use std::mem::replace;
 use zbx_types::{Expr, Op, Operand, OutOfMemory};
 
-/// What waits behind an operator.
-pub(crate) fn with_op(alloc: Global, op: Op, left: Expr, base: Base) -> Result<Base, OutOfMemory>
-    ensures open { IfOk result (λ r. r.open_ones ≡ base.open_ones) }
-    ensures stack { IfOk result (λ r. reverse r.stack.items ≡ machine.with_op op (tree_of left) (reverse base.stack.items)) }
-    ensures calls { IfOk result (λ r. r.calls ≡ base.calls) }
+/// An operator waits with its left operand, once all that bind as tightly have theirs.
+#[inline(always)]
+pub(crate) fn with_op(alloc: Global, op: Op, left: Expr, base: &mut Base) -> Result<(), OutOfMemory>
+    ensures open { OnOk result (base.new.open_ones ≡ base.old.open_ones) }
+    ensures stack { OnOk result (reverse base.new.stack.items ≡ machine.with_op op (tree_of left) (reverse base.old.stack.items)) }
+    ensures calls { OnOk result (base.new.calls ≡ base.old.calls) }
 {
-    let Base {
-        open_ones,
-        stack,
-        calls,
-    } = base;
-    let made = reduce(alloc, level(op), stack, left)?;
+    let made = reduce(
+        alloc,
+        level(op),
+        replace(&mut base.stack, Vec::new(alloc)),
+        left,
+    )?;
     let left = Operand::new(alloc, made.operand)?;
-    let mut stack = made.stack;
-    stack.push(Pending::Waits(Half::Left(op, left)))?;
-    Ok(Base {
-        open_ones,
-        stack,
-        calls,
-    })
+    base.stack = made.stack;
+    base.stack.push(Pending::Waits(Half::Left(op, left)))?;
+    Ok(())
 }
 
-pub(crate) fn operated(
-    alloc: Global,
-    op: Op,
-    left: Expr,
-    byte: u8,
-    base: Base,
-) -> Result<Option<State>, OutOfMemory>
-    ensures { IfOk result (λ r. option_map state r ≡ Some (machine.state machine.Operand byte base.open_ones (machine.with_op op (tree_of left) (reverse base.stack.items)) base.calls)) }
+#[inline(always)]
+pub(crate) fn operated(alloc: Global, op: Op, left: Expr, byte: u8, s: &mut State) -> Moved
+    ensures { IfOk result (λ on. reach on (state s.new) ≡ Some (machine.state machine.Operand byte s.old.base.open_ones (machine.with_op op (tree_of left) (reverse s.old.base.stack.items)) s.old.base.calls)) }
 {
-    let base = with_op(alloc, op, left, base)?;
-    Ok(Some(State {
-        mode: Mode::Operand,
-        last: byte,
-        base,
-    }))
+    with_op(alloc, op, left, &mut s.base)?;
+    Ok(to(s, Mode::Operand, byte))
 }
 
-pub(crate) fn closed(alloc: Global, left: Expr, base: Base) -> Result<Option<State>, OutOfMemory>
-    ensures { IfOk result (λ r. option_map state r ≡ machine.closed (tree_of left) base.open_ones (reverse base.stack.items) base.calls) }
+#[inline(always)]
+pub(crate) fn closed(alloc: Global, left: Expr, s: &mut State) -> Moved
+    ensures { IfOk result (λ on. reach on (state s.new) ≡ machine.closed (tree_of left) s.old.base.open_ones (reverse s.old.base.stack.items) s.old.base.calls) }
 {
-    let Base {
-        open_ones,
-        stack,
-        calls,
-    } = base;
-    let made = reduce(alloc, 0, stack, left)?;
-    let mut stack = made.stack;
-    match stack.pop() {
-        Some(Pending::Open) if open_ones > 0 => Ok(Some(State {
-            mode: Mode::Done(made.operand),
-            last: b')',
-            base: Base {
-                open_ones: open_ones - 1,
-                stack,
-                calls,
-            },
-        })),
-        _ => Ok(None),
+    let made = reduce(alloc, 0, replace(&mut s.base.stack, Vec::new(alloc)), left)?;
+    s.base.stack = made.stack;
+    match s.base.stack.pop() {
+        Some(Pending::Open) if s.base.open_ones > 0 => {
+            s.base.open_ones -= 1;
+            Ok(to(s, Mode::Done(made.operand), b')'))
+        }
+        _ => Ok(false),
     }
 }
 
+#[inline(always)]
 pub(crate) fn simple_op(byte: u8) -> Option<Op>
     ensures { result ≡ machine.simple_op byte }
 {
@@ -100,143 +82,105 @@ pub(crate) fn simple_op(byte: u8) -> Option<Op>
     }
 }
 
-pub(crate) fn joint(last: u8, op: Op, rest: Rest, left: Expr, byte: u8, base: Base) -> Option<State>
-    ensures { option_map state result ≡ machine.joint last op rest (tree_of left) byte base.open_ones (reverse base.stack.items) base.calls }
+#[inline(always)]
+pub(crate) fn joint(op: Op, rest: Rest, left: Expr, byte: u8, s: &mut State) -> bool
+    ensures { reach result (state s.new) ≡ machine.joint s.old.last op rest (tree_of left) byte s.old.base.open_ones (reverse s.old.base.stack.items) s.old.base.calls }
 {
-    if gap(last) {
-        Some(State {
-            mode: Mode::Joint(op, rest, left),
-            last: byte,
-            base,
-        })
+    if gap(s.last) {
+        to(s, Mode::Joint(op, rest, left), byte)
     } else {
-        None
+        false
     }
 }
 
-pub(crate) fn behind_other(left: Expr, last: u8, base: Base, byte: u8) -> Option<State>
-    ensures { option_map state result ≡ machine.behind_other (tree_of left) last base.open_ones (reverse base.stack.items) base.calls byte None }
+#[inline(always)]
+pub(crate) fn behind_other(left: Expr, s: &mut State, byte: u8) -> bool
+    ensures { reach result (state s.new) ≡ machine.behind_other (tree_of left) s.old.last s.old.base.open_ones (reverse s.old.base.stack.items) s.old.base.calls byte None }
 {
     if byte == b'<' {
-        Some(State {
-            mode: Mode::Less(left),
-            last: byte,
-            base,
-        })
+        to(s, Mode::Less(left), byte)
     } else if byte == b'>' {
-        Some(State {
-            mode: Mode::Greater(left),
-            last: byte,
-            base,
-        })
+        to(s, Mode::Greater(left), byte)
     } else if byte == b'o' {
-        joint(last, Op::Or, Rest::R, left, byte, base)
+        joint(Op::Or, Rest::R, left, byte, s)
     } else if byte == b'a' {
-        joint(last, Op::And, Rest::Nd, left, byte, base)
+        joint(Op::And, Rest::Nd, left, byte, s)
     } else {
-        None
+        false
     }
 }
 
-pub(crate) fn behind(
-    alloc: Global,
-    left: Expr,
-    last: u8,
-    base: Base,
-    byte: u8,
-) -> Result<Option<State>, OutOfMemory>
-    ensures { IfOk result (λ r. option_map state r ≡ machine.behind (tree_of left) last base.open_ones (reverse base.stack.items) base.calls byte) }
+#[inline(always)]
+pub(crate) fn behind(alloc: Global, left: Expr, s: &mut State, byte: u8) -> Moved
+    ensures { IfOk result (λ on. reach on (state s.new) ≡ machine.behind (tree_of left) s.old.last s.old.base.open_ones (reverse s.old.base.stack.items) s.old.base.calls byte) }
 {
     if blank(byte) {
-        return Ok(Some(State {
-            mode: Mode::Done(left),
-            last: byte,
-            base,
-        }));
+        return Ok(to(s, Mode::Done(left), byte));
     }
     if byte == b')' {
-        return closed(alloc, left, base);
+        return closed(alloc, left, s);
     }
     match simple_op(byte) {
-        Some(op) => operated(alloc, op, left, byte, base),
-        None => Ok(behind_other(left, last, base, byte)),
+        Some(op) => operated(alloc, op, left, byte, s),
+        None => Ok(behind_other(left, s, byte)),
     }
 }
 
-pub(crate) fn behind_less(
-    alloc: Global,
-    left: Expr,
-    last: u8,
-    base: Base,
-    byte: u8,
-) -> Result<Option<State>, OutOfMemory>
-    ensures { IfOk result (λ r. option_map state r ≡ machine.behind_less (tree_of left) last base.open_ones (reverse base.stack.items) base.calls byte) }
+#[inline(always)]
+pub(crate) fn behind_less(alloc: Global, left: Expr, s: &mut State, byte: u8) -> Moved
+    ensures { IfOk result (λ on. reach on (state s.new) ≡ machine.behind_less (tree_of left) s.old.last s.old.base.open_ones (reverse s.old.base.stack.items) s.old.base.calls byte) }
 {
     if byte == b'=' {
-        operated(alloc, Op::Le, left, byte, base)
+        operated(alloc, Op::Le, left, byte, s)
     } else if byte == b'>' {
-        operated(alloc, Op::Ne, left, byte, base)
+        operated(alloc, Op::Ne, left, byte, s)
     } else {
-        let base = with_op(alloc, Op::Lt, left, base)?;
-        blank_or(alloc, last, base, byte)
+        with_op(alloc, Op::Lt, left, &mut s.base)?;
+        blank_or(alloc, s, byte)
     }
 }
 
-pub(crate) fn behind_greater(
-    alloc: Global,
-    left: Expr,
-    last: u8,
-    base: Base,
-    byte: u8,
-) -> Result<Option<State>, OutOfMemory>
-    ensures { IfOk result (λ r. option_map state r ≡ machine.behind_greater (tree_of left) last base.open_ones (reverse base.stack.items) base.calls byte) }
+#[inline(always)]
+pub(crate) fn behind_greater(alloc: Global, left: Expr, s: &mut State, byte: u8) -> Moved
+    ensures { IfOk result (λ on. reach on (state s.new) ≡ machine.behind_greater (tree_of left) s.old.last s.old.base.open_ones (reverse s.old.base.stack.items) s.old.base.calls byte) }
 {
     if byte == b'=' {
-        operated(alloc, Op::Ge, left, byte, base)
+        operated(alloc, Op::Ge, left, byte, s)
     } else {
-        let base = with_op(alloc, Op::Gt, left, base)?;
-        blank_or(alloc, last, base, byte)
+        with_op(alloc, Op::Gt, left, &mut s.base)?;
+        blank_or(alloc, s, byte)
     }
 }
 
-pub(crate) fn joint_on(
-    want: u8,
-    next: Rest,
-    op: Op,
-    left: Expr,
-    base: Base,
-    byte: u8,
-) -> Option<State>
-    ensures { option_map state result ≡ machine.joint_on want next op (tree_of left) base.open_ones (reverse base.stack.items) base.calls byte }
+#[inline(always)]
+pub(crate) fn joint_on(want: u8, next: Rest, op: Op, left: Expr, s: &mut State, byte: u8) -> bool
+    ensures { reach result (state s.new) ≡ machine.joint_on want next op (tree_of left) s.old.base.open_ones (reverse s.old.base.stack.items) s.old.base.calls byte }
 {
     if byte == want {
-        Some(State {
-            mode: Mode::Joint(op, next, left),
-            last: byte,
-            base,
-        })
+        to(s, Mode::Joint(op, next, left), byte)
     } else {
-        None
+        false
     }
 }
 
+#[inline(always)]
 pub(crate) fn joint_byte(
     alloc: Global,
     op: Op,
     rest: Rest,
     left: Expr,
-    base: Base,
+    s: &mut State,
     byte: u8,
-) -> Result<Option<State>, OutOfMemory>
-    ensures { IfOk result (λ r. option_map state r ≡ machine.joint_byte op rest (tree_of left) base.open_ones (reverse base.stack.items) base.calls byte) }
+) -> Moved
+    ensures { IfOk result (λ on. reach on (state s.new) ≡ machine.joint_byte op rest (tree_of left) s.old.base.open_ones (reverse s.old.base.stack.items) s.old.base.calls byte) }
 {
     match rest {
-        Rest::Nd => Ok(joint_on(b'n', Rest::D, op, left, base, byte)),
-        Rest::D => Ok(joint_on(b'd', Rest::Nothing, op, left, base, byte)),
-        Rest::R => Ok(joint_on(b'r', Rest::Nothing, op, left, base, byte)),
+        Rest::Nd => Ok(joint_on(b'n', Rest::D, op, left, s, byte)),
+        Rest::D => Ok(joint_on(b'd', Rest::Nothing, op, left, s, byte)),
+        Rest::R => Ok(joint_on(b'r', Rest::Nothing, op, left, s, byte)),
         Rest::Nothing => {
-            let base = with_op(alloc, op, left, base)?;
-            behind_word(base, byte)
+            with_op(alloc, op, left, &mut s.base)?;
+            behind_word(s, byte)
         }
     }
 }

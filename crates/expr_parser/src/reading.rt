@@ -1,6 +1,6 @@
 //! Reading of expressions.
 
-ghost use Rattle.std.specs.Prelude.{◌≡◌, ◌≤◌, ℕ, List, [], length, true, false, IfOk, IfErr, Some, None};
+ghost use Rattle.std.specs.Prelude.{◌≡◌, ◌≤◌, ℕ, List, [], length, true, false, IfOk, IfErr, Some, None, option_map};
 ghost use Rattle.std.specs.List.{All};
 ghost use Rattle.zbx_types.specs.Tree.{Tree};
 ghost use Rattle.zbx_types.specs.Trees.{CallsBelow, tree_of};
@@ -8,12 +8,14 @@ ghost use Rattle.zbx_types.specs.declared.calls.Call.{Call};
 ghost use Rattle.expr_parser.specs.Calls.{IsBoundedCall};
 ghost use Rattle.expr_parser.specs.Fault.{IsFault};
 ghost use Rattle.expr_parser.specs.Machine as machine;
+ghost use Rattle.expr_parser.specs.Staying.{reach};
 ghost use Rattle.expr_parser.specs.View.{state};
 ghost use Rattle.expr_parser.specs.Grammar.{IsExpr, IsText, looks_at_item};
 ghost use Rattle.expr_parser.specs.declared.reading.ParseError.TheVariants.{At};
 
 use crate::moves::{finished, move_on};
-use crate::states::{Base, Mode, State};
+use crate::states::{Base, Mode, Moved, State};
+use crate::staying::stay;
 use std::alloc::Global;
 use thiserror::Error;
 use zbx_types::{Call, Expr, Many, OutOfMemory};
@@ -68,13 +70,47 @@ fn started(alloc: Global) -> State
     }
 }
 
-/// The answer where the text ends in a state, behind so many bytes.
-fn answer(alloc: Global, s: State, count: u32) -> Result<Parsed, ParseError>
-    ensures found { IfOk result (λ p. (machine.ends (state s) ≡ Some (tree_of p.expr, p.calls)) × (looks_at_item p.calls ≡ true)) }
-    ensures dates { IfErr result (λ x. (at : ℕ) → x ≡ At at → (e : Tree) (ks : List Call) → machine.ends (state s) ≡ Some (e, ks) → (at ≡ 0) × (looks_at_item ks ≡ false)) }
-    ensures none { IfErr result (λ x. (at : ℕ) → x ≡ At at → machine.ends (state s) ≡ None → at ≡ count) }
+/// The state before the first byte.
+fn begun(alloc: Global) -> Result<Box<State>, OutOfMemory>
+    ensures { IfOk result (λ made. state made.value ≡ machine.start) }
 {
-    match finished(alloc, s) {
+    match Box::new(alloc, started(alloc)) {
+        Ok(made) => Ok(made),
+        Err(_) => Err(OutOfMemory),
+    }
+}
+
+/// Goes on by one byte.
+#[inline(always)]
+fn go_on(alloc: Global, s: &mut State, byte: u8) -> Moved
+    ensures { IfOk result (λ on. reach on (state s.new) ≡ machine.step false (state s.old) byte) }
+{
+    if let Some(on) = stay(alloc, s, byte)? {
+        return Ok(on);
+    }
+    move_on(alloc, s, byte)
+}
+
+/// The state behind one byte more, in its place in memory, or none where no expression goes on with it.
+#[inline(always)]
+fn advance(alloc: Global, s: Box<State>, byte: u8) -> Result<Option<Box<State>>, OutOfMemory>
+    ensures { IfOk result (λ r. option_map (λ made. state made.value) r ≡ machine.step false (state s.value) byte) }
+{
+    let mut s = s;
+    if go_on(alloc, &mut *s, byte)? {
+        Ok(Some(s))
+    } else {
+        Ok(None)
+    }
+}
+
+/// The answer where the text ends in a state, behind so many bytes.
+fn answer(alloc: Global, s: Box<State>, count: u32) -> Result<Parsed, ParseError>
+    ensures found { IfOk result (λ p. (machine.ends (state s.value) ≡ Some (tree_of p.expr, p.calls)) × (looks_at_item p.calls ≡ true)) }
+    ensures dates { IfErr result (λ x. (at : ℕ) → x ≡ At at → (e : Tree) (ks : List Call) → machine.ends (state s.value) ≡ Some (e, ks) → (at ≡ 0) × (looks_at_item ks ≡ false)) }
+    ensures none { IfErr result (λ x. (at : ℕ) → x ≡ At at → machine.ends (state s.value) ≡ None → at ≡ count) }
+{
+    match finished(alloc, Box::into_inner(s)) {
         Ok(Some(whole)) => {
             if looks(whole.calls.as_slice()) {
                 Ok(Parsed {
@@ -108,13 +144,16 @@ pub fn read(alloc: Global, text: &[u8]) -> Result<Parsed, ParseError>
     ensures dates { IfErr result (λ x. (at : ℕ) → x ≡ At at → (e : Tree) (ks : List Call) → IsExpr text.now e ks → length text.now ≤ 4096 → at ≡ 0) }
     ensures place { IfErr result (λ x. (at : ℕ) → x ≡ At at → ((e : Tree) (ks : List Call) → IsExpr text.now e ks → length text.now ≤ 4096 → ⊥) → IsFault IsText 4096 text.now at) }
 {
-    let mut state = started(alloc);
+    let mut state = match begun(alloc) {
+        Ok(begun) => begun,
+        Err(OutOfMemory) => return Err(ParseError::OutOfMemory),
+    };
     let mut count = 0;
     for byte in text {
         if count == LONGEST_EXPRESSION {
             return Err(ParseError::At(count));
         }
-        match move_on(alloc, state, *byte) {
+        match advance(alloc, state, *byte) {
             Ok(Some(next)) => state = next,
             Ok(None) => return Err(ParseError::At(count)),
             Err(OutOfMemory) => return Err(ParseError::OutOfMemory),

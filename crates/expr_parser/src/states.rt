@@ -1,12 +1,14 @@
 //! Where an expression stands.
 
-ghost use Rattle.std.specs.Prelude.{◌≡◌, ◌≤◌, ◌<◌, ◌++◌, ◌∷◌, [], IfOk, reverse, nat_le, nat_lt, Some, None, true, false, option_map, length, if◌then◌else◌, pos, is_some};
+ghost use Rattle.std.specs.Prelude.{◌≡◌, ◌≤◌, ◌<◌, ◌++◌, ◌∷◌, [], IfOk, OnOk, reverse, nat_le, nat_lt, Some, None, true, false, option_map, length, if◌then◌else◌, pos, is_some};
 ghost use Rattle.std.specs.Str.{is_utf8};
 ghost use Rattle.expr_parser.specs.Bytes as bytes;
 ghost use Rattle.expr_parser.specs.Calls as calls;
 ghost use Rattle.expr_parser.specs.Parts as parts;
 ghost use Rattle.expr_parser.specs.Figures as figures;
 ghost use Rattle.expr_parser.specs.Machine as machine;
+ghost use Rattle.expr_parser.specs.Staying.{reach};
+ghost use Rattle.expr_parser.specs.View as view;
 ghost use Rattle.expr_parser.specs.View.{state, slot_list, whole_of};
 ghost use Rattle.expr_parser.specs.declared.parts.Value.TheVariants.{Said};
 ghost use Rattle.expr_parser.specs.declared.pending.Pending.TheVariants.{Waits};
@@ -81,41 +83,53 @@ pub(crate) struct Whole {
     pub(crate) calls: Many<Call>,
 }
 
+#[inline(always)]
 pub(crate) fn blank(byte: u8) -> bool
     ensures { result ≡ bytes.is_blank byte }
 {
     byte == b' ' || byte == b'\t' || byte == b'\r' || byte == b'\n'
 }
 
+#[inline(always)]
 pub(crate) fn gap(byte: u8) -> bool
     ensures { result ≡ bytes.is_gap byte }
 {
     byte == b'(' || byte == b')' || blank(byte)
 }
 
-pub(crate) fn waiting(half: Half, base: Base) -> Result<Base, OutOfMemory>
-    ensures open { IfOk result (λ r. r.open_ones ≡ base.open_ones) }
-    ensures stack { IfOk result (λ r. reverse r.stack.items ≡ Waits half ∷ reverse base.stack.items) }
-    ensures calls { IfOk result (λ r. r.calls ≡ base.calls) }
+/// Whether an expression goes on with a byte. Where it doesn't, the state is any.
+pub(crate) type Moved = Result<bool, OutOfMemory>;
+
+/// Goes on in that place, behind that byte.
+#[inline(always)]
+pub(crate) fn to(s: &mut State, mode: Mode, last: u8) -> bool
+    ensures { reach result (state s.new) ≡ Some (machine.state (view.mode mode) last s.old.base.open_ones (reverse s.old.base.stack.items) s.old.base.calls) }
 {
-    let mut base = base;
-    base.stack.push(Pending::Waits(half))?;
-    Ok(base)
+    s.mode = mode;
+    s.last = last;
+    true
 }
 
-pub(crate) fn opened(base: Base) -> Result<Option<State>, OutOfMemory>
-    ensures { IfOk result (λ r. option_map state r ≡ machine.opened base.open_ones (reverse base.stack.items) base.calls) }
+/// One more waits for its operand.
+#[inline(always)]
+pub(crate) fn waiting(half: Half, base: &mut Base) -> Result<(), OutOfMemory>
+    ensures open { OnOk result (base.new.open_ones ≡ base.old.open_ones) }
+    ensures stack { OnOk result (reverse base.new.stack.items ≡ Waits half ∷ reverse base.old.stack.items) }
+    ensures calls { OnOk result (base.new.calls ≡ base.old.calls) }
 {
-    let mut base = base;
-    if base.open_ones < MOST_OPEN {
-        base.stack.push(Pending::Open)?;
-        base.open_ones += 1;
-        Ok(Some(State {
-            mode: Mode::Operand,
-            last: b'(',
-            base,
-        }))
+    base.stack.push(Pending::Waits(half))?;
+    Ok(())
+}
+
+#[inline(always)]
+pub(crate) fn opened(s: &mut State) -> Moved
+    ensures { IfOk result (λ on. reach on (state s.new) ≡ machine.opened s.old.base.open_ones (reverse s.old.base.stack.items) s.old.base.calls) }
+{
+    if s.base.open_ones < MOST_OPEN {
+        s.base.stack.push(Pending::Open)?;
+        s.base.open_ones += 1;
+        Ok(to(s, Mode::Operand, b'('))
     } else {
-        Ok(None)
+        Ok(false)
     }
 }

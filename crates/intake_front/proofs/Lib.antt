@@ -1,3 +1,16 @@
 pub mod Numbers
+pub mod Short
+pub mod Collecting
+pub mod Journals
+pub mod Offers
+pub mod Batches
+pub mod Received
 pub mod Sound
 pub mod Growth
+pub mod Taken
+pub mod Commits
+pub mod Alone
+pub mod Fronts
+pub mod Misfits
+pub mod Ticks
+pub mod Openings

@@ -1,12 +1,12 @@
 -- Laws of numbered groups.
-use Rattle.std.proofs.Common.{◌≡◌, ℕ, ◌+◌, List, [], ◌∷◌, ◌++◌, length, suc, refl, ap, sym, ◌∙◌, arith, append-nil}
+use Rattle.std.proofs.Common.{◌≡◌, ℕ, ◌+◌, List, [], ◌∷◌, ◌++◌, length, suc, refl, ap, sym, ◌∙◌, arith, append-nil, append_assoc, length-append}
 use Rattle.std.proofs.lemmas.Grind.{flat_map-append}
 use Rattle.zbx_types.specs.declared.conf.Conf.{Conf}
 use Rattle.zbx_types.specs.declared.entries.Entry.{Entry}
 use Rattle.zbx_types.specs.declared.entries.Numbered.{Numbered}
 use Rattle.sender_json.specs.declared.asked.Asked.{Asked}
 use Rattle.intake_front.specs.Taking.{taken_of, entry_in, group_of}
-use Rattle.intake_front.specs.Intake.{numbered_from}
+use Rattle.intake_front.specs.Intake.{numbered_from, with_group}
 
 pub length_numbered : (n : ℕ) (group : List Entry) → length (numbered_from n group) ≡ length group
 length_numbered n [] = refl
@@ -19,18 +19,51 @@ numbered-append n (e ∷ a) b =
     let next : n + 1 + length a ≡ n + length (e ∷ a) = omega arith in
     ap (λ t. record { number = n; entry = e } ∷ t) (numbered-append (n + 1) a b ∙ ap (λ k. numbered_from (n + 1) a ++ numbered_from k b) next)
 
-pub group_none : (conf : Conf) (now first : ℕ) → numbered_from first (group_of conf now []) ≡ []
-group_none conf now first = refl
+-- one more entry of a group
+pub numbered_step : (first number : ℕ) (made new : List Numbered) (group : List Entry) (e : Entry) → made ≡ numbered_from first group → number ≡ first + length made
+    → new ≡ made ++ record { number = number; entry = e } ∷ [] → new ≡ numbered_from first (group ++ e ∷ [])
+numbered_step first number made new group e is at more =
+    let count : number ≡ first + length group = omega (arith, at, ap length is, length_numbered first group) in
+    more ∙ ap (λ (n : ℕ). made ++ record { number = n; entry = e } ∷ []) count ∙ ap (λ (l : List Numbered). l ++ record { number = first + length group; entry = e } ∷ []) is
+    ∙ sym (numbered-append first group (e ∷ []))
+
+pub group_none : (conf : Conf) (now : ℕ) → group_of conf now [] ≡ []
+group_none conf now = refl
 
 -- one more asked value
-pub group_more : (conf : Conf) (now first : ℕ) (made new : List Numbered) (asked : List Asked) (one : Asked)
-    → made ≡ numbered_from first (group_of conf now asked)
-    → new ≡ made ++ numbered_from (first + length made) (entry_in (taken_of conf now one))
-    → new ≡ numbered_from first (group_of conf now (asked ++ one ∷ []))
-group_more conf now first made new asked one is more =
-    let group = group_of conf now asked in
+pub group_more : (conf : Conf) (now : ℕ) (made new : List Entry) (asked : List Asked) (one : Asked)
+    → made ≡ group_of conf now asked
+    → new ≡ made ++ entry_in (taken_of conf now one)
+    → new ≡ group_of conf now (asked ++ one ∷ [])
+group_more conf now made new asked one is more =
     let behind = entry_in (taken_of conf now one) in
-    let all : group_of conf now (asked ++ one ∷ []) ≡ group ++ behind = flat_map-append _ asked (one ∷ []) ∙ ap (λ t. group ++ t) (append-nil behind) in
-    let count : length made ≡ length group = ap length is ∙ length_numbered first group in
-    more ∙ (ap (λ k. made ++ numbered_from (first + k) behind) count ∙ (ap (λ t. t ++ numbered_from (first + length group) behind) is
-    ∙ (sym (numbered-append first group behind) ∙ ap (numbered_from first) (sym all))))
+    let all : group_of conf now (asked ++ one ∷ []) ≡ group_of conf now asked ++ behind = flat_map-append _ asked (one ∷ []) ∙ ap (λ t. group_of conf now asked ++ t) (append-nil behind) in
+    more ∙ ap (λ t. t ++ behind) is ∙ sym all
+
+-- one more entry of a group behind others
+pub numbered_more : (first number : ℕ) (before made new : List Numbered) (group : List Entry) (e : Entry) → made ≡ before ++ numbered_from (first + length before) group → number ≡ first + length made
+    → new ≡ made ++ record { number = number; entry = e } ∷ [] → new ≡ before ++ numbered_from (first + length before) (group ++ e ∷ [])
+numbered_more first number before made new group e is at more =
+    let start = first + length before in
+    let count : number ≡ start + length group = omega (arith, at, ap length is, length-append before (numbered_from start group), length_numbered start group) in
+    more ∙ ap (λ (n : ℕ). made ++ record { number = n; entry = e } ∷ []) count ∙ ap (λ (l : List Numbered). l ++ record { number = start + length group; entry = e } ∷ []) is
+    ∙ append_assoc before (numbered_from start group) (record { number = start + length group; entry = e } ∷ [])
+    ∙ ap (λ (l : List Numbered). before ++ l) (sym (numbered-append start group (e ∷ [])))
+
+-- a group whose first entry was moved behind entries
+pub group_step : (entries new : List Numbered) (number : ℕ) (e : Entry) (rest group : List Entry) → group ≡ e ∷ rest → number ≡ length entries + 1 → new ≡ entries ++ record { number = number; entry = e } ∷ []
+    → with_group new rest ≡ with_group entries group
+group_step entries new number e rest group is at more =
+    let one : Numbered = record { number = length entries + 1; entry = e } in
+    let there : new ≡ entries ++ one ∷ [] = more ∙ ap (λ (n : ℕ). entries ++ record { number = n; entry = e } ∷ []) at in
+    let next : length (entries ++ one ∷ []) + 1 ≡ length entries + 1 + 1 = omega (arith, length-append entries (one ∷ [])) in
+    ap (λ (es : List Numbered). with_group es rest) there ∙ ap (λ (n : ℕ). (entries ++ one ∷ []) ++ numbered_from n rest) next ∙ append_assoc entries (one ∷ []) (numbered_from (length entries + 1 + 1) rest)
+    ∙ ap (with_group entries) (sym is)
+
+-- two groups, one numbered behind the other
+pub both_from : (first : ℕ) (none one both : List Numbered) (a b : List Entry) → none ≡ [] → one ≡ none ++ numbered_from (first + length none) a → both ≡ one ++ numbered_from (first + length one) b → both ≡ numbered_from first (a ++ b)
+both_from first none one both a b empty is behind =
+    let start : first + length none ≡ first = omega (arith, ap length empty) in
+    let there : one ≡ numbered_from first a = is ∙ ap (λ (l : List Numbered). l ++ numbered_from (first + length none) a) empty ∙ ap (λ (n : ℕ). numbered_from n a) start in
+    let next : first + length one ≡ first + length a = omega (arith, ap length there, length_numbered first a) in
+    behind ∙ ap (λ (l : List Numbered). l ++ numbered_from (first + length one) b) there ∙ ap (λ (n : ℕ). numbered_from first a ++ numbered_from n b) next ∙ sym (numbered-append first a b)

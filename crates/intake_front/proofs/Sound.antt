@@ -1,6 +1,6 @@
 -- What events keep of the intake's entries.
 use Rattle.std.proofs.Common.{◌≡◌, ℕ, ◌+◌, ◌≤◌, ◌<◌, max, Bool, true, false, not, List, [], ◌∷◌, ◌++◌, length, refl, ap, sym, ◌∙◌, subst, arith, append_assoc, append-nil, length-append, eqb}
-use Rattle.std.specs.Prelude.{◌&&◌, if◌then◌else◌, option_and_then, Option, Some, None, nat_le, Result, Err}
+use Rattle.std.specs.Prelude.{◌&&◌, if◌then◌else◌, option_and_then, Option, Some, None, nat_le, Result, Ok, Err, IfOk, OnOk}
 use Rattle.std.specs.List.{All}
 use Rattle.std.proofs.lemmas.List.{reverse-append, length-reverse}
 use Rattle.std.proofs.lemmas.Bool.{ne_eqb}
@@ -27,11 +27,16 @@ use Rattle.sender_json.specs.declared.request.Request.{Request}
 use Rattle.sender_json.specs.declared.request.Request.TheVariants as request
 use Rattle.sender_json.specs.Requests.{request_of}
 use Rattle.entry_step.specs.Log.{log_of, last_moment, moment_of, is_config, is_trapper, IsFitting, IsFull, Fits}
+use Rattle.maintenance.specs.Suppression.{is_collected}
 use Rattle.entry_step.specs.Names.{host_named, item_keyed}
 use Rattle.intake_front.specs.Taking.{clocked, valued, keyed, hosted, taken_of, entry_in, group_of, is_enabled_host, is_enabled_item, is_trapper_kind, is_trapper_item}
-use Rattle.intake_front.specs.Intake.{Intake, numbered_from, with_group, is_due, half_minute, ticks_at, answered_values, answered_request, turned, behind_tick, ticked, handled, start, IsSound}
+use Rattle.intake_front.specs.Intake.{Limits, Intake, numbered_from, with_group, is_due, half_minute, ticks_at, answered_values, answered_request, turned, kept_with, ticked, values_offered, behind_tick, tick_offered, offered, refused, numbered_behind, stop_of, handled, start, IsSound}
+use Rattle.zbx_types.specs.declared.memory.OutOfMemory.{OutOfMemory}
+use Rattle.intake_front.specs.declared.answer.Answer.{Answer}
+use Rattle.intake_front.specs.declared.answer.Stop.{Stop}
+use Rattle.intake_front.specs.declared.drafts.Draft.{Draft}
 use Rattle.intake_front.specs.declared.refusal.ValueRefusal.{ValueRefusal}
-use Rattle.intake_front.specs.declared.refusal.ValueRefusal.TheVariants.{Disabled, NotTrapper, BadValue}
+use Rattle.intake_front.specs.declared.refusal.ValueRefusal.TheVariants.{Disabled, NotTrapper, InMaintenance, BadValue}
 
 -- an entry that is taken at a moment: it is no Config, and fits
 record IsTakenAt (conf : Conf) (now : ℕ) (e : Entry) : Type 0 where
@@ -117,7 +122,8 @@ module _ (conf : Conf) (now : ℕ) where
       let there = at_id conf.items item in
       unless P (not (is_enabled_host (at_id conf.hosts host) && is_enabled_item there)) Disabled _ (λ enabled.
       unless P (not (is_trapper_item there)) NotTrapper _ (λ takes.
-      valued_fits conf now item asked.clock asked.value (trapper there (both_true (is_enabled_host (at_id conf.hosts host)) (is_enabled_item there) enabled) takes)))
+      unless P (not (is_collected conf host now)) InMaintenance _ (λ collected.
+      valued_fits conf now item asked.clock asked.value (trapper there (both_true (is_enabled_host (at_id conf.hosts host)) (is_enabled_item there) enabled) takes))))
 
   hosted_fits : (asked : Asked) (host : Option ℕ) → All (IsTakenAt conf now) (entry_in (hosted conf now asked host))
   unfolding hosted
@@ -150,22 +156,63 @@ module _ (conf : Conf) (now : ℕ) where
   tick_fits true = All-cons (IsTakenAt conf now) (Tick now) [] (record { moment = refl; plain = refl; fitting = tt }) (All-nil (IsTakenAt conf now))
   tick_fits false = All-nil (IsTakenAt conf now)
 
+-- an intake that has reached a moment, with entries that are sound then
+record Standing (conf : Conf) (now : ℕ) (i : Intake) : Type 0 where
+  reached : i.now ≡ now
+  entries : Stand conf now i.entries
+
+module _ (conf : Conf) (now : ℕ) where
+  kept_stands : (i : Intake) (group : List Entry) → Standing conf now i → All (IsTakenAt conf now) group → Standing conf now (kept_with i group)
+  kept_stands i [] s all = s
+  kept_stands i (e ∷ es) s all = record { reached = s.reached; entries = stand_group conf now i.entries (e ∷ es) s.entries all }
+
+  ticked_stands : (i : Intake) (ticks : List Entry) → Standing conf now i → All (IsTakenAt conf now) ticks → Standing conf now (ticked i ticks)
+  ticked_stands i [] s all = s
+  ticked_stands i (e ∷ es) s all = record { reached = s.reached; entries = stand_group conf now i.entries (e ∷ es) s.entries all }
+
+  values_stand : (i : Intake) (ticks : List Numbered) (made : Draft) (last o : Option Stop) → Standing conf now i → All (IsTakenAt conf now) made.group
+      → Standing conf now (values_offered i ticks made last o).intake
+  values_stand i ticks made last None s all = kept_stands i made.group s all
+  values_stand i ticks made last (Some reason) s all = s
+
+  tick_stands : (limits : Limits) (i : Intake) (ticks : List Entry) (made : Draft) (last o : Option Stop) → Standing conf now i → All (IsTakenAt conf now) ticks → All (IsTakenAt conf now) made.group
+      → Standing conf now (tick_offered limits i ticks made last o).intake
+  unfolding behind_tick
+  tick_stands limits i ticks made last None s all behind = values_stand (ticked i ticks) (numbered_behind i.entries ticks) made last (refused limits (ticked i ticks) made.group) (ticked_stands i ticks s all) behind
+  tick_stands limits i ticks made last (Some reason) s all behind = s
+
+  offered_stands : (limits : Limits) (i : Intake) (ticks : List Entry) (made : Draft) (last : Option Stop) → Standing conf now i → All (IsTakenAt conf now) ticks → All (IsTakenAt conf now) made.group
+      → Standing conf now (offered limits i ticks made last).intake
+  unfolding offered
+  offered_stands limits i ticks made last s all behind = tick_stands limits i ticks made last (refused limits i ticks) s all behind
+
 -- a run that begins is sound
-pub sound_start : (conf : Conf) (text : List ℕ) → IsSound conf (start text)
-sound_start conf text = record { full = (tt, refl); fits = ((tt, refl), (tt, omega arith, tt)); moments = omega arith; begun = omega arith }
+sound_first : (conf : Conf) (text : List ℕ) (bytes : ℕ) → IsSound conf (start text [] bytes)
+sound_first conf text bytes = record { full = (tt, refl); fits = ((tt, refl), (tt, omega arith, tt)); moments = omega arith; begun = omega arith }
+
+-- so is one that goes on behind a full log that fits
+pub sound_start : (conf : Conf) (text : List ℕ) (kept : List Numbered) (bytes : ℕ) → IsFull (log_of kept) → Fits conf (log_of kept) → IsSound conf (start text kept bytes)
+sound_start conf text [] bytes full fits = sound_first conf text bytes
+sound_start conf text (e ∷ es) bytes full fits = record { full = full; fits = fits; moments = omega arith; begun = omega arith }
 
 -- an event keeps the intake sound
-pub sound_handled : (conf : Conf) (i : Intake) (e : WireEvent) → IsSound conf i → IsSound conf (handled conf i e).intake
-unfolding handled behind_tick ticked
-sound_handled conf i e s =
+pub sound_handled : (limits : Limits) (conf : Conf) (i : Intake) (e : WireEvent) → IsSound conf i → IsSound conf (handled limits conf i e).intake
+unfolding handled
+sound_handled limits conf i e s =
     let now = max i.now (moment_at e) in
-    let due = is_due i.tick (half_minute now) in
     let begun : Stand conf now i.entries = let before = s.moments in record { full = s.full; fits = s.fits; moments = omega arith; begun = s.begun } in
-    let tick = stand_group conf now i.entries (ticks_at i.tick now) begun (tick_fits conf now due) in
-    let made = turned conf now (turn_of i.peers now e) in
-    let all = stand_group conf now (with_group i.entries (ticks_at i.tick now)) made.group tick (turned_fits conf now (turn_of i.peers now e)) in
-    record { full = all.full; fits = all.fits; moments = all.moments; begun = all.begun }
+    let t = turn_of i.peers now e in
+    let all = offered_stands conf now limits _ (ticks_at i.tick now) (turned conf now t) (stop_of e) (record { reached = refl; entries = begun }) (tick_fits conf now (is_due i.tick (half_minute now))) (turned_fits conf now t) in
+    record { full = all.entries.full; fits = all.entries.fits; moments = omega (arith, all.reached, all.entries.moments); begun = all.entries.begun }
 
 -- what an event leaves is as sound as what was there
-pub kept : (conf : Conf) (old new : Intake) (e : WireEvent) → new ≡ (handled conf old e).intake → IsSound conf old → IsSound conf new
-kept conf old new e is s = subst (IsSound conf) (sym is) (sound_handled conf old e s)
+pub kept : (limits : Limits) (conf : Conf) (old new : Intake) (e : WireEvent) → new ≡ (handled limits conf old e).intake → IsSound conf old → IsSound conf new
+kept limits conf old new e is s = subst (IsSound conf) (sym is) (sound_handled limits conf old e s)
+
+pub kept_start : (conf : Conf) (text : List ℕ) (entries : List Numbered) (bytes : ℕ) (i : Intake) → i ≡ start text entries bytes → IsFull (log_of entries) → Fits conf (log_of entries) → IsSound conf i
+kept_start conf text entries bytes i is full fits = subst (IsSound conf) (sym is) (sound_start conf text entries bytes full fits)
+
+pub kept_after : (conf : Conf) (i j : Intake) (e : WireEvent) (limits : Option Stop → Limits) (result : Result Answer OutOfMemory) → IfOk result (λ a. j ≡ (handled (limits a.stop) conf i e).intake)
+    → OnOk result (IsSound conf i → IsSound conf j)
+kept_after conf i j e limits (Ok a) is = λ sound. kept (limits a.stop) conf i j e is sound
+kept_after conf i j e limits (Err refused) is = tt

@@ -1,5 +1,6 @@
--- What a wire event does: the entries that it numbers, and the reply to its sender.
-use Rattle.std.specs.Prelude.{◌≤◌, ◌<◌, ℕ, ◌+◌, ◌-◌, ◌/◌, max, nat_lt, Bool, true, List, [], ◌∷◌, ◌++◌, length, Option, Some, None, if◌then◌else◌}
+-- What a wire event does: the entries that it numbers and journals, and the reply to its sender.
+use Rattle.std.specs.Prelude.{◌≤◌, ◌<◌, ℕ, ◌+◌, ◌-◌, ◌/◌, ◌^◌, min, max, nat_lt, ◌==◌, ◌||◌, Bool, true, List, [], ◌∷◌, ◌++◌, length, Option, Some, None, if◌then◌else◌}
+use Rattle.std.specs.Option.{option_or, option_map}
 use Rattle.zbx_types.specs.Frames.{frame}
 use Rattle.zbx_types.specs.declared.conf.Conf.{Conf}
 use Rattle.zbx_types.specs.declared.entries.Entry.{Entry}
@@ -8,6 +9,7 @@ use Rattle.zbx_types.specs.declared.entries.Numbered.{Numbered}
 use Rattle.outside.specs.Script.{moment_at}
 use Rattle.outside.specs.declared.event.WireEvent.{WireEvent}
 use Rattle.outside.specs.declared.event.WireEvent.TheVariants.{Opened, Piece, Ended, Broke, Quiet, Closed}
+use Rattle.intake_journal.specs.Bytes.{entries_bytes}
 use Rattle.wire_core.specs.Peers.{Peers, no_peers, turn_of, after_event}
 use Rattle.wire_core.specs.declared.turn.Turn.{Turn}
 use Rattle.wire_core.specs.declared.turn.Turn.TheVariants as turn
@@ -17,19 +19,31 @@ use Rattle.sender_json.specs.declared.asked.Asked.{Asked}
 use Rattle.sender_json.specs.declared.request.Request.{Request}
 use Rattle.sender_json.specs.declared.request.Request.TheVariants as request
 use Rattle.sender_json.specs.declared.refused.Refusal.TheVariants as refusal
-use Rattle.entry_step.specs.Log.{log_of, last_moment, IsFull, Fits}
+use Rattle.entry_step.specs.Log.{log_of, last_moment, tick_of, IsFull, Fits}
 use Rattle.intake_front.specs.Taking.{group_of}
 use Rattle.intake_front.specs.declared.answer.Answer.{Answer}
+use Rattle.intake_front.specs.declared.answer.Reply.{Reply}
 use Rattle.intake_front.specs.declared.answer.Stop.{Stop}
 use Rattle.intake_front.specs.declared.answer.Stop.TheVariants as stop
+use Rattle.intake_front.specs.declared.drafts.Draft.{Draft}
+
+-- What a run may journal: the most entries and the most bytes, and the number of the group that the disk refuses, counted
+-- from 1 in the run, or 0 where it refuses none.
+pub record Limits : Type 0 where
+  pub max_entries : ℕ
+  pub max_bytes : ℕ
+  pub stop : ℕ
 
 -- The intake between two events: the moment that the events have reached, the half minute of the last Tick, the
--- connections that are there, and the entries in the order of their numbers.
+-- connections that are there, the entries in the order of their numbers, the journal's bytes up to and with the gate
+-- behind its last group, and how many groups were kept in this run.
 pub record Intake : Type 0 where
   pub now : ℕ
   pub tick : Option ℕ
   pub peers : Peers
   pub entries : List Numbered
+  pub bytes : ℕ
+  pub groups : ℕ
 
 -- what an event leaves, and what is answered
 pub record Handled : Type 0 where
@@ -41,9 +55,17 @@ abbrev pub numbered_from : ℕ → List Entry → List Numbered
 numbered_from number [] = []
 numbered_from number (entry ∷ rest) = record { number = number; entry = entry } ∷ numbered_from (number + 1) rest
 
+-- a group with the numbers behind entries
+abbrev pub numbered_behind : List Numbered → List Entry → List Numbered
+numbered_behind entries group = numbered_from (length entries + 1) group
+
 -- entries with a group behind them
 abbrev pub with_group : List Numbered → List Entry → List Numbered
-with_group entries group = entries ++ numbered_from (length entries + 1) group
+with_group entries group = entries ++ numbered_behind entries group
+
+-- a journal's bytes with a group more
+abbrev pub bytes_with : ℕ → List Entry → ℕ
+bytes_with bytes group = bytes + length (entries_bytes group) + 9
 
 -- a Tick is due where there was none, or its half minute is over
 abbrev pub is_due : Option ℕ → ℕ → Bool
@@ -58,53 +80,39 @@ half_minute now = now / 30000000000
 abbrev pub ticks_at : Option ℕ → ℕ → List Entry
 ticks_at last now = if is_due last (half_minute now) then Tick now ∷ [] else []
 
--- the half minute of the last Tick behind that moment
-abbrev pub tick_after : Option ℕ → ℕ → Option ℕ
-tick_after last now = if is_due last (half_minute now) then Some (half_minute now) else last
+-- no entries, and what the connection gets
+abbrev pub only : Option Reply → Option ℕ → Draft
+only reply shut = record { group = []; reply = reply; failing = None; shut = shut }
 
--- the intake once an event's moment has come: time never goes back, and the Tick that is due is numbered
-unfoldable pub ticked : Intake → ℕ → Intake
-ticked i at =
-    let now = max i.now at in
-    record { now = now; tick = tick_after i.tick now; peers = i.peers; entries = with_group i.entries (ticks_at i.tick now) }
+-- the reply of a connection
+abbrev pub replying : ℕ → List ℕ → Option Reply
+replying conn bytes = Some (record { conn = conn; bytes = bytes })
 
--- nothing is answered
-abbrev pub silent : Answer
-silent = record { reply = None; shut = None; stop = None }
+-- the reply that counts values, and tells the nanoseconds since a moment as microseconds
+abbrev pub counting : ℕ → ℕ → ℕ → ℕ → ℕ → Option Reply
+counting conn processed failed now since = replying conn (frame (reply_text processed failed ((now - since) / 1000)))
 
--- a connection gets these bytes, and is closed behind them
-abbrev pub replying : ℕ → List ℕ → Answer
-replying conn bytes = record { reply = Some (record { conn = conn; bytes = bytes }); shut = Some conn; stop = None }
-
--- a connection is closed, with no reply
-abbrev pub shutting : ℕ → Answer
-shutting conn = record { reply = None; shut = Some conn; stop = None }
-
--- what a request makes: the entries of one group, without their numbers, and the answer
-pub record Made : Type 0 where
-  pub group : List Entry
-  pub answer : Answer
-
--- no entries
-abbrev pub only : Answer → Made
-only answer = record { group = []; answer = answer }
-
--- the values that are taken are one group; the reply counts them and the others, and tells how long its connection was open
-unfoldable pub answered_values : Conf → ℕ → ℕ → ℕ → List Asked → Made
+-- the values that are taken are one group; the reply counts them and the others, or all as failed where the group isn't kept
+unfoldable pub answered_values : Conf → ℕ → ℕ → ℕ → List Asked → Draft
 answered_values conf now conn since all =
     let group = group_of conf now all in
-    record { group = group; answer = replying conn (frame (reply_text (length group) (length all - length group) ((now - since) / 1000))) }
+    record {
+      group = group;
+      reply = counting conn (length group) (length all - length group) now since;
+      failing = counting conn 0 (length all) now since;
+      shut = Some conn;
+    }
 
 -- a request that brings no values is refused by its reply
-unfoldable pub answered_request : Conf → ℕ → ℕ → ℕ → Request → Made
-answered_request conf now conn since request.NotJson = only (replying conn (frame (refusal_text refusal.NotJson)))
-answered_request conf now conn since request.Other = only (replying conn (frame (refusal_text refusal.Unsupported)))
+unfoldable pub answered_request : Conf → ℕ → ℕ → ℕ → Request → Draft
+answered_request conf now conn since request.NotJson = only (replying conn (frame (refusal_text refusal.NotJson))) (Some conn)
+answered_request conf now conn since request.Other = only (replying conn (frame (refusal_text refusal.Unsupported))) (Some conn)
 answered_request conf now conn since (request.Values all) = answered_values conf now conn since all
 
 -- what is made at a moment of what an event meant for its connection
-unfoldable pub turned : Conf → ℕ → Turn → Made
-turned conf now turn.Nothing = only silent
-turned conf now (turn.Shut conn) = only (shutting conn)
+unfoldable pub turned : Conf → ℕ → Turn → Draft
+turned conf now turn.Nothing = only None None
+turned conf now (turn.Shut conn) = only None (Some conn)
 turned conf now (turn.Whole conn body since) = answered_request conf now conn since (request_of body)
 
 -- Closed is the last event
@@ -116,27 +124,100 @@ stop_of (Ended conn at) = None
 stop_of (Broke conn at) = None
 stop_of (Quiet at) = None
 
--- an answer that tells whether its event is the last
-abbrev pub stopping : Answer → Option Stop → Answer
-stopping answer s = record { reply = answer.reply; shut = answer.shut; stop = s }
+-- why the group with this number isn't kept, with which the journal would have so many entries and bytes: it would pass a
+-- limit, or the disk refuses it
+unfoldable pub refused_at : Limits → ℕ → ℕ → ℕ → Option Stop
+refused_at limits entries bytes number =
+    if nat_lt limits.max_entries entries || nat_lt limits.max_bytes bytes then Some (stop.Full entries bytes)
+    else if number == limits.stop then Some stop.DiskFault
+    else None
 
--- the intake with other connections, and with a group more
-abbrev pub grown_by : Intake → Peers → List Entry → Intake
-grown_by i peers group = record { now = i.now; tick = i.tick; peers = peers; entries = with_group i.entries group }
+-- why one more group isn't kept; a number of bytes that has no place in 64 bits is told as 2^64 - 1
+abbrev pub refused_more : Limits → Intake → List Entry → Option Stop
+refused_more limits i group = refused_at limits (length i.entries + length group) (min (bytes_with i.bytes group) (2 ^ 64 - 1)) (i.groups + 1)
 
--- what an event does behind its Tick
-unfoldable pub behind_tick : Conf → Intake → WireEvent → Handled
-behind_tick conf i e =
-    let made = turned conf i.now (turn_of i.peers i.now e) in
-    record { intake = grown_by i (after_event i.peers i.now e) made.group; answer = stopping made.answer (stop_of e) }
+-- why a group that is offered isn't kept; no entries are no group
+abbrev pub refused : Limits → Intake → List Entry → Option Stop
+refused limits i [] = None
+refused limits i (e ∷ es) = refused_more limits i (e ∷ es)
 
--- what an event does
-unfoldable pub handled : Conf → Intake → WireEvent → Handled
-handled conf i e = behind_tick conf (ticked i (moment_at e)) e
+-- the intake with one more group
+abbrev pub kept_more : Intake → List Entry → Intake
+kept_more i group = record i { entries = with_group i.entries group; bytes = bytes_with i.bytes group; groups = i.groups + 1 }
 
--- the intake of a run that begins: the configuration is entry 1, at moment 0
-abbrev pub start : List ℕ → Intake
-start text = record { now = 0; tick = None; peers = no_peers; entries = record { number = 1; entry = Config 0 text } ∷ [] }
+-- the intake with a group that is kept
+abbrev pub kept_with : Intake → List Entry → Intake
+kept_with i [] = i
+kept_with i (e ∷ es) = kept_more i (e ∷ es)
+
+-- the same where it is the Tick of the intake's moment
+abbrev pub ticked : Intake → List Entry → Intake
+ticked i [] = i
+ticked i (e ∷ es) = record (kept_more i (e ∷ es)) { tick = Some (half_minute i.now) }
+
+-- nothing is answered but why no event is taken any more
+abbrev pub stopping : Stop → Answer
+stopping s = record { reply = None; shut = None; added = []; stop = Some s }
+
+-- what an event does behind its Tick, where its group is kept, or why it isn't
+abbrev pub values_offered : Intake → List Numbered → Draft → Option Stop → Option Stop → Handled
+values_offered i ticks made last None = record {
+  intake = kept_with i made.group;
+  answer = record { reply = made.reply; shut = made.shut; added = ticks ++ numbered_behind i.entries made.group; stop = last };
+}
+values_offered i ticks made last (Some s) = record { intake = i; answer = record { reply = made.failing; shut = made.shut; added = ticks; stop = Some s } }
+
+-- what an event does behind the Tick that was kept
+unfoldable pub behind_tick : Limits → Intake → List Numbered → Draft → Option Stop → Handled
+behind_tick limits i ticks made last = values_offered i ticks made last (refused limits i made.group)
+
+-- what an event does where its Tick is kept, or why it isn't: then the event isn't handled
+abbrev pub tick_offered : Limits → Intake → List Entry → Draft → Option Stop → Option Stop → Handled
+tick_offered limits i ticks made last None = behind_tick limits (ticked i ticks) (numbered_behind i.entries ticks) made last
+tick_offered limits i ticks made last (Some s) = record { intake = i; answer = stopping s }
+
+-- what an event does whose Tick and whose group are offered, one after the other
+unfoldable pub offered : Limits → Intake → List Entry → Draft → Option Stop → Handled
+offered limits i ticks made last = tick_offered limits i ticks made last (refused limits i ticks)
+
+-- the intake once an event has come, before its groups are offered: time never goes back
+abbrev pub come_to : Intake → WireEvent → Intake
+come_to i e = let now = max i.now (moment_at e) in record i { now = now; peers = after_event i.peers now e }
+
+-- What an event does.
+unfoldable pub handled : Limits → Conf → Intake → WireEvent → Handled
+handled limits conf i e =
+    let now = max i.now (moment_at e) in
+    offered limits (come_to i e) (ticks_at i.tick now) (turned conf now (turn_of i.peers now e)) (stop_of e)
+
+-- the moment of a log's last Tick
+abbrev pub last_tick : List Numbered → Option ℕ
+last_tick [] = None
+last_tick (e ∷ log) = option_or (tick_of e.entry) (last_tick log)
+
+-- the half minute of the last Tick, with one more entry
+abbrev pub half_with : Option ℕ → Entry → Option ℕ
+half_with last entry = option_or (option_map half_minute (tick_of entry)) last
+
+-- the intake of a run that goes on behind these entries: no connection is there
+abbrev pub resumed : List Numbered → ℕ → Intake
+resumed entries bytes = record {
+  now = last_moment (log_of entries);
+  tick = option_map half_minute (last_tick (log_of entries));
+  peers = no_peers;
+  entries = entries;
+  bytes = bytes;
+  groups = 0;
+}
+
+-- the entry with which a journal begins: the configuration, at moment 0
+abbrev pub first_group : List ℕ → List Entry
+first_group text = Config 0 text ∷ []
+
+-- the intake of a run whose journal kept these entries and has so many bytes; where it kept none the configuration is journaled
+abbrev pub start : List ℕ → List Numbered → ℕ → Intake
+start text [] bytes = resumed (numbered_from 1 (first_group text)) (bytes_with bytes (first_group text))
+start text (e ∷ es) bytes = resumed (e ∷ es) bytes
 
 -- the entries are a full log that fits, begun, and none is later than the moment that the events have reached
 pub record IsSound (conf : Conf) (i : Intake) : Type 0 where

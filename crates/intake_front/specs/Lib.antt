@@ -1,4 +1,8 @@
 pub mod Taking
 pub mod Intake
 pub mod Served
-pub mod Draft
+pub mod Fronted
+pub mod Batch
+pub mod Misfit
+pub mod Staging
+pub mod Waiting

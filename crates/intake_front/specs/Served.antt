@@ -3,7 +3,7 @@ use Rattle.std.specs.Prelude.{ℕ, List, [], ◌∷◌, ◌++◌, length, Option
 use Rattle.std.specs.Option.{option_to_list}
 use Rattle.zbx_types.specs.declared.conf.Conf.{Conf}
 use Rattle.outside.specs.declared.event.WireEvent.{WireEvent}
-use Rattle.intake_front.specs.Intake.{Intake, Handled, handled}
+use Rattle.intake_front.specs.Intake.{Limits, Intake, Handled, handled}
 use Rattle.intake_front.specs.declared.answer.Reply.{Reply}
 use Rattle.intake_front.specs.declared.answer.Stop.{Stop}
 
@@ -27,15 +27,15 @@ grown s h =
     record { intake = h.intake; replies = replies; shut = s.shut ++ closing (length replies) h.answer.shut; stop = h.answer.stop }
 
 -- one event more, unless one has stopped
-abbrev pub served_on : Option Stop → Conf → Served → WireEvent → Served
-served_on (Some reason) conf s e = s
-served_on None conf s e = grown s (handled conf s.intake e)
+abbrev pub served_on : Option Stop → Limits → Conf → Served → WireEvent → Served
+served_on (Some reason) limits conf s e = s
+served_on None limits conf s e = grown s (handled limits conf s.intake e)
 
 -- a list of events more
-abbrev pub served_from : Conf → Served → List WireEvent → Served
-served_from conf s [] = s
-served_from conf s (e ∷ es) = served_from conf (served_on s.stop conf s e) es
+abbrev pub served_from : Limits → Conf → Served → List WireEvent → Served
+served_from limits conf s [] = s
+served_from limits conf s (e ∷ es) = served_from limits conf (served_on s.stop limits conf s e) es
 
 -- what the events make of an intake
-abbrev pub served : Conf → Intake → List WireEvent → Served
-served conf i events = served_from conf (record { intake = i; replies = []; shut = []; stop = None }) events
+abbrev pub served : Limits → Conf → Intake → List WireEvent → Served
+served limits conf i events = served_from limits conf (record { intake = i; replies = []; shut = []; stop = None }) events

@@ -1,5 +1,5 @@
 -- What becomes of an asked value.
-use Rattle.std.specs.Prelude.{ℕ, nat_le, min, Bool, true, false, not, ◌&&◌, List, [], ◌∷◌, length, Option, Some, None, Result, Ok, Err, if◌then◌else◌, option_and_then}
+use Rattle.std.specs.Prelude.{◌≡◌, ℕ, nat_le, min, Bool, true, false, not, ◌&&◌, List, [], ◌∷◌, length, Option, Some, None, Result, Ok, Err, if◌then◌else◌, option_and_then}
 use Rattle.std.specs.List.{flat_map}
 use Rattle.zbx_types.specs.Ids.{at_id}
 use Rattle.zbx_types.specs.Limits.{longest_value}
@@ -13,9 +13,10 @@ use Rattle.zbx_types.specs.declared.entries.Entry.TheVariants.{Value}
 use Rattle.sender_json.specs.declared.asked.Asked.{Asked}
 use Rattle.sender_json.specs.declared.asked.Clock.{Clock}
 use Rattle.sender_json.specs.declared.asked.Clock.TheVariants as clock
+use Rattle.maintenance.specs.Suppression.{is_collected}
 use Rattle.entry_step.specs.Names.{host_named, item_keyed}
 use Rattle.intake_front.specs.declared.refusal.ValueRefusal.{ValueRefusal}
-use Rattle.intake_front.specs.declared.refusal.ValueRefusal.TheVariants.{UnknownHost, UnknownKey, Disabled, NotTrapper, BadValue, BadClock}
+use Rattle.intake_front.specs.declared.refusal.ValueRefusal.TheVariants.{UnknownHost, UnknownKey, Disabled, NotTrapper, InMaintenance, BadValue, BadClock}
 
 -- there is a host, and it is enabled
 abbrev pub is_enabled_host : Option Host → Bool
@@ -37,8 +38,13 @@ abbrev pub is_trapper_item : Option Item → Bool
 is_trapper_item None = false
 is_trapper_item (Some item) = is_trapper_kind item.kind
 
+-- at this moment no maintenance keeps the values of any host out
+abbrev pub AllCollected : Conf → ℕ → Type 0
+AllCollected conf now = (host : ℕ) → is_collected conf host now ≡ true
+
 -- What an asked value becomes: an entry, or the first cause for which it is refused, in the order host, key, whether both
--- are enabled, whether the item takes values from senders, value, clock. Below, the last test stands first.
+-- are enabled, whether the item takes values from senders, whether a maintenance keeps the host's values out, value, clock.
+-- Below, the last test stands first.
 
 -- by its clock: a value's time is its clock, or the moment at which it is taken, and never later than that
 unfoldable pub clocked : ℕ → ℕ → List ℕ → Clock → Result Entry ValueRefusal
@@ -51,12 +57,13 @@ unfoldable pub valued : ℕ → ℕ → Clock → Option (List ℕ) → Result E
 valued now item c None = Err BadValue
 valued now item c (Some value) = if nat_le (length value) longest_value then clocked now item value c else Err BadValue
 
--- by the item that its key names
+-- by the item that its key names, and by the maintenances at the moment at which it is taken
 unfoldable pub keyed : Conf → ℕ → Asked → ℕ → Option ℕ → Result Entry ValueRefusal
 keyed conf now asked host None = Err UnknownKey
 keyed conf now asked host (Some item) =
     if not (is_enabled_host (at_id conf.hosts host) && is_enabled_item (at_id conf.items item)) then Err Disabled
     else if not (is_trapper_item (at_id conf.items item)) then Err NotTrapper
+    else if not (is_collected conf host now) then Err InMaintenance
     else valued now item asked.clock asked.value
 
 -- by the host that it names

@@ -1,8 +1,8 @@
-//! What an event makes: entries and an answer.
+//! What an event makes before its groups are offered: entries and replies.
 
-ghost use Rattle.std.specs.Prelude.{◌≡◌, ◌≤◌, ◌<◌, ◌++◌, ◌+◌, ◌^◌, [], length, IfOk};
-ghost use Rattle.intake_front.specs.Intake.{numbered_from, ticks_at, tick_after, is_due, silent, shutting, replying, answered_values, answered_request, turned, stop_of, stopping};
-ghost use Rattle.intake_front.specs.Draft.{Holds};
+ghost use Rattle.std.specs.Prelude.{◌≡◌, ◌≤◌, ◌<◌, ◌++◌, ◌+◌, ◌^◌, [], length, All, IfOk};
+ghost use Rattle.intake_journal.specs.Bytes.{HasShortValue};
+ghost use Rattle.intake_front.specs.Intake.{ticks_at, is_due, only, replying, counting, answered_values, answered_request, turned, stop_of, stopping};
 
 use crate::answer::{Answer, Reply, Stop};
 use crate::taking::group;
@@ -11,76 +11,81 @@ use outside::WireEvent;
 use sender_json::{Asked, Refusal, Request, read, refusal, reply};
 use std::alloc::Global;
 use wire_core::Turn;
-use zbx_types::{Bytes, Entry, Many, Moment, Numbered, OutOfMemory};
+use zbx_types::{Bytes, Entry, Many, Moment, OutOfMemory};
 
-/// What an event has made: entries with their numbers, and the answer.
+/// What an event makes: the values of a group, and both replies.
 #[derive(Drop)]
 pub(crate) struct Draft {
-    pub(crate) entries: Many<Numbered>,
-    pub(crate) answer: Answer,
+    /// The values that are taken, as entries.
+    pub(crate) group: Many<Entry>,
+    /// The reply where the group is kept.
+    pub(crate) reply: Option<Reply>,
+    /// The reply where it isn't: it counts all values as failed.
+    pub(crate) failing: Option<Reply>,
+    /// The connection that is closed.
+    pub(crate) shut: Option<u64>,
 }
 
-fn only(alloc: Global, answer: Answer) -> Draft
-    ensures entries { result.entries ≡ [] }
-    ensures answer { result.answer ≡ answer }
+fn only(alloc: Global, reply: Option<Reply>, shut: Option<u64>) -> Draft
+    ensures { result ≡ only reply shut }
 {
     Draft {
-        entries: Many::new(alloc),
-        answer,
+        group: Many::new(alloc),
+        reply,
+        failing: None,
+        shut,
     }
 }
 
-fn silent() -> Answer
-    ensures { result ≡ silent }
-{
-    Answer {
-        reply: None,
-        shut: None,
-        stop: None,
-    }
-}
-
-fn shutting(conn: u64) -> Answer
-    ensures { result ≡ shutting conn }
-{
-    Answer {
-        reply: None,
-        shut: Some(conn),
-        stop: None,
-    }
-}
-
-fn replying(conn: u64, bytes: Bytes) -> Answer
+fn replying(conn: u64, bytes: Bytes) -> Option<Reply>
     ensures { result ≡ replying conn bytes }
 {
-    Answer {
-        reply: Some(Reply { conn, bytes }),
-        shut: Some(conn),
-        stop: None,
-    }
+    Some(Reply { conn, bytes })
 }
 
-#[tactic(auto, unfolding(crate::specs::Intake::answered_values), using(crate::proofs::Numbers::length_numbered))]
+fn counting(
+    alloc: Global,
+    conn: u64,
+    processed: u64,
+    failed: u64,
+    now: Moment,
+    since: Moment,
+) -> Result<Option<Reply>, OutOfMemory>
+    ensures { IfOk result (λ r. r ≡ counting conn processed failed now since) }
+{
+    let bytes = reply(alloc, processed, failed, now.since(since) / 1000)?;
+    Ok(replying(conn, bytes))
+}
+
+#[tactic(auto, unfolding(crate::specs::Intake::answered_values))]
 fn answered_values(
     alloc: Global,
     ready: &Ready,
     now: Moment,
-    first: u64,
     conn: u64,
     since: Moment,
     all: Many<Asked>,
 ) -> Result<Draft, OutOfMemory>
-    requires { first ≤ 2 ^ 63 }
-    ensures { IfOk result (λ draft. Holds first draft (answered_values ready.now now conn since all)) }
+    ensures made { IfOk result (λ draft. draft ≡ answered_values ready.now now conn since all) }
+    ensures short { IfOk result (λ draft. All HasShortValue draft.group) }
 {
     let total = all.as_slice().len() as u64;
-    let entries = group(alloc, ready, now, first, all)?;
-    let processed = entries.as_slice().len() as u64;
-    let failed = total.saturating_sub(processed);
-    let bytes = reply(alloc, processed, failed, now.since(since) / 1000)?;
+    let group = group(alloc, ready, now, all)?;
+    let processed = group.as_slice().len() as u64;
+    let good = counting(
+        alloc,
+        conn,
+        processed,
+        total.saturating_sub(processed),
+        now,
+        since,
+    )?;
+    let failing = counting(alloc, conn, 0, total, now, since)?;
     Ok(Draft {
-        entries,
-        answer: replying(conn, bytes),
+        group,
+        reply: good,
+        failing,
+        shut: Some(conn),
     })
 }
 
@@ -89,39 +94,43 @@ fn answered_request(
     alloc: Global,
     ready: &Ready,
     now: Moment,
-    first: u64,
     conn: u64,
     since: Moment,
     request: Request,
 ) -> Result<Draft, OutOfMemory>
-    requires { first ≤ 2 ^ 63 }
-    ensures { IfOk result (λ draft. Holds first draft (answered_request ready.now now conn since request)) }
+    ensures made { IfOk result (λ draft. draft ≡ answered_request ready.now now conn since request) }
+    ensures short { IfOk result (λ draft. All HasShortValue draft.group) }
 {
     match request {
-        Request::NotJson => Ok(only(alloc, replying(conn, refusal(alloc, Refusal::NotJson)?))),
-        Request::Other => Ok(only(alloc, replying(conn, refusal(alloc, Refusal::Unsupported)?))),
-        Request::Values(all) => answered_values(alloc, ready, now, first, conn, since, all),
+        Request::NotJson => {
+            let bytes = refusal(alloc, Refusal::NotJson)?;
+            Ok(only(alloc, replying(conn, bytes), Some(conn)))
+        }
+        Request::Other => {
+            let bytes = refusal(alloc, Refusal::Unsupported)?;
+            Ok(only(alloc, replying(conn, bytes), Some(conn)))
+        }
+        Request::Values(all) => answered_values(alloc, ready, now, conn, since, all),
     }
 }
 
-/// What is made at a moment of what an event meant for its connection. The entries are numbered from `first` on.
+/// What is made at a moment of what an event meant for its connection.
 #[tactic(auto, unfolding(crate::specs::Intake::turned))]
 pub(crate) fn turned(
     alloc: Global,
     ready: &Ready,
     now: Moment,
-    first: u64,
     turn: Turn,
 ) -> Result<Draft, OutOfMemory>
-    requires { first ≤ 2 ^ 63 }
-    ensures { IfOk result (λ draft. Holds first draft (turned ready.now now turn)) }
+    ensures made { IfOk result (λ draft. draft ≡ turned ready.now now turn) }
+    ensures short { IfOk result (λ draft. All HasShortValue draft.group) }
 {
     match turn {
-        Turn::Nothing => Ok(only(alloc, silent())),
-        Turn::Shut { conn } => Ok(only(alloc, shutting(conn))),
+        Turn::Nothing => Ok(only(alloc, None, None)),
+        Turn::Shut { conn } => Ok(only(alloc, None, Some(conn))),
         Turn::Whole { conn, body, since } => {
             let request = read(alloc, body.as_slice())?;
-            answered_request(alloc, ready, now, first, conn, since, request)
+            answered_request(alloc, ready, now, conn, since, request)
         }
     }
 }
@@ -135,34 +144,24 @@ fn is_due(last: Option<u32>, half: u32) -> bool
     }
 }
 
-/// The Tick that is due at a moment, with this number.
+/// The Tick that is due at a moment.
 pub(crate) fn ticks_at(
     alloc: Global,
     last: Option<u32>,
     now: Moment,
-    number: u64,
-) -> Result<Many<Numbered>, OutOfMemory>
-    ensures { IfOk result (λ made. made ≡ numbered_from number (ticks_at last now)) }
+) -> Result<Many<Entry>, OutOfMemory>
+    ensures made { IfOk result (λ made. made ≡ ticks_at last now) }
+    ensures short { IfOk result (λ made. All HasShortValue made) }
 {
     let mut made = Many::new(alloc);
     if is_due(last, now.half_minutes()) {
-        made.push(Numbered {
-            number,
-            entry: Entry::Tick { now },
-        })?;
+        made.push(Entry::Tick { now })?;
     }
     Ok(made)
 }
 
-/// The half minute of the last Tick behind a moment.
-pub(crate) fn tick_after(last: Option<u32>, now: Moment) -> Option<u32>
-    ensures { result ≡ tick_after last now }
-{
-    let half = now.half_minutes();
-    if is_due(last, half) { Some(half) } else { last }
-}
-
-fn stop_of(event: &WireEvent) -> Option<Stop>
+/// Why no event follows this one, where nothing is refused.
+pub(crate) fn stop_of(event: &WireEvent) -> Option<Stop>
     ensures { result ≡ stop_of event.now }
 {
     match event {
@@ -175,13 +174,14 @@ fn stop_of(event: &WireEvent) -> Option<Stop>
     }
 }
 
-/// An answer to an event, which tells whether it is the last.
-pub(crate) fn stopping(answer: Answer, event: &WireEvent) -> Answer
-    ensures { result ≡ stopping answer (stop_of event.now) }
+/// Nothing is answered but why no event is taken any more.
+pub(crate) fn stopping(alloc: Global, stop: Stop) -> Answer
+    ensures { result ≡ stopping stop }
 {
     Answer {
-        reply: answer.reply,
-        shut: answer.shut,
-        stop: stop_of(event),
+        reply: None,
+        shut: None,
+        added: Many::new(alloc),
+        stop: Some(stop),
     }
 }

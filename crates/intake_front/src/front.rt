@@ -1,128 +1,272 @@
-//! The intake of a run.
+//! The intake of a run over its journal.
 
-ghost use Rattle.std.specs.Prelude.{◌≡◌, ◌≤◌, ◌<◌, ◌++◌, ◌+◌, ◌^◌, length, IfOk, OnOk, OnErr};
-ghost use Rattle.intake_front.specs.Intake.{start, handled, IsSound};
+ghost use Rattle.zbx_types.specs.declared.conf.Conf.{Conf};
+ghost use Rattle.outside.specs.declared.event.WireEvent.{WireEvent};
+ghost use Rattle.intake_front.specs.Intake.{Intake};
+ghost use Rattle.std.specs.Prelude.{List, ◌⊎◌, ◌≡◌, ◌≢◌, ◌≤◌, ◌<◌, ℕ, ◌++◌, ◌+◌, ◌^◌, [], ◌∷◌, length, Some, None, Err, is_some, IsTrue, IfSome, IfOk, IfErr, OnOk, OnErr};
+ghost use Rattle.outside.specs.Causes.{Rose};
+ghost use Rattle.outside.specs.Disk.{LeavesOnly};
+ghost use Rattle.entry_step.specs.Log.{log_of, IsFull, Fits};
+ghost use Rattle.intake_journal.specs.Block.{entries_with_all, bytes_with_all, passes_with_all};
+ghost use Rattle.intake_journal.specs.declared.state.State.TheVariants as state;
+ghost use Rattle.intake_front.specs.Intake.{start, handled, first_group, IsSound};
+ghost use Rattle.intake_front.specs.Fronted.{HasJournaled, KeepsEither, IsKept, IsReady, limits_of, refused_group, disk_of};
+ghost use Rattle.intake_front.specs.Batch.{answered, IsIdle, HasTaken, goes_on};
+ghost use Rattle.intake_front.specs.declared.answer.Stop.TheVariants as stop;
+ghost use Rattle.intake_front.specs.declared.answer.FrontError.TheVariants as error;
 
-use crate::answer::Answer;
-use crate::drafts::{stopping, tick_after, ticks_at, turned};
+use crate::answer::{Answer, FrontError, Stop, Unmade};
+use crate::batch::{Batch, commit};
+use crate::held::Held;
+use crate::offering::{receive, receive_alone};
+use crate::opening::open;
 use entry_step::Ready;
-use outside::WireEvent;
+use intake_journal::{Block, Journal};
+use outside::{Disk, WireEvent};
 use std::alloc::Global;
 use std::marker::Model;
-use wire_core::Table;
-use zbx_types::{Entry, Many, Moment, Numbered, OutOfMemory, Text};
+use zbx_types::{Many, Numbered, OutOfMemory};
 
-/// The intake of a run. Contracts see it as an `Intake`: its moment in nanoseconds, the half minute of the last Tick,
-/// the connections that are there, and the entries in the order of their numbers.
+/// The intake of a run over its journal. Contracts see the journal, and the intake behind all events that were taken: its
+/// moment in nanoseconds, the half minute of the last Tick, the connections that are there, the entries in the order of
+/// their numbers, the journal's bytes up to and with the gate behind its last group, and how many groups this run added. Of
+/// events that wait for a commit they see which entries the journal keeps, the groups that wait, and what the events are
+/// answered with: where these groups are kept, and where the disk refuses them.
 #[derive(Drop)]
-pub struct Front {
-    now: Moment,
-    tick: Option<u32>,
-    table: Table,
-    entries: Many<Numbered>,
+pub struct Front<D: Disk> {
+    inside: Inside<D>,
 }
 
-impl Model for Front {
-    ghost use Rattle.intake_front.specs.Intake.{Intake};
-
-    ghost Value = { Intake };
-
-    ghost view = { λ f. record { now = f.now; tick = f.tick; peers = f.table; entries = f.entries } };
+/// A journal, the intake behind it, and what waits for a commit.
+#[derive(Drop)]
+struct Inside<D: Disk> {
+    journal: Journal<D>,
+    held: Held,
+    batch: Batch,
 }
 
-/// The number of an entry behind entries and some more.
-fn number_behind(entries: &Many<Numbered>, more: &Many<Numbered>) -> u64
-    ensures number { result ≡ length entries.now + length more.now + 1 }
-    ensures small { result ≤ 2 ^ 63 }
-{
-    entries.as_slice().len() as u64 + more.as_slice().len() as u64 + 1
+impl<D: Disk> Model for Front<D> {
+    ghost use Rattle.intake_front.specs.Fronted.{Fronted};
+    ghost use Rattle.intake_front.specs.Waiting.{front_of, IsWaiting};
+
+    ghost Value = { Fronted D };
+
+    ghost view = { λ f. front_of f.inside.journal f.inside.held f.inside.batch };
+
+    ghost invariant = { λ f. IsWaiting D.bytes D.images f.inside.journal f.inside.held f.inside.batch };
 }
 
-impl Front {
-    /// The intake of a run that begins: the configuration's text is entry 1, at moment 0. No connection is there.
+impl<D: Disk> Front<D> {
+    /// The intake of a run over a journal of which all groups were read, and whose kept entries these are. Where it kept none
+    /// the text of the configuration of `ready` is journaled as entry 1, at moment 0, a group of its own. No connection is
+    /// there. All memory is taken before the write.
     ///
     /// # Errors
     ///
-    /// `OutOfMemory` where memory was refused.
-    pub fn new(alloc: Global, text: Text) -> Result<Front, OutOfMemory>
-        ensures { IfOk result (λ f. f ≡ start text) }
+    /// The disk and the kept entries come back with the error. `Full` where the journal would pass a limit with the
+    /// configuration, `DiskFault` where the disk failed at its append, `OutOfMemory` where memory was refused.
+    pub fn new(
+        alloc: Global,
+        ready: &Ready,
+        journal: Journal<D>,
+        kept: Many<Numbered>,
+    ) -> Result<Front<D>, Unmade<D>>
+        requires read { journal.state ≡ state.Ready }
+        requires journaled { HasJournaled D.bytes D.images journal kept (journal.at + 1) }
+
+        ensures made { IfOk result (λ f. f.intake ≡ start ready.now.text kept (journal.at + 1)) }
+        ensures sound { IfOk result (λ f. IsFull (log_of kept) → Fits ready.now (log_of kept) → IsSound ready.now f.intake) }
+        ensures durable { IfOk result (λ f. IsKept D.bytes D.images f.journal.disk f.intake.entries) }
+        ensures state { IfOk result (λ f. IsReady journal f.journal) }
+        ensures idle { IfOk result (λ f. IsIdle f) }
+
+        ensures back { IfErr result (λ u. u.kept ≡ kept) }
+        ensures full { kept ≡ [] → IsTrue (passes_with_all journal (first_group ready.now.text ∷ []))
+            → IfOk result (λ _. ⊥) × IfErr result (λ u. u.error ≢ error.DiskFault) }
+        ensures only_full { IfErr result (λ u. (entries bytes : ℕ) → u.error ≡ error.Full entries bytes → (kept ≡ []) × IsTrue (passes_with_all journal (first_group ready.now.text ∷ []))
+            × (entries ≡ entries_with_all journal (first_group ready.now.text ∷ [])) × (bytes ≡ bytes_with_all journal (first_group ready.now.text ∷ []))) }
+        ensures fault { IfErr result (λ u. u.error ≡ error.DiskFault → (kept ≡ []) × Rose (D.faults journal.disk) (D.faults u.disk)) }
+        ensures same { IfErr result (λ u. u.error ≢ error.DiskFault → u.disk ≡ journal.disk) }
+        ensures later { D.faults journal.disk ≤ D.faults (disk_of result) }
+        ensures told { is_some (D.bytes (disk_of result)) ≡ is_some (D.bytes journal.disk) }
+
+        // A crash at any moment of the call leaves the entries that were kept, or with none of these the configuration alone.
+        ensures any_moment { IfSome (D.bytes journal.disk) (λ _. LeavesOnly D.moment D.images_since journal.disk (disk_of result)
+            (KeepsEither kept (start ready.now.text kept (journal.at + 1)).entries)) }
     {
-        let mut entries = Many::new(alloc);
-        entries.push(Numbered {
-            number: 1,
-            entry: Entry::Config {
-                now: Moment::zero(),
-                text,
-            },
-        })?;
-        Ok(Front {
-            now: Moment::zero(),
-            tick: None,
-            table: Table::new(alloc),
-            entries,
-        })
+        let mut journal = journal;
+        let block = match Block::new(alloc) {
+            Ok(block) => block,
+            Err(OutOfMemory) => {
+                return Err(Unmade {
+                    disk: journal.end(),
+                    kept,
+                    error: FrontError::OutOfMemory,
+                });
+            }
+        };
+        match open(alloc, ready, &mut journal, kept) {
+            Ok(held) => {
+                let batch = Batch::new(alloc, block, &held);
+                Ok(Front {
+                    inside: Inside {
+                        journal,
+                        held,
+                        batch,
+                    },
+                })
+            }
+            Err((kept, error)) => Err(Unmade {
+                disk: journal.end(),
+                kept,
+                error,
+            }),
+        }
     }
 
     /// All entries that were numbered, in the order of their numbers, which count from 1.
-    pub fn entries(&self) -> &Many<Numbered>
-        ensures { result.now ≡ self.entry.now.entries }
+    pub fn entries(&self) -> &[Numbered]
+        ensures { result.now ≡ self.entry.now.intake.entries }
     {
-        &self.entries
+        self.inside.held.entries.as_slice()
     }
 
-    /// All entries that were numbered, where no further event is taken.
-    pub fn into_entries(self) -> Many<Numbered>
-        ensures { result ≡ self.entries }
+    /// The disk, and all entries that the journal keeps, where no further event is taken.
+    pub fn end(self) -> (D, Many<Numbered>)
+        ensures disk { result.0 ≡ self.journal.disk }
+        ensures entries { result.1 ≡ self.kept }
     {
-        self.entries
+        let mut inside = self.inside;
+        inside.held.entries.truncate(inside.batch.mark.kept);
+        (inside.journal.end(), Many::from_vec(inside.held.entries))
     }
 
     /// Takes an event of the wire, by `handled`: the moment, the Tick that is due, and what the event means for its
-    /// connection. The answer has the reply to send, the connection to close behind it, and whether the event was the
-    /// last one.
+    /// connection. The Tick and the values are two groups, which one append keeps or refuses. Only then they are
+    /// answered, with the reply to send, the connection to close behind it, the entries that were added, and why the event
+    /// was the last one.
+    ///
+    /// Where the journal has no room for a group, or its disk failed, that group isn't kept and no event follows: a reply to
+    /// its values counts all of them as failed, and behind a Tick that isn't kept the event isn't handled.
     ///
     /// Entries that fit the configuration of `ready` stay so. Each event is to be given that of entry 1. No value is
-    /// looked up by a walk over the configuration or the entries.
+    /// looked up by a walk over the configuration or the entries. All memory is taken before the append.
     ///
     /// # Errors
     ///
     /// `OutOfMemory` where memory was refused. No entry was added, and no further event is to be given.
-    #[tactic(auto, using(crate::proofs::Sound::kept))]
     pub fn on_event(
         &mut self,
         alloc: Global,
         ready: &Ready,
         event: &WireEvent,
     ) -> Result<Answer, OutOfMemory>
-        ensures answer { IfOk result (λ a. a ≡ (handled ready.now self.old event.now).answer) }
-        ensures after { OnOk result (self.new ≡ (handled ready.now self.old event.now).intake) }
-        ensures keeps { OnOk result (IsSound ready.now self.old → IsSound ready.now self.new) }
-        ensures err { OnErr result (self.new.entries ≡ self.old.entries) }
+        requires going { self.old.journal.state ≡ state.Ready }
+        requires idle { IsIdle self.old }
+
+        ensures answer { IfOk result (λ a. a ≡ (handled (limits_of self.old.journal (refused_group self.old.intake a.stop)) ready.now self.old.intake event.now).answer) }
+        ensures after { IfOk result (λ a. self.new.intake ≡ (handled (limits_of self.old.journal (refused_group self.old.intake a.stop)) ready.now self.old.intake event.now).intake) }
+        ensures keeps { OnOk result (IsSound ready.now self.old.intake → IsSound ready.now self.new.intake) }
+        ensures err { OnErr result ((self.new.intake.entries ≡ self.old.intake.entries) × (self.new.journal ≡ self.old.journal)) }
+
+        // An answer is given once each crash leaves all entries, unless the disk failed: a reply counts no value as processed then.
+        ensures durable { IfOk result (λ a. a.stop ≢ Some stop.DiskFault → IsKept D.bytes D.images self.new.journal.disk self.new.intake.entries) }
+
+        // A crash at any moment of the call leaves the entries from before it, or these with all that the event adds.
+        ensures any_moment { IfSome (D.bytes self.old.journal.disk) (λ _. LeavesOnly D.moment D.images_since self.old.journal.disk self.new.journal.disk
+            (KeepsEither self.old.intake.entries (handled (limits_of self.old.journal 0) ready.now self.old.intake event.now).intake.entries)) }
+
+        ensures fault { IfOk result (λ a. a.stop ≡ Some stop.DiskFault → Rose (D.faults self.old.journal.disk) (D.faults self.new.journal.disk)) }
+        ensures later { D.faults self.old.journal.disk ≤ D.faults self.new.journal.disk }
+        ensures told { is_some (D.bytes self.new.journal.disk) ≡ is_some (D.bytes self.old.journal.disk) }
+        ensures state { IfOk result (λ a. a.stop ≢ Some stop.DiskFault → IsReady self.old.journal self.new.journal) }
+        ensures broken { IfOk result (λ a. a.stop ≡ Some stop.DiskFault → self.new.journal.state ≡ state.Broken) }
+        ensures idle { IsIdle self.new }
     {
-        self.receive(alloc, ready, event)
+        let inside = &mut self.inside;
+        receive_alone(
+            alloc,
+            &mut inside.journal,
+            &mut inside.held,
+            &mut inside.batch,
+            ready,
+            event,
+        )
     }
 
-    /// Numbers the Tick that is due and the values that are taken, all at once and behind all else that takes memory.
-    #[tactic(auto, unfolding(crate::specs::Intake::handled, crate::specs::Intake::behind_tick, crate::specs::Intake::ticked))]
-    fn receive(
+    /// Takes an event of the wire as [`Front::on_event`] does, but for the append: its entries are numbered, its groups
+    /// wait for [`Front::commit`], and what it is answered with is held back. Answers why no event is to be taken after it.
+    ///
+    /// # Errors
+    ///
+    /// `OutOfMemory` where memory was refused. No entry was added, and no further event is to be given; what waited still
+    /// does, and can be committed.
+    pub fn take(
         &mut self,
         alloc: Global,
         ready: &Ready,
         event: &WireEvent,
-    ) -> Result<Answer, OutOfMemory>
-        ensures answer { IfOk result (λ a. a ≡ (handled ready.now self.old event.now).answer) }
-        ensures after { OnOk result (self.new ≡ (handled ready.now self.old event.now).intake) }
-        ensures err { OnErr result (self.new.entries ≡ self.old.entries) }
+    ) -> Result<Option<Stop>, OutOfMemory>
+        requires going { self.old.journal.state ≡ state.Ready }
+
+        ensures stop { IfOk result (λ s. s ≡ (handled (limits_of self.old.journal 0) ready.now self.old.intake event.now).answer.stop) }
+        ensures after { OnOk result (self.new.intake ≡ (handled (limits_of self.old.journal 0) ready.now self.old.intake event.now).intake) }
+        ensures taken { OnOk result ((begun : Intake) → (events : List WireEvent) → self.old.intake ≡ (answered (limits_of self.old.journal 0) ready.now begun events).intake
+            → (answered (limits_of self.old.journal 0) ready.now begun events).stop ≡ None
+            → HasTaken ready.now begun events self.old → HasTaken ready.now begun (events ++ event.now ∷ []) self.new) }
+        ensures keeps { OnOk result (IsSound ready.now self.old.intake → IsSound ready.now self.new.intake) }
+        ensures journal { self.new.journal ≡ self.old.journal }
+        ensures kept { self.new.kept ≡ self.old.kept }
+        ensures err { OnErr result ((self.new.intake.entries ≡ self.old.intake.entries) × (self.new.block ≡ self.old.block) × (self.new.answers ≡ self.old.answers) × (self.new.failing ≡ self.old.failing)) }
     {
-        let now = self.now.later(event.at());
-        let number = self.entries.as_slice().len() as u64 + 1;
-        let mut made = ticks_at(alloc, self.tick, now, number)?;
-        let turn = self.table.on(alloc, event, now)?;
-        let draft = turned(alloc, ready, now, number_behind(&self.entries, &made), turn)?;
-        made.append(draft.entries)?;
-        self.entries.append(made)?;
-        self.now = now;
-        self.tick = tick_after(self.tick, now);
-        Ok(stopping(draft.answer, event))
+        let inside = &mut self.inside;
+        receive(
+            alloc,
+            &inside.journal,
+            &mut inside.held,
+            &mut inside.batch,
+            ready,
+            event,
+        )
+    }
+
+    /// Whether one more event may be taken before the commit: what waits has less than 1 MiB, and no Tick is among it.
+    pub fn goes_on(&self) -> bool
+        ensures { result ≡ goes_on self.now.block }
+    {
+        self.inside.batch.goes_on()
+    }
+
+    /// Journals all groups that wait, by one append, and hands out what their events are answered with, in the order of the
+    /// events. Takes no memory.
+    ///
+    /// Where the disk failed none of them is kept and no event follows: the reply to the values of the first group counts
+    /// all of them as failed, and the events behind it aren't answered.
+    pub fn commit(&mut self, alloc: Global) -> Many<Answer>
+        requires going { self.old.journal.state ≡ state.Ready }
+
+        ensures state { (self.new.journal.state ≡ state.Ready) ⊎ (self.new.journal.state ≡ state.Broken) }
+        ensures done { self.new.journal.state ≡ state.Ready → (result ≡ self.old.answers) × (self.new.intake ≡ self.old.intake) × IsReady self.old.journal self.new.journal }
+        ensures failed { self.new.journal.state ≡ state.Broken → (result ≡ self.old.failing) × (self.new.intake.entries ≡ self.old.kept) × (0 < length self.old.block)
+            × Rose (D.faults self.old.journal.disk) (D.faults self.new.journal.disk) }
+        ensures idle { IsIdle self.new }
+
+        // Answers are given once each crash leaves all entries, unless the disk failed.
+        ensures durable { self.new.journal.state ≡ state.Ready → IsKept D.bytes D.images self.new.journal.disk self.new.intake.entries }
+
+        // A crash at any moment of the call leaves the entries that were kept before it, or these with all that waited.
+        ensures any_moment { IfSome (D.bytes self.old.journal.disk) (λ _. LeavesOnly D.moment D.images_since self.old.journal.disk self.new.journal.disk
+            (KeepsEither self.old.kept self.old.intake.entries)) }
+
+        ensures later { D.faults self.old.journal.disk ≤ D.faults self.new.journal.disk }
+        ensures told { is_some (D.bytes self.new.journal.disk) ≡ is_some (D.bytes self.old.journal.disk) }
+    {
+        let inside = &mut self.inside;
+        commit(
+            alloc,
+            &mut inside.journal,
+            &mut inside.held,
+            &mut inside.batch,
+        )
     }
 }

@@ -12,6 +12,8 @@ pub enum ValueRefusal {
     Disabled,
     /// The item takes no values from senders.
     NotTrapper,
+    /// A maintenance without data collection is in force, and is of the host.
+    InMaintenance,
     /// `value` is no text and no whole number, or is longer than 65,535 bytes.
     BadValue,
     /// `clock` or `ns` is there and isn't of its form.

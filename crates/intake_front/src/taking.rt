@@ -1,17 +1,20 @@
 //! What becomes of asked values.
 
-ghost use Rattle.std.specs.Prelude.{◌≡◌, ◌≤◌, ◌++◌, ◌+◌, ◌^◌, length, min, IfOk, OnOk, option_and_then, option_copied};
+ghost use Rattle.std.specs.Prelude.{◌≡◌, ◌≤◌, ◌++◌, ◌&&◌, length, min, not, false, All, IfOk, OnOk, option_and_then, option_copied};
+ghost use Rattle.maintenance.specs.Force.{is_in_force};
+ghost use Rattle.maintenance.specs.Suppression.{is_collected};
 ghost use Rattle.entry_step.specs.Names.{host_named, item_keyed};
-ghost use Rattle.intake_front.specs.Taking.{is_enabled_host, is_enabled_item, is_trapper_item, clocked, valued, keyed, hosted, taken_of, entry_in, group_of};
-ghost use Rattle.intake_front.specs.Intake.{numbered_from};
+ghost use Rattle.intake_front.specs.Taking.{is_enabled_host, is_enabled_item, is_trapper_item, AllCollected, clocked, valued, keyed, hosted, taken_of, entry_in, group_of};
+ghost use Rattle.intake_journal.specs.Bytes.{HasShortValue};
 
 use crate::refusal::ValueRefusal;
 use entry_step::Ready;
+use maintenance::{collects, in_force};
 use sender_json::{Asked, Clock};
 use std::alloc::Global;
 use zbx_types::{
-    Conf, Entry, Host, Item, ItemKind, LONGEST_VALUE, Many, Moment, Numbered, OutOfMemory, Text,
-    by_id,
+    Conf, Entry, Host, Item, ItemKind, LONGEST_VALUE, Maintenance, Many, Moment, OutOfMemory, Text,
+    by_id, id_of,
 };
 
 fn asked_host(ready: &Ready, name: &Option<Text>) -> Option<u32>
@@ -62,6 +65,33 @@ fn is_trapper_item(item: Option<&Item>) -> bool
     }
 }
 
+/// Whether a maintenance, which has this id, is in force and keeps values out.
+fn keeps_out(conf: &Conf, now: Moment, id: u32, maintenance: &Maintenance) -> bool
+    ensures { result ≡ (not maintenance.now.collect && is_in_force conf.now id now) }
+{
+    !maintenance.collect && in_force(conf, id, now)
+}
+
+/// Whether some maintenance keeps values out at a moment. Where none does, no value need ask for its host.
+fn some_keeps_out(conf: &Conf, now: Moment) -> Result<bool, OutOfMemory>
+    ensures { IfOk result (λ some. some ≡ false → AllCollected conf.now now) }
+{
+    for (place, maintenance) in conf.maintenances.as_slice().iter().enumerate() {
+        if keeps_out(conf, now, id_of(place)?, maintenance) {
+            return Ok(true);
+        }
+    }
+    Ok(false)
+}
+
+/// Whether a host's values are taken. The maintenances are asked only where some keeps values out.
+fn is_collected(conf: &Conf, now: Moment, some_out: bool, host: u32) -> bool
+    requires { some_out ≡ false → AllCollected conf.now now }
+    ensures { result ≡ is_collected conf.now host now }
+{
+    !some_out || collects(conf, host, now)
+}
+
 #[tactic(auto, unfolding(crate::specs::Taking::clocked))]
 fn clocked(now: Moment, item: u32, value: Text, clock: Clock) -> Result<Entry, ValueRefusal>
     ensures { result ≡ clocked now item value clock }
@@ -103,10 +133,12 @@ fn valued(now: Moment, item: u32, clock: Clock, value: Option<Text>) -> Result<E
 fn keyed(
     conf: &Conf,
     now: Moment,
+    some_out: bool,
     asked: Asked,
     host: u32,
     item: Option<u32>,
 ) -> Result<Entry, ValueRefusal>
+    requires { some_out ≡ false → AllCollected conf.now now }
     ensures { result ≡ keyed conf.now now asked host item }
 {
     let Some(item) = item else {
@@ -119,6 +151,9 @@ fn keyed(
     if !is_trapper_item(found) {
         return Err(ValueRefusal::NotTrapper);
     }
+    if !is_collected(conf, now, some_out, host) {
+        return Err(ValueRefusal::InMaintenance);
+    }
     valued(now, item, asked.clock, asked.value)
 }
 
@@ -126,58 +161,55 @@ fn keyed(
 fn hosted(
     ready: &Ready,
     now: Moment,
+    some_out: bool,
     asked: Asked,
     host: Option<u32>,
 ) -> Result<Entry, ValueRefusal>
+    requires { some_out ≡ false → AllCollected ready.now now }
     ensures { result ≡ hosted ready.now now asked host }
 {
     let Some(host) = host else {
         return Err(ValueRefusal::UnknownHost);
     };
     let item = asked_item(ready, host, &asked.key);
-    keyed(ready.conf(), now, asked, host, item)
+    keyed(ready.conf(), now, some_out, asked, host, item)
 }
 
 /// The entry that an asked value becomes, or the cause for which it is refused.
 #[tactic(auto, unfolding(crate::specs::Taking::taken_of))]
-fn taken(ready: &Ready, now: Moment, asked: Asked) -> Result<Entry, ValueRefusal>
+fn taken(ready: &Ready, now: Moment, some_out: bool, asked: Asked) -> Result<Entry, ValueRefusal>
+    requires { some_out ≡ false → AllCollected ready.now now }
     ensures { result ≡ taken_of ready.now now asked }
 {
     let host = asked_host(ready, &asked.host);
-    hosted(ready, now, asked, host)
+    hosted(ready, now, some_out, asked, host)
 }
 
-/// Numbers a value that was taken behind those of its group, whose first has this number.
-fn add(
-    made: &mut Many<Numbered>,
-    first: u64,
-    taken: Result<Entry, ValueRefusal>,
-) -> Result<(), OutOfMemory>
-    requires { first ≤ 2 ^ 63 }
-    ensures { OnOk result (made.new ≡ made.old ++ numbered_from (first + length made.old) (entry_in taken)) }
+/// Adds a value that was taken.
+fn add(made: &mut Many<Entry>, taken: Result<Entry, ValueRefusal>) -> Result<(), OutOfMemory>
+    ensures { OnOk result (made.new ≡ made.old ++ entry_in taken) }
 {
     if let Ok(entry) = taken {
-        let number = first + made.as_slice().len() as u64;
-        made.push(Numbered { number, entry })?;
+        made.push(entry)?;
     }
     Ok(())
 }
 
-/// The values that are taken, numbered from this number on.
-#[tactic(auto, using(crate::proofs::Numbers::group_none, crate::proofs::Numbers::group_more))]
+/// The values that are taken, as entries. All are taken at one moment, so the maintenances are looked through once.
+#[tactic(auto, using(crate::proofs::Numbers::group_none, crate::proofs::Numbers::group_more, crate::proofs::Short::group_short))]
 pub(crate) fn group(
     alloc: Global,
     ready: &Ready,
     now: Moment,
-    first: u64,
     all: Many<Asked>,
-) -> Result<Many<Numbered>, OutOfMemory>
-    requires { first ≤ 2 ^ 63 }
-    ensures { IfOk result (λ made. made ≡ numbered_from first (group_of ready.now now all)) }
+) -> Result<Many<Entry>, OutOfMemory>
+    ensures made { IfOk result (λ made. made ≡ group_of ready.now now all) }
+    ensures short { IfOk result (λ made. All HasShortValue made) }
 {
+    let some_out = some_keeps_out(ready.conf(), now)?;
     let mut made = Many::new(alloc);
     for asked in all.into_vec() {
-        add(&mut made, first, taken(ready, now, asked))?;
+        add(&mut made, taken(ready, now, some_out, asked))?;
     }
     Ok(made)
 }

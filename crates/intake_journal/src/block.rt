@@ -39,6 +39,7 @@ fn put_group(out: &mut Bytes, group: &[Entry], size: u32, count: u32) -> Result<
     ensures err { OnErr result (take (length out.old) out.new ≡ out.old) }
     ensures again { OnOk result (All HasShortValue group.now → entries_of (length group.now) (entries_bytes group.now) ≡ Some group.now) }
 {
+    out.reserve(size as usize + 9)?;
     let mut head = [0; 8];
     LittleEndian::write_u32(&mut head[0..4], size);
     LittleEndian::write_u32(&mut head[4..8], count);
@@ -87,6 +88,16 @@ impl Block {
         let mut block = Block::new(alloc)?;
         block.stage(group)?;
         Ok(block)
+    }
+
+    /// A copy.
+    pub fn copy(&self, alloc: Global) -> Result<Block, OutOfMemory>
+        ensures { IfOk result (λ made. made ≡ self.now) }
+    {
+        Ok(Block {
+            bytes: Bytes::of(alloc, self.bytes.as_slice())?,
+            entries: self.entries,
+        })
     }
 
     /// Whether it has no group.

@@ -108,6 +108,13 @@ impl<D: Disk> Journal<D> {
         self.at + 1
     }
 
+    /// How many bytes it would have with the groups of a block, up to and with the gate behind the last of them.
+    pub fn bytes_with(&self, block: &Block) -> u64
+        ensures { result ≡ self.now.at + length (opened_bytes block.now) + 1 }
+    {
+        self.at + block.size()
+    }
+
     /// How many entries and bytes the journal would have with the groups of a block.
     fn with_block(&self, block: &Block) -> (u64, u64)
         ensures entries { result.0 ≡ entries_with_all self.now block.now }

@@ -4,3 +4,4 @@ pub mod DayLemmas
 pub mod WeekLemmas
 pub mod MonthLemmas
 pub mod Anyone
+pub mod Deciding

@@ -1,3 +1,4 @@
+pub mod Found
 pub mod Days
 pub mod Starts
 pub mod Series

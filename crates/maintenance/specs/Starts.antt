@@ -1,12 +1,15 @@
 -- When the periods of a maintenance begin (the Zabbix 6.0 manual, "Maintenance", maintenance periods).
-use Rattle.std.specs.Prelude.{◌≡◌, ℕ, ◌+◌, ◌*◌, ◌≤◌, Any, ℤ, pos}
-use Rattle.jiff_core.specs.Calendar.{weekday_number}
+use Rattle.std.specs.Prelude.{◌≡◌, ℕ, ◌+◌, ◌*◌, ◌==◌, ◌≤◌, nat_le, Bool, ◌&&◌, Any, ℤ, pos, ◌-ℤ◌}
+use Rattle.std.specs.List.{list_any}
+use Rattle.std.specs.Ordering.{int_eq}
+use Rattle.jiff_core.specs.Calendar.{days_in_month, days_from_civil, weekday_number}
 use Rattle.jiff_core.specs.Date.{epoch_day}
 use Rattle.jiff_core.specs.declared.civil.date.Date.{Date}
 use Rattle.zbx_types.specs.declared.maintenances.Period.{Period}
 use Rattle.zbx_types.specs.declared.maintenances.Period.TheVariants.{Once, Daily, Weekly, Monthly}
 use Rattle.local_time.specs.Days.{local_day, monday_of}
-use Rattle.maintenance.specs.Days.{IsStepFrom, IsOnDay}
+use Rattle.maintenance.specs.Found.{some_below}
+use Rattle.maintenance.specs.Days.{IsStepFrom, IsOnDay, is_step_from, is_on_day}
 
 -- the day of `since`, and every few days after it
 abbrev pub IsDailyDay : ℤ → ℕ → ℕ → ℤ → Type 0
@@ -40,3 +43,35 @@ length_of (Once start length) = length
 length_of (Daily every at length) = length
 length_of (Weekly every days at length) = length
 length_of (Monthly months number at length) = length
+
+-- The same as tests, of a second itself.
+
+-- the day of `since`, and every few days after it
+abbrev pub is_daily_day : ℤ → ℕ → ℕ → ℤ → Bool
+is_daily_day offset since every = is_step_from (local_day offset (pos since)) every
+
+-- the weekday, in the week of `since` and every few weeks after it
+abbrev pub is_weekly_day : ℤ → ℕ → ℕ → ℕ → ℤ → Bool
+is_weekly_day offset since every weekday day =
+    (weekday_number day + 1 == weekday)
+    && is_step_from (monday_of (local_day offset (pos since))) (7 * every) (monday_of day)
+
+-- the year has the day of the month, and it is this day
+abbrev pub is_day_in : ℤ → ℕ → ℕ → ℤ → Bool
+is_day_in year month number day =
+    nat_le 1 month && nat_le month 12 && nat_le 1 number && nat_le number (days_in_month year month)
+    && int_eq (days_from_civil year month number) day
+
+-- the day of the month, in some year that the calendar has: from -9999 to 9999
+abbrev pub is_monthly_day : ℕ → ℕ → ℤ → Bool
+is_monthly_day number month day = some_below (λ place. is_day_in (pos place -ℤ pos 9999) month number day) 19999
+
+-- at this second a period begins
+abbrev pub is_start : ℤ → ℕ → Period → ℕ → Bool
+is_start offset since (Once start length) second = second == start
+is_start offset since (Daily every at length) second =
+    nat_le since second && is_on_day offset (is_daily_day offset since every) at second
+is_start offset since (Weekly every days at length) second =
+    nat_le since second && list_any (λ weekday. is_on_day offset (is_weekly_day offset since every weekday) at second) days
+is_start offset since (Monthly months number at length) second =
+    nat_le since second && list_any (λ month. is_on_day offset (is_monthly_day number month) at second) months

@@ -1,7 +1,7 @@
 //! Maintenances in force.
 
-ghost use Rattle.std.specs.Prelude.{◌↔◌, IsTrue, Any};
-ghost use Rattle.maintenance.specs.Force.{IsInPeriod, IsActive, InForce};
+ghost use Rattle.std.specs.Prelude.{◌≡◌, ◌↔◌, IsTrue, Any};
+ghost use Rattle.maintenance.specs.Force.{IsInPeriod, IsActive, InForce, is_in_force};
 
 use crate::periods::in_period;
 use zbx_types::{Conf, Maintenance, Moment, by_id};
@@ -33,7 +33,8 @@ fn in_some_period(conf: &Conf, second: u32, maintenance: &Maintenance) -> bool
 /// at a place that has none. That starts of daily, weekly and monthly periods before `since` count for nothing, and one
 /// that is given as a moment counts, is this project's own rule.
 pub fn in_force(conf: &Conf, place: u32, now: Moment) -> bool
-    ensures { IsTrue result ↔ InForce conf.now place now }
+    ensures value { result ≡ is_in_force conf.now place now }
+    ensures decides { IsTrue result ↔ InForce conf.now place now }
 {
     match by_id(conf.maintenances.as_slice(), place) {
         Some(maintenance) => is_active(conf, now.sec, maintenance),

@@ -1,8 +1,8 @@
 //! What maintenances do to problems and to values.
 
-ghost use Rattle.std.specs.Prelude.{◌↔◌, IsTrue, Any};
+ghost use Rattle.std.specs.Prelude.{◌≡◌, ◌↔◌, IsTrue, Any};
 ghost use Rattle.maintenance.specs.Tags.{IsForTags};
-ghost use Rattle.maintenance.specs.Suppression.{Suppresses, IsSuppressed, KeepsOut, Collects};
+ghost use Rattle.maintenance.specs.Suppression.{Suppresses, IsSuppressed, KeepsOut, Collects, is_suppressed, is_collected};
 
 use crate::covering::{is_of_host, is_of_some_item};
 use crate::force::is_active;
@@ -49,7 +49,8 @@ fn some_suppresses(conf: &Conf, trigger: &Trigger, tags: &[Tag], second: u32) ->
 /// host counts for nothing, and maintenances with and without data collection suppress alike. False for a trigger id
 /// that has none.
 pub fn suppressed(conf: &Conf, trigger: u32, tags: &[Tag], now: Moment) -> bool
-    ensures { IsTrue result ↔ IsSuppressed conf.now trigger tags.now now }
+    ensures value { result ≡ is_suppressed conf.now trigger tags.now now }
+    ensures decides { IsTrue result ↔ IsSuppressed conf.now trigger tags.now now }
 {
     match by_id(conf.triggers.as_slice(), trigger) {
         Some(trigger) => some_suppresses(conf, trigger, tags, now.sec),
@@ -79,7 +80,8 @@ fn some_keeps_out(conf: &Conf, host: u32, second: u32) -> bool
 /// Whether the values of a host are taken: no maintenance without data collection that is in force is of it (the Zabbix
 /// 6.0 manual, "Maintenance", maintenance type). True for a host id that has none.
 pub fn collects(conf: &Conf, host: u32, now: Moment) -> bool
-    ensures { IsTrue result ↔ Collects conf.now host now }
+    ensures value { result ≡ is_collected conf.now host now }
+    ensures decides { IsTrue result ↔ Collects conf.now host now }
 {
     !some_keeps_out(conf, host, now.sec)
 }

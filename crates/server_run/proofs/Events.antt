@@ -1,165 +1,288 @@
 -- Laws of the taking of events.
-use Rattle.std.proofs.Common.{◌≡◌, ℕ, ◌+◌, ◌≤◌, ◌<◌, List, [], ◌∷◌, ◌++◌, length, refl, sym, ap, ◌∙◌, subst, append_assoc, length-append, arith, inl, inr}
-use Rattle.std.specs.Prelude.{Option, Some, None, IfSome, Err}
+use Rattle.std.proofs.Common.{◌≡◌, ◌⊎◌, ⊎_elim, ℕ, ◌+◌, ◌≤◌, ◌<◌, List, [], ◌++◌, length, drop, refl, sym, ap, ap₂, ◌∙◌, subst, length-append, arith, inl, inr}
+use Rattle.std.specs.Prelude.{Option, Some, None, IfSome, Result, Ok, Err, OnErr}
 use Rattle.std.specs.Option.{option_to_list}
 use Rattle.zbx_types.specs.declared.conf.Conf.{Conf}
 use Rattle.zbx_types.specs.declared.entries.Numbered.{Numbered}
-use Rattle.outside.specs.Tells.{WireTells}
+use Rattle.outside.specs.Causes.{Rose}
+use Rattle.outside.specs.Tells.{SinkTells, WireTells}
 use Rattle.outside.specs.declared.event.WireEvent.{WireEvent}
 use Rattle.outside.specs.declared.event.Trouble.{Trouble}
 use Rattle.outside.specs.declared.event.Trouble.TheVariants as trouble
-use Rattle.intake_front.specs.Intake.{Intake, handled}
-use Rattle.intake_front.specs.Served.{Served, grown, served_on, served_from, served}
+use Rattle.intake_front.specs.Intake.{Limits, Intake}
+use Rattle.intake_front.specs.Served.{Served, served}
+use Rattle.intake_front.specs.Fronted.{IsKept, IsReady, limits_of, refused_group}
+use Rattle.intake_journal.specs.Settled.{Journaled}
 use Rattle.intake_front.specs.declared.answer.Stop.{Stop}
-use Rattle.server_run.specs.Events.{NextWere, Took, Missed, TookOrMissed, EndsTaking, Ran}
+use Rattle.intake_front.specs.declared.answer.Stop.TheVariants as stop
+use Rattle.server_words.specs.declared.status.Status.{Status}
+use Rattle.server_words.specs.declared.status.Status.TheVariants as status
+use Rattle.server_run.specs.Events.{Doing, Gave, ending_of, Ran, Took, Ends}
+use Rattle.server_run.specs.declared.book.Ledger.{Ledger}
+use Rattle.server_run.specs.Outbox.{UpToDate, SettlesUnless, Leaves}
 use Rattle.server_run.specs.Sending.{Shows}
-use Rattle.server_run.specs.Statuses.{Ending, never, at_closed, at_limit, at_wire_fault, anywhere, at_refusal, EndsAs, LeftIs}
+use Rattle.server_run.specs.Statuses.{Ending, never, at_closed, at_limit, at_wire_fault, at_disk_fault, at_full, anywhere, at_refusal, behind_disk, ended_with, course_of, status_of, EndsAs, LeftIs}
+use Rattle.server_run.specs.Stops.{refusing, IsReached, Journals}
 use Rattle.server_run.specs.Runs.{Finished}
-use Rattle.server_run.proofs.Sending.{shows_none, shows_more, shows_same}
+use Rattle.server_run.proofs.Handling.{served_grow}
+use Rattle.server_run.proofs.Joining.{gave_none, gave_both, behind, served_then, same_before, same_front, refused_is, reached_before, reached_then}
+use Rattle.server_run.proofs.Outbox.{all_goes_on, leaves_ended}
+use Rattle.server_run.proofs.Sending.{shows_none, shows_both}
+use Rattle.server_run.proofs.Stopping.{journals_none, journals_on}
 
-served_from-append : (conf : Conf) (s : Served) (a b : List WireEvent) → served_from conf s (a ++ b) ≡ served_from conf (served_from conf s a) b
-served_from-append conf s [] b = refl
-served_from-append conf s (e ∷ es) b = served_from-append conf (served_on s.stop conf s e) es b
+-- entries stand behind those that were there
+pub ran_grows : (limits : Limits) (conf : Conf) (recovered : List Numbered) (old new : Intake) (did : Doing) (w w' : WireTells) (count : ℕ) (s : Option Stop) (lost : Option WireEvent) (ending : Ending)
+    → Ran limits conf recovered old new did w w' count s lost ending → (more : List Numbered) × (new.entries ≡ old.entries ++ more)
+ran_grows limits conf recovered old new did w w' count s lost ending r = let grown = served_grow limits conf old r.taken in (grown.0, r.entries_are ∙ grown.1)
 
-on_more : (stop : Option Stop) (conf : Conf) (s : Served) (e : WireEvent) → stop ≡ None → served_on stop conf s e ≡ grown s (handled conf s.intake e)
-on_more None conf s e is = refl
-on_more (Some reason) conf s e is = absurd (cc)
+-- ---- how a run ends
 
--- one event more
-served_more : (conf : Conf) (i : Intake) (taken : List WireEvent) (e : WireEvent) → (served conf i taken).stop ≡ None
-    → served conf i (taken ++ e ∷ []) ≡ grown (served conf i taken) (handled conf (served conf i taken).intake e)
-served_more conf i taken e running =
-    let so_far = served conf i taken in
-    served_from-append conf (record { intake = i; replies = []; shut = []; stop = None }) taken (e ∷ []) ∙ on_more so_far.stop conf so_far e running
+-- the status of a run whose last event stopped it
+stopped : (turns count : ℕ) (s : Stop) → EndsAs (course_of (status_of s)).ending turns count (Some s) None
+stopped turns count stop.Closed = (refl, refl)
+stopped turns count stop.DiskFault = (refl, refl)
+stopped turns count (stop.Full entries bytes) = (refl, refl)
 
--- at the start no event was taken
-pub ran_none : (conf : Conf) (i : Intake) (w : WireTells) → Ran conf i i w w 0 None
-ran_none conf i w = record {
-  taken = [];
-  count_is = refl;
-  given = omega arith;
-  told = nothing w.left;
-  intake_is = refl;
-  stop_is = refl;
-  shows = shows_none w;
-  later = omega arith;
-}
-  where
-    nothing : (left : Option (List WireEvent)) → NextWere left left []
-    nothing None = tt
-    nothing (Some all) = (all, refl, refl)
+-- the status of a run whose wire failed
+wire_failed : (turns count : ℕ) (s : Option Stop) → (s ≡ None) ⊎ (s ≡ Some stop.DiskFault) → EndsAs (course_of (behind_disk s status.WireFault)).ending turns count s None
+wire_failed turns count None why = (refl, refl)
+wire_failed turns count (Some stop.DiskFault) why = (refl, refl)
+wire_failed turns count (Some stop.Closed) (inl none) = absurd (cc)
+wire_failed turns count (Some stop.Closed) (inr none) = absurd (cc)
+wire_failed turns count (Some (stop.Full entries bytes)) (inl none) = absurd (cc)
+wire_failed turns count (Some (stop.Full entries bytes)) (inr none) = absurd (cc)
 
--- the events that a wire told, with one more
-told_more : (left left' left'' : Option (List WireEvent)) (taken : List WireEvent) (e : WireEvent)
-    → NextWere left left' taken → NextWere left' left'' (e ∷ []) → NextWere left left'' (taken ++ e ∷ [])
-told_more None left' left'' taken e p q = tt
-told_more (Some all) left' left'' taken e p q =
-    let next : (rest : List WireEvent) × (p.0 ≡ e ∷ rest) × (left'' ≡ Some rest) = subst (λ l. NextWere l left'' (e ∷ [])) p.2 q in
-    (next.0, p.1 ∙ (ap (λ r. taken ++ r) next.1 ∙ sym (append_assoc taken (e ∷ []) next.0)), next.2)
+some_status : (s t : Status) → Some s ≡ Some t → s ≡ t
+some_status s t is = cc
 
-module _ (conf : Conf) (start now new : Intake) (w0 w1 w2 : WireTells) (count : ℕ) (stop : Option Stop) where
-  -- one event more
-  pub ran_more : Ran conf start now w0 w1 count None → Took conf now new w1 w2 stop → Ran conf start new w0 w2 (count + 1) stop
-  ran_more r t =
-      let so_far = served conf start r.taken in
-      let more : served conf start (r.taken ++ t.event ∷ []) ≡ grown so_far (handled conf so_far.intake t.event) = served_more conf start r.taken t.event (sym r.stop_is) in
-      let same : handled conf so_far.intake t.event ≡ handled conf now t.event = ap (λ i. handled conf i t.event) (sym r.intake_is) in
-      let all : served conf start (r.taken ++ t.event ∷ []) ≡ grown so_far (handled conf now t.event) = more ∙ ap (grown so_far) same in
-      record {
-        taken = r.taken ++ t.event ∷ [];
-        count_is = omega (arith, r.count_is, length-append r.taken (t.event ∷ []));
-        given = omega (arith, t.given, r.given);
-        told = told_more w0.left w1.left w2.left r.taken t.event r.told t.told;
-        intake_is = t.intake_is ∙ sym (ap (λ (s : Served). s.intake) all);
-        stop_is = t.stop_is ∙ sym (ap (λ (s : Served). s.stop) all);
-        shows = subst (λ (s : Served). Shows w0 w2 s.replies s.shut) (sym all) (shows_more w0 w1 w2 so_far.replies so_far.shut (handled conf now t.event).answer r.shows t.delivers);
-        later = omega (arith, r.later, t.delivers.later);
-      }
+-- an event was lost only where memory was refused
+none_lost : (lost : Option WireEvent) (g other : Result (Unit {0}) Trouble) → g ≡ other → (other ≡ Err trouble.OutOfMemory → ⊥) → (lost ≡ None) ⊎ (g ≡ Err trouble.OutOfMemory) → lost ≡ None
+none_lost lost g other is isnt (inl none) = none
+none_lost lost g other is isnt (inr refused) = absurd (isnt (sym is ∙ refused))
 
--- one event more that stops nothing
-pub ran_on : (conf : Conf) (start now new : Intake) (w0 w1 w2 : WireTells) (count : ℕ) {stop : Option Stop} → stop ≡ None → Ran conf start now w0 w1 count None → Took conf now new w1 w2 stop → Ran conf start new w0 w2 (count + 1) None
-ran_on conf start now new w0 w1 w2 count {stop = s} none r t = subst (Ran conf start new w0 w2 (count + 1)) none (ran_more conf start now new w0 w1 w2 count s r t)
+no_trouble : (lost : Option WireEvent) (g : Result (Unit {0}) Trouble) (enough : Unit {0}) → g ≡ Ok enough → (lost ≡ None) ⊎ (g ≡ Err trouble.OutOfMemory) → lost ≡ None
+no_trouble lost g enough is why = none_lost lost g (Ok enough) is (λ e. cc) why
 
--- where no call of next failed, the rest is left
+no_refusal : (lost : Option WireEvent) (g : Result (Unit {0}) Trouble) → g ≡ Err trouble.Failed → (lost ≡ None) ⊎ (g ≡ Err trouble.OutOfMemory) → lost ≡ None
+no_refusal lost g is why = none_lost lost g (Err trouble.Failed) is (λ e. cc) why
+
+-- how the events ended that were committed together, by the status
+ended_as : (turns count : ℕ) (lost : Option WireEvent) (s : Option Stop) (g t : Result (Unit {0}) Trouble) (e : Status) → ended_with s g t ≡ Some e
+    → ((r : Trouble) → g ≡ Err r → (s ≡ None) ⊎ (s ≡ Some stop.DiskFault)) → (lost ≡ None) ⊎ (g ≡ Err trouble.OutOfMemory) → EndsAs (course_of e).ending turns count s lost
+ended_as turns count lost s (Err trouble.OutOfMemory) t e is running none =
+    subst (λ x. EndsAs (course_of x).ending turns count s lost) (some_status status.OutOfMemory e is) (⊎_elim (λ no. inl no) (λ fault. inr (inl fault)) (running trouble.OutOfMemory refl))
+ended_as turns count lost s (Err trouble.Failed) (Err trouble.OutOfMemory) e is running none =
+    subst (λ x. EndsAs (course_of x).ending turns count s lost) (some_status status.OutOfMemory e is) (inr (inr (no_refusal lost (Err trouble.Failed) refl none)))
+ended_as turns count lost s (Err trouble.Failed) (Err trouble.Failed) e is running none =
+    subst (λ x. EndsAs (course_of x).ending turns count s lost) (some_status status.OutboxFault e is) (no_refusal lost (Err trouble.Failed) refl none)
+ended_as turns count lost s (Err trouble.Failed) (Ok done) e is running none =
+    subst (λ x. EndsAs (course_of x).ending turns count s lost) (some_status (behind_disk s status.WireFault) e is)
+    (subst (λ o. EndsAs (course_of (behind_disk s status.WireFault)).ending turns count s o) (sym (no_refusal lost (Err trouble.Failed) refl none)) (wire_failed turns count s (running trouble.Failed refl)))
+ended_as turns count lost s (Ok enough) (Err trouble.OutOfMemory) e is running none =
+    subst (λ x. EndsAs (course_of x).ending turns count s lost) (some_status status.OutOfMemory e is) (inr (inr (no_trouble lost (Ok enough) enough refl none)))
+ended_as turns count lost s (Ok enough) (Err trouble.Failed) e is running none =
+    subst (λ x. EndsAs (course_of x).ending turns count s lost) (some_status status.OutboxFault e is) (no_trouble lost (Ok enough) enough refl none)
+ended_as turns count lost None (Ok enough) (Ok done) e is running none = absurd (cc)
+ended_as turns count lost (Some x) (Ok enough) (Ok done) e is running none =
+    subst (λ y. EndsAs (course_of y).ending turns count (Some x) lost) (some_status (status_of x) e is)
+    (subst (λ o. EndsAs (course_of (status_of x)).ending turns count (Some x) o) (sym (no_trouble lost (Ok enough) enough refl none)) (stopped turns count x))
+
+-- what is left where no call of next failed
 left_is : (e : Ending) (lost : Option WireEvent) (left : Option (List WireEvent)) (rest : List WireEvent) → left ≡ Some rest → LeftIs e lost left rest
 left_is never lost left rest is = is
 left_is at_closed lost left rest is = is
 left_is at_limit lost left rest is = is
 left_is at_wire_fault lost left rest is = tt
+left_is at_disk_fault lost left rest is = is
+left_is (at_full entries bytes) lost left rest is = is
 left_is anywhere lost left rest is = is
 left_is at_refusal None left rest is = tt
 left_is at_refusal (Some e) left rest is = is
 
-told_all : (e : Ending) (left left' : Option (List WireEvent)) (taken : List WireEvent) → NextWere left left' taken
-    → IfSome left (λ all. (rest : List WireEvent) × (all ≡ taken ++ ([] ++ rest)) × LeftIs e None left' rest)
-told_all e None left' taken told = tt
-told_all e (Some all) left' taken told = (told.0, told.1, left_is e None left' told.0 told.2)
+-- what is left behind events that were committed together, by the status
+left_by : (w w' : WireTells) (lost : Option WireEvent) (s : Option Stop) (g t : Result (Unit {0}) Trouble) (e : Status) → ended_with s g t ≡ Some e → (g ≡ Err trouble.Failed → Rose w.faults w'.faults)
+    → (left : Option (List WireEvent)) (rest : List WireEvent) → LeftIs (ending_of g) lost left rest → LeftIs (course_of e).ending lost left rest ⊎ Rose w.faults w'.faults
+left_by w w' lost s (Ok enough) t e is fault left rest has = inl (left_is (course_of e).ending lost left rest has)
+left_by w w' lost s (Err trouble.Failed) t e is fault left rest has = inr (fault refl)
+left_by w w' lost s (Err trouble.OutOfMemory) t e is fault left rest has = inl (subst (λ x. LeftIs (course_of x).ending lost left rest) (some_status status.OutOfMemory e is) has)
 
--- a run all of whose events were handled
-pub finish : (conf : Conf) (start now : Intake) (entries : List Numbered) (w0 w1 : WireTells) (count turns : ℕ) (stop : Option Stop) (e : Ending)
-    → Ran conf start now w0 w1 count stop → entries ≡ now.entries → count ≤ turns → EndsAs e turns count stop None → Finished conf start entries turns w0 w1 e
-finish conf start now entries w0 w1 count turns stop e r are few ends = record {
-  handled = r.taken;
-  lost = None;
-  few = omega (arith, r.count_is, few);
-  given = omega (arith, r.count_is, r.given);
-  told = told_all e w0.left w1.left r.taken r.told;
-  entries_are = are ∙ ap (λ (i : Intake). i.entries) r.intake_is;
-  ends = subst (λ n. EndsAs e turns n (served conf start r.taken).stop None) r.count_is (subst (λ s. EndsAs e turns count s None) r.stop_is ends);
-  shows = r.shows;
+-- the last events of a run, by the status
+pub took_ends : (limits : Limits) (conf : Conf) (old new : Intake) (did : Doing) (w w' : WireTells) (most count : ℕ) (s : Option Stop) (g t : Result (Unit {0}) Trouble) (e : Status)
+    → Took limits conf old new did w w' most count s g → ended_with s g t ≡ Some e → (g ≡ Err trouble.Failed → Rose w.faults w'.faults) → Ends limits conf old new did w w' most e
+took_ends limits conf old new did w w' most count s g t e took is fault = record {
+  count = count;
+  stop = s;
+  lost = took.lost;
+  ending = ending_of g;
+  ran = took.ran;
+  few = took.few;
+  ends = λ turns all. ended_as turns all took.lost s g t e is (running g took.goes_on) took.lost_is;
+  left = left_by w w' took.lost s g t e is fault;
 }
-
--- what is told of a wire that failed, or that gave an event for which memory was refused
-told_missed : (e : Ending) (left left' left'' : Option (List WireEvent)) (taken : List WireEvent) (lost : Option WireEvent)
-    → NextWere left left' taken → IfSome lost (λ x. NextWere left' left'' (x ∷ [])) → ((rest : List WireEvent) → LeftIs e None left'' rest)
-    → IfSome left (λ all. (rest : List WireEvent) × (all ≡ taken ++ (option_to_list lost ++ rest)) × LeftIs e lost left'' rest)
-told_missed e None left' left'' taken lost told next free = tt
-told_missed e (Some all) left' left'' taken None told next free = (told.0, told.1, free told.0)
-told_missed e (Some all) left' left'' taken (Some x) told next free =
-    let both = told_more (Some all) left' left'' taken x told next in
-    (both.0, both.1 ∙ append_assoc taken (x ∷ []) both.0, left_is e (Some x) left'' both.0 both.2)
-
--- where no event was handled nothing was numbered
-pub entries_stay : (conf : Conf) (old new : Intake) (w w' : WireTells) (t : Trouble) → TookOrMissed conf old new w w' (Err t) → new.entries ≡ old.entries
-entries_stay conf old new w w' trouble.Failed m = m.entries_stay
-entries_stay conf old new w w' trouble.OutOfMemory m = m.1.entries_stay
-
--- an event for which memory was refused: nothing was numbered, sent or closed
-pub missed_event : (old new : Intake) (wire wire' : WireTells) (event : WireEvent) → NextWere wire.left wire'.left (event ∷ []) → wire'.given ≡ wire.given + 1 → new.entries ≡ old.entries
-    → wire'.sent ≡ wire.sent → wire'.sends ≡ wire.sends → wire'.closed ≡ wire.closed → wire'.unsent ≡ wire.unsent → (lost : Option WireEvent) × Missed old new wire wire' lost
-missed_event old new wire wire' event told given entries sent sends closed unsent = (Some event, all_of)
   where
-    all_of : Missed old new wire wire' (Some event)
-    all_of = record { entries_stay = entries; given = given; told = told; sent_stays = sent; sends_stay = sends; closed_stays = closed; unsent_stays = unsent }
+    running : (g : Result (Unit {0}) Trouble) → OnErr g ((s ≡ None) ⊎ (s ≡ Some stop.DiskFault)) → (r : Trouble) → g ≡ Err r → (s ≡ None) ⊎ (s ≡ Some stop.DiskFault)
+    running (Ok enough) why r is = absurd (cc)
+    running (Err x) why r is = why
 
-at_most_one : (lost : Option WireEvent) → length (option_to_list lost) ≤ 1
-at_most_one None = omega arith
-at_most_one (Some e) = omega arith
+-- a run that goes on: nothing stopped, and nothing failed
+pub goes_on_is : (s : Option Stop) (g t : Result (Unit {0}) Trouble) → ended_with s g t ≡ None → (s ≡ None) × ((u : Unit {0}) × (g ≡ Ok u)) × ((u : Unit {0}) × (t ≡ Ok u))
+goes_on_is s (Err trouble.OutOfMemory) t is = absurd (cc)
+goes_on_is s (Err trouble.Failed) (Err trouble.OutOfMemory) is = absurd (cc)
+goes_on_is s (Err trouble.Failed) (Err trouble.Failed) is = absurd (cc)
+goes_on_is s (Err trouble.Failed) (Ok done) is = absurd (cc)
+goes_on_is s (Ok enough) (Err trouble.OutOfMemory) is = absurd (cc)
+goes_on_is s (Ok enough) (Err trouble.Failed) is = absurd (cc)
+goes_on_is None (Ok enough) (Ok done) is = (refl, (enough, refl), (done, refl))
+goes_on_is (Some x) (Ok enough) (Ok done) is = absurd (cc)
 
--- a run whose last turn handled no event
-missed : (conf : Conf) (start now new : Intake) (w0 w1 w2 : WireTells) (count turns : ℕ) (lost : Option WireEvent) (e : Ending)
-    → Ran conf start now w0 w1 count None → Missed now new w1 w2 lost → count < turns → ((n : ℕ) → EndsAs e turns n None lost)
-    → ((rest : List WireEvent) → LeftIs e None w2.left rest) → Finished conf start new.entries turns w0 w2 e
-missed conf start now new w0 w1 w2 count turns lost e r m few ends free = record {
-  handled = r.taken;
-  lost = lost;
-  few = omega (arith, r.count_is, few, at_most_one lost);
-  given = omega (arith, r.count_is, r.given, m.given);
-  told = told_missed e w0.left w1.left w2.left r.taken lost r.told m.told free;
-  entries_are = m.entries_stay ∙ ap (λ (i : Intake). i.entries) r.intake_is;
-  ends = subst (λ s. EndsAs e turns (length r.taken) s lost) r.stop_is (ends (length r.taken));
-  shows = shows_same w0 w1 w2 (served conf start r.taken).replies (served conf start r.taken).shut r.shows m.sent_stays m.sends_stay m.closed_stays m.unsent_stays;
-}
+-- the events behind which a run goes on
+pub took_on : (limits : Limits) (conf : Conf) (old new : Intake) (did : Doing) (w w' : WireTells) (most count : ℕ) (s : Option Stop) (g t : Result (Unit {0}) Trouble)
+    → Took limits conf old new did w w' most count s g → ended_with s g t ≡ None
+    → Ran (refusing limits 0) conf old.entries old new did w w' count None None anywhere × (count ≤ most) × (0 < most → 0 < count)
+took_on limits conf old new did w w' most count s g t took is =
+    let on = goes_on_is s g t is in
+    by s g took on.0 on.1.0 on.1.1
+  where
+    by : (s : Option Stop) (g : Result (Unit {0}) Trouble) → Took limits conf old new did w w' most count s g → s ≡ None → (u : Unit {0}) → g ≡ Ok u
+        → Ran (refusing limits 0) conf old.entries old new did w w' count None None anywhere × (count ≤ most) × (0 < most → 0 < count)
+    by None (Ok enough) took none u is =
+        let kept = no_trouble took.lost (Ok enough) enough refl took.lost_is in
+        (subst (λ o. Ran (refusing limits 0) conf old.entries old new did w w' count None o anywhere) kept took.ran, omega (arith, took.few), took.some)
+    by (Some x) g took none u is = absurd (cc)
+    by None (Err r) took none u is = absurd (cc)
 
--- a run that ends with its last turn
-pub finish_turn : (conf : Conf) (start now new : Intake) (w0 w1 w2 : WireTells) (count turns : ℕ) (e : Ending)
-    → Ran conf start now w0 w1 count None → EndsTaking conf now new w1 w2 e → count < turns → Finished conf start new.entries turns w0 w2 e
-finish_turn conf start now new w0 w1 w2 count turns at_wire_fault r m few = missed conf start now new w0 w1 w2 count turns None at_wire_fault r m few (λ n. (refl, refl)) (λ rest. tt)
-finish_turn conf start now new w0 w1 w2 count turns anywhere r t few =
-    finish conf start new new.entries w0 w2 (count + 1) turns t.0 anywhere (ran_more conf start now new w0 w1 w2 count t.0 r t.1) refl (omega (arith, few)) refl
-finish_turn conf start now new w0 w1 w2 count turns at_refusal r (inl t) few =
-    finish conf start new new.entries w0 w2 (count + 1) turns t.0 at_refusal (ran_more conf start now new w0 w1 w2 count t.0 r t.1) refl (omega (arith, few)) (inr refl)
-finish_turn conf start now new w0 w1 w2 count turns at_refusal r (inr m) few = missed conf start now new w0 w1 w2 count turns m.0 at_refusal r m.1 few (λ n. inl refl) (λ rest. tt)
-finish_turn conf start now new w0 w1 w2 count turns never r none few = absurd none
-finish_turn conf start now new w0 w1 w2 count turns at_closed r none few = absurd none
-finish_turn conf start now new w0 w1 w2 count turns at_limit r none few = absurd none
+-- ---- what they leave in the outbox
+
+module _ (limits : Limits) (conf : Conf) (old new : Intake) (did : Doing) (w w' : WireTells) (most count : ℕ) (s : Option Stop) (g t : Result (Unit {0}) Trouble) (ledger ledger' : Ledger) (sink now later : SinkTells) (n : ℕ)
+    (took : Took limits conf old new did w w' most count s g) (set : SettlesUnless conf ledger ledger' (drop n new.entries) now later s t) (all : n ≡ length old.entries) (u : UpToDate conf old ledger sink now) where
+  grown : (more : List Numbered) × (new.entries ≡ old.entries ++ more)
+  grown = ran_grows (refusing limits (refused_group old s)) conf old.entries old new did w w' count s took.lost (ending_of g) took.ran
+
+  -- all is up to date, where the run goes on
+  pub keeps_on : ended_with s g t ≡ None → UpToDate conf new ledger' sink later
+  keeps_on is =
+      let on = goes_on_is s g t is in
+      let kept : took.lost ≡ None = ⊎_elim (λ none. none) (λ refused. absurd (clash on.1.0 on.1.1 refused)) took.lost_is in
+      all_goes_on conf old new ledger ledger' sink now later n s took.lost t all grown took.none_added took.sound set u on.0 kept on.2.0 on.2.1
+    where
+      clash : (u : Unit {0}) → g ≡ Ok u → g ≡ Err trouble.OutOfMemory → ⊥
+      clash u ok err = cc
+
+  -- or as much is out as the status says
+  pub keeps_ended : (e : Status) → ended_with s g t ≡ Some e → Leaves conf new.entries ledger'.tally sink later (course_of e).out
+  keeps_ended e is = leaves_ended conf old new ledger ledger' sink now later n s took.lost t all grown took.none_added took.sound set u g t e refl is
+
+-- ---- a run, some events at a time
+
+module _ {D : Type 0} (bytes : D → Option (List ℕ)) (images : D → List ℕ → Type 0) (moment : D → ℕ) (since : D → ℕ → List ℕ → Type 0) (faults : D → ℕ) where
+  -- what a run's disk did
+  abbrev doing : D → D → Doing
+  doing old new = Journals bytes images moment since faults (λ c. ⊥) old new
+
+  -- at the start no event was taken
+  pub ran_none : (limits : Limits) (conf : Conf) (i : Intake) (disk : D) (w : WireTells) → ((c : List ℕ) → since disk (moment disk) c → images disk c) → IsKept bytes images disk i.entries
+      → Ran (refusing limits 0) conf i.entries i i (doing disk disk) w w 0 None None anywhere
+  ran_none limits conf i disk w only_now kept = record {
+    taken = [];
+    count_is = refl;
+    given = omega arith;
+    told = gave_none w.left;
+    entries_are = refl;
+    intake_is = λ none all. refl;
+    stop_is = refl;
+    shows = shows_none w;
+    journaled = journals_none bytes images moment since faults disk (IsReached (refusing limits 0) conf i.entries i []) i.entries only_now (inl refl) kept;
+    later = omega arith;
+  }
+
+  module _ (limits : Limits) (conf : Conf) (recovered : List Numbered) (start now new : Intake) (d0 d1 d2 : D) (w0 w1 w2 : WireTells) (count more : ℕ) (s : Option Stop) (lost : Option WireEvent) (ending : Ending) where
+    -- more events behind some that stopped nothing; the disk may have refused a group of theirs
+    pub ran_more : Ran (refusing limits 0) conf recovered start now (doing d0 d1) w0 w1 count None None anywhere
+        → Ran (refusing limits (refused_group now s)) conf now.entries now new (doing d1 d2) w1 w2 more s lost ending
+        → Ran (refusing limits (refused_group now s)) conf recovered start new (doing d0 d2) w0 w2 (count + more) s lost ending
+    ran_more r t =
+        let n = refused_group now s in
+        let l = refusing limits n in
+        let is : now ≡ (served (refusing limits 0) conf start r.taken).intake = r.intake_is refl refl in
+        let running0 : (served (refusing limits 0) conf start r.taken).stop ≡ None = sym r.stop_is in
+        let before : served l conf start r.taken ≡ served (refusing limits 0) conf start r.taken = same_before limits conf start now r.taken s is in
+        let running : (served l conf start r.taken).stop ≡ None = ap (λ (x : Served). x.stop) before ∙ running0 in
+        let here : now ≡ (served l conf start r.taken).intake = is ∙ ap (λ (x : Served). x.intake) (sym before) in
+        let so_far = served (refusing limits 0) conf start r.taken in
+        let all : served l conf start (r.taken ++ t.taken) ≡ behind so_far.replies so_far.shut (served l conf now t.taken) =
+        served_then l conf start now r.taken t.taken running here ∙ ap (λ (x : Served). behind x.replies x.shut (served l conf now t.taken)) before in
+        record {
+          taken = r.taken ++ t.taken;
+          count_is = omega (arith, r.count_is, t.count_is, length-append r.taken t.taken);
+          given = omega (arith, t.given, r.given);
+          told = gave_both ending lost w0.left w1.left w2.left r.taken t.taken r.told t.told;
+          entries_are = t.entries_are ∙ sym (ap (λ (x : Served). x.intake.entries) all);
+          intake_is = λ none kept. t.intake_is none kept ∙ sym (ap (λ (x : Served). x.intake) all);
+          stop_is = t.stop_is ∙ sym (ap (λ (x : Served). x.stop) all);
+          shows = subst (λ (x : Served). Shows w0 w2 x.replies x.shut) (sym all)
+              (shows_both w0 w1 w2 so_far.replies (served l conf now t.taken).replies so_far.shut (served l conf now t.taken).shut r.shows t.shows);
+          journaled = journals_on bytes images moment since faults (λ c. ⊥) d0 d1 d2 (IsReached (refusing limits 0) conf recovered start r.taken)
+              (IsReached l conf now.entries now t.taken) (IsReached l conf recovered start (r.taken ++ t.taken)) None s now.entries new.entries
+              (reached_before limits conf recovered start r.taken t.taken n before (same_front limits conf start now r.taken s is))
+              (reached_then limits conf recovered start r.taken t.taken n before now is running0) r.journaled t.journaled;
+          later = omega (arith, r.later, t.later);
+        }
+
+  -- more events that stop nothing
+  pub ran_on : (limits : Limits) (conf : Conf) (recovered : List Numbered) (start now new : Intake) (d0 d1 d2 : D) (w0 w1 w2 : WireTells) (count more : ℕ)
+      → Ran (refusing limits 0) conf recovered start now (doing d0 d1) w0 w1 count None None anywhere → (l : Limits) → l ≡ limits → Ran (refusing l 0) conf now.entries now new (doing d1 d2) w1 w2 more None None anywhere
+      → Ran (refusing limits 0) conf recovered start new (doing d0 d2) w0 w2 (count + more) None None anywhere
+  ran_on limits conf recovered start now new d0 d1 d2 w0 w1 w2 count more r l same t =
+      ran_more limits conf recovered start now new d0 d1 d2 w0 w1 w2 count more None None anywhere r
+      (subst (λ (x : Limits). Ran (refusing x 0) conf now.entries now new (doing d1 d2) w1 w2 more None None anywhere) same t)
+
+  -- a run that took its events
+  pub finish : (limits : Limits) (conf : Conf) (recovered : List Numbered) (start now : Intake) (d0 d1 : D) (w0 w1 : WireTells) (count turns n : ℕ) (s : Option Stop) (lost : Option WireEvent) (ending e : Ending)
+      → Ran (refusing limits n) conf recovered start now (doing d0 d1) w0 w1 count s lost ending → (n ≡ 0) ⊎ (s ≡ Some stop.DiskFault) → count + length (option_to_list lost) ≤ turns → EndsAs e turns count s lost
+      → ((left : Option (List WireEvent)) (rest : List WireEvent) → LeftIs ending lost left rest → LeftIs e lost left rest ⊎ Rose w0.faults w1.faults)
+      → Finished limits conf recovered start now.entries turns (doing d0 d1) w0 w1 e
+  finish limits conf recovered start now d0 d1 w0 w1 count turns n s lost ending e r why few ends left = record {
+    handled = r.taken;
+    lost = lost;
+    refused = n;
+    few = omega (arith, r.count_is, few);
+    given = omega (arith, r.count_is, r.given);
+    told = told w0.left r.told;
+    entries_are = r.entries_are;
+    ends = subst (λ k. EndsAs e turns k (served (refusing limits n) conf start r.taken).stop lost) r.count_is (subst (λ o. EndsAs e turns count o lost) r.stop_is ends);
+    refused_is = subst (λ o. (n ≡ 0) ⊎ (o ≡ Some stop.DiskFault)) r.stop_is why;
+    shows = r.shows;
+    journaled = subst (λ o. doing d0 d1 (IsReached (refusing limits n) conf recovered start r.taken) o now.entries) r.stop_is r.journaled;
+  }
+    where
+      told : (o : Option (List WireEvent)) → Gave o w1.left r.taken lost ending
+          → IfSome o (λ all. (rest : List WireEvent) × (all ≡ r.taken ++ (option_to_list lost ++ rest)) × (LeftIs e lost w1.left rest ⊎ Rose w0.faults w1.faults))
+      told None t = tt
+      told (Some all) t = (t.0, t.1, left w1.left t.0 t.2)
+
+  -- a run whose last events didn't stop it
+  pub finish_on : (limits : Limits) (conf : Conf) (recovered : List Numbered) (start now : Intake) (d0 d1 : D) (w0 w1 : WireTells) (count turns : ℕ) (e : Ending)
+      → Ran (refusing limits 0) conf recovered start now (doing d0 d1) w0 w1 count None None anywhere → count ≤ turns → EndsAs e turns count None None
+      → Finished limits conf recovered start now.entries turns (doing d0 d1) w0 w1 e
+  finish_on limits conf recovered start now d0 d1 w0 w1 count turns e r few ends =
+      finish limits conf recovered start now d0 d1 w0 w1 count turns 0 None None anywhere e r (inl refl) (omega (arith, few)) ends (λ left rest has. inl (left_is e None left rest has))
+
+  -- a run that ends behind events that were committed together
+  pub finish_with : (limits : Limits) (conf : Conf) (recovered : List Numbered) (start now new : Intake) (d0 d1 d2 : D) (w0 w1 w2 : WireTells) (count most turns : ℕ) (e : Status)
+      → Ran (refusing limits 0) conf recovered start now (doing d0 d1) w0 w1 count None None anywhere → (l : Limits) → l ≡ limits → Ends l conf now new (doing d1 d2) w1 w2 most e
+      → count + most ≤ turns → w0.faults ≤ w1.faults → Finished limits conf recovered start new.entries turns (doing d0 d2) w0 w2 (course_of e).ending
+  finish_with limits conf recovered start now new d0 d1 d2 w0 w1 w2 count most turns e r l same t few later =
+      let x : Ends limits conf now new (doing d1 d2) w1 w2 most e = subst (λ (k : Limits). Ends k conf now new (doing d1 d2) w1 w2 most e) same t in
+      finish limits conf recovered start new d0 d2 w0 w2 (count + x.count) turns (refused_group now x.stop) x.stop x.lost x.ending (course_of e).ending
+      (ran_more limits conf recovered start now new d0 d1 d2 w0 w1 w2 count x.count x.stop x.lost x.ending r x.ran) (refused_is now x.stop) (omega (arith, few, x.few)) (x.ends turns (count + x.count))
+      (λ left rest has. ⊎_elim (λ is. inl is) (λ rose. inr (omega (arith, later, rose))) (x.left left rest has))
+
+-- a journal that is ready has the limits of the one before
+pub limits_kept : {D : Type 0} (old new : Journaled D) → IsReady old new → limits_of new 0 ≡ limits_of old 0
+limits_kept old new ready = ap₂ limits_at ready.1 ready.2
+  where
+    limits_at : ℕ → ℕ → Limits
+    limits_at a b = record { max_entries = a; max_bytes = b; stop = 0 }
+
+pub ready_on : {D : Type 0} (a b c : Journaled D) → IsReady a b → IsReady b c → IsReady a c
+ready_on a b c p q = (q.0, q.1 ∙ p.1, q.2 ∙ p.2)

@@ -3,6 +3,15 @@ pub mod Logs
 pub mod Counting
 pub mod Standing
 pub mod Outbox
+pub mod JournalReads
+pub mod Handling
+pub mod Stopping
+pub mod Joining
+pub mod Batches
 pub mod Events
 pub mod Texts
+pub mod Differences
+pub mod Beginning
+pub mod Barring
 pub mod Runs
+pub mod Closings

@@ -13,7 +13,7 @@ use Rattle.server_run.specs.Standing.{onto, log_lines}
 use Rattle.server_run.specs.Replayed.{conf_of_run}
 
 -- a log with entries behind it has them in front, turned round
-onto_reverse : (log es : List Numbered) → onto log es ≡ reverse es ++ log
+pub onto_reverse : (log es : List Numbered) → onto log es ≡ reverse es ++ log
 onto_reverse log [] = refl
 onto_reverse log (e ∷ es) = onto_reverse (e ∷ log) es ∙ sym (append_assoc (reverse es) (e ∷ []) log) ∙ ap (λ l. l ++ log) (sym (reverse-append (e ∷ []) es))
 

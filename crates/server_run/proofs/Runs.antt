@@ -1,23 +1,30 @@
 -- Laws of how runs begin and end.
-use Rattle.std.proofs.Common.{◌≡◌, true, ℕ, ◌+◌, List, [], ◌++◌, ◌≤◌, length, refl, sym, ap, ◌∙◌, subst, arith, inl, inr}
-use Rattle.std.specs.Prelude.{◌⊎◌, Option, Some, None, Ok, IfSome, IsSome, is_some}
+use Rattle.std.proofs.Common.{◌≡◌, ◌⊎◌, ⊎_elim, true, ℕ, List, [], ◌∷◌, ◌++◌, ◌≤◌, length, drop, refl, sym, ap, ap₂, ◌∙◌, subst, arith, inl, inr}
+use Rattle.std.specs.Prelude.{Option, Some, None, Result, Ok, Err, IfSome, IsSome, is_some}
 use Rattle.std.specs.Option.{option_to_list}
+use Rattle.std.specs.List.{flat_map}
 use Rattle.std.specs.Result.{result_ok}
 use Rattle.std.specs.Io.KnownBytes.{IsAtEnd}
 use Rattle.std.proofs.KnownBytes.{Consumes-nil}
+use Rattle.std.proofs.lemmas.List.Concat.{flat_map-cons}
 use Rattle.zbx_types.specs.declared.conf.Conf.{Conf}
+use Rattle.zbx_types.specs.declared.entries.Entry.{Entry}
+use Rattle.zbx_types.specs.declared.entries.Entry.TheVariants.{Config, Value, Tick}
 use Rattle.zbx_types.specs.declared.entries.Numbered.{Numbered}
 use Rattle.outside.specs.Causes.{Rose}
+use Rattle.outside.specs.Disk.{LeavesOnly}
 use Rattle.outside.specs.Tells.{SinkTells, WireTells}
 use Rattle.outside.specs.declared.event.WireEvent.{WireEvent}
 use Rattle.config_templates.specs.Flat.{flat_of}
+use Rattle.config_templates.specs.Places.{Flaw, refuse}
 use Rattle.config_templates.specs.Places.Flaw.{refused}
-use Rattle.event_text.specs.Lines.{lines_of}
+use Rattle.zbx_types.specs.declared.causes.Cause.{Cause}
 use Rattle.entry_step.specs.Log.{log_of}
-use Rattle.entry_step.specs.Records.{replay, out_of}
-use Rattle.intake_front.specs.Intake.{Intake, start}
+use Rattle.intake_journal.specs.Settled.{KeepsAsOneOf}
+use Rattle.intake_journal.specs.declared.format.Group.{Group}
+use Rattle.intake_front.specs.Intake.{Limits, Intake, numbered_from, start}
+use Rattle.intake_front.specs.Fronted.{Fronted, numbered_of, limits_of}
 use Rattle.intake_front.specs.declared.answer.Stop.{Stop}
-use Rattle.intake_front.proofs.Sound.{sound_start}
 use Rattle.server_words.specs.declared.words.Plan.{Plan}
 use Rattle.server_words.specs.declared.status.Counts.{Counts}
 use Rattle.server_words.specs.declared.status.Status.{Status}
@@ -26,13 +33,20 @@ use Rattle.server_words.specs.Words.{plan_of}
 use Rattle.server_words.specs.Printed.{printed_text}
 use Rattle.server_run.specs.declared.book.Ledger.{Ledger}
 use Rattle.server_run.specs.Ports.{IsTextUpTo, ReadsUpTo, Grew, GrewByFront}
+use Rattle.pattern_set.specs.Patterns.{IsNoPattern}
 use Rattle.server_run.specs.Built.{is_built, IsUnbuilt}
-use Rattle.server_run.specs.Standing.{Applied, log_lines}
-use Rattle.server_run.specs.Statuses.{Ending, never, at_closed, at_limit, at_wire_fault, anywhere, at_refusal, course_of, cut_short, IsRefusal, IsEnding, IsCourse, IsUnprinted, EndsPrinted, EndsAs, LeftIs}
-use Rattle.server_run.specs.Outbox.{UpToDate}
-use Rattle.server_run.specs.Runs.{IsUntaken, Refuses, Opened, Finished, Followed, Prints}
-use Rattle.server_run.proofs.Outbox.{grew_none, all_front, none_front}
-use Rattle.server_run.proofs.Texts.{text_told, flaw_told, at_end_of}
+use Rattle.server_run.specs.Patterns.{HasFlawAt, HoldsBrace}
+use Rattle.server_run.specs.Standing.{log_lines}
+use Rattle.server_run.specs.Replayed.{conf_in, conf_of_run}
+use Rattle.server_run.specs.Opening.{config_text, first_text, IsAccepted, Unopened, FoundEntries, TurnedAway, IsResumed, opening_entries}
+use Rattle.server_run.specs.Outbox.{IsBehind}
+use Rattle.server_run.specs.Statuses.{Ending, never, at_closed, at_limit, at_wire_fault, at_disk_fault, at_full, anywhere, at_refusal, course_of, cut_short, IsRefusal, IsBarring, IsEnding, IsCourse, IsUnprinted, EndsPrinted, EndsAs, LeftIs}
+use Rattle.server_run.specs.Stops.{refusing, KeepsSome, IsEither, IsReached, Journals}
+use Rattle.server_run.specs.Events.{Doing}
+use Rattle.server_run.specs.Runs.{IsUntaken, Configured, IsConfigured, Unconfigured, Refuses, IsBarred, FoundBy, Unbegun, Opened, Finished, Followed, Prints, limits_by, opening_intake}
+use Rattle.server_run.proofs.Outbox.{all_front, none_front}
+use Rattle.server_run.proofs.Stopping.{journals_on, leaves_more}
+use Rattle.server_run.proofs.Texts.{text_told, text_kept, flaw_told, at_end_of}
 
 some_plan : (o : Option Plan) (plan : Plan) → o ≡ Some plan → IsSome o
 some_plan o plan is = ap is_some is
@@ -42,64 +56,222 @@ unbuilt_told : (source : Option (List ℕ)) (bytes : List ℕ) → IfSome source
 unbuilt_told None bytes read u = tt
 unbuilt_told (Some all) bytes read u = subst IsUnbuilt (text_told (Some all) bytes u.conf read u.conf_is) u
 
+-- where a pattern of a text that was read has a flaw, one of the source's has it
+flawed_told : (Flaw : List ℕ → Type 0) (path : List ℕ) (source : Option (List ℕ)) (bytes : List ℕ) → IfSome source (λ all. IsTextUpTo 16777216 all bytes) → HasFlawAt Flaw path bytes → IfSome source (HasFlawAt Flaw path)
+flawed_told Flaw path None bytes read u = tt
+flawed_told Flaw path (Some all) bytes read u = subst (HasFlawAt Flaw path) (text_told (Some all) bytes u.conf read u.conf_is) u
+
 -- a configuration that couldn't be taken
-pub refuses : (words : List (List ℕ)) (plan : Plan) (source : Option (List ℕ)) (faults faults' : ℕ) (bytes : List ℕ) (s : Status)
-    → plan_of words ≡ Some plan → IfSome source (λ all. IsTextUpTo 16777216 all bytes) → IsUntaken bytes s → Refuses words source faults faults' s
-refuses words plan source faults faults' bytes status.OutOfMemory is read spent = tt
-refuses words plan source faults faults' bytes status.Unbuilt is read flaw = (some_plan (plan_of words) plan is, unbuilt_told source bytes read flaw)
-refuses words plan source faults faults' bytes (status.ConfigRefused path cause) is read flaw =
+pub unconfigured : (words : List (List ℕ)) (plan : Plan) (source : Option (List ℕ)) (faults faults' : ℕ) (bytes : List ℕ) (s : Status)
+    → plan_of words ≡ Some plan → IfSome source (λ all. IsTextUpTo 16777216 all bytes) → IsUntaken bytes s → Unconfigured words source faults faults' s
+unconfigured words plan source faults faults' bytes status.OutOfMemory is read spent = tt
+unconfigured words plan source faults faults' bytes status.Unbuilt is read flaw = (some_plan (plan_of words) plan is, unbuilt_told source bytes read flaw)
+unconfigured words plan source faults faults' bytes (status.ConfigRefused path cause) is read flaw =
     (some_plan (plan_of words) plan is, flaw_told source bytes (refused (record { path = path; cause = cause })) read flaw)
-refuses words plan source faults faults' bytes _ is read none = absurd none
+unconfigured words plan source faults faults' bytes (status.PatternRefused path) is read flaw = (some_plan (plan_of words) plan is, flawed_told IsNoPattern path source bytes read flaw)
+unconfigured words plan source faults faults' bytes (status.PatternTooLarge path) is read flaw = (some_plan (plan_of words) plan is, flawed_told HoldsBrace path source bytes read flaw)
+unconfigured words plan source faults faults' bytes _ is read none = absurd none
 
--- what a run begins with
-pub opened : (words : List (List ℕ)) (plan : Plan) (source source' : Option (List ℕ)) (bytes text : List ℕ) (conf : Conf) (intake : Intake) (ledger : Ledger)
+-- one that was taken
+pub is_configured : (words : List (List ℕ)) (plan : Plan) (source source' : Option (List ℕ)) (bytes : List ℕ) (conf : Conf)
     → plan_of words ≡ Some plan → IfSome source (λ all. IsTextUpTo 16777216 all bytes) → (length bytes ≤ 16777216 → IsAtEnd source')
-    → flat_of bytes ≡ Ok conf → is_built conf ≡ true → text ≡ bytes → intake ≡ start text
-    → Applied conf ledger.cells ledger.tally (log_of (start text).entries) → Opened words source source' plan.turns conf intake ledger
-opened words plan source source' bytes text conf intake ledger is read end found built same begun applied = record {
-  plan = plan;
-  plan_is = is;
-  turns_are = refl;
-  text = text;
-  text_is = subst (λ t. IfSome source (λ all. t ≡ all)) (sym same) (text_told source bytes conf read found);
-  at_end = end (at_end_of bytes conf found);
-  conf_is = ap flat_of same ∙ found;
-  built = built;
-  intake_is = begun;
-  applied = applied;
-}
+    → flat_of bytes ≡ Ok conf → is_built conf ≡ true → IsConfigured words source source' plan.turns plan.max_entries conf
+is_configured words plan source source' bytes conf is read end found built =
+    let same = text_kept bytes conf found in
+    record {
+      plan = plan;
+      configured = record {
+        plan_is = is;
+        text_is = subst (λ t. IfSome source (λ all. t ≡ all)) (sym same) (text_told source bytes conf read found);
+        conf_is = ap flat_of same ∙ found;
+        built = built;
+      };
+      turns_are = refl;
+      most_is = refl;
+      at_end = end (at_end_of bytes conf found);
+    }
 
--- a run that has begun is up to date with its first entry
-pub up_to_date : (words : List (List ℕ)) (source source' : Option (List ℕ)) (turns : ℕ) (conf : Conf) (intake : Intake) (ledger : Ledger) (sink : SinkTells)
-    → Opened words source source' turns conf intake ledger → UpToDate conf intake ledger sink sink
-unfolding out_of
-up_to_date words source source' turns conf intake ledger sink o =
-    let at_start : UpToDate conf (start o.text) ledger sink sink = record {
-      sound = sound_start conf o.text;
-      conf_is = ap result_ok o.conf_is;
-      applied = o.applied;
-      lines = no_lines_yet conf o.text sink;
-    } in
-    subst (λ (i : Intake). UpToDate conf i ledger sink sink) (sym o.intake_is) at_start
+-- a run that wasn't configured didn't begin
+pub not_configured : (words : List (List ℕ)) (source : Option (List ℕ)) (faults faults' : ℕ) (file : Option (List ℕ)) (disk_faults disk_faults' held : ℕ) (s : Status)
+    → Unconfigured words source faults faults' s → Refuses words source faults faults' file disk_faults disk_faults' held s
+not_configured words source faults faults' file disk_faults disk_faults' held status.Usage why = why
+not_configured words source faults faults' file disk_faults disk_faults' held status.SourceFault why = why
+not_configured words source faults faults' file disk_faults disk_faults' held status.OutOfMemory why = why
+not_configured words source faults faults' file disk_faults disk_faults' held status.Unbuilt why = why
+not_configured words source faults faults' file disk_faults disk_faults' held (status.ConfigRefused path cause) why = why
+not_configured words source faults faults' file disk_faults disk_faults' held (status.PatternRefused path) why = why
+not_configured words source faults faults' file disk_faults disk_faults' held (status.PatternTooLarge path) why = why
+not_configured words source faults faults' file disk_faults disk_faults' held _ none = absurd none
+
+-- nor did one that was turned away
+turned : (words : List (List ℕ)) (source : Option (List ℕ)) (faults faults' : ℕ) (file : Option (List ℕ)) (disk_faults disk_faults' held : ℕ) (plan : Plan) (conf : Conf) (s : Status)
+    → Configured words source plan conf → Unopened conf plan.max_entries file disk_faults disk_faults' held s → Refuses words source faults faults' file disk_faults disk_faults' held s
+turned words source faults faults' file disk_faults disk_faults' held plan conf status.OutOfMemory c why = tt
+turned words source faults faults' file disk_faults disk_faults' held plan conf status.DiskFault c why = (plan, conf, c, why)
+turned words source faults faults' file disk_faults disk_faults' held plan conf status.NotOurs c why = (plan, conf, c, why)
+turned words source faults faults' file disk_faults disk_faults' held plan conf (status.Damaged at) c why = (plan, conf, c, why)
+turned words source faults faults' file disk_faults disk_faults' held plan conf (status.ConfigDiffers at) c why = (plan, conf, c, why)
+turned words source faults faults' file disk_faults disk_faults' held plan conf (status.OutboxAhead told lines) c why = (plan, conf, c, why)
+turned words source faults faults' file disk_faults disk_faults' held plan conf (status.Full entries bytes) c why = (plan, conf, c, why)
+turned words source faults faults' file disk_faults disk_faults' held plan conf _ c none = absurd none
+
+module _ {D : Type 0} (bytes : D → Option (List ℕ)) (images : D → List ℕ → Type 0) (moment : D → ℕ) (since : D → ℕ → List ℕ → Type 0) (faults : D → ℕ) where
+  -- a disk that was left alone
+  pub left_alone : (A : List Numbered → Type 0) (disk : D) → ((c : List ℕ) → since disk (moment disk) c → images disk c)
+      → IfSome (bytes disk) (λ _. LeavesOnly moment since disk disk (λ c. KeepsAsOneOf (images disk) c ⊎ KeepsSome A c))
+  left_alone A disk only_now = here (bytes disk)
+    where
+      here : (o : Option (List ℕ)) → IfSome o (λ _. LeavesOnly moment since disk disk (λ c. KeepsAsOneOf (images disk) c ⊎ KeepsSome A c))
+      here None = tt
+      here (Some b) = record { later = omega arith; each = λ c left. inl (c, only_now c left, refl); before = λ t c le left. inl left }
+
+  pub unbegun_alone : (words : List (List ℕ)) (source : Option (List ℕ)) (source_faults source_faults' held : ℕ) (disk : D) (s : Status) → ((c : List ℕ) → since disk (moment disk) c → images disk c)
+      → Unconfigured words source source_faults source_faults' s → Unbegun bytes images moment since faults words source source_faults source_faults' held disk disk [] s
+  unbegun_alone words source source_faults source_faults' held disk s only_now why = record {
+    why = not_configured words source source_faults source_faults' (bytes disk) (faults disk) (faults disk) held s why;
+    told = refl;
+    later = omega arith;
+    has = inl refl;
+    left = left_alone (FoundBy words source (bytes disk)) disk only_now;
+  }
+
+  pub unbegun_turned : (words : List (List ℕ)) (source source' : Option (List ℕ)) (source_faults source_faults' held turns most : ℕ) (conf : Conf) (old new : D) (entries : List Numbered) (s : Status)
+      → IsConfigured words source source' turns most conf → TurnedAway bytes images moment since faults conf most held old new entries s
+      → Unbegun bytes images moment since faults words source source_faults source_faults' held old new entries s
+  unbegun_turned words source source' source_faults source_faults' held turns most conf old new entries s c t = record {
+    why = turned words source source_faults source_faults' (bytes old) (faults old) (faults new) held c.plan conf s c.configured (subst (λ n. Unopened conf n (bytes old) (faults old) (faults new) held s) c.most_is t.why);
+    told = t.told;
+    later = t.later;
+    has = ⊎_elim (λ none. inl none) (λ found. inr (by found)) t.has;
+    left = more (bytes old) t.left;
+  }
+    where
+      by : {es : List Numbered} → FoundEntries (bytes old) conf es → FoundBy words source (bytes old) es
+      by found = (c.plan, conf, c.configured, found)
+
+      more : (o : Option (List ℕ)) → IfSome o (λ _. LeavesOnly moment since old new (λ f. KeepsAsOneOf (images old) f ⊎ KeepsSome (FoundEntries (bytes old) conf) f))
+          → IfSome o (λ _. LeavesOnly moment since old new (λ f. KeepsAsOneOf (images old) f ⊎ KeepsSome (FoundBy words source (bytes old)) f))
+      more None l = tt
+      more (Some b) l = leaves_more bytes images moment since faults old new _ _ (λ f. ⊎_elim (λ k. inl k) (λ k. inr (k.0, by k.1, k.2))) l
+
+  pub opened : (words : List (List ℕ)) (source source' : Option (List ℕ)) (held turns most : ℕ) (conf : Conf) (old : D) (made : Fronted D) (ledger : Ledger) (missing : List ℕ)
+      → IsConfigured words source source' turns most conf → IsResumed bytes images moment since faults conf most held old made ledger missing
+      → Opened bytes images moment since faults words source source' held old turns conf made ledger missing
+  opened words source source' held turns most conf old made ledger missing c r = record {
+    plan = c.plan;
+    configured = c.configured;
+    turns_are = c.turns_are;
+    at_end = c.at_end;
+    resumed = subst (λ n. IsResumed bytes images moment since faults conf n held old made ledger missing) c.most_is r;
+  }
+
+abbrev limits_at : ℕ → ℕ → Limits
+limits_at a b = record { max_entries = a; max_bytes = b; stop = 0 }
+
+-- the configuration of the entries with which a run goes on is its own
+conf_in_first : (conf : Conf) (e : Entry) → flat_of conf.text ≡ Ok conf → config_text e ≡ Some conf.text → conf_in e ≡ Some conf
+conf_in_first conf (Config now text) is same = let texts : text ≡ conf.text = some_same text conf.text same in ap (λ t. result_ok (flat_of t)) texts ∙ ap result_ok is
   where
-    no_lines_yet : (conf : Conf) (text : List ℕ) (sink : SinkTells) → Grew sink sink (log_lines conf (log_of (start text).entries))
-    no_lines_yet conf text sink = grew_none sink
+    some_same : (a b : List ℕ) → Some a ≡ Some b → a ≡ b
+    some_same a b h = cc
+conf_in_first conf (Value now item time value) is same = absurd (cc)
+conf_in_first conf (Tick now) is same = absurd (cc)
 
--- a run that was opened and took events
-pub followed : (words : List (List ℕ)) (source source' : Option (List ℕ)) (turns : ℕ) (conf : Conf) (intake : Intake) (ledger : Ledger) (entries out : List Numbered) (wire wire' : WireTells) (s : Status)
-    → out ≡ entries → Opened words source source' turns conf intake ledger → Finished conf intake entries turns wire wire' (course_of s).ending → Followed words source wire wire' s out
-followed words source source' turns conf intake ledger entries out wire wire' s same o f = record {
-  plan = o.plan;
-  plan_is = o.plan_is;
-  text = o.text;
-  text_is = o.text_is;
-  conf = conf;
-  conf_is = o.conf_is;
-  built = o.built;
-  finished = subst (λ n. Finished conf (start o.text) out n wire wire' (course_of s).ending) o.turns_are
-      (subst (λ (i : Intake). Finished conf i out turns wire wire' (course_of s).ending) o.intake_is
-      (subst (λ es. Finished conf intake es turns wire wire' (course_of s).ending) (sym same) f));
-}
+conf_in_entries : (conf : Conf) (es rest : List Entry) → flat_of conf.text ≡ Ok conf → first_text es ≡ Some conf.text → conf_of_run (start conf.text (numbered_from 1 (es ++ rest)) 0).entries ≡ Some conf
+conf_in_entries conf [] rest is same = absurd (cc)
+conf_in_entries conf (e ∷ es) rest is same = conf_in_first conf e is same
+
+entries_any : (text : List ℕ) (kept : List Numbered) (a b : ℕ) → (start text kept a).entries ≡ (start text kept b).entries
+entries_any text [] a b = refl
+entries_any text (e ∷ es) a b = refl
+
+conf_of_groups : (conf : Conf) (groups : List Group) → flat_of conf.text ≡ Ok conf → IsAccepted conf groups → conf_of_run (opening_entries conf groups) ≡ Some conf
+conf_of_groups conf [] is accepted = ap result_ok is
+conf_of_groups conf (g ∷ gs) is accepted =
+    let parts : numbered_of (g ∷ gs) ≡ numbered_from 1 (g.entries ++ flat_map (λ (h : Group). h.entries) gs) = ap (numbered_from 1) (flat_map-cons (λ (h : Group). h.entries) g gs) in
+    ap conf_of_run (entries_any conf.text (numbered_of (g ∷ gs)) _ 0 ∙ ap (λ k. (start conf.text k 0).entries) parts) ∙ conf_in_entries conf g.entries _ is accepted.0
+
+module _ {D : Type 0} (bytes : D → Option (List ℕ)) (images : D → List ℕ → Type 0) (moment : D → ℕ) (since : D → ℕ → List ℕ → Type 0) (faults : D → ℕ) (words : List (List ℕ)) (source source' : Option (List ℕ)) where
+  -- a run that was opened is behind with the lines that its outbox lacks
+  pub behind : (held turns : ℕ) (old : D) (conf : Conf) (made : Fronted D) (ledger : Ledger) (missing : List ℕ) (sink : SinkTells) → held ≡ sink.held
+      → Opened bytes images moment since faults words source source' held old turns conf made ledger missing → IsBehind conf made.intake ledger sink missing
+  behind held turns old conf made ledger missing sink same o =
+      let begun = o.resumed.begun in
+      let are : made.intake.entries ≡ opening_entries conf begun.groups = ap (λ (i : Intake). i.entries) begun.intake_is in
+      let lines = ap (λ es. log_lines conf (log_of es)) are in
+      record {
+        sound = begun.sound;
+        conf_is = ap conf_of_run are ∙ conf_of_groups conf begun.groups o.configured.conf_is begun.accepted;
+        applied = o.resumed.applied;
+        enough = omega (arith, o.resumed.enough, same, ap (λ (l : List ℕ). length l) lines);
+        missing_is = o.resumed.missing_is ∙ ap₂ drop same (sym lines);
+      }
+
+  -- a run that was opened and took events
+  followed_there : (held turns : ℕ) (old new : D) (conf : Conf) (made : Fronted D) (ledger : Ledger) (missing : List ℕ) (entries out : List Numbered) (wire wire' : WireTells) (s : Status)
+      → out ≡ entries → Opened bytes images moment since faults words source source' held old turns conf made ledger missing
+      → Finished (limits_of made.journal 0) conf made.intake.entries made.intake entries turns (Journals bytes images moment since faults (λ c. ⊥) made.journal.disk new) wire wire' (course_of s).ending
+      → Followed words source (bytes old) held (Journals bytes images moment since faults (KeepsAsOneOf (images old)) old new) wire wire' s out
+  followed_there held turns old new conf made ledger missing entries out wire wire' s same o f =
+      let begun = o.resumed.begun in
+      let limits : limits_of made.journal 0 ≡ limits_by o.plan = ap₂ (λ a b. limits_at a b) begun.limits.0 begun.limits.1 in
+      record {
+        plan = o.plan;
+        conf = conf;
+        configured = o.configured;
+        groups = begun.groups;
+        found = begun.found;
+        accepted = begun.accepted;
+        enough = o.resumed.enough;
+        finished =
+            subst (λ (i : Intake). Finished (limits_by o.plan) conf (numbered_of begun.groups) i out o.plan.turns (Journals bytes images moment since faults (KeepsAsOneOf (images old)) old new) wire wire' (course_of s).ending) begun.intake_is
+            (subst (λ n. Finished (limits_by o.plan) conf (numbered_of begun.groups) made.intake out n (Journals bytes images moment since faults (KeepsAsOneOf (images old)) old new) wire wire' (course_of s).ending) o.turns_are
+            (subst (λ (l : Limits). Finished l conf (numbered_of begun.groups) made.intake out turns (Journals bytes images moment since faults (KeepsAsOneOf (images old)) old new) wire wire' (course_of s).ending) limits
+            (subst (λ es. Finished (limits_of made.journal 0) conf (numbered_of begun.groups) made.intake es turns (Journals bytes images moment since faults (KeepsAsOneOf (images old)) old new) wire wire' (course_of s).ending) (sym same)
+            (over (limits_of made.journal 0) begun.groups begun.journaled f))));
+      }
+    where
+      over : (l : Limits) (groups : List Group) → Journals bytes images moment since faults (KeepsAsOneOf (images old)) old made.journal.disk (IsEither (numbered_of groups) made.intake.entries) None made.intake.entries
+          → Finished l conf made.intake.entries made.intake entries turns (Journals bytes images moment since faults (λ c. ⊥) made.journal.disk new) wire wire' (course_of s).ending
+          → Finished l conf (numbered_of groups) made.intake entries turns (Journals bytes images moment since faults (KeepsAsOneOf (images old)) old new) wire wire' (course_of s).ending
+      over l groups j f = record {
+        handled = f.handled;
+        lost = f.lost;
+        refused = f.refused;
+        few = f.few;
+        given = f.given;
+        told = f.told;
+        entries_are = f.entries_are;
+        ends = f.ends;
+        refused_is = f.refused_is;
+        shows = f.shows;
+        journaled = journals_on bytes images moment since faults (KeepsAsOneOf (images old)) old made.journal.disk new (IsEither (numbered_of groups) made.intake.entries)
+            (IsReached (refusing l f.refused) conf made.intake.entries made.intake f.handled) (IsReached (refusing l f.refused) conf (numbered_of groups) made.intake f.handled)
+            None _ made.intake.entries entries (λ es is. ⊎_elim (λ kept. inl kept) (λ here. inr (inl ([], f.handled, refl, here))) is)
+            (λ es is. ⊎_elim (λ here. inr (inl ([], f.handled, refl, here))) (λ later. inr later) is) j f.journaled;
+      }
+
+  pub followed : (held told turns : ℕ) (old new last : D) (conf : Conf) (made : Fronted D) (ledger : Ledger) (missing : List ℕ) (entries out : List Numbered) (wire wire' : WireTells) (s : Status)
+      → held ≡ told → last ≡ new → out ≡ entries → Opened bytes images moment since faults words source source' held old turns conf made ledger missing
+      → Finished (limits_of made.journal 0) conf made.intake.entries made.intake entries turns (Journals bytes images moment since faults (λ c. ⊥) made.journal.disk new) wire wire' (course_of s).ending
+      → Followed words source (bytes old) told (Journals bytes images moment since faults (KeepsAsOneOf (images old)) old last) wire wire' s out
+  followed held told turns old new last conf made ledger missing entries out wire wire' s is_held is_last same o f =
+      subst (λ d. Followed words source (bytes old) told (Journals bytes images moment since faults (KeepsAsOneOf (images old)) old d) wire wire' s out) (sym is_last)
+      (subst (λ n. Followed words source (bytes old) n (Journals bytes images moment since faults (KeepsAsOneOf (images old)) old new) wire wire' s out) is_held
+      (followed_there held turns old new conf made ledger missing entries out wire wire' s same o f))
+
+path_in : Result Conf Flaw → List ℕ
+path_in (Ok conf) = []
+path_in (Err (refused fault)) = fault.path
+
+cause_in : Cause → Result Conf Flaw → Cause
+cause_in other (Ok conf) = other
+cause_in other (Err (refused fault)) = fault.cause
+
+-- the first fault of a text is one
+pub same_flaw : (p q : List ℕ) (a b : Cause) → refuse {A = Conf} p a ≡ refuse q b → status.ConfigRefused p a ≡ status.ConfigRefused q b
+unfolding path_in cause_in
+same_flaw p q a b e = ap₂ status.ConfigRefused (ap path_in e) (ap (cause_in a) e)
 
 -- where nothing was read
 pub reads_none : (most : ℕ) (left : Option (List ℕ)) → ReadsUpTo most left left
@@ -110,10 +282,12 @@ reads_none most left = ([], (omega arith, Consumes-nil left))
 -- an ending of any kind is one of a run to which memory was refused
 ends_refused : (e : Ending) (turns count : ℕ) (stop : Option Stop) (lost : Option WireEvent) → EndsAs e turns count stop lost → EndsAs at_refusal turns count stop lost
 ends_refused never turns count stop lost none = absurd none
-ends_refused at_closed turns count stop lost ends = inr ends.1
-ends_refused at_limit turns count stop lost ends = inr ends.2
-ends_refused at_wire_fault turns count stop lost ends = inr ends.1
-ends_refused anywhere turns count stop lost ends = inr ends
+ends_refused at_closed turns count stop lost ends = inr (inr ends.1)
+ends_refused at_limit turns count stop lost ends = inr (inr ends.2)
+ends_refused at_wire_fault turns count stop lost ends = inr (inr ends.1)
+ends_refused at_disk_fault turns count stop lost ends = inr (inr ends.1)
+ends_refused (at_full entries bytes) turns count stop lost ends = inr (inr ends.1)
+ends_refused anywhere turns count stop lost ends = inr (inr ends)
 ends_refused at_refusal turns count stop lost ends = ends
 
 no_event : {A : Type 0} (x : WireEvent) (o : Option WireEvent) → o ≡ Some x → o ≡ None → A
@@ -126,71 +300,105 @@ left_refused never turns count stop (Some x) left rest none is = absurd none
 left_refused at_closed turns count stop (Some x) left rest ends is = is
 left_refused at_limit turns count stop (Some x) left rest ends is = is
 left_refused at_wire_fault turns count stop (Some x) left rest ends is = no_event x (Some x) refl ends.1
+left_refused at_disk_fault turns count stop (Some x) left rest ends is = is
+left_refused (at_full entries bytes) turns count stop (Some x) left rest ends is = is
 left_refused anywhere turns count stop (Some x) left rest ends is = is
 left_refused at_refusal turns count stop (Some x) left rest ends is = is
 
-finished_refused : (conf : Conf) (begun : Intake) (entries : List Numbered) (turns : ℕ) (wire wire' : WireTells) (e : Ending)
-    → Finished conf begun entries turns wire wire' e → Finished conf begun entries turns wire wire' at_refusal
-finished_refused conf begun entries turns wire wire' e f = record {
+finished_refused : (limits : Limits) (conf : Conf) (recovered : List Numbered) (begun : Intake) (entries : List Numbered) (turns : ℕ) (did : Doing) (wire wire' : WireTells) (e : Ending)
+    → Finished limits conf recovered begun entries turns did wire wire' e → Finished limits conf recovered begun entries turns did wire wire' at_refusal
+finished_refused limits conf recovered begun entries turns did wire wire' e f = record {
   handled = f.handled;
   lost = f.lost;
+  refused = f.refused;
   few = f.few;
   given = f.given;
   told = told wire.left f.told;
   entries_are = f.entries_are;
   ends = ends_refused e turns (length f.handled) _ f.lost f.ends;
+  refused_is = f.refused_is;
   shows = f.shows;
+  journaled = f.journaled;
 }
   where
-    told : (left : Option (List WireEvent)) → IfSome left (λ all. (rest : List WireEvent) × (all ≡ f.handled ++ (option_to_list f.lost ++ rest)) × LeftIs e f.lost wire'.left rest)
-        → IfSome left (λ all. (rest : List WireEvent) × (all ≡ f.handled ++ (option_to_list f.lost ++ rest)) × LeftIs at_refusal f.lost wire'.left rest)
+    told : (left : Option (List WireEvent)) → IfSome left (λ all. (rest : List WireEvent) × (all ≡ f.handled ++ (option_to_list f.lost ++ rest)) × (LeftIs e f.lost wire'.left rest ⊎ Rose wire.faults wire'.faults))
+        → IfSome left (λ all. (rest : List WireEvent) × (all ≡ f.handled ++ (option_to_list f.lost ++ rest)) × (LeftIs at_refusal f.lost wire'.left rest ⊎ Rose wire.faults wire'.faults))
     told None t = tt
-    told (Some all) t = (t.0, t.1, left_refused e turns (length f.handled) _ f.lost wire'.left t.0 f.ends t.2)
+    told (Some all) t = (t.0, t.1, ⊎_elim (λ is. inl (left_refused e turns (length f.handled) _ f.lost wire'.left t.0 f.ends is)) (λ rose. inr rose) t.2)
 
-pub followed_printed : (words : List (List ℕ)) (source : Option (List ℕ)) (wire wire' : WireTells) (s ended : Status) (entries : List Numbered)
-    → EndsPrinted s ended → Followed words source wire wire' s entries → Followed words source wire wire' ended entries
-followed_printed words source wire wire' s ended entries (own, inl same) f = subst (λ t. Followed words source wire wire' t entries) (sym same) f
-followed_printed words source wire wire' s ended entries (own, inr (inr (cut, well))) f =
-    let g : Followed words source wire wire' status.Ok entries = subst (λ t. Followed words source wire wire' t entries) well f in
-    subst (λ t. Followed words source wire wire' t entries) (sym cut)
-    (record { plan = g.plan; plan_is = g.plan_is; text = g.text; text_is = g.text_is; conf = g.conf; conf_is = g.conf_is; built = g.built; finished = g.finished })
-followed_printed words source wire wire' s ended entries (own, inr (inl spent)) f =
-    subst (λ t. Followed words source wire wire' t entries) (sym spent) (record {
-      plan = f.plan;
-      plan_is = f.plan_is;
-      text = f.text;
-      text_is = f.text_is;
-      conf = f.conf;
-      conf_is = f.conf_is;
-      built = f.built;
-      finished = finished_refused f.conf (start f.text) entries f.plan.turns wire wire' (course_of s).ending f.finished;
-    })
+module _ (words : List (List ℕ)) (source file : Option (List ℕ)) (held : ℕ) (did : Doing) (wire wire' : WireTells) (entries : List Numbered) where
+  abbrev Follows_at : Status → Type 0
+  Follows_at s = Followed words source file held did wire wire' s entries
 
-is_ending : (e : Ending) (turns count : ℕ) (stop : Option Stop) (lost : Option WireEvent) → EndsAs e turns count stop lost → IsEnding e
-is_ending never turns count stop lost none = none
-is_ending at_closed turns count stop lost ends = tt
-is_ending at_limit turns count stop lost ends = tt
-is_ending at_wire_fault turns count stop lost ends = tt
-is_ending anywhere turns count stop lost ends = tt
-is_ending at_refusal turns count stop lost ends = tt
+  pub followed_printed : (s ended : Status) → EndsPrinted s ended → Follows_at s → Follows_at ended
+  followed_printed s ended (own, inl same) f = subst Follows_at (sym same) f
+  followed_printed s ended (own, inr (inr (cut, well))) f =
+      let g : Follows_at status.Ok = subst Follows_at well f in
+      subst Follows_at (sym cut) (record { plan = g.plan; conf = g.conf; configured = g.configured; groups = g.groups; found = g.found; accepted = g.accepted; enough = g.enough; finished = g.finished })
+  followed_printed s ended (own, inr (inl spent)) f =
+      subst Follows_at (sym spent) (record {
+        plan = f.plan;
+        conf = f.conf;
+        configured = f.configured;
+        groups = f.groups;
+        found = f.found;
+        accepted = f.accepted;
+        enough = f.enough;
+        finished = finished_refused (limits_by f.plan) f.conf (numbered_of f.groups) (opening_intake f.conf f.groups) entries f.plan.turns did wire wire' (course_of s).ending f.finished;
+      })
 
--- a run that took events has a status of one that has begun
-pub is_course : (words : List (List ℕ)) (source : Option (List ℕ)) (wire wire' : WireTells) (s : Status) (entries : List Numbered) → Followed words source wire wire' s entries → IsCourse s
-is_course words source wire wire' s entries f = is_ending (course_of s).ending _ _ _ _ f.finished.ends
+  -- a run that took events has a status of one that has begun
+  pub is_course : (s : Status) → Follows_at s → IsCourse s
+  is_course s f = is_ending (course_of s).ending _ _ _ _ f.finished.ends
+    where
+      is_ending : (e : Ending) (turns count : ℕ) (stop : Option Stop) (lost : Option WireEvent) → EndsAs e turns count stop lost → IsEnding e
+      is_ending never turns count stop lost none = none
+      is_ending at_closed turns count stop lost ends = tt
+      is_ending at_limit turns count stop lost ends = tt
+      is_ending at_wire_fault turns count stop lost ends = tt
+      is_ending at_disk_fault turns count stop lost ends = tt
+      is_ending (at_full entries bytes) turns count stop lost ends = tt
+      is_ending anywhere turns count stop lost ends = tt
+      is_ending at_refusal turns count stop lost ends = tt
 
--- a run that was refused has a status of one that hasn't begun
-is_refusal : (words : List (List ℕ)) (source : Option (List ℕ)) (faults faults' : ℕ) (s : Status) → Refuses words source faults faults' s → IsRefusal s
-is_refusal words source faults faults' status.Usage why = refl
-is_refusal words source faults faults' status.SourceFault why = refl
-is_refusal words source faults faults' (status.ConfigRefused path cause) why = refl
-is_refusal words source faults faults' status.Unbuilt why = refl
-is_refusal words source faults faults' status.OutOfMemory why = refl
-is_refusal words source faults faults' _ none = absurd none
+module _ (words : List (List ℕ)) (source : Option (List ℕ)) (faults faults' : ℕ) (file : Option (List ℕ)) (disk_faults disk_faults' held : ℕ) where
+  abbrev Refused_at : Status → Type 0
+  Refused_at s = Refuses words source faults faults' file disk_faults disk_faults' held s
 
-pub refused_printed : (words : List (List ℕ)) (source : Option (List ℕ)) (faults faults' : ℕ) (s ended : Status) → EndsPrinted s ended → Refuses words source faults faults' s → IsRefusal ended
-refused_printed words source faults faults' s ended (own, inl same) why = subst IsRefusal (sym same) (is_refusal words source faults faults' s why)
-refused_printed words source faults faults' s ended (own, inr (inl spent)) why = subst IsRefusal (sym spent) refl
-refused_printed words source faults faults' s ended (own, inr (inr (cut, well))) why = absurd (subst (Refuses words source faults faults') well why)
+  -- a run that was refused has a status of one that hasn't begun
+  is_refusal : (s : Status) → Refused_at s → IsRefusal s
+  is_refusal status.Usage why = refl
+  is_refusal status.SourceFault why = refl
+  is_refusal (status.ConfigRefused path cause) why = refl
+  is_refusal status.Unbuilt why = refl
+  is_refusal (status.PatternRefused path) why = refl
+  is_refusal (status.PatternTooLarge path) why = refl
+  is_refusal status.OutOfMemory why = refl
+  is_refusal status.DiskFault why = refl
+  is_refusal status.NotOurs why = refl
+  is_refusal (status.Damaged at) why = refl
+  is_refusal (status.ConfigDiffers at) why = refl
+  is_refusal (status.OutboxAhead told lines) why = refl
+  is_refusal (status.Full entries bytes) why = refl
+  is_refusal _ why = absurd why.3
+
+  -- printing changes no reason
+  pub refuses_printed : (s ended : Status) → EndsPrinted s ended → Refused_at s → Refused_at ended
+  refuses_printed s ended (own, inl same) why = subst Refused_at (sym same) why
+  refuses_printed s ended (own, inr (inl spent)) why = subst Refused_at (sym spent) tt
+  refuses_printed s ended (own, inr (inr (cut, well))) why = let none : Refused_at status.Ok = subst Refused_at well why in absurd none.3
+
+  pub refused_printed : (s ended : Status) → EndsPrinted s ended → Refused_at s → IsRefusal ended
+  refused_printed s ended ends why = is_refusal ended (refuses_printed s ended ends why)
+
+  -- a status that names what barred a run comes where that did
+  pub barred_of : (s : Status) → IsBarring s → Refused_at s → IsBarred words source file held s
+  barred_of status.NotOurs barring why = why
+  barred_of (status.Damaged at) barring why = why
+  barred_of (status.ConfigDiffers at) barring why = why
+  barred_of (status.OutboxAhead told lines) barring why = why
+  barred_of (status.Full entries bytes) barring why = why
+  barred_of _ none why = absurd none
 
 -- ---- what is printed
 

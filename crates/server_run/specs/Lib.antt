@@ -1,8 +1,12 @@
 pub mod Ports
 pub mod Built
+pub mod Patterns
 pub mod Replayed
 pub mod Tally
 pub mod Standing
+pub mod Recovered
+pub mod Opening
+pub mod Stops
 pub mod Sending
 pub mod Statuses
 pub mod Events

@@ -1,6 +1,6 @@
 -- What whole reads and writes do.
-use Rattle.std.specs.Prelude.{◌≡◌, ◌⊎◌, ◌≤◌, ◌<◌, ◌+◌, ℕ, List, length, take, Option, IsErrOf, IfOk, Result, MatchResult}
-use Rattle.std.specs.Io.KnownBytes.{Appends, Consumes, IsAtEnd}
+use Rattle.std.specs.Prelude.{◌≡◌, ◌⊎◌, ◌≤◌, ◌<◌, ◌+◌, ℕ, List, length, take, Option, IsErrOf, Result, MatchResult}
+use Rattle.std.specs.Io.KnownBytes.{Appends, Consumes}
 use Rattle.outside.specs.Causes.{Rose}
 use Rattle.outside.specs.Tells.{SinkTells}
 use Rattle.outside.specs.declared.event.Failed.{Failed}

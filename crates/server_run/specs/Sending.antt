@@ -6,6 +6,7 @@ use Rattle.outside.specs.Tells.{WireTells}
 use Rattle.intake_front.specs.Served.{closing}
 use Rattle.intake_front.specs.declared.answer.Answer.{Answer}
 use Rattle.intake_front.specs.declared.answer.Reply.{Reply}
+use Rattle.intake_front.specs.declared.answer.Stop.{Stop}
 
 -- some of a reply from the front was sent, or nothing
 abbrev pub SendsPart : List (ℕ × List ℕ) → Option (List (ℕ × List ℕ)) → Reply → Type 0
@@ -59,3 +60,28 @@ pub record Shows (wire wire' : WireTells) (replies : List Reply) (shut : List (�
   pub sent : Sent wire wire' replies
   pub sends : wire'.sends ≡ wire.sends + length replies
   pub closed : Shuts wire.closed wire'.closed (counted_from wire.sends shut)
+
+-- what answers hand out in their order: the replies; the connections to close, each with how many of these replies stand
+-- before its closing; and why the last of them is the last event
+pub record Outgoing : Type 0 where
+  pub replies : List Reply
+  pub shut : List (ℕ × ℕ)
+  pub stop : Option Stop
+
+abbrev pub nothing_out : Outgoing
+nothing_out = record { replies = []; shut = []; stop = None }
+
+-- with one more answer: its reply stands before the closing of its connection
+abbrev pub with_answer : Outgoing → Answer → Outgoing
+with_answer o a =
+    let replies = o.replies ++ option_to_list a.reply in
+    record { replies = replies; shut = o.shut ++ closing (length replies) a.shut; stop = a.stop }
+
+-- with more answers
+abbrev pub outgoing_from : Outgoing → List Answer → Outgoing
+outgoing_from o [] = o
+outgoing_from o (a ∷ rest) = outgoing_from (with_answer o a) rest
+
+-- what answers hand out
+abbrev pub outgoing : List Answer → Outgoing
+outgoing answers = outgoing_from nothing_out answers

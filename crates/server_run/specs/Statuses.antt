@@ -1,18 +1,24 @@
 -- What each status is to a run: one row a status. All that depends on the status is said over these rows.
-use Rattle.std.specs.Prelude.{◌≡◌, ◌⊎◌, ℕ, List, Bool, true, false, Option, Some, None, ⊤}
+use Rattle.std.specs.Prelude.{◌≡◌, ◌⊎◌, ℕ, List, Bool, true, false, Option, Some, None, Result, Ok, Err, ⊤}
+use Rattle.std.specs.Option.{option_map}
 use Rattle.outside.specs.declared.event.WireEvent.{WireEvent}
+use Rattle.outside.specs.declared.event.Trouble.{Trouble}
+use Rattle.outside.specs.declared.event.Trouble.TheVariants as trouble
 use Rattle.intake_front.specs.declared.answer.Stop.{Stop}
 use Rattle.intake_front.specs.declared.answer.Stop.TheVariants as stop
 use Rattle.server_words.specs.declared.status.Status.{Status}
 use Rattle.server_words.specs.declared.status.Status.TheVariants as status
 
 -- how the taking of events ended: it never began; the last event closed the wire; as many were taken as the plan
--- allows; the wire gave no more; after any event; or so, or memory was refused for the next one
+-- allows; the wire gave no more; the disk failed; the journal would have had so many entries and bytes, more than are
+-- allowed; after any event; or so, or memory was refused for the next one
 pub data Ending : Type 0 where
   never : Ending
   at_closed : Ending
   at_limit : Ending
   at_wire_fault : Ending
+  at_disk_fault : Ending
+  at_full : ℕ → ℕ → Ending
   anywhere : Ending
   at_refusal : Ending
 
@@ -46,9 +52,34 @@ refusal = record { opening = true; ending = never; out = no_lines; line = own_li
 abbrev pub begun : Ending → Extent → Printing → Course
 begun ending out line = record { opening = false; ending = ending; out = out; line = line }
 
--- a status that no run ends with
-abbrev pub unreached : Course
-unreached = record { opening = false; ending = never; out = no_lines; line = own_line }
+-- a status that ends the opening, or a run which has begun
+abbrev pub either : Ending → Extent → Printing → Course
+either ending out line = record { opening = true; ending = ending; out = out; line = line }
+
+-- the status of a run whose last event stopped it so
+abbrev pub status_of : Stop → Status
+status_of stop.Closed = status.Ok
+status_of stop.DiskFault = status.DiskFault
+status_of (stop.Full entries bytes) = status.Full entries bytes
+
+-- a fault of the disk stands before one of the wire
+abbrev pub behind_disk : Option Stop → Status → Status
+behind_disk None other = other
+behind_disk (Some stop.Closed) other = other
+behind_disk (Some stop.DiskFault) other = status.DiskFault
+behind_disk (Some (stop.Full entries bytes)) other = other
+
+-- the status with which a run ends behind events that were committed together, if it does: given what stopped, how the taking
+-- of events ended, and how the lines of their entries were written. Want of memory stands before all, and then a fault of the
+-- disk, at which no line is to be written, of the outbox, and of the wire.
+abbrev pub ended_with : Option Stop → Result (Unit {0}) Trouble → Result (Unit {0}) Trouble → Option Status
+ended_with s (Err trouble.OutOfMemory) settled = Some status.OutOfMemory
+ended_with s (Err trouble.Failed) (Err trouble.OutOfMemory) = Some status.OutOfMemory
+ended_with s (Err trouble.Failed) (Err trouble.Failed) = Some status.OutboxFault
+ended_with s (Err trouble.Failed) (Ok done) = Some (behind_disk s status.WireFault)
+ended_with s (Ok enough) (Err trouble.OutOfMemory) = Some status.OutOfMemory
+ended_with s (Ok enough) (Err trouble.Failed) = Some status.OutboxFault
+ended_with s (Ok enough) (Ok done) = option_map status_of s
 
 -- what each status is to a run
 abbrev pub course_of : Status → Course
@@ -57,23 +88,43 @@ course_of status.PrintFault = begun at_closed all_lines front_of_ok
 course_of status.TurnLimit = begun at_limit all_lines own_line
 course_of status.WireFault = begun at_wire_fault all_lines own_line
 course_of status.OutboxFault = begun anywhere front_lines own_line
-course_of status.OutOfMemory = record { opening = true; ending = at_refusal; out = front_lines; line = front_of_line }
+course_of status.OutOfMemory = either at_refusal front_lines front_of_line
 course_of status.Usage = refusal
 course_of status.SourceFault = refusal
 course_of (status.ConfigRefused path cause) = refusal
 course_of status.Unbuilt = refusal
-course_of (status.PatternRefused path) = unreached
-course_of (status.PatternTooLarge path) = unreached
-course_of status.NotOurs = unreached
-course_of (status.Damaged at) = unreached
-course_of (status.ConfigDiffers at) = unreached
-course_of (status.OutboxAhead held lines) = unreached
-course_of status.DiskFault = unreached
-course_of (status.Full entries bytes) = unreached
+course_of (status.PatternRefused path) = refusal
+course_of (status.PatternTooLarge path) = refusal
+course_of status.NotOurs = refusal
+course_of (status.Damaged at) = refusal
+course_of (status.ConfigDiffers at) = refusal
+course_of (status.OutboxAhead held lines) = refusal
+course_of status.DiskFault = either at_disk_fault all_lines own_line
+course_of (status.Full entries bytes) = either (at_full entries bytes) all_lines own_line
 
 -- a status of a run that hasn't begun
 abbrev pub IsRefusal : Status → Type 0
 IsRefusal s = (course_of s).opening ≡ true
+
+-- a status that names what the journal or the outbox of a run was at its opening
+abbrev pub IsBarring : Status → Type 0
+IsBarring status.NotOurs = ⊤
+IsBarring (status.Damaged at) = ⊤
+IsBarring (status.ConfigDiffers at) = ⊤
+IsBarring (status.OutboxAhead held lines) = ⊤
+IsBarring (status.Full entries bytes) = ⊤
+IsBarring _ = ⊥
+
+-- a status that names a pattern
+abbrev pub NamesPattern : Status → Type 0
+NamesPattern (status.PatternRefused path) = ⊤
+NamesPattern (status.PatternTooLarge path) = ⊤
+NamesPattern _ = ⊥
+
+-- a status that stands before one that names what the journal or the outbox was: a fault of what is read, a pattern of the
+-- configuration, or want of memory
+abbrev pub YieldsTo : Status → Type 0
+YieldsTo s = (s ≡ status.SourceFault) ⊎ ((s ≡ status.DiskFault) ⊎ ((s ≡ status.OutOfMemory) ⊎ NamesPattern s))
 
 -- events were taken up to some ending
 abbrev pub IsEnding : Ending → Type 0
@@ -85,14 +136,17 @@ abbrev pub IsCourse : Status → Type 0
 IsCourse s = IsEnding (course_of s).ending
 
 -- How the taking of events ended, given how many turns the plan allows, how many events were handled, what the last of
--- them stopped, and the event after them for which memory was refused, if any.
+-- them stopped, and the event after them for which memory was refused, if any. Where that is an event behind others that
+-- are committed together, the disk may have refused the groups of these.
 abbrev pub EndsAs : Ending → ℕ → ℕ → Option Stop → Option WireEvent → Type 0
 EndsAs never turns count s lost = ⊥
 EndsAs at_closed turns count s lost = (s ≡ Some stop.Closed) × (lost ≡ None)
 EndsAs at_limit turns count s lost = (count ≡ turns) × (s ≡ None) × (lost ≡ None)
 EndsAs at_wire_fault turns count s lost = (s ≡ None) × (lost ≡ None)
+EndsAs at_disk_fault turns count s lost = (s ≡ Some stop.DiskFault) × (lost ≡ None)
+EndsAs (at_full entries bytes) turns count s lost = (s ≡ Some (stop.Full entries bytes)) × (lost ≡ None)
 EndsAs anywhere turns count s lost = lost ≡ None
-EndsAs at_refusal turns count s lost = (s ≡ None) ⊎ (lost ≡ None)
+EndsAs at_refusal turns count s lost = (s ≡ None) ⊎ ((s ≡ Some stop.DiskFault) ⊎ (lost ≡ None))
 
 -- What is left of a wire is what stood after the events that it gave. After a call of next that failed nothing is told.
 abbrev pub LeftIs : Ending → Option WireEvent → Option (List WireEvent) → List WireEvent → Type 0

@@ -1,9 +1,9 @@
 //! Entries are applied, and their lines go out.
 
-ghost use Rattle.std.specs.Prelude.{◌≡◌, ◌<◌, ◌++◌, ◌∷◌, ℕ, List, OnOk, IfOk};
+ghost use Rattle.std.specs.Prelude.{◌≡◌, ◌<◌, ◌++◌, ◌∷◌, ℕ, List, drop, OnOk, IfOk};
 ghost use Rattle.zbx_types.specs.declared.entries.Numbered.{Numbered};
 ghost use Rattle.outside.specs.Events.{HasNextCause};
-ghost use Rattle.entry_step.specs.Log.{Fits, Suits};
+ghost use Rattle.entry_step.specs.Log.{log_of, Fits, Suits};
 ghost use Rattle.entry_step.specs.Records.{out_of, replay};
 ghost use Rattle.entry_step.specs.Represents.{Holds};
 ghost use Rattle.event_text.specs.Lines.{lines_of};
@@ -93,6 +93,58 @@ fn apply_all(
         apply(alloc, ready, ledger, entry, &mut lines)?;
     }
     Ok(lines)
+}
+
+/// The bytes behind the first ones of this number.
+#[tactic(auto, using(std::proofs::lemmas::List::drop_all))]
+fn behind(bytes: &[u8], first: u64) -> &[u8]
+    ensures { result.now ≡ drop first bytes.now }
+{
+    if first <= bytes.len() as u64 {
+        &bytes[first as usize..]
+    } else {
+        &[]
+    }
+}
+
+/// Applies an entry, and adds those of its lines that aren't among the first bytes of this number of all lines.
+fn apply_behind(
+    alloc: Global,
+    ready: &Ready,
+    ledger: &mut Ledger,
+    entry: &Numbered,
+    held: u64,
+    missing: &mut Bytes,
+) -> Result<(), OutOfMemory>
+    ensures { OnOk result ((log : List Numbered) → Applied ready.now ledger.old.cells ledger.old.tally log → Fits ready.now (entry.now ∷ log)
+        → missing.old ≡ drop held (log_lines ready.now log)
+        → Applied ready.now ledger.new.cells ledger.new.tally (entry.now ∷ log) × (missing.new ≡ drop held (log_lines ready.now (entry.now ∷ log)))) }
+{
+    let before = ledger.tally.bytes;
+    let mut lines = Bytes::new(alloc);
+    apply(alloc, ready, ledger, entry, &mut lines)?;
+    missing.extend(behind(lines.as_slice(), held.saturating_sub(before)))
+}
+
+/// Applies entries from the first on, and gives their lines behind the first bytes of this number.
+pub(crate) fn replay(
+    alloc: Global,
+    ready: &Ready,
+    entries: &[Numbered],
+    held: u64,
+) -> Result<(Ledger, Bytes), OutOfMemory>
+    ensures { IfOk result (λ made. Fits ready.now (log_of entries.now)
+        → Applied ready.now made.0.cells made.0.tally (log_of entries.now) × (made.1 ≡ drop held (log_lines ready.now (log_of entries.now)))) }
+{
+    let mut ledger = Ledger {
+        cells: Cells::new(alloc, ready.conf())?,
+        tally: Tally::new(),
+    };
+    let mut missing = Bytes::new(alloc);
+    for entry in entries {
+        apply_behind(alloc, ready, &mut ledger, entry, held, &mut missing)?;
+    }
+    Ok((ledger, missing))
 }
 
 /// Applies entries in their order, and writes their lines to the outbox.

@@ -3,9 +3,9 @@
 ghost use Rattle.std.specs.Prelude.{◌≡◌, ◌≤◌, ◌+◌, length, IfSome};
 ghost use Rattle.std.specs.Option.{option_to_list};
 ghost use Rattle.intake_front.specs.Served.{closing};
-ghost use Rattle.server_run.specs.Sending.{SendsReply, Shuts, Delivers};
+ghost use Rattle.server_run.specs.Sending.{SendsReply, Shuts, Delivers, Shows, outgoing};
 
-use intake_front::{Answer, Reply};
+use intake_front::{Answer, Reply, Stop};
 use outside::Wire;
 
 /// Sends a reply. Where the send fails, the count of the wire rises and the run goes on.
@@ -39,7 +39,7 @@ fn shut<W: Wire>(wire: &mut W, conn: Option<u64>)
 }
 
 /// Sends the reply of an answer, and then closes the connection that it closes.
-pub(crate) fn deliver<W: Wire>(wire: &mut W, answer: &Answer)
+fn deliver<W: Wire>(wire: &mut W, answer: &Answer)
     ensures delivers { Delivers (W.tells wire.old) (W.tells wire.new) answer.now }
     ensures left { (W.tells wire.new).left ≡ (W.tells wire.old).left }
     ensures given { (W.tells wire.new).given ≡ (W.tells wire.old).given }
@@ -47,4 +47,22 @@ pub(crate) fn deliver<W: Wire>(wire: &mut W, answer: &Answer)
 {
     send(wire, &answer.reply);
     shut(wire, answer.shut);
+}
+
+/// Sends the replies of answers and closes their connections, in the order of the answers. Answers why no event follows the
+/// last of them, where one doesn't.
+pub(crate) fn deliver_all<W: Wire>(wire: &mut W, answers: &[Answer]) -> Option<Stop>
+    ensures stop { result ≡ (outgoing answers.now).stop }
+    ensures shows { Shows (W.tells wire.old) (W.tells wire.new) (outgoing answers.now).replies (outgoing answers.now).shut }
+    ensures later { (W.tells wire.old).unsent ≤ (W.tells wire.new).unsent }
+    ensures left { (W.tells wire.new).left ≡ (W.tells wire.old).left }
+    ensures given { (W.tells wire.new).given ≡ (W.tells wire.old).given }
+    ensures faults { (W.tells wire.new).faults ≡ (W.tells wire.old).faults }
+{
+    let mut stop = None;
+    for answer in answers {
+        deliver(wire, answer);
+        stop = answer.stop;
+    }
+    stop
 }

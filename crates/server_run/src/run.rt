@@ -1,10 +1,16 @@
 //! The top call.
 
-ghost use Rattle.std.specs.Prelude.{◌≡◌, ◌⊎◌, ◌≤◌, ℕ, List, [], take, true, false, IfSome, IfOk, IfErr, Some, None, Ok, Err};
+ghost use Rattle.std.specs.Prelude.{◌≡◌, ◌⊎◌, ◌≤◌, ◌<◌, ℕ, List, [], take, length, All, drop, true, false, is_some, IfSome, Some, None, Ok};
 ghost use Rattle.std.specs.Io.KnownBytes.{IsAtEnd};
 ghost use Rattle.outside.specs.Causes.{Rose};
+ghost use Rattle.outside.specs.Disk.{LeavesOnly};
 ghost use Rattle.outside.specs.declared.event.WireEvent.{WireEvent};
-ghost use Rattle.intake_front.specs.Intake.{start};
+ghost use Rattle.intake_journal.specs.Kept.{kept, groups_of};
+ghost use Rattle.intake_journal.specs.Settled.{KeepsAsOneOf};
+ghost use Rattle.intake_journal.specs.declared.format.Group.{Group};
+ghost use Rattle.intake_journal.specs.declared.state.State.TheVariants as state;
+ghost use Rattle.intake_front.specs.Fronted.{Keeps, IsKept, limits_of};
+ghost use Rattle.intake_front.specs.Batch.{IsIdle};
 ghost use Rattle.intake_front.specs.Served.{served};
 ghost use Rattle.intake_front.specs.declared.answer.Stop.TheVariants as stop;
 ghost use Rattle.server_words.specs.declared.words.Plan.{Plan};
@@ -13,157 +19,52 @@ ghost use Rattle.config_templates.specs.Flat.{flat_of};
 ghost use Rattle.config_templates.specs.Places.{refuse};
 ghost use Rattle.zbx_types.specs.declared.causes.Cause.{Cause};
 ghost use Rattle.zbx_types.specs.declared.conf.Conf.{Conf};
-ghost use Rattle.entry_step.specs.Log.{log_of};
 ghost use Rattle.server_run.specs.Built.{is_built, IsUnbuilt};
+ghost use Rattle.pattern_set.specs.Patterns.{IsPattern, IsNoPattern};
+ghost use Rattle.server_run.specs.Patterns.{HasFlawAt, HoldsBrace};
+ghost use Rattle.server_run.specs.Opening.{IsAccepted, Bars, opening_lines};
 ghost use Rattle.server_run.specs.Ports.{ReadsUpTo};
 ghost use Rattle.server_run.specs.Replayed.{run_lines};
-ghost use Rattle.server_run.specs.Standing.{Applied};
 ghost use Rattle.server_run.specs.Tally.{run_counts};
-ghost use Rattle.server_run.specs.Outbox.{LinesAre, SizeIs};
-ghost use Rattle.server_run.specs.Runs.{IsUntaken, Opened, Refuses, Followed, Prints};
-ghost use Rattle.server_run.specs.Statuses.{course_of, cut_short, IsRefusal, IsCourse, IsUnprinted, EndsPrinted};
+ghost use Rattle.server_run.specs.Outbox.{IsBehind, Leaves, LinesAre, SizeIs};
+ghost use Rattle.server_run.specs.Runs.{IsBarred, Unbegun, FoundBy, Finished, Followed, Prints, limits_by, opening_intake};
+ghost use Rattle.server_run.specs.Statuses.{course_of, cut_short, IsRefusal, IsBarring, YieldsTo, IsCourse, IsUnprinted, EndsPrinted};
+ghost use Rattle.server_run.specs.Stops.{KeepsSome, Journals};
 
-use crate::book::Ledger;
-use crate::built::is_built;
-use crate::reading::{ReadError, read_all};
+use crate::opening::{Begun, open};
+use crate::resuming::{Refused, Resumed};
 use crate::serving::serve;
-use crate::tally::Tally;
 use crate::writing::write_all;
-use config_templates::{FlatError, flat};
-use entry_step::{Cells, Ready};
-use intake_front::Front;
-use outside::{Failed, Sink, Source, Wire};
-use server_words::{Counts, PlanError, Status, plan, printed};
+use entry_step::Ready;
+use outside::{Disk, Failed, Sink, Source, Wire};
+use server_words::{Counts, Status, printed};
 use std::alloc::Global;
 use std::convert::AsStr;
-use zbx_types::{Bytes, Conf, LONGEST_TEXT, Many, Numbered, OutOfMemory, Text};
+use zbx_types::{Many, Numbered, Text};
 
 /// What a run answers.
 #[derive(Drop)]
-pub struct Ended<O> {
+pub struct Ended<D, O> {
     /// How it ended.
     pub status: Status,
     /// Whether its opening went well, so that it took events.
     pub began: bool,
+    /// The disk of the journal that was handed in.
+    pub disk: D,
     /// The outbox that was handed in.
     pub outbox: O,
-    /// All entries, in the order of their numbers. Entry 1 holds the configuration's text.
+    /// All entries, in the order of their numbers. Entry 1 holds the configuration's text. Where the run didn't begin they are
+    /// none, or those that its journal kept.
     pub entries: Many<Numbered>,
-}
-
-/// What a run has begun with.
-#[derive(Drop)]
-struct Begun {
-    turns: u64,
-    ready: Ready,
-    front: Front,
-    ledger: Ledger,
-}
-
-/// A configuration, where a run can do what it says.
-fn only_built(conf: Conf) -> Result<Conf, Status>
-    ensures ok { IfOk result (λ made. (made ≡ conf) × (is_built conf ≡ true)) }
-    ensures err { IfErr result (λ status. (status ≡ Status.Unbuilt) × (is_built conf ≡ false)) }
-{
-    if is_built(&conf) {
-        Ok(conf)
-    } else {
-        Err(Status::Unbuilt)
-    }
-}
-
-/// The flat configuration of these bytes.
-fn configure(alloc: Global, bytes: &[u8]) -> Result<Conf, Status>
-    ensures ok { IfOk result (λ conf. (flat_of bytes.now ≡ Ok conf) × (is_built conf ≡ true)) }
-    ensures err { IfErr result (IsUntaken bytes.now) }
-{
-    match flat(alloc, bytes) {
-        Ok(conf) => only_built(conf),
-        Err(FlatError::Refused { path, cause }) => Err(Status::ConfigRefused { path, cause }),
-        Err(FlatError::OutOfMemory) => Err(Status::OutOfMemory),
-    }
-}
-
-/// Makes a configuration ready, with a copy of its text.
-fn made_ready(alloc: Global, conf: Conf) -> Result<(Ready, Text), OutOfMemory>
-    ensures { IfOk result (λ made. (made.0 ≡ conf) × (made.1 ≡ conf.text)) }
-{
-    let text = conf.text.copy(alloc)?;
-    let ready = Ready::build(alloc, conf)?;
-    Ok((ready, text))
-}
-
-/// Makes the configuration of these bytes ready, with its text.
-fn prepare(alloc: Global, bytes: &[u8]) -> Result<(Ready, Text), Status>
-    ensures ok { IfOk result (λ made. (flat_of bytes.now ≡ Ok made.0) × (is_built made.0 ≡ true) × (made.1 ≡ bytes.now)) }
-    ensures err { IfErr result (IsUntaken bytes.now) }
-{
-    let conf = match configure(alloc, bytes) {
-        Ok(conf) => conf,
-        Err(status) => return Err(status),
-    };
-    match made_ready(alloc, conf) {
-        Ok(made) => Ok(made),
-        Err(OutOfMemory) => Err(Status::OutOfMemory),
-    }
-}
-
-/// Opens a run: the words, the configuration, entry 1. Takes no event.
-#[tactic(auto, using(crate::proofs::Runs::reads_none))]
-fn open<S: Source>(alloc: Global, words: &[Text], config: &mut S) -> Result<Begun, Status>
-    ensures later { S.faults config.old ≤ S.faults config.new }
-    ensures unread { plan_of words.now ≡ None → config.new ≡ config.old }
-    ensures taken { ReadsUpTo 16777216 (S.left config.old) (S.left config.new) }
-    ensures ok { IfOk result (λ b. Opened words.now (S.left config.old) (S.left config.new) b.turns b.ready b.front b.ledger) }
-    ensures err { IfErr result (Refuses words.now (S.left config.old) (S.faults config.old) (S.faults config.new)) }
-{
-    let plan = match plan(alloc, words) {
-        Ok(plan) => plan,
-        Err(PlanError::Usage) => return Err(Status::Usage),
-        Err(PlanError::OutOfMemory) => return Err(Status::OutOfMemory),
-    };
-    let bytes = match read_all(alloc, LONGEST_TEXT as u32, config) {
-        Ok(bytes) => bytes,
-        Err(ReadError::Failed) => return Err(Status::SourceFault),
-        Err(ReadError::OutOfMemory) => return Err(Status::OutOfMemory),
-    };
-    let (ready, text) = match prepare(alloc, bytes.as_slice()) {
-        Ok(prepared) => prepared,
-        Err(status) => return Err(status),
-    };
-    match begin(alloc, ready.conf(), text) {
-        Ok((front, ledger)) => Ok(Begun {
-            turns: plan.turns,
-            ready,
-            front,
-            ledger,
-        }),
-        Err(OutOfMemory) => Err(Status::OutOfMemory),
-    }
-}
-
-/// The intake with entry 1, and the cells and counts behind it.
-fn begin(alloc: Global, conf: &Conf, text: Text) -> Result<(Front, Ledger), OutOfMemory>
-    ensures front { IfOk result (λ made. made.0 ≡ start text) }
-    ensures ledger { IfOk result (λ made. Applied conf.now made.1.cells made.1.tally (log_of (start text).entries)) }
-{
-    let front = Front::new(alloc, text)?;
-    let cells = Cells::new(alloc, conf)?;
-    Ok((
-        front,
-        Ledger {
-            cells,
-            tally: Tally::new(),
-        },
-    ))
 }
 
 /// How a run went, before it is printed.
 #[derive(Drop)]
-struct Course {
+struct Course<D> {
     status: Status,
     began: bool,
     counts: Counts,
+    disk: D,
     entries: Many<Numbered>,
 }
 
@@ -176,15 +77,50 @@ const NOTHING: Counts = Counts {
     bytes: 0,
 };
 
+/// Writes the lines that the outbox lacks, and takes events until one ends the run, at most `turns`. Answers why.
+fn serve_behind<W: Wire, D: Disk, O: Sink>(
+    alloc: Global,
+    turns: u64,
+    ready: &Ready,
+    wire: &mut W,
+    resumed: &mut Resumed<D>,
+    outbox: &mut O,
+) -> Status
+    requires going { resumed.old.front.journal.state ≡ state.Ready }
+    requires kept { IsKept D.bytes D.images resumed.old.front.journal.disk resumed.old.front.intake.entries }
+    requires idle { IsIdle resumed.old.front }
+    ensures wire { result ≡ Status.WireFault → Rose (W.tells wire.old).faults (W.tells wire.new).faults }
+    ensures outbox { result ≡ Status.OutboxFault → Rose (O.tells outbox.old).faults (O.tells outbox.new).faults }
+    ensures unprinted { IsUnprinted result }
+    ensures finished { Finished (limits_of resumed.old.front.journal 0) ready.now resumed.old.front.intake.entries resumed.old.front.intake resumed.new.front.intake.entries turns
+        (Journals D.bytes D.images D.moment D.images_since D.faults (λ c. ⊥) resumed.old.front.journal.disk resumed.new.front.journal.disk) (W.tells wire.old) (W.tells wire.new) (course_of result).ending }
+    ensures leaves { IsBehind ready.now resumed.old.front.intake resumed.old.ledger (O.tells outbox.old) resumed.old.missing
+        → Leaves ready.now resumed.new.front.intake.entries resumed.new.ledger.tally (O.tells outbox.old) (O.tells outbox.new) (course_of result).out }
+    ensures idle { IsIdle resumed.new.front }
+{
+    match write_all(outbox, resumed.missing.as_slice()) {
+        Ok(()) => serve(
+            alloc,
+            turns,
+            ready,
+            wire,
+            &mut resumed.front,
+            &mut resumed.ledger,
+            outbox,
+        ),
+        Err(Failed) => Status::OutboxFault,
+    }
+}
+
 /// Runs up to the printed line.
-#[tactic(auto, using(crate::proofs::Runs::reads_none))]
-fn go<S: Source, W: Wire, O: Sink>(
+fn go<S: Source, W: Wire, D: Disk, O: Sink>(
     alloc: Global,
     words: &[Text],
     config: &mut S,
     wire: &mut W,
+    disk: D,
     outbox: &mut O,
-) -> Course
+) -> Course<D>
     ensures source_later { S.faults config.old ≤ S.faults config.new }
     ensures unread { plan_of words.now ≡ None → config.new ≡ config.old }
     ensures taken { ReadsUpTo 16777216 (S.left config.old) (S.left config.new) }
@@ -192,37 +128,47 @@ fn go<S: Source, W: Wire, O: Sink>(
     ensures wire { result.status ≡ Status.WireFault → Rose (W.tells wire.old).faults (W.tells wire.new).faults }
     ensures outbox { result.status ≡ Status.OutboxFault → Rose (O.tells outbox.old).faults (O.tells outbox.new).faults }
     ensures unprinted { IsUnprinted result.status }
-    ensures not_begun { result.began ≡ false → Refuses words.now (S.left config.old) (S.faults config.old) (S.faults config.new) result.status
-        × (wire.new ≡ wire.old) × (outbox.new ≡ outbox.old) × (result.entries ≡ []) }
+    ensures not_begun { result.began ≡ false
+        → Unbegun D.bytes D.images D.moment D.images_since D.faults words.now (S.left config.old) (S.faults config.old) (S.faults config.new) (O.tells outbox.old).held disk result.disk result.entries result.status
+        × (wire.new ≡ wire.old) × (outbox.new ≡ outbox.old) }
     ensures followed { result.began ≡ true
-        → Followed words.now (S.left config.old) (W.tells wire.old) (W.tells wire.new) result.status result.entries }
+        → Followed words.now (S.left config.old) (D.bytes disk) (O.tells outbox.old).held (Journals D.bytes D.images D.moment D.images_since D.faults (KeepsAsOneOf (D.images disk)) disk result.disk)
+        (W.tells wire.old) (W.tells wire.new) result.status result.entries }
     ensures lines { result.began ≡ true
-        → LinesAre (course_of result.status).out (O.tells outbox.old) (O.tells outbox.new) (run_lines result.entries) }
+        → LinesAre (course_of result.status).out (O.tells outbox.old) (O.tells outbox.new) (drop (O.tells outbox.old).held (run_lines result.entries)) }
     ensures counts { result.status ≡ Status.Ok → result.counts ≡ run_counts result.entries }
 {
     let Begun {
         turns,
         ready,
-        mut front,
-        mut ledger,
-    } = match open(alloc, words, config) {
+        resumed,
+    } = match open(alloc, words, config, disk, outbox.held()) {
         Ok(begun) => begun,
-        Err(status) => {
+        Err(refused) => {
+            let Refused {
+                status,
+                disk,
+                entries,
+            } = refused;
             return Course {
                 status,
                 began: false,
                 counts: NOTHING,
-                entries: Many::new(alloc),
+                disk,
+                entries,
             };
         }
     };
-    let status = serve(alloc, turns, &ready, wire, &mut front, &mut ledger, outbox);
-    let entries = front.into_entries();
+    let mut resumed = resumed;
+    let status = serve_behind(alloc, turns, &ready, wire, &mut resumed, outbox);
+    let Resumed { front, ledger, .. } = resumed;
+    let (disk, entries) = front.end();
     let count = entries.as_slice().len() as u64;
     Course {
         status,
         began: true,
         counts: ledger.tally.counts(count),
+        disk,
         entries,
     }
 }
@@ -254,24 +200,29 @@ fn cut_short(status: Status) -> Status
     }
 }
 
-/// Runs the server on one thread: reads the configuration, takes the wire's events, writes the lines of their records to
-/// the outbox and prints one line. It reads at most 16,777,217 bytes of the configuration, takes at most as many events
-/// as the plan of the words allows, and always returns.
+/// Runs the server on one thread: reads the configuration, opens the journal, takes the wire's events, journals their entries
+/// on the disk, answers their senders, writes the lines of their records to the outbox and prints one line. It reads at most
+/// 16,777,217 bytes of the configuration, takes at most as many events as the plan of the words allows, and always returns.
+///
+/// Where the journal kept entries the run goes on behind them. The bytes that the outbox holds are taken for the first of
+/// their lines, and those that it lacks are written first.
 ///
 /// # Statuses
 ///
-/// `Usage`, `SourceFault`, `ConfigRefused` and `Unbuilt` end the opening: no event was taken, and wire and outbox are as
-/// they were. `Ok` comes where the wire was read to its end. `TurnLimit` comes where as many events as the plan allows
-/// were taken and none closed the wire. `WireFault`, `OutboxFault` and `PrintFault` come where that object failed.
-/// `OutOfMemory` may come wherever memory is taken.
-pub fn run_single<S: Source, W: Wire, O: Sink, P: Sink>(
+/// `Usage`, `SourceFault`, `ConfigRefused` and `Unbuilt`, and then `NotOurs`, `Damaged`, `ConfigDiffers` and `OutboxAhead`, end
+/// the opening: no event was taken, and wire and outbox are as they were. `Ok` comes where the wire was read to its end.
+/// `TurnLimit` comes where as many events as the plan allows were taken and none closed the wire. `Full` comes where the next
+/// group would have made the journal larger than the plan allows, or than 1,073,741,824 bytes. `DiskFault`, `WireFault`,
+/// `OutboxFault` and `PrintFault` come where that object failed. `OutOfMemory` may come wherever memory is taken.
+pub fn run_single<S: Source, W: Wire, D: Disk, O: Sink, P: Sink>(
     alloc: Global,
     words: &[Text],
     config: &mut S,
     wire: &mut W,
+    disk: D,
     outbox: O,
     print: &mut P,
-) -> Ended<O>
+) -> Ended<D, O>
     // Usage comes exactly where the words have no plan, and then nothing was read.
     ensures usage { result.status ≡ Status.Usage → plan_of words.now ≡ None }
     ensures not_command { plan_of words.now ≡ None → (result.status ≡ Status.Usage) ⊎ (result.status ≡ Status.OutOfMemory) }
@@ -294,46 +245,70 @@ pub fn run_single<S: Source, W: Wire, O: Sink, P: Sink>(
         → (result.status ≡ Status.ConfigRefused path cause) ⊎ ((result.status ≡ Status.SourceFault)
         ⊎ ((result.status ≡ Status.Usage) ⊎ (result.status ≡ Status.OutOfMemory))) }
 
+    // PatternRefused comes only where a pattern isn't one, and PatternTooLarge where one holds a brace; the path is where the
+    // first such pattern is used first.
+    ensures pattern_refused { (path : List ℕ) → result.status ≡ Status.PatternRefused path → IfSome (S.left config.old) (HasFlawAt IsNoPattern path) }
+    ensures pattern_too_large { (path : List ℕ) → result.status ≡ Status.PatternTooLarge path → IfSome (S.left config.old) (HasFlawAt HoldsBrace path) }
+
+    // NotOurs, Damaged, ConfigDiffers, OutboxAhead, and Full at the opening, come exactly where the journal or the outbox is
+    // so, with the place or the numbers.
+    ensures barred { result.began ≡ false → IsBarring result.status → IsBarred words.now (S.left config.old) (D.bytes disk) (O.tells outbox).held result.status }
+    ensures bars { (plan : Plan) (text : List ℕ) (conf : Conf) (file : List ℕ) (status : Status) → plan_of words.now ≡ Some plan → 0 < plan.max_entries → S.left config.old ≡ Some text → flat_of text ≡ Ok conf
+        → is_built conf ≡ true → D.bytes disk ≡ Some file → Bars conf plan.max_entries (Some file) (O.tells outbox).held status → (result.status ≡ status) ⊎ YieldsTo result.status }
+
     // A fault comes only where the count of its object rose.
     ensures source { result.status ≡ Status.SourceFault → Rose (S.faults config.old) (S.faults config.new) }
     ensures wire { result.status ≡ Status.WireFault → Rose (W.tells wire.old).faults (W.tells wire.new).faults }
+    ensures disk { result.status ≡ Status.DiskFault → Rose (D.faults disk) (D.faults result.disk) }
     ensures outbox { result.status ≡ Status.OutboxFault → Rose (O.tells outbox).faults (O.tells result.outbox).faults }
     ensures print { result.status ≡ Status.PrintFault → Rose (P.tells print.old).faults (P.tells print.new).faults }
 
-    // A run that hasn't begun was refused at its opening, and left the wire and the outbox alone.
-    ensures not_begun { result.began ≡ false
-        → IsRefusal result.status × (wire.new ≡ wire.old) × (result.outbox ≡ outbox) × (result.entries ≡ []) }
+    // A run that hasn't begun was refused at its opening, and left the wire and the outbox alone. It has no entries, or those
+    // that it found. A crash at any moment of it left what one before it might have, or entries that it found.
+    ensures not_begun { result.began ≡ false → IsRefusal result.status × (wire.new ≡ wire.old) × (result.outbox ≡ outbox) }
+    ensures has_found { result.began ≡ false → (result.entries ≡ []) ⊎ FoundBy words.now (S.left config.old) (D.bytes disk) result.entries }
+    ensures stopped { result.began ≡ false → IfSome (D.bytes disk) (λ _. LeavesOnly D.moment D.images_since disk result.disk (λ c. KeepsAsOneOf (D.images disk) c
+        ⊎ KeepsSome (FoundBy words.now (S.left config.old) (D.bytes disk)) c)) }
     ensures begun { result.began ≡ true → IsCourse result.status }
 
-    // Events taken, replies, closings and entries; reading to the end; the limit of turns.
+    // Events taken, replies, closings and entries behind those that the journal kept; reading to the end; the limits of turns,
+    // entries and bytes. A crash at any moment left what one before the run might have, or the entries behind some of the events,
+    // those of the opening among them, or all that the events add whose groups the disk refused; and unless it did, the disk
+    // keeps the run's entries, and each crash leaves them.
     ensures followed { result.began ≡ true
-        → Followed words.now (S.left config.old) (W.tells wire.old) (W.tells wire.new) result.status result.entries }
+        → Followed words.now (S.left config.old) (D.bytes disk) (O.tells outbox).held (Journals D.bytes D.images D.moment D.images_since D.faults (KeepsAsOneOf (D.images disk)) disk result.disk)
+        (W.tells wire.old) (W.tells wire.new) result.status result.entries }
+    ensures keeps { result.began ≡ true → (Rose (D.faults disk) (D.faults result.disk) → ⊥) → IfSome (D.bytes result.disk) (Keeps result.entries) }
+    ensures told { is_some (D.bytes result.disk) ≡ is_some (D.bytes disk) }
 
-    // The lines in the outbox are those of one thread that replays the entries.
+    // The outbox has the lines of one thread that replays the entries, but for as many of their first bytes as it held.
     ensures lines { result.began ≡ true
-        → LinesAre (course_of result.status).out (O.tells outbox) (O.tells result.outbox) (run_lines result.entries) }
+        → LinesAre (course_of result.status).out (O.tells outbox) (O.tells result.outbox) (drop (O.tells outbox).held (run_lines result.entries)) }
     ensures size { result.began ≡ true
-        → SizeIs (course_of result.status).out (O.tells outbox) (O.tells result.outbox) (run_lines result.entries) }
+        → SizeIs (course_of result.status).out (O.tells outbox) (O.tells result.outbox) (drop (O.tells outbox).held (run_lines result.entries)) }
 
     // The printed line is that of the status, over the counts of the entries.
     ensures printed { Prints result.status (run_counts result.entries) (P.tells print.old) (P.tells print.new) }
 
     // What is accepted and doesn't fail ends well, if memory is there.
-    ensures complete { (plan : Plan) (text : List ℕ) (conf : Conf) (all : List WireEvent)
-        → plan_of words.now ≡ Some plan → S.left config.old ≡ Some text → flat_of text ≡ Ok conf → is_built conf ≡ true
-        → (W.tells wire.old).left ≡ Some all → (served conf (start text) (take plan.turns all)).stop ≡ Some stop.Closed
+    ensures complete { (plan : Plan) (text : List ℕ) (conf : Conf) (file : List ℕ) (groups : List Group) (all : List WireEvent)
+        → plan_of words.now ≡ Some plan → 0 < plan.max_entries → S.left config.old ≡ Some text → flat_of text ≡ Ok conf → is_built conf ≡ true
+        → D.bytes disk ≡ Some file → groups_of (kept file) ≡ Some groups → IsAccepted conf groups → (O.tells outbox).held ≤ length (opening_lines conf groups)
+        → (W.tells wire.old).left ≡ Some all → (served (limits_by plan) conf (opening_intake conf groups) (take plan.turns all)).stop ≡ Some stop.Closed
         → (Rose (S.faults config.old) (S.faults config.new) → ⊥)
         → (Rose (W.tells wire.old).faults (W.tells wire.new).faults → ⊥)
+        → (Rose (D.faults disk) (D.faults result.disk) → ⊥)
         → (Rose (O.tells outbox).faults (O.tells result.outbox).faults → ⊥)
-        → (Rose (P.tells print.old).faults (P.tells print.new).faults → ⊥)
-        → (result.status ≡ Status.Ok) ⊎ (result.status ≡ Status.OutOfMemory) }
+        → (Rose (P.tells print.old).faults (P.tells print.new).faults → ⊥) → All IsPattern conf.patterns
+        → (result.status ≡ Status.Ok) ⊎ ((result.status ≡ Status.OutOfMemory) ⊎ ((path : List ℕ) × (result.status ≡ Status.PatternTooLarge path))) }
 {
     let mut outbox = outbox;
-    let course = go(alloc, words, config, wire, &mut outbox);
+    let course = go(alloc, words, config, wire, disk, &mut outbox);
     let status = report(alloc, course.status, &course.counts, print);
     Ended {
         status,
         began: course.began,
+        disk: course.disk,
         outbox,
         entries: course.entries,
     }

@@ -1,5 +1,5 @@
 use super::*;
-use outside::{MemSink, MemSource, ScriptWire};
+use outside::{Failed, MemDisk, MemSink, MemSource, ScriptWire, Trouble, Wire, WireEvent};
 use server_words::Status;
 use std::alloc::Global;
 use std::convert::AsStr;
@@ -19,8 +19,8 @@ fn item_twice() -> &'static str {
 }
 
 /// The plain configuration with a macro in its trigger's name that isn't built.
-fn macro_in_name() -> &'static str {
-    "{\"hosts\":[{\"name\":\"h\",\"groups\":[\"g\"],\"items\":[{\"key\":\"k\"}],\"triggers\":[{\"name\":\"hot {HOST.NAME}\",\"expression\":\"last(/h/k)>5\",\"severity\":3}]}]}"
+fn with_a_step() -> &'static str {
+    "{\"hosts\":[{\"name\":\"h\",\"groups\":[\"g\"],\"items\":[{\"key\":\"k\",\"steps\":[{\"kind\":\"trim\",\"params\":[\" \"]}]}],\"triggers\":[{\"name\":\"hot\",\"expression\":\"last(/h/k)>5\",\"severity\":3}]}]}"
 }
 
 /// The numbers of the calls that fail, counted from 1. At 0 none fails.
@@ -28,6 +28,7 @@ fn macro_in_name() -> &'static str {
 struct Fails {
     source: u64,
     wire: u64,
+    disk: u64,
     outbox: u64,
     print: u64,
 }
@@ -36,16 +37,52 @@ fn none_fails() -> Fails {
     Fails {
         source: 0,
         wire: 0,
+        disk: 0,
         outbox: 0,
         print: 0,
+    }
+}
+
+/// A wire of a script that says of each event that it stands ready, or of none.
+#[derive(Drop)]
+struct TestWire {
+    wire: ScriptWire<MemSource>,
+    ready: bool,
+}
+
+impl Wire for TestWire {
+    ghost tells = { λ w. w.wire.tells };
+
+    fn faults(&self) -> u64 {
+        self.wire.faults()
+    }
+
+    fn unsent(&self) -> u64 {
+        self.wire.unsent()
+    }
+
+    fn ready(&self) -> bool {
+        self.ready
+    }
+
+    fn next(&mut self, alloc: Global) -> Result<WireEvent, Trouble> {
+        self.wire.next(alloc)
+    }
+
+    fn send(&mut self, conn: u64, bytes: &[u8]) -> Result<(), Failed> {
+        self.wire.send(conn, bytes)
+    }
+
+    fn close(&mut self, conn: u64) {
+        self.wire.close(conn);
     }
 }
 
 /// A run that has ended, with the wire and the printer that it had.
 #[derive(Drop)]
 struct Over {
-    ended: Ended<MemSink>,
-    wire: ScriptWire<MemSource>,
+    ended: Ended<MemDisk, MemSink>,
+    wire: TestWire,
     print: MemSink,
 }
 
@@ -59,8 +96,22 @@ fn source(alloc: Global, text: &str, fails: u64) -> Result<MemSource, OutOfMemor
     Ok(MemSource::new(Bytes::of(alloc, text.as_bytes())?, only(alloc, fails)?))
 }
 
-fn sink(alloc: Global, fails: u64) -> Result<MemSink, OutOfMemory> {
-    Ok(MemSink::new(Bytes::new(alloc), only(alloc, fails)?))
+fn sink(alloc: Global, held: &[u8], fails: u64) -> Result<MemSink, OutOfMemory> {
+    Ok(MemSink::new(Bytes::of(alloc, held)?, only(alloc, fails)?))
+}
+
+/// What a run finds of an earlier one: the bytes of its journal and of its outbox.
+#[derive(Clone, Copy)]
+struct Found<'a> {
+    journal: &'a [u8],
+    outbox: &'a [u8],
+}
+
+fn nothing_found() -> Found<'static> {
+    Found {
+        journal: &[],
+        outbox: &[],
+    }
 }
 
 /// The words of a command, cut at blanks.
@@ -79,20 +130,68 @@ fn run(
     script: &str,
     fails: Fails,
 ) -> Result<Over, OutOfMemory> {
+    run_behind(alloc, words, config, script, nothing_found(), fails)
+}
+
+/// Runs over what an earlier run left.
+fn run_behind(
+    alloc: Global,
+    words: &str,
+    config: &str,
+    script: &str,
+    found: Found<'_>,
+    fails: Fails,
+) -> Result<Over, OutOfMemory> {
+    run_over(alloc, words, config, script, found, fails, false)
+}
+
+/// Runs over what an earlier run left, with a wire that says of each event that it stands ready, or of none.
+fn run_over(
+    alloc: Global,
+    words: &str,
+    config: &str,
+    script: &str,
+    found: Found<'_>,
+    fails: Fails,
+    ready: bool,
+) -> Result<Over, OutOfMemory> {
     let words = words_of(alloc, words)?;
-    let mut config = source(alloc, config, fails.source)?;
-    let mut wire = ScriptWire::new(alloc, source(alloc, script, 0)?, only(alloc, fails.wire)?);
-    let outbox = sink(alloc, fails.outbox)?;
-    let mut print = sink(alloc, fails.print)?;
+    let config = source(alloc, config, fails.source)?;
+    let script = source(alloc, script, 0)?;
+    let wire_fails = only(alloc, fails.wire)?;
+    let journal = Bytes::of(alloc, found.journal)?;
+    let disk_fails = only(alloc, fails.disk)?;
+    let outbox = sink(alloc, found.outbox, fails.outbox)?;
+    let print = sink(alloc, &[], fails.print)?;
+    let wire = ScriptWire::new(alloc, script, wire_fails);
+    let disk = MemDisk::new(alloc, journal, disk_fails);
+    let wire = TestWire { wire, ready };
+    Ok(run_with(alloc, words, config, wire, disk, outbox, print))
+}
+
+/// Runs over these objects, none of which is looked at before the end.
+fn run_with(
+    alloc: Global,
+    words: Many<Text>,
+    config: MemSource,
+    wire: TestWire,
+    disk: MemDisk,
+    outbox: MemSink,
+    print: MemSink,
+) -> Over {
+    let mut config = config;
+    let mut wire = wire;
+    let mut print = print;
     let ended = run_single(
         alloc,
         words.as_slice(),
         &mut config,
         &mut wire,
+        disk,
         outbox,
         &mut print,
     );
-    Ok(Over { ended, wire, print })
+    Over { ended, wire, print }
 }
 
 /// Adds the kind and the number of each entry, as `C1T2V3`.
@@ -146,7 +245,13 @@ fn status_name(status: &Status) -> &'static str {
         Status::PrintFault => "PrintFault",
         Status::TurnLimit => "TurnLimit",
         Status::OutOfMemory => "OutOfMemory",
-        _ => "another",
+        Status::NotOurs => "NotOurs",
+        Status::Damaged { .. } => "Damaged",
+        Status::ConfigDiffers { .. } => "ConfigDiffers",
+        Status::OutboxAhead { .. } => "OutboxAhead",
+        Status::DiskFault => "DiskFault",
+        Status::Full { .. } => "Full",
+        Status::PatternRefused { .. } | Status::PatternTooLarge { .. } => "another",
     }
 }
 
@@ -159,24 +264,35 @@ fn report(alloc: Global, over: &Over) -> Result<Bytes, Fail> {
         b" not.. "
     })?;
     put_entries(alloc, &mut report, over.ended.entries.as_slice())?;
-    put_closed(alloc, &mut report, over.wire.closed())?;
+    put_closed(alloc, &mut report, over.wire.wire.closed())?;
     report.extend(b"\n")?;
-    put_sent(alloc, &mut report, over.wire.sent().as_slice())?;
+    put_sent(alloc, &mut report, over.wire.wire.sent().as_slice())?;
     report.extend(over.ended.outbox.bytes().as_slice())?;
     report.extend(over.print.bytes().as_slice())?;
     Ok(report)
 }
 
+/// The report of a run.
+fn reported(
+    alloc: Global,
+    words: &str,
+    config: &str,
+    script: &str,
+    fails: Fails,
+) -> Result<Bytes, Fail> {
+    let over = run(alloc, words, config, script, fails)?;
+    report(alloc, &over)
+}
+
 /// The report of a run over the plain configuration.
 fn told(alloc: Global, script: &str, fails: Fails) -> Result<Bytes, Fail> {
-    let over = run(
+    reported(
         alloc,
         "--mode feed --config c --script s",
         plain_config(),
         script,
         fails,
-    )?;
-    report(alloc, &over)
+    )
 }
 
 fn is(report: &Bytes, expected: &str) -> bool {
@@ -412,34 +528,29 @@ fn a_wire_or_a_printer_may_fail(rt: HostRuntime) -> Result<(), Fail> {
 #[test]
 fn other_words_or_another_configuration_begin_no_run(rt: HostRuntime) -> Result<(), Fail> {
     let alloc = rt.alloc();
-    let usage = run(
+    let usage = reported(
         alloc,
         "--mode feed",
         plain_config(),
         one_frame(),
         none_fails(),
     )?;
-    assert!(rt; is(&report(alloc, &usage)?, "Usage not.. \nstatus: Usage\n"));
-    let unbuilt = run(
+    assert!(rt; is(&usage, "Usage not.. \nstatus: Usage\n"));
+    let unbuilt = reported(
         alloc,
         "--mode feed --config c --script s",
-        macro_in_name(),
+        with_a_step(),
         one_frame(),
         none_fails(),
     )?;
-    assert!(rt;
-        is(
-            &report(alloc, &unbuilt)?,
-            "Unbuilt not.. \nstatus: Unbuilt\n"
-        )
-    );
+    assert!(rt; is(&unbuilt, "Unbuilt not.. \nstatus: Unbuilt\n"));
     Ok(())
 }
 
 #[test]
 fn a_refused_configuration_begins_no_run_and_names_its_fault(rt: HostRuntime) -> Result<(), Fail> {
     let alloc = rt.alloc();
-    let refused = run(
+    let refused = reported(
         alloc,
         "--mode feed --config c --script s",
         item_twice(),
@@ -448,7 +559,7 @@ fn a_refused_configuration_begins_no_run_and_names_its_fault(rt: HostRuntime) ->
     )?;
     assert!(rt;
         is(
-            &report(alloc, &refused)?,
+            &refused,
             "ConfigRefused not.. \nstatus: ConfigRefused; path: /hosts/0/items/1/key; cause: Duplicate\n"
         )
     );
@@ -472,13 +583,228 @@ fn two_hosts_report() -> &'static str {
 #[test]
 fn each_host_of_a_template_has_its_own_limit(rt: HostRuntime) -> Result<(), Fail> {
     let alloc = rt.alloc();
-    let over = run(
+    let report = reported(
         alloc,
         "--mode feed --config c --script s",
         two_hosts(),
         three_values(),
         none_fails(),
     )?;
-    assert!(rt; ends(&report(alloc, &over)?, two_hosts_report()));
+    assert!(rt; ends(&report, two_hosts_report()));
+    Ok(())
+}
+
+/// What a run over the plain configuration leaves: the bytes of its journal and of its outbox.
+fn left(alloc: Global, script: &str, fails: Fails) -> Result<(Bytes, Bytes), OutOfMemory> {
+    let over = run(
+        alloc,
+        "--mode feed --config c --script s",
+        plain_config(),
+        script,
+        fails,
+    )?;
+    Ok((
+        Bytes::of(alloc, over.ended.disk.bytes().as_slice())?,
+        Bytes::of(alloc, over.ended.outbox.bytes().as_slice())?,
+    ))
+}
+
+/// The report of a run over what an earlier one left, whose wire is closed at once.
+fn behind(alloc: Global, config: &str, journal: &[u8], outbox: &[u8]) -> Result<Bytes, Fail> {
+    let over = run_behind(
+        alloc,
+        "--mode feed --config c --script s",
+        config,
+        "100.000000000 closed\n",
+        Found { journal, outbox },
+        none_fails(),
+    )?;
+    report(alloc, &over)
+}
+
+/// The report of a restart behind all of the one frame.
+fn whole_report() -> &'static str {
+    "Ok begun C1T2V3\nP|3-1|100.000000000|3|0|h|hot|hot\nstatus: Ok; entries: 3; problems: 1; recoveries: 0; messages: 0; outbox bytes: 34\n"
+}
+
+/// That of a restart behind none of it.
+fn tick_report() -> &'static str {
+    "Ok begun C1T2\nstatus: Ok; entries: 2; problems: 0; recoveries: 0; messages: 0; outbox bytes: 0\n"
+}
+
+#[test]
+fn a_restart_writes_the_lines_that_are_missing(rt: HostRuntime) -> Result<(), Fail> {
+    let alloc = rt.alloc();
+    let (journal, outbox) = left(alloc, one_frame(), none_fails())?;
+    for held in [0, 10, 34] {
+        let report = behind(
+            alloc,
+            plain_config(),
+            journal.as_slice(),
+            outbox.as_slice().get(..held).unwrap_or(&[]),
+        )?;
+        assert!(rt; is(&report, whole_report()), "{held} bytes held");
+    }
+    Ok(())
+}
+
+/// The plain configuration with one more space at its end.
+fn spaced_config() -> &'static str {
+    "{\"hosts\":[{\"name\":\"h\",\"groups\":[\"g\"],\"items\":[{\"key\":\"k\"}],\"triggers\":[{\"name\":\"hot\",\"expression\":\"last(/h/k)>5\",\"severity\":3}]}]} "
+}
+
+/// Journals that no run goes on behind, and how its report ends.
+fn barring() -> [(&'static [u8], &'static str); 2] {
+    [
+        (b"0123456789", "NotOurs not.. \nstatus: NotOurs\n"),
+        (
+            b"ZTSJRN01\x01\0\0\0",
+            "Damaged not.. \nstatus: Damaged; at: 8\n",
+        ),
+    ]
+}
+
+#[test]
+fn what_an_opening_finds_may_bar_it(rt: HostRuntime) -> Result<(), Fail> {
+    let alloc = rt.alloc();
+    for (journal, wanted) in barring() {
+        assert!(rt; is(&behind(alloc, plain_config(), journal, &[])?, wanted));
+    }
+    let (journal, _) = left(alloc, one_frame(), none_fails())?;
+    assert!(rt;
+        is(
+            &behind(alloc, spaced_config(), journal.as_slice(), &[])?,
+            "ConfigDiffers not.. C1T2V3\nstatus: ConfigDiffers; at: 130\n"
+        )
+    );
+    assert!(rt;
+        is(
+            &behind(alloc, plain_config(), &[], b"P")?,
+            "OutboxAhead not.. C1\nPstatus: OutboxAhead; held: 1; lines: 0\n"
+        )
+    );
+    Ok(())
+}
+
+/// One frame, and then a second one with the value 1.
+fn two_frames() -> &'static str {
+    "100.000000000 open 1\n100.000000000 frame 1 {\"request\":\"sender data\",\"data\":[{\"host\":\"h\",\"key\":\"k\",\"value\":\"10\"}]}\n100.000000000 open 2\n100.000000000 frame 2 {\"request\":\"sender data\",\"data\":[{\"host\":\"h\",\"key\":\"k\",\"value\":\"1\"}]}\n100.000000000 closed\n"
+}
+
+fn full_report() -> &'static str {
+    "processed: 0; failed: 1; total: 1; seconds spent: 0.000000\"}\nP|3-1|100.000000000|3|0|h|hot|hot\nstatus: Full; entries: 4; bytes: 250\n"
+}
+
+fn limit_report() -> &'static str {
+    "TurnLimit begun C1T2V3 1:1\n"
+}
+
+#[test]
+fn a_full_journal_and_the_last_turn_end_a_run(rt: HostRuntime) -> Result<(), Fail> {
+    let alloc = rt.alloc();
+    let full = reported(
+        alloc,
+        "--mode feed --config c --script s --max-entries 3",
+        plain_config(),
+        two_frames(),
+        none_fails(),
+    )?;
+    assert!(rt; ends(&full, full_report()));
+    let report = reported(
+        alloc,
+        "--mode feed --config c --script s --turns 2",
+        plain_config(),
+        one_frame(),
+        none_fails(),
+    )?;
+    assert!(rt; report.as_slice().starts_with(limit_report().as_bytes()));
+    assert!(rt; ends(&report, "|hot\nstatus: TurnLimit\n"));
+    Ok(())
+}
+
+/// Whether a run whose n-th call of the disk fails has answered its value, and the report of the restart behind it.
+fn stopped_at(alloc: Global, disk: u64) -> Result<(bool, Bytes), Fail> {
+    let fails = Fails {
+        disk,
+        ..none_fails()
+    };
+    let told = told(alloc, one_frame(), fails)?;
+    let answered = told
+        .as_slice()
+        .windows(12)
+        .any(|part| part == "processed: 1".as_bytes());
+    let (journal, outbox) = left(alloc, one_frame(), fails)?;
+    Ok((
+        answered,
+        behind(alloc, plain_config(), journal.as_slice(), outbox.as_slice())?,
+    ))
+}
+
+#[test]
+fn a_restart_has_each_answered_value_whichever_call_of_the_disk_failed(
+    rt: HostRuntime,
+) -> Result<(), Fail> {
+    let alloc = rt.alloc();
+    for disk in 1..30u64 {
+        let (answered, report) = stopped_at(alloc, disk)?;
+        let has_all = is(&report, whole_report());
+        assert!(rt;
+            has_all || !answered && is(&report, tick_report()),
+            "call {disk}"
+        );
+    }
+    Ok(())
+}
+
+/// The report of a run over the plain configuration whose events all stand ready, or none.
+fn told_ready(alloc: Global, script: &str, fails: Fails, ready: bool) -> Result<Bytes, Fail> {
+    let over = run_over(
+        alloc,
+        "--mode feed --config c --script s",
+        plain_config(),
+        script,
+        nothing_found(),
+        fails,
+        ready,
+    )?;
+    report(alloc, &over)
+}
+
+fn refused_together_report() -> &'static str {
+    "DiskFault begun C1T2 2:1 1:2\n2 {\"response\":\"success\",\"info\":\"processed: 0; failed: 0; total: 0; seconds spent: 0.000000\"}\n1 {\"response\":\"success\",\"info\":\"processed: 0; failed: 1; total: 1; seconds spent: 0.000000\"}\nstatus: DiskFault\n"
+}
+
+/// How many calls of the disk end a run that has begun where they fail, and how many of these refuse its first value.
+fn refused(alloc: Global, ready: bool) -> Result<(u32, u32), Fail> {
+    let mut all = 0u32;
+    let mut first = 0u32;
+    for disk in 1..41u64 {
+        let fails = Fails {
+            disk,
+            ..none_fails()
+        };
+        let report = told_ready(alloc, many_frames(), fails, ready)?;
+        if report.as_slice().starts_with(b"DiskFault begun") {
+            all = all.saturating_add(1);
+        }
+        if is(&report, refused_together_report()) {
+            first = first.saturating_add(1);
+        }
+    }
+    Ok((all, first))
+}
+
+#[test]
+fn events_that_stand_ready_are_committed_together(rt: HostRuntime) -> Result<(), Fail> {
+    let alloc = rt.alloc();
+    let one = told_ready(alloc, one_frame(), none_fails(), true)?;
+    assert!(rt; is(&one, one_frame_report()));
+    let many = told_ready(alloc, many_frames(), none_fails(), true)?;
+    assert!(rt; is(&many, many_frames_report()));
+    let bad = told_ready(alloc, bad_frames(), none_fails(), true)?;
+    assert!(rt; is(&bad, bad_frames_report()));
+    // One append has four calls: that of the Tick, and that of all values, or one for each value.
+    assert!(rt; refused(alloc, true)? == (8, 4));
+    assert!(rt; refused(alloc, false)? == (20, 4));
     Ok(())
 }

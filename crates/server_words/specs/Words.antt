@@ -32,14 +32,15 @@ bare_app = let app = new_app (codes "zabbix_server") in record app { top = recor
 
 -- the command with its texts
 abbrev pub text_app : App
-text_app = with_rule (with_rule (with_rule (with_rule (with_rule bare_app
+text_app = with_rule (with_rule (with_rule (with_rule (with_rule (with_rule bare_app
     (needed (codes "mode"))) (option (codes "config"))) (option (codes "listen")))
-    (option (codes "script"))) (with_default (codes "outbox") (codes "-"))
+    (option (codes "script"))) (option (codes "journal"))) (with_default (codes "outbox") (codes "-"))
 
 -- the command: its texts and its numbers
 abbrev pub server_app : App
-server_app = with_rule (with_rule text_app
-    (number (codes "syncers") (codes "0") 0 0)) (number (codes "turns") (codes "1000000000") 1 1000000000)
+server_app = with_rule (with_rule (with_rule text_app
+    (number (codes "syncers") (codes "0") 0 0)) (number (codes "turns") (codes "1000000000") 1 1000000000))
+    (number (codes "max-entries") (codes "4000000") 1 4000000)
 
 -- the mode of this name
 abbrev pub mode_of : List ℕ → Option Mode
@@ -61,15 +62,17 @@ has_needed Feed rows = is_some (first_of (codes "config") rows) && is_some (firs
 has_needed Serve rows = is_some (first_of (codes "config") rows) && is_some (first_of (codes "listen") rows)
 
 -- the plan with this mode and these numbers, and with the texts of the options
-abbrev pub plan_with : List Row → Mode → ℕ → ℕ → Plan
-plan_with rows mode syncers turns = record {
+abbrev pub plan_with : List Row → Mode → ℕ → ℕ → ℕ → Plan
+plan_with rows mode syncers turns max_entries = record {
   mode = mode;
   config = first_of (codes "config") rows;
   script = first_of (codes "script") rows;
   listen = first_of (codes "listen") rows;
+  journal = first_of (codes "journal") rows;
   outbox = unwrap_or (first_of (codes "outbox") rows) [];
   syncers = syncers;
   turns = turns;
+  max_entries = max_entries;
 }
 
 -- the plan that the options ask for, or none where one is missing that the mode needs
@@ -77,7 +80,9 @@ abbrev pub plan_in : List Row → Option Plan
 plan_in rows =
     option_and_then (λ mode. if has_needed mode rows then
     option_and_then (λ syncers.
-    option_and_then (λ turns. Some (plan_with rows mode syncers turns))
+    option_and_then (λ turns.
+    option_and_then (λ max_entries. Some (plan_with rows mode syncers turns max_entries))
+    (number_in 64 (codes "max-entries") rows))
     (number_in 64 (codes "turns") rows))
     (number_in 32 (codes "syncers") rows) else None)
     (option_and_then mode_of (first_of (codes "mode") rows))

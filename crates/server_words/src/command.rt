@@ -53,6 +53,7 @@ fn text_command<'a>(alloc: Global) -> Result<Command<'a>, AllocError>
         .arg(option(alloc, "config"))?
         .arg(option(alloc, "listen"))?
         .arg(option(alloc, "script"))?
+        .arg(option(alloc, "journal"))?
         .arg(with_default(alloc, "outbox", "-"))
 }
 
@@ -62,5 +63,6 @@ pub(crate) fn command<'a>(alloc: Global) -> Result<Command<'a>, AllocError>
 {
     text_command(alloc)?
         .arg(number(alloc, "syncers", "0", 0, 0))?
-        .arg(number(alloc, "turns", "1000000000", 1, 1_000_000_000))
+        .arg(number(alloc, "turns", "1000000000", 1, 1_000_000_000))?
+        .arg(number(alloc, "max-entries", "4000000", 1, 4_000_000))
 }

@@ -15,7 +15,8 @@ use zbx_types::{OutOfMemory, Text};
 ///
 /// The words are `--name value` or `--name=value`, each option at most once, in any order. `--mode` is `feed` or `serve`.
 /// Both need `--config`, a path; feed needs `--script`, a path, and serve needs `--listen`, an address and port.
-/// `--outbox` is a path or `-`, `--syncers` is 0, and `--turns` is 1 to 1,000,000,000. What a mode doesn't need it may have.
+/// `--journal` is a path, `--outbox` a path or `-`, `--syncers` is 0, `--turns` is 1 to 1,000,000,000, and `--max-entries`
+/// 1 to 4,000,000. What a mode doesn't need it may have.
 ///
 /// [`PlanError::Usage`] comes exactly where `clap` doesn't take the words as this command's, or the mode is another one
 /// or lacks what it needs. [`PlanError::OutOfMemory`] where there is no room for the command or for the plan.
@@ -52,7 +53,10 @@ fn planned(alloc: Global, matches: &ArgMatches) -> Result<Plan, PlanError>
     let Some(turns) = number_in(matches, "turns") else {
         return Err(PlanError::Usage);
     };
-    match plan_with(alloc, matches, mode, syncers, turns) {
+    let Some(max_entries) = number_in(matches, "max-entries") else {
+        return Err(PlanError::Usage);
+    };
+    match plan_with(alloc, matches, mode, syncers, turns, max_entries) {
         Ok(plan) => Ok(plan),
         Err(OutOfMemory) => Err(PlanError::OutOfMemory),
     }
@@ -120,16 +124,19 @@ fn plan_with(
     mode: Mode,
     syncers: u32,
     turns: u64,
+    max_entries: u64,
 ) -> Result<Plan, OutOfMemory>
-    ensures { IfOk result (λ plan. plan ≡ plan_with (rows_of (found_of matches.now)) mode syncers turns) }
+    ensures { IfOk result (λ plan. plan ≡ plan_with (rows_of (found_of matches.now)) mode syncers turns max_entries) }
 {
     Ok(Plan {
         mode,
         config: text_in(alloc, matches, "config")?,
         script: text_in(alloc, matches, "script")?,
         listen: text_in(alloc, matches, "listen")?,
+        journal: text_in(alloc, matches, "journal")?,
         outbox: text_in(alloc, matches, "outbox")?.unwrap_or(Text::new(alloc)),
         syncers,
         turns,
+        max_entries,
     })
 }

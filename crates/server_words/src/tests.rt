@@ -41,10 +41,12 @@ fn plan_line(alloc: Global, plan: &Plan) -> Result<Text, OutOfMemory> {
     put_text(&mut line, " config ", &plan.config)?;
     put_text(&mut line, " script ", &plan.script)?;
     put_text(&mut line, " listen ", &plan.listen)?;
+    put_text(&mut line, " journal ", &plan.journal)?;
     line.push_str(" outbox ")?;
     line.push_str(plan.outbox.as_str())?;
     put_number(&mut line, u64::from(plan.syncers))?;
     put_number(&mut line, plan.turns)?;
+    put_number(&mut line, plan.max_entries)?;
     Ok(line)
 }
 
@@ -58,45 +60,49 @@ fn asked(alloc: Global, line: &str) -> Result<Text, OutOfMemory> {
 }
 
 /// Lines of words that have a plan, and the plan.
-fn plans() -> [(&'static str, &'static str); 8] {
+fn plans() -> [(&'static str, &'static str); 9] {
     [
         (
             "--mode feed --config c --script s",
-            "feed config c script s outbox - 0 1000000000",
+            "feed config c script s outbox - 0 1000000000 4000000",
         ),
         (
             "--script=s --config=c --mode=feed",
-            "feed config c script s outbox - 0 1000000000",
+            "feed config c script s outbox - 0 1000000000 4000000",
         ),
         (
             "--mode serve --config c --listen 127.0.0.1:10051",
-            "serve config c listen 127.0.0.1:10051 outbox - 0 1000000000",
+            "serve config c listen 127.0.0.1:10051 outbox - 0 1000000000 4000000",
         ),
         (
             "--mode serve --config c --listen a:1 --script s --outbox o --syncers 0 --turns 1",
-            "serve config c script s listen a:1 outbox o 0 1",
+            "serve config c script s listen a:1 outbox o 0 1 4000000",
         ),
         (
             "--mode feed --config c --script s --turns 1000000000",
-            "feed config c script s outbox - 0 1000000000",
+            "feed config c script s outbox - 0 1000000000 4000000",
         ),
         (
             "--mode feed --config= --script s --outbox -",
-            "feed config  script s outbox - 0 1000000000",
+            "feed config  script s outbox - 0 1000000000 4000000",
         ),
         (
             "--mode feed --config c --script s --turns +4 --syncers=00",
-            "feed config c script s outbox - 0 4",
+            "feed config c script s outbox - 0 4 4000000",
+        ),
+        (
+            "--mode feed --config c --script s --journal j --max-entries 1",
+            "feed config c script s journal j outbox - 0 1000000000 1",
         ),
         (
             "--mode feed --config c --script s --",
-            "feed config c script s outbox - 0 1000000000",
+            "feed config c script s outbox - 0 1000000000 4000000",
         ),
     ]
 }
 
 /// Lines of words that aren't those of the command.
-fn others() -> [&'static str; 22] {
+fn others() -> [&'static str; 24] {
     [
         "",
         "--mode",
@@ -119,7 +125,9 @@ fn others() -> [&'static str; 22] {
         "--mode feed --config c --script s --syncers 1",
         "--mode feed --config c --script s --turns 0",
         "--mode feed --config c --script s --turns 1000000001",
-        "--mode feed --config c --script s --journal j",
+        "--mode feed --config c --script s --journal j --journal k",
+        "--mode feed --config c --script s --max-entries 0",
+        "--mode feed --config c --script s --max-entries 4000001",
     ]
 }
 

@@ -23,12 +23,16 @@ pub struct Plan {
     pub script: Option<Text>,
     /// The address and port to listen at. Serve has one.
     pub listen: Option<Text>,
+    /// The path of the journal. Without one the journal is in memory, and is gone with the run.
+    pub journal: Option<Text>,
     /// The path of the outbox, or `-` for standard output, which is its default.
     pub outbox: Text,
     /// How many history syncers work at once: 0 so far, so that one thread does all.
     pub syncers: u32,
     /// How many events are taken at most: 1 to 1,000,000,000, which is the default.
     pub turns: u64,
+    /// How many entries the journal has at most: 1 to 4,000,000, which is the default.
+    pub max_entries: u64,
 }
 
 /// Why there is no plan.

@@ -3,7 +3,7 @@
 ghost use Rattle.std.specs.Prelude.{◌≡◌, ◌<◌, ◌==◌, ◌++◌, ◌∷◌, [], ℕ, not, map, filter, length, if◌then◌else◌, OnOk, OnErr};
 ghost use Rattle.zbx_types.specs.Records.{same_event, event_of};
 ghost use Rattle.trigger_state.specs.Cells.{row_at};
-ghost use Rattle.trigger_state.specs.Problems.{event_in, opened, stepped};
+ghost use Rattle.trigger_state.specs.Problems.{event_in, opened, stepped, absorbed};
 
 use crate::problems::{Open, is_of};
 use crate::steps::step_all;
@@ -99,5 +99,85 @@ pub(crate) fn run(
             rows[place] = Many::from_vec(row);
             Err(OutOfMemory)
         }
+    }
+}
+
+/// Adds a problem behind the open ones of its trigger. At [`OutOfMemory`] they are as before.
+fn push_opened(
+    alloc: Global,
+    conf: &Conf,
+    opens: &mut Many<Open>,
+    event: EventId,
+    problem: &Rec,
+) -> Result<(), OutOfMemory>
+    requires { event_of problem.now ≡ event }
+    ensures ok { OnOk result (opens.new ≡ opens.old ++ opened conf.now problem.now [] ∷ []) }
+    ensures err { OnErr result (opens.new ≡ opens.old) }
+{
+    opens.push(Open {
+        problem: problem.copy(alloc)?,
+        steps: Many::new(alloc),
+        depth: depth_of(conf, event.trigger),
+    })?;
+    Ok(())
+}
+
+/// The same as [`step_all`], over open problems that may grow.
+fn step_many(alloc: Global, opens: &mut Many<Open>, step: &Rec) -> Result<(), OutOfMemory>
+    ensures ok { OnOk result (opens.new ≡ map (stepped step.now) opens.old) }
+    ensures err { OnErr result (opens.new ≡ opens.old) }
+{
+    let mut row = replace(opens, Many::new(alloc)).into_vec();
+    let done = step_row(alloc, &mut row, step);
+    *opens = Many::from_vec(row);
+    done
+}
+
+/// Closes a problem among the open ones of its trigger.
+fn close_in(alloc: Global, opens: &mut Many<Open>, event: EventId)
+    ensures { opens.new ≡ filter (λ o. not (same_event (event_in o) event)) opens.old }
+{
+    let row = replace(opens, Many::new(alloc));
+    *opens = without(row, event);
+}
+
+/// Brings the open problems of the trigger with an id up to one more record, as [`TriggerCells::absorb`] does with those of
+/// all triggers: one of another trigger changes nothing. [`OutOfMemory`] where there is no room for the copy that is
+/// kept; they are then as before.
+///
+/// [`TriggerCells::absorb`]: crate::TriggerCells::absorb
+#[tactic(auto, unfolding(crate::specs::Problems::absorbed))]
+pub fn absorb_into(
+    alloc: Global,
+    conf: &Conf,
+    id: u32,
+    opens: &mut Many<Open>,
+    rec: &Rec,
+) -> Result<(), OutOfMemory>
+    ensures ok { OnOk result (opens.new ≡ absorbed conf.now id opens.old rec.now) }
+    ensures err { OnErr result (opens.new ≡ opens.old) }
+{
+    match rec {
+        Rec::Problem { event, .. } => {
+            if event.trigger == id {
+                push_opened(alloc, conf, opens, *event, rec)
+            } else {
+                Ok(())
+            }
+        }
+        Rec::Recovery { event, .. } => {
+            if event.trigger == id {
+                close_in(alloc, opens, *event);
+            }
+            Ok(())
+        }
+        Rec::Step { event, .. } => {
+            if event.trigger == id {
+                step_many(alloc, opens, rec)
+            } else {
+                Ok(())
+            }
+        }
+        Rec::Failure { .. } | Rec::Message { .. } => Ok(()),
     }
 }

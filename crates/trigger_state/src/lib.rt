@@ -39,6 +39,7 @@ mod looking;
 mod problems;
 mod steps;
 
+pub use absorbing::absorb_into;
 pub use answer::Verdict;
 pub use cells::TriggerCells;
 pub use judging::{held_by, verdict, verdict_over};

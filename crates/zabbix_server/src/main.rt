@@ -1,18 +1,21 @@
 //! The monitoring core of a Zabbix server, as a program.
 //!
 //! ```text
-//! zabbix_server --mode feed --config CONFIG --script SCRIPT
+//! zabbix_server --mode feed --config CONFIG --script SCRIPT --journal JOURNAL --outbox OUTBOX
 //! ```
 //!
-//! reads the configuration document in the file CONFIG, takes the events of the script in the file SCRIPT, and writes a
-//! line for each problem and recovery to standard output, and behind them one line with the status of the run and its
-//! counts. It exits with the number of the status: 0 for Ok, 2 for Usage, 3 for ConfigRefused, 5 for SourceFault, 11 for
-//! OutboxFault, 12 for PrintFault, 13 for WireFault, 15 for TurnLimit, 16 for OutOfMemory, 17 for Unbuilt. Nothing goes to
-//! standard error.
+//! reads the configuration document in the file CONFIG, takes the events of the script in the file SCRIPT, keeps what it took
+//! in the file JOURNAL, adds a line for each problem and recovery to the file OUTBOX, and writes one line with the status of
+//! the run and its counts to standard output. Started again it goes on behind what the journal kept. Without a journal that
+//! is gone with the run, and without an outbox the lines go to standard output.
+//!
+//! It exits with the number of the status: 0 for Ok, 2 for Usage, 3 for ConfigRefused, 5 for SourceFault, 6 for NotOurs, 7 for
+//! Damaged, 8 for ConfigDiffers, 9 for OutboxAhead, 10 for DiskFault, 11 for OutboxFault, 12 for PrintFault, 13 for WireFault,
+//! 14 for Full, 15 for TurnLimit, 16 for OutOfMemory, 17 for Unbuilt. Nothing goes to standard error.
 //!
 //! All that the run does is [`server_run::run_single`]. This crate hands it the files and standard output:
-//! [`FileSource`](wire_mio::FileSource) reads a file, [`FileSink`](wire_mio::FileSink) adds to one, and
-//! [`StdSink`](wire_mio::StdSink) writes to standard output.
+//! [`FileSource`](wire_mio::FileSource) reads a file, [`FileSink`](wire_mio::FileSink) adds to one, [`FileDisk`](wire_mio::FileDisk)
+//! keeps one, and [`StdSink`](wire_mio::StdSink) writes to standard output.
 //!
 //! The one contract: the program exits with the number of its status, which is that of a run over its words, and the
 //! clauses of the whole run are true of it. So it is Usage exactly where the words have no plan, unless memory was refused.

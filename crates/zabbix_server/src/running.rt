@@ -5,12 +5,12 @@ ghost use Rattle.server_words.specs.Words.{plan_of};
 ghost use Rattle.server_words.specs.declared.status.Status.TheVariants as Status;
 ghost use Rattle.server_run.specs.Ran.{IsStatusOf, IsRunStatus};
 
-use outside::{MemSink, MemSource, ScriptWire, Sink, Source, Wire};
+use outside::{Disk, MemSink, MemSource, RamDisk, ScriptWire, Sink, Source, Wire};
 use server_run::run_single;
 use server_words::{Mode, Plan, PlanError, Status, plan};
 use std::alloc::Global;
 use std::convert::AsStr;
-use wire_mio::{FileSink, FileSource, MioWire, StdSink};
+use wire_mio::{FileDisk, FileSink, FileSource, MioWire, StdSink};
 use zbx_types::{Bytes, Many, OutOfMemory, Text};
 
 /// Runs the server as the words ask, over files and standard output, and answers how the run ended. [`OutOfMemory`] where
@@ -71,7 +71,7 @@ fn run_serve(
     run_over(rt, alloc, words, plan, wire)
 }
 
-/// Runs the server over a wire, and over the files that a plan names.
+/// Runs the server over a wire, and over the journal that a plan names, or one in memory that is gone with the run.
 fn run_over<W: Wire + Drop>(
     rt: &HostRuntime,
     alloc: Global,
@@ -81,15 +81,32 @@ fn run_over<W: Wire + Drop>(
 ) -> Result<Status, OutOfMemory>
     ensures ran { IfOk result (IsRunStatus words.now) }
 {
+    match &plan.journal {
+        Some(path) => run_on(rt, alloc, words, plan, wire, FileDisk::at(rt, path)),
+        None => run_on(rt, alloc, words, plan, wire, RamDisk::new(alloc)),
+    }
+}
+
+/// Runs the server over a wire and a disk, and over the files that a plan names.
+fn run_on<W: Wire + Drop, D: Disk + Drop>(
+    rt: &HostRuntime,
+    alloc: Global,
+    words: &[Text],
+    plan: &Plan,
+    wire: W,
+    disk: D,
+) -> Result<Status, OutOfMemory>
+    ensures ran { IfOk result (IsRunStatus words.now) }
+{
     let nowhere = Text::new(alloc);
     let config = FileSource::at(rt, alloc, plan.config.as_ref().unwrap_or(&nowhere))?;
     let printer = StdSink::new(rt.stdout());
     if plan.outbox.as_str() == "-" {
         let outbox = StdSink::new(rt.stdout());
-        Ok(status_of(alloc, words, config, wire, outbox, printer))
+        Ok(status_of(alloc, words, config, wire, disk, outbox, printer))
     } else {
         let outbox = FileSink::at(rt, &plan.outbox);
-        Ok(status_of(alloc, words, config, wire, outbox, printer))
+        Ok(status_of(alloc, words, config, wire, disk, outbox, printer))
     }
 }
 
@@ -102,22 +119,46 @@ fn run_nothing(rt: &HostRuntime, alloc: Global, words: &[Text]) -> Status
     let wire = ScriptWire::new(alloc, script, Many::new(alloc));
     let outbox = MemSink::new(Bytes::new(alloc), Many::new(alloc));
     let printer = StdSink::new(rt.stdout());
-    status_of(alloc, words, config, wire, outbox, printer)
+    status_of(
+        alloc,
+        words,
+        config,
+        wire,
+        RamDisk::new(alloc),
+        outbox,
+        printer,
+    )
 }
 
 /// How a run over these objects ended.
-pub(crate) fn status_of<S: Source + Drop, W: Wire + Drop, O: Sink + Drop, P: Sink + Drop>(
-    alloc: Global,
-    words: &[Text],
-    config: S,
-    wire: W,
-    outbox: O,
-    printer: P,
-) -> Status
-    ensures { IsStatusOf words.now (record { source = S.left config; source_faults = S.faults config; wire = W.tells wire; outbox = O.tells outbox; printer = P.tells printer }) result }
+pub(crate) fn status_of<
+    S: Source + Drop,
+    W: Wire + Drop,
+    D: Disk + Drop,
+    O: Sink + Drop,
+    P: Sink + Drop,
+>(alloc: Global, words: &[Text], config: S, wire: W, disk: D, outbox: O, printer: P) -> Status
+    ensures { IsStatusOf words.now (record {
+      source = S.left config;
+      source_faults = S.faults config;
+      wire = W.tells wire;
+      file = D.bytes disk;
+      disk_faults = D.faults disk;
+      outbox = O.tells outbox;
+      printer = P.tells printer;
+    }) result }
 {
     let mut config = config;
     let mut wire = wire;
     let mut printer = printer;
-    run_single(alloc, words, &mut config, &mut wire, outbox, &mut printer).status
+    run_single(
+        alloc,
+        words,
+        &mut config,
+        &mut wire,
+        disk,
+        outbox,
+        &mut printer,
+    )
+    .status
 }

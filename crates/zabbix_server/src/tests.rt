@@ -1,7 +1,7 @@
 use crate::arguments::words;
 use crate::exit;
 use crate::running::{run, status_of};
-use outside::{MemSink, MemSource, ScriptWire, Sink};
+use outside::{MemSink, MemSource, RamDisk, ScriptWire, Sink};
 use server_words::Status;
 use std::alloc::Global;
 use std::convert::AsStr;
@@ -71,9 +71,9 @@ fn plain_config() -> &'static str {
     "{\"hosts\":[{\"name\":\"h\",\"groups\":[\"g\"],\"items\":[{\"key\":\"k\"}],\"triggers\":[{\"name\":\"hot\",\"expression\":\"last(/h/k)>5\"}]}]}"
 }
 
-/// The plain configuration with a macro in its trigger's name that isn't built.
+/// The plain configuration with a rule of correlation, which isn't built.
 fn unbuilt_config() -> &'static str {
-    "{\"hosts\":[{\"name\":\"h\",\"groups\":[\"g\"],\"items\":[{\"key\":\"k\"}],\"triggers\":[{\"name\":\"hot {HOST.NAME}\",\"expression\":\"last(/h/k)>5\"}]}]}"
+    "{\"hosts\":[{\"name\":\"h\",\"groups\":[\"g\"],\"items\":[{\"key\":\"k\"}],\"triggers\":[{\"name\":\"hot\",\"expression\":\"last(/h/k)>5\"}]}],\"correlations\":[{\"name\":\"pair\",\"conditions\":[{\"kind\":\"tag_pair\",\"old\":\"svc\",\"new\":\"svc\"}],\"close\":[\"old\"]}]}"
 }
 
 /// One connection brings the value 10.
@@ -129,7 +129,8 @@ fn exit_in_memory(
     let wire = ScriptWire::new(alloc, script, Many::new(alloc));
     let outbox = MemSink::new(Bytes::new(alloc), only(alloc, fails.outbox)?);
     let printer = MemSink::new(Bytes::new(alloc), only(alloc, fails.printer)?);
-    Ok(status_of(alloc, words.as_slice(), config, wire, outbox, printer).exit())
+    let disk = RamDisk::new(alloc);
+    Ok(status_of(alloc, words.as_slice(), config, wire, disk, outbox, printer).exit())
 }
 
 #[test]

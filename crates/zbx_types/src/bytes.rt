@@ -75,6 +75,14 @@ impl Bytes {
         Ok(())
     }
 
+    /// Makes room for so many more bytes, so that adding them moves nothing. At [`OutOfMemory`] the list is as before too.
+    pub fn reserve(&mut self, more: usize) -> Result<(), OutOfMemory>
+        ensures { self.new ≡ self.old }
+    {
+        self.bytes.reserve(more)?;
+        Ok(())
+    }
+
     /// Puts a byte in the place of another. Takes no memory.
     pub fn set(&mut self, at: usize, byte: u8)
         requires { at < length self.old }

@@ -1,5 +1,5 @@
-use Rattle.std.proofs.Common.{◌≡◌, None, replicate}
+use Rattle.entry_step.proofs.Coming.{AreEmptySoFar}
 use Rattle.entry_step.proofs.cells.no_values.Given as goal
 
-abbrev pub invariant-loop-item : goal.invariant-loop-item
-invariant-loop-item l = l.latest.items ≡ replicate l._item None
+abbrev pub invariant-loop-keep : goal.invariant-loop-keep
+invariant-loop-keep l = AreEmptySoFar l.conf l.keep-index l.items.items

@@ -1,7 +1,7 @@
-use Rattle.std.proofs.Common.{rules, ◌≡◌, Some, ◌∙◌}
+use Rattle.std.proofs.Common.{rules, ◌≡◌, Some, ◌∙◌, ap, refl, List, Option, ℤ}
 use Rattle.zbx_types.specs.Ids.{at_id}
-use Rattle.entry_step.specs.Kept.{kept, with_value}
 use Rattle.entry_step.specs.Represents.{problems_at}
+use Rattle.entry_step.specs.Calls.{value_in}
 use Rattle.entry_step.proofs.Landing.{outcome_is}
 use Rattle.entry_step.proofs.Represented.{ok_sub}
 use Rattle.entry_step.proofs.stepping.outcome_of.Goals as goal
@@ -10,7 +10,7 @@ pub returns-clause-records : goal.returns-clause-records
 returns-clause-records c =
     let there : at_id c.args.ready.now.triggers c.args.id ≡ Some c.in-Some.trigger.now = search rules in
     ok_sub c.judge.result _ _
-    (λ made e.
-    e ∙ outcome_is c.args.ready.now c.conf-conf.result.now c.args.number c.args.now (kept (with_value c.args.latest.now c.args.item c.args.stored.now)) (problems_at c.args.problems.now) c.args.id c.in-Some.trigger.now
-    c.held_by-held.result c.problems_at-opens.result.now c.masters.result.now c.conf-conf.ensures there c.masters.ensures c.held_by-held.ensures c.problems_at-opens.ensures)
+    (λ made e histories sees.
+    e histories sees ∙ outcome_is c.args.ready.now c.args.ready.now c.args.occasion.now (value_in c.as_slice-2.result.now) histories (problems_at c.args.problems.now) c.args.id c.in-Some.trigger.now
+    c.held_by-held.result c.problems_at-opens.result.now c.masters.result.now refl (λ place. ap (λ (vs : List (Option ℤ)). value_in vs place) c.as_slice-2.ensures ∙ c.in_ok-values.ensures histories sees place) there c.masters.ensures c.held_by-held.ensures c.problems_at-opens.ensures)
     c.judge.ensures.records

@@ -7,5 +7,5 @@ abbrev pub invariant-loop-byte : goal.invariant-loop-byte
 invariant-loop-byte l = record {
   count : l.count ≡ l.byte-index;
   fits : l.count ≤ 4096;
-  reached : Reached l.text l.byte-index (state l.state);
+  reached : Reached l.text l.byte-index (state l.state.value);
 }

@@ -1,7 +1,6 @@
 use Rattle.std.proofs.Common.{◌≡◌}
 use Rattle.intake_front.specs.Taking.{group_of}
-use Rattle.intake_front.specs.Intake.{numbered_from}
 use Rattle.intake_front.proofs.taking.group.Given as goal
 
 abbrev pub invariant-loop-asked : goal.invariant-loop-asked
-invariant-loop-asked l = l.made ≡ numbered_from l.first (group_of l.ready l.now l.yielded)
+invariant-loop-asked l = l.made ≡ group_of l.ready l.now l.yielded

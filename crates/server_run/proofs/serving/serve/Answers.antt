@@ -1,26 +1,41 @@
-use Rattle.std.proofs.Common.{◌≡◌, Some, None, arith, rules, refl}
-use Rattle.intake_front.specs.declared.answer.Stop.TheVariants as stop
-use Rattle.server_run.specs.Statuses.{at_closed}
-use Rattle.server_run.proofs.Events.{ran_none, ran_more, ran_on, finish, finish_turn}
+use Rattle.std.proofs.Common.{arith, refl}
+use Rattle.intake_front.specs.Fronted.{limits_of}
+use Rattle.server_run.proofs.Events.{ran_none, ran_on, finish_on, finish_with, limits_kept, ready_on}
 use Rattle.server_run.proofs.serving.serve.Goals as goal
 
-pub loop-init : goal.loop-init
-loop-init g c = record { wire_later = omega arith; outbox_later = omega arith; ran = ran_none _ _ _; up_to_date = λ sink u. u }
+pub loop-taken-init : goal.loop-taken-init
+loop-taken-init g c = record {
+  within = omega arith;
+  wire_later = omega arith;
+  outbox_later = omega arith;
+  ready = (c.requires.going, refl, refl);
+  idle = c.requires.idle;
+  ran = ran_none _ _ _ _ _ (limits_of c.args.front.now.journal 0) _ _ _ _ (g.met.D.Disk.only_now _) c.requires.kept;
+  up_to_date = λ sink u. u;
+}
 
-pub loop-preserved : goal.loop-preserved
-loop-preserved g c =
-    let none : c.in-Ok-None.field-0 ≡ None = search rules in
+pub loop-taken-preserved : goal.loop-taken-preserved
+loop-taken-preserved g c =
+    let i = c.loop-taken.invariant in
+    let b = c.serve_batch.ensures in
+    let e = c.in-Ok.ensures in
     record {
-      wire_later = omega (arith, c.loop.invariant.wire_later, c.serve_one.ensures.wire_later);
-      outbox_later = omega (arith, c.loop.invariant.outbox_later, c.serve_one.ensures.outbox_later);
-      ran = ran_on _ _ _ _ _ _ _ _ none c.loop.invariant.ran c.in-Ok-None.ensures.took;
-      up_to_date = λ sink u. c.in-Ok-None.ensures.keeps_up sink (c.loop.invariant.up_to_date sink u);
+      within = omega (arith, i.within, e.took.1);
+      wire_later = omega (arith, i.wire_later, b.wire_later);
+      outbox_later = omega (arith, i.outbox_later, b.outbox_later);
+      ready = ready_on c.args.front.now.journal c.loop-taken.front.journal c.serve_batch.new.front.journal i.ready e.state;
+      idle = b.idle;
+      ran = ran_on _ _ _ _ _ (limits_of c.args.front.now.journal 0) _ _ _ _ _ _ _ _ _ _ _ _ _ i.ran (limits_of c.loop-taken.front.journal 0) (limits_kept c.args.front.now.journal c.loop-taken.front.journal i.ready) e.took.0;
+      up_to_date = λ sink u. e.keeps_up sink (i.up_to_date sink u);
     }
 
-pub returns-in-Ok-Some-Closed-clause-finished : goal.returns-in-Ok-Some-Closed-clause-finished
-returns-in-Ok-Some-Closed-clause-finished g c =
-    let closed : c.in-Ok-Some-Closed.field-0 ≡ Some stop.Closed = search rules in
-    finish _ _ _ _ _ _ _ _ _ at_closed (ran_more _ _ _ _ _ _ _ _ _ c.loop.invariant.ran c.in-Ok-Some-Closed.ensures.took) refl (omega (arith, c.loop-test.true)) (closed, refl)
+pub returns-clause-finished : goal.returns-clause-finished
+returns-clause-finished g c =
+    let i = c.loop-taken.invariant in
+    finish_on _ _ _ _ _ (limits_of c.args.front.now.journal 0) _ _ _ _ _ _ _ _ _ _ _ i.ran i.within (omega arith, refl, refl)
 
 pub returns-in-Err-clause-finished : goal.returns-in-Err-clause-finished
-returns-in-Err-clause-finished g c = finish_turn _ _ _ _ _ _ _ _ _ _ c.loop.invariant.ran c.in-Err.ensures.took c.loop-test.true
+returns-in-Err-clause-finished g c =
+    let i = c.loop-taken.invariant in
+    finish_with _ _ _ _ _ (limits_of c.args.front.now.journal 0) _ _ _ _ _ _ _ _ _ _ _ _ _ c.args.turns _ i.ran (limits_of c.loop-taken.front.journal 0)
+    (limits_kept c.args.front.now.journal c.loop-taken.front.journal i.ready) c.in-Err.ensures.took (omega arith) i.wire_later

@@ -6,4 +6,5 @@ use Rattle.server_words.proofs.command.command.Goals as goal
 pub returns : goal.returns
 returns c =
     let syncers = c.in_ok-arg.ensures.shape c.number.ensures.local ∙ ap₂ with_rule c.in_ok-text_command.ensures c.number.ensures.rule in
-    IfOk-weaker c.arg-2.result _ _ (λ command adds. adds.shape c.number-2.ensures.local ∙ ap₂ with_rule syncers c.number-2.ensures.rule) c.arg-2.ensures
+    let turns = c.in_ok-arg-2.ensures.shape c.number-2.ensures.local ∙ ap₂ with_rule syncers c.number-2.ensures.rule in
+    IfOk-weaker c.arg-3.result _ _ (λ command adds. adds.shape c.number-3.ensures.local ∙ ap₂ with_rule turns c.number-3.ensures.rule) c.arg-3.ensures

@@ -14,4 +14,5 @@ returns c =
     let config = c.in_ok-arg-2.ensures.shape c.option.ensures.local ∙ ap₂ with_rule mode c.option.ensures.rule in
     let listen = c.in_ok-arg-3.ensures.shape c.option-2.ensures.local ∙ ap₂ with_rule config c.option-2.ensures.rule in
     let script = c.in_ok-arg-4.ensures.shape c.option-3.ensures.local ∙ ap₂ with_rule listen c.option-3.ensures.rule in
-    IfOk-weaker c.arg-5.result _ _ (λ command adds. adds.shape c.with_default.ensures.local ∙ ap₂ with_rule script c.with_default.ensures.rule) c.arg-5.ensures
+    let journal = c.in_ok-arg-5.ensures.shape c.option-4.ensures.local ∙ ap₂ with_rule script c.option-4.ensures.rule in
+    IfOk-weaker c.arg-6.result _ _ (λ command adds. adds.shape c.with_default.ensures.local ∙ ap₂ with_rule journal c.with_default.ensures.rule) c.arg-6.ensures

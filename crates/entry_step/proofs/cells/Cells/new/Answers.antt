@@ -4,5 +4,5 @@ use Rattle.entry_step.proofs.cells.Cells.new.Goals as goal
 
 pub returns : goal.returns
 returns c =
-    holds_nothing c.args.conf.now (record { latest = c.in_ok-no_values.field-0.items; problems = c.in_ok-no_problems.field-0.items; tick = None })
-    (c.in_ok-no_values.ensures ∙ ap (λ n. replicate n None) c.len.ensures) (c.in_ok-no_problems.ensures ∙ ap (λ n. replicate n []) c.len-2.ensures) refl
+    holds_nothing c.args.conf.now (record { items = c.in_ok-no_values.field-0.items; problems = c.in_ok-no_problems.field-0.items; tick = None })
+    c.in_ok-no_values.ensures (c.in_ok-no_problems.ensures ∙ ap (λ n. replicate n []) c.len.ensures) refl

@@ -1,0 +1,71 @@
+-- What a trigger's events show: its tags where a verdict asks for them, and its patterns.
+use Rattle.std.proofs.Common.{◌≡◌, ℕ, zero, suc, ◌+◌, ◌<◌, ◌≤◌, ◌-◌, ◌==◌, Bool, true, false, cond, not, ◌||◌, ◌&&◌, List, [], ◌∷◌, Option, Some, None, length, get_or, take, map, filter, slice_get, refl, sym, ap, ◌∙◌, subst, ℤ, pos, arith}
+use Rattle.std.specs.Prelude.{All, IfSome}
+use Rattle.std.specs.Ordering.{int_eq}
+use Rattle.std.proofs.lemmas.List.{take_all}
+use Rattle.std.proofs.lemmas.List.Elements.{All-head, All-tail, All-more, All-same}
+use Rattle.zbx_types.specs.Ids.{at_id}
+use Rattle.zbx_types.specs.declared.conf.Conf.{Conf}
+use Rattle.zbx_types.specs.declared.entries.Tag.{Tag}
+use Rattle.zbx_types.specs.declared.triggers.Trigger.{Trigger}
+use Rattle.event_text.specs.Titles.{HasPatterns, HasTitlePatterns, HasTagPatterns}
+use Rattle.trigger_state.specs.Problems.{event_in}
+use Rattle.trigger_state.specs.Verdicts.{is_closed_by, closing, close_all, lets_close, on_true, verdict_over}
+use Rattle.trigger_state.specs.declared.answer.Verdict.{Verdict}
+use Rattle.trigger_state.specs.declared.answer.Verdict.TheVariants.{Nothing}
+use Rattle.trigger_state.specs.declared.problems.Open.{Open}
+use Rattle.entry_step.specs.Changes.{Serve}
+use Rattle.entry_step.specs.Seen.{HasTexts, ArePatterned}
+use Rattle.entry_step.proofs.Items.{at_zero, at_suc}
+
+pub all_more : {X : Type 0} (P : X → Type 0) (xs : List X) (i : ℕ) (d : X) → i < length xs → All P (take i xs) → P (get_or xs i d) → All P (take (i + 1) xs)
+all_more P xs i d l h p = All-more P xs i d l h p
+
+pub all_end : {X : Type 0} (P : X → Type 0) (xs : List X) (i : ℕ) → length xs ≤ i → All P (take i xs) → All P xs
+all_end P xs i l h = All-same P xs (take i xs) (sym (take_all i xs l)) h
+
+-- the verdict asks for the tags only where problems close by them
+served : (trigger : Trigger) (os : List Open) (a b : List Tag) → closing trigger a os ≡ closing trigger b os → Serve trigger os a b
+served trigger os a b e held None r is_value = refl
+served trigger os a b e held (Some p) r is_value =
+    ap (λ events. cond held Nothing (cond (int_eq p (pos 0)) (cond (lets_close trigger.recovery r) (close_all events) Nothing) (on_true trigger os is_value))) e
+
+pub serve_same : (trigger : Trigger) (os : List Open) (a b : List Tag) → a ≡ b → Serve trigger os a b
+serve_same trigger os a b e = served trigger os a b (ap (λ tags. closing trigger tags os) e)
+
+pub serve_none : (trigger : Trigger) (os : List Open) (a b : List Tag) → length os ≡ 0 → Serve trigger os a b
+serve_none trigger [] a b e = served trigger [] a b refl
+serve_none trigger (o ∷ os) a b e = absurd (omega arith)
+
+all_close : (close_tag : List ℕ) (os : List Open) (a b : List Tag) → length close_tag ≡ 0 → map event_in (filter (is_closed_by close_tag a) os) ≡ map event_in (filter (is_closed_by close_tag b) os)
+all_close [] os a b e = refl
+all_close (x ∷ xs) os a b e = absurd (omega arith)
+
+pub serve_untagged : (trigger : Trigger) (os : List Open) (a b : List Tag) → length trigger.close_tag ≡ 0 → Serve trigger os a b
+serve_untagged trigger os a b e = served trigger os a b (all_close trigger.close_tag os a b e)
+
+-- the patterns of a trigger
+at_place : {X : Type 0} (P : X → Type 0) (xs : List X) (k : ℕ) → All P xs → IfSome (slice_get xs k) P
+at_place P [] k h = tt
+at_place P (x ∷ xs) zero h = All-head P x xs h
+at_place P (x ∷ xs) (suc k) h = at_place P xs k (All-tail P x xs h)
+
+by_its_id : {X : Type 0} (P : X → Type 0) (xs : List X) (id : ℕ) → All P xs → IfSome (at_id xs id) P
+by_its_id P xs zero h = subst (λ o. IfSome o P) (sym (at_zero xs)) tt
+by_its_id P xs (suc k) h = subst (λ o. IfSome o P) (sym (at_suc xs k)) (at_place P xs k h)
+
+if_some : {X : Type 0} (P Q : X → Type 0) (o : Option X) → ((x : X) → P x → Q x) → IfSome o P → IfSome o Q
+if_some P Q None f h = tt
+if_some P Q (Some x) f h = f x h
+
+pub title_patterns : (conf : Conf) (patterns : List (List ℕ)) (id : ℕ) → patterns ≡ conf.patterns → ArePatterned conf → HasTitlePatterns patterns conf id
+unfolding ArePatterned HasTexts
+title_patterns conf patterns id e h =
+    subst (λ texts. HasTitlePatterns texts conf id) (sym e)
+    (if_some (HasTexts conf.patterns) (λ trigger. HasPatterns conf.patterns trigger.title) (at_id conf.triggers id) (λ t has. has.0) (by_its_id (HasTexts conf.patterns) conf.triggers id h))
+
+pub tag_patterns : (conf : Conf) (patterns : List (List ℕ)) (id : ℕ) → patterns ≡ conf.patterns → ArePatterned conf → HasTagPatterns patterns conf id
+unfolding ArePatterned HasTexts
+tag_patterns conf patterns id e h =
+    subst (λ texts. HasTagPatterns texts conf id) (sym e)
+    (if_some (HasTexts conf.patterns) (λ trigger. All (λ (tag : Tag). HasPatterns conf.patterns tag.value) trigger.tags) (at_id conf.triggers id) (λ t has. has.1) (by_its_id (HasTexts conf.patterns) conf.triggers id h))

@@ -1,0 +1,16 @@
+use Rattle.std.proofs.Common.{◌∙◌, get_or, subst, List, ℕ}
+use Rattle.std.specs.Prelude.{All, Contains}
+use Rattle.zbx_types.specs.declared.entries.Tag.{Tag}
+use Rattle.zbx_types.specs.declared.triggers.Trigger.{Trigger}
+use Rattle.event_text.specs.Titles.{HasPatterns}
+use Rattle.entry_step.specs.Seen.{HasTexts, ArePatterned}
+use Rattle.entry_step.proofs.Sight.{all_more, all_end}
+use Rattle.entry_step.proofs.patterned.all_have.Goals as goal
+
+pub loop-trigger-preserved : goal.loop-trigger-preserved
+loop-trigger-preserved c =
+    all_more (HasTexts c.args.texts.now) c.args.triggers.now c.loop-trigger.trigger-index c.trigger-item.result c.loop-trigger-test.true c.loop-trigger.invariant
+    (subst (HasTexts c.args.texts.now) c.trigger-item.is (c.in_ok-trigger_has.ensures c.if-not-branch.false))
+
+pub returns : goal.returns
+returns c = λ _. all_end (HasTexts c.args.texts.now) c.args.triggers.now c.loop-trigger.trigger-index c.loop-trigger-test.false c.loop-trigger.invariant

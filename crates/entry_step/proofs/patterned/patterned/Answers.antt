@@ -1,0 +1,14 @@
+use Rattle.std.proofs.Common.{◌∙◌, get_or, subst, List, ℕ}
+use Rattle.std.specs.Prelude.{All, Contains}
+use Rattle.zbx_types.specs.declared.entries.Tag.{Tag}
+use Rattle.zbx_types.specs.declared.triggers.Trigger.{Trigger}
+use Rattle.event_text.specs.Titles.{HasPatterns}
+use Rattle.entry_step.specs.Seen.{HasTexts, ArePatterned}
+use Rattle.entry_step.proofs.Sight.{all_more, all_end}
+use Rattle.entry_step.proofs.patterned.patterned.Goals as goal
+
+pub returns : goal.returns
+unfolding ArePatterned
+returns c =
+    subst (λ (texts : List (List ℕ)). All (HasTexts texts) c.args.conf.now.triggers) c.as_slice.ensures
+    (subst (λ (triggers : List Trigger). All (HasTexts c.as_slice.result.now) triggers) c.as_slice-2.ensures (c.in_ok-have.ensures c.if-not-have.false))

@@ -1,0 +1,19 @@
+use Rattle.std.proofs.Common.{◌∙◌, get_or, subst, List, ℕ}
+use Rattle.std.specs.Prelude.{All, Contains}
+use Rattle.zbx_types.specs.declared.entries.Tag.{Tag}
+use Rattle.zbx_types.specs.declared.triggers.Trigger.{Trigger}
+use Rattle.event_text.specs.Titles.{HasPatterns}
+use Rattle.entry_step.specs.Seen.{HasTexts, ArePatterned}
+use Rattle.entry_step.proofs.Sight.{all_more, all_end}
+use Rattle.entry_step.proofs.patterned.tags_have.Goals as goal
+
+pub loop-tag-preserved : goal.loop-tag-preserved
+loop-tag-preserved c =
+    let P : Tag → Type 0 = λ tag. HasPatterns c.args.texts.now tag.value in
+    all_more P c.args.tags.now c.loop-tag.tag-index c.tag-item.result c.loop-tag-test.true c.loop-tag.invariant
+    (subst P c.tag-item.is (c.in_ok-has_patterns.ensures c.if-not-branch.false))
+
+pub returns : goal.returns
+returns c =
+    let P : Tag → Type 0 = λ tag. HasPatterns c.args.texts.now tag.value in
+    λ _. all_end P c.args.tags.now c.loop-tag.tag-index c.loop-tag-test.false c.loop-tag.invariant

@@ -1,0 +1,15 @@
+-- The occasions on which triggers are evaluated.
+use Rattle.std.specs.Prelude.{ℕ, Bool, true, false, Option}
+use Rattle.zbx_types.specs.declared.entries.Entry.{Entry}
+use Rattle.zbx_types.specs.declared.entries.Entry.TheVariants.{Config, Value, Tick}
+use Rattle.entry_step.specs.Log.{moment_of, tick_with}
+use Rattle.entry_step.specs.declared.occasions.Occasion.{Occasion}
+
+abbrev pub is_value : Entry → Bool
+is_value (Config now text) = false
+is_value (Value now item time value) = true
+is_value (Tick now) = false
+
+-- the occasion of an entry with a number, where this was the first Tick before it
+abbrev pub occasion_of : Option ℕ → ℕ → Entry → Occasion
+occasion_of first number entry = record { number = number; now = moment_of entry; is_value = is_value entry; tick = tick_with first entry }

@@ -1,0 +1,164 @@
+//! The values of the calls of a trigger.
+
+ghost use Rattle.std.specs.Prelude.{◌≡◌, ℕ, List, Some, IfOk, IfSome, option_copied, slice_get};
+ghost use Rattle.zbx_types.specs.Ids.{at_id};
+ghost use Rattle.zbx_types.specs.Operators.{call_pattern};
+ghost use Rattle.zbx_types.specs.declared.entries.Stored.{Stored};
+ghost use Rattle.value_cache.specs.Beside.{shown};
+ghost use Rattle.value_cache.specs.Cells.{IsWithin};
+ghost use Rattle.value_cache.specs.Keeps.{keep_of};
+ghost use Rattle.value_cache.specs.Windows.{window_of};
+ghost use Rattle.history_functions.specs.Functions.{value_of};
+ghost use Rattle.entry_step.specs.Kept.{still_to_come, Sees};
+ghost use Rattle.entry_step.specs.Calls.{Shown, values_of, AreValues};
+
+use crate::calls::Calls;
+use history_functions::value_at;
+use std::alloc::Global;
+use value_cache::laws::asks_within;
+use value_cache::{ItemCell, Window};
+use zbx_types::{Call, Fix, Many, OutOfMemory, Stored, Trigger, by_id};
+
+/// The value of a call over a window.
+fn value_over(
+    alloc: Global,
+    calls: &Calls,
+    call: &Call,
+    pattern: u32,
+    window: &[Stored],
+) -> Result<Option<Fix>, OutOfMemory>
+    requires { at_id calls.now.ready.now.patterns pattern ≡ call_pattern call.now }
+    ensures { IfOk result (λ v. v ≡ value_of call.now window.now calls.now.occasion.now calls.now.occasion.tick calls.now.ready.now.utc_offset) }
+{
+    value_at(
+        alloc,
+        call,
+        pattern,
+        window,
+        calls.occasion.now,
+        calls.occasion.tick,
+        calls.ready.offset(),
+        calls.ready.patterns(),
+    )
+}
+
+/// The values of a window, where they lie in one slice.
+pub(crate) fn whole<'a>(window: &Window<'a>) -> Option<&'a [Stored]>
+    ensures { IfSome result (λ values. values.now ≡ shown window.now) }
+{
+    if window.before.is_empty() && window.stored.is_empty() {
+        return Some(window.after);
+    }
+    if window.before.is_empty() && window.after.is_empty() {
+        return Some(window.stored);
+    }
+    if window.stored.is_empty() && window.after.is_empty() {
+        return Some(window.before);
+    }
+    None
+}
+
+/// The value of a call over a window beside a value that isn't in the cell yet.
+fn value_beside(
+    alloc: Global,
+    calls: &Calls,
+    call: &Call,
+    pattern: u32,
+    window: &Window,
+) -> Result<Option<Fix>, OutOfMemory>
+    requires { at_id calls.now.ready.now.patterns pattern ≡ call_pattern call.now }
+    ensures { IfOk result (λ v. v ≡ value_of call.now (shown window.now) calls.now.occasion.now calls.now.occasion.tick calls.now.ready.now.utc_offset) }
+{
+    if let Some(values) = whole(window) {
+        return value_over(alloc, calls, call, pattern, values);
+    }
+    let values = window.copies(alloc)?;
+    value_over(alloc, calls, call, pattern, values.as_slice())
+}
+
+/// The value of an item that is still to come.
+pub(crate) fn still_to_come<'a>(calls: &Calls<'a>, id: u32) -> Option<&'a Stored>
+    ensures { option_copied result ≡ still_to_come calls.now.item calls.now.stored.now id }
+{
+    if calls.item == id {
+        calls.stored.as_ref()
+    } else {
+        None
+    }
+}
+
+/// The value of a call over the cell of its item.
+fn value_in(
+    alloc: Global,
+    calls: &Calls,
+    call: &Call,
+    pattern: u32,
+    cell: &ItemCell,
+    stored: Option<&Stored>,
+) -> Result<Option<Fix>, OutOfMemory>
+    requires { at_id calls.now.ready.now.patterns pattern ≡ call_pattern call.now }
+    ensures { IfOk result (λ v. (id : ℕ) (history : List Stored) → Sees calls.now.ready.now id (Some cell.now) (option_copied stored.entry) calls.now.occasion.now history → IsWithin (keep_of calls.now.ready.now id) call.now.range call.now.shift
+        → v ≡ value_of call.now (window_of call.now.range call.now.shift calls.now.occasion.now history) calls.now.occasion.now calls.now.occasion.tick calls.now.ready.now.utc_offset) }
+{
+    match stored {
+        None => {
+            let window = cell.window_slice(call.range, call.shift, calls.occasion.now);
+            value_over(alloc, calls, call, pattern, window)
+        }
+        Some(stored) => {
+            let window = cell.window_with(stored, call.range, call.shift, calls.occasion.now);
+            value_beside(alloc, calls, call, pattern, &window)
+        }
+    }
+}
+
+/// A call of a trigger, by its place.
+fn call_at(trigger: &Trigger, place: usize) -> Option<&Call>
+    ensures { option_copied result ≡ slice_get trigger.now.calls place }
+{
+    trigger.calls.as_slice().get(place)
+}
+
+/// The id of a call's item, by the call's place.
+fn item_at(trigger: &Trigger, place: usize) -> Option<u32>
+    ensures { result ≡ slice_get trigger.now.call_items place }
+{
+    match trigger.call_items.as_slice().get(place) {
+        None => None,
+        Some(item) => Some(*item),
+    }
+}
+
+/// The value of a call, by its place, over what is kept of its item.
+fn call_value(alloc: Global, calls: &Calls, place: usize) -> Result<Option<Fix>, OutOfMemory>
+    requires { at_id calls.now.ready.now.triggers calls.now.id ≡ Some calls.now.trigger.now }
+    ensures { IfOk result (λ v. (items : ℕ → List Stored) → Shown calls.now items → v ≡ values_of calls.now items place) }
+{
+    let Some(call) = call_at(calls.trigger, place) else {
+        return Ok(None);
+    };
+    let Some(item) = item_at(calls.trigger, place) else {
+        return Ok(None);
+    };
+    asks_within();
+    let pattern = calls.ready.place_of(calls.id, place);
+    match by_id(calls.items, item) {
+        None => value_over(alloc, calls, call, pattern, &[]),
+        Some(cell) => {
+            let stored = still_to_come(calls, item);
+            value_in(alloc, calls, call, pattern, cell, stored)
+        }
+    }
+}
+
+/// The values of the calls, by their places.
+pub(crate) fn values_of(alloc: Global, calls: &Calls) -> Result<Many<Option<Fix>>, OutOfMemory>
+    requires { at_id calls.now.ready.now.triggers calls.now.id ≡ Some calls.now.trigger.now }
+    ensures { IfOk result (AreValues calls.now) }
+{
+    let mut values = Many::new(alloc);
+    for place in 0..calls.trigger.calls.len() {
+        values.push(call_value(alloc, calls, place)?)?;
+    }
+    Ok(values)
+}

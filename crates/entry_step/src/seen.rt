@@ -1,0 +1,103 @@
+//! The values that the events of a trigger show.
+
+ghost use Rattle.std.specs.Prelude.{◌≡◌, ℕ, List, length, take, Some, IfOk, option_copied};
+ghost use Rattle.zbx_types.specs.Ids.{at_id};
+ghost use Rattle.zbx_types.specs.declared.calls.Range.TheVariants.{Count};
+ghost use Rattle.zbx_types.specs.declared.entries.Stored.{Stored};
+ghost use Rattle.value_cache.specs.Beside.{shown};
+ghost use Rattle.value_cache.specs.Cells.{IsWithin};
+ghost use Rattle.value_cache.specs.Keeps.{keep_of};
+ghost use Rattle.entry_step.specs.Kept.{Sees, IsCalled};
+ghost use Rattle.entry_step.specs.Seen.{first_held, latest_in};
+ghost use Rattle.entry_step.specs.Calls.{Shown, AreShown};
+
+use crate::call_values::{still_to_come, whole};
+use crate::calls::Calls;
+use std::alloc::Global;
+use value_cache::laws::asks_within;
+use value_cache::{ItemCell, Window};
+use zbx_types::{Held, Many, OutOfMemory, Range, Stored, Trigger, by_id};
+
+/// The value of the first of a window.
+fn first_held(alloc: Global, window: &[Stored]) -> Result<Option<Held>, OutOfMemory>
+    ensures { IfOk result (λ made. made ≡ first_held window.now) }
+{
+    match window.first() {
+        None => Ok(None),
+        Some(stored) => Ok(Some(stored.value.copy(alloc)?)),
+    }
+}
+
+/// The value of the first of a window beside a value that isn't in the cell yet.
+fn first_beside(alloc: Global, window: &Window) -> Result<Option<Held>, OutOfMemory>
+    ensures { IfOk result (λ made. made ≡ first_held (shown window.now)) }
+{
+    if let Some(values) = whole(window) {
+        return first_held(alloc, values);
+    }
+    let values = window.copies(alloc)?;
+    first_held(alloc, values.as_slice())
+}
+
+/// The latest value of an item, by its cell.
+fn latest_in(
+    alloc: Global,
+    calls: &Calls,
+    cell: &ItemCell,
+    stored: Option<&Stored>,
+) -> Result<Option<Held>, OutOfMemory>
+    ensures { IfOk result (λ made. (id : ℕ) (history : List Stored) → Sees calls.now.ready.now id (Some cell.now) (option_copied stored.entry) calls.now.occasion.now history → IsWithin (keep_of calls.now.ready.now id) (Count 1) 0
+        → made ≡ latest_in calls.now.occasion.now history) }
+{
+    match stored {
+        None => {
+            let window = cell.window_slice(Range::Count(1), 0, calls.occasion.now);
+            first_held(alloc, window)
+        }
+        Some(stored) => {
+            let window = cell.window_with(stored, Range::Count(1), 0, calls.occasion.now);
+            first_beside(alloc, &window)
+        }
+    }
+}
+
+/// The latest value of the item with an id, where the trigger has a call over it.
+fn latest_of(alloc: Global, calls: &Calls, item: u32) -> Result<Option<Held>, OutOfMemory>
+    ensures { IfOk result (λ made. (items : ℕ → List Stored) → Shown calls.now items → IsCalled calls.now.ready.now calls.now.id item → IsWithin (keep_of calls.now.ready.now item) (Count 1) 0
+        → made ≡ latest_in calls.now.occasion.now (items item)) }
+{
+    match by_id(calls.items, item) {
+        None => Ok(None),
+        Some(cell) => {
+            let stored = still_to_come(calls, item);
+            latest_in(alloc, calls, cell, stored)
+        }
+    }
+}
+
+/// The ids of the items of the trigger's calls, in the order of the calls.
+fn items_of(trigger: &Trigger) -> &[u32]
+    ensures { result.now ≡ take (length trigger.now.calls) trigger.now.call_items }
+{
+    let items = trigger.call_items.as_slice();
+    if items.len() <= trigger.calls.len() {
+        items
+    } else {
+        &items[..trigger.calls.len()]
+    }
+}
+
+/// The latest values of the items of the trigger's history calls, in the order of the calls.
+pub(crate) fn shown_values(alloc: Global, calls: &Calls) -> Result<Many<Option<Held>>, OutOfMemory>
+    requires { at_id calls.now.ready.now.triggers calls.now.id ≡ Some calls.now.trigger.now }
+    ensures { IfOk result (AreShown calls.now) }
+{
+    let mut made = Many::new(alloc);
+    asks_within();
+    for item in items_of(calls.trigger) {
+        if *item != 0 {
+            made.push(latest_of(alloc, calls, *item)?)?;
+        }
+    }
+    Ok(made)
+}

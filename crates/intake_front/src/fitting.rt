@@ -1,0 +1,95 @@
+//! Whether the entries that a journal kept fit a configuration.
+
+ghost use Rattle.std.specs.Prelude.{◌≡◌, ◌≤◌, ℕ, true, false, IsTrue, ◌↔◌, MatchBool, List};
+ghost use Rattle.entry_step.specs.Log.{Fits, IsFitting, is_config, is_trapper, moment_of};
+ghost use Rattle.zbx_types.specs.Ids.{at_id};
+ghost use Rattle.zbx_types.specs.declared.entries.Numbered.{Numbered};
+ghost use Rattle.intake_front.specs.Misfit.{IsFirstMisfit, FitsBehind, reached, log_with};
+
+use intake_journal::Group;
+use zbx_types::{Conf, Entry, ItemKind, Moment, by_id};
+
+/// The place of the first group whose entries don't fit a configuration, or None where all fit: the first entry alone is a
+/// Config, no moment falls, and each value is of an enabled trapper item and no later than its moment. Whether the item's
+/// host is enabled doesn't matter. The place is that of the group's gate, in bytes from the file's beginning. Takes no memory.
+pub fn first_misfit(conf: &Conf, kept: &[Group]) -> Option<u64>
+    ensures { IsFirstMisfit conf.now kept.now result }
+{
+    let mut last = None;
+    for group in kept {
+        if !group_fits(conf, &mut last, group.entries.as_slice()) {
+            return Some(group.at);
+        }
+    }
+    None
+}
+
+/// Whether entries fit behind a log that has reached this moment, which goes on to that of the last one.
+fn group_fits(conf: &Conf, last: &mut Option<Moment>, entries: &[Entry]) -> bool
+    ensures fits { (log : List Numbered) → last.old ≡ reached log → Fits conf.now log
+        → MatchBool result (Fits conf.now (log_with log entries.now) × (last.new ≡ reached (log_with log entries.now))) (¬ (Fits conf.now (log_with log entries.now))) }
+{
+    for entry in entries {
+        if !entry_fits(conf, *last, entry) {
+            return false;
+        }
+        *last = Some(moment_of(entry));
+    }
+    true
+}
+
+fn moment_of(entry: &Entry) -> Moment
+    ensures { result ≡ moment_of entry.now }
+{
+    match entry {
+        Entry::Config { now, .. } | Entry::Value { now, .. } | Entry::Tick { now } => *now,
+    }
+}
+
+fn is_config(entry: &Entry) -> bool
+    ensures { result ≡ is_config entry.now }
+{
+    match entry {
+        Entry::Config { .. } => true,
+        Entry::Value { .. } | Entry::Tick { .. } => false,
+    }
+}
+
+/// Whether an item takes values from senders, and is enabled.
+fn is_trapper(conf: &Conf, item: u32) -> bool
+    ensures { result ≡ is_trapper (at_id conf.now.items item) }
+{
+    match by_id(conf.items.as_slice(), item) {
+        Some(item) => match item.kind {
+            ItemKind::Trapper => item.enabled,
+            ItemKind::Dependent => false,
+        },
+        None => false,
+    }
+}
+
+/// Whether an entry fits a configuration by itself.
+fn is_fitting(conf: &Conf, entry: &Entry) -> bool
+    ensures { IsTrue result ↔ IsFitting conf.now entry.now }
+{
+    match entry {
+        Entry::Config { .. } | Entry::Tick { .. } => true,
+        Entry::Value {
+            now,
+            item,
+            time,
+            ..
+        } => is_trapper(conf, *item) && *time <= *now,
+    }
+}
+
+/// Whether an entry fits behind a log that has reached this moment.
+fn entry_fits(conf: &Conf, last: Option<Moment>, entry: &Entry) -> bool
+    ensures { IsTrue result ↔ FitsBehind conf.now last entry.now }
+{
+    let follows = match last {
+        None => is_config(entry),
+        Some(last) => !is_config(entry) && last <= moment_of(entry),
+    };
+    follows && is_fitting(conf, entry)
+}

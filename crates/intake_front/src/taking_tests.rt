@@ -1,0 +1,72 @@
+use super::taking::group;
+use super::tests::{conf, second};
+use entry_step::Ready;
+use sender_json::{Asked, Clock};
+use std::alloc::Global;
+use std::test::Fail;
+use zbx_types::{Maintenance, Many, Matching, Moment, OutOfMemory, Period, Text};
+
+/// A maintenance of the host `h` that is in force from second 1000 on for five minutes.
+fn maintenance(alloc: Global, collect: bool) -> Result<Maintenance, OutOfMemory> {
+    let mut hosts = Many::new(alloc);
+    hosts.push(Text::of(alloc, "h")?)?;
+    let mut periods = Many::new(alloc);
+    periods.push(Period::Once {
+        start: 1000,
+        length: 300,
+    })?;
+    Ok(Maintenance {
+        name: Text::new(alloc),
+        since: 0,
+        till: 10_000,
+        collect,
+        hosts,
+        groups: Many::new(alloc),
+        matching: Matching::And,
+        tags: Many::new(alloc),
+        periods,
+    })
+}
+
+/// The configuration of one item with such a maintenance. It has no patterns, so only memory can be refused.
+fn in_maintenance(alloc: Global, collect: bool) -> Result<Ready, OutOfMemory> {
+    let mut conf = conf(alloc, true)?;
+    conf.maintenances.push(maintenance(alloc, collect)?)?;
+    match Ready::build(alloc, conf) {
+        Ok(ready) => Ok(ready),
+        Err(_) => Err(OutOfMemory),
+    }
+}
+
+/// A value of the item, whose clock says so.
+fn asked(alloc: Global, clock: Clock) -> Result<Many<Asked>, OutOfMemory> {
+    let mut all = Many::new(alloc);
+    all.push(Asked {
+        host: Some(Text::of(alloc, "h")?),
+        key: Some(Text::of(alloc, "k")?),
+        value: Some(Text::of(alloc, "7")?),
+        clock,
+    })?;
+    Ok(all)
+}
+
+/// Whether the value is taken at a moment.
+fn is_taken(alloc: Global, collect: bool, now: Moment, clock: Clock) -> Result<bool, OutOfMemory> {
+    let all = asked(alloc, clock)?;
+    let ready = in_maintenance(alloc, collect)?;
+    let made = group(alloc, &ready, now, all)?;
+    Ok(made.len() == 1)
+}
+
+#[test]
+fn a_value_is_refused_while_a_maintenance_without_collection_is_in_force(
+    rt: HostRuntime,
+) -> Result<(), Fail> {
+    let alloc = rt.alloc();
+    assert!(rt; is_taken(alloc, false, second(999), Clock::Absent)?);
+    assert!(rt; !is_taken(alloc, false, second(1000), Clock::Absent)?);
+    assert!(rt; !is_taken(alloc, false, second(1299), Clock::At(second(999)))?);
+    assert!(rt; is_taken(alloc, false, second(1300), Clock::At(second(1299)))?);
+    assert!(rt; is_taken(alloc, true, second(1000), Clock::Absent)?);
+    Ok(())
+}

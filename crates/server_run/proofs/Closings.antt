@@ -1,0 +1,410 @@
+-- Laws of how a whole run ends.
+use Rattle.std.proofs.Common.{◌≡◌, ◌⊎◌, ⊎_elim, ℕ, ◌+◌, ◌-◌, ◌==◌, ◌≤◌, ◌<◌, [], ◌∷◌, ◌++◌, append-nil, take, All, slice_get, if◌then◌else◌, Bool, true, false, true≢false, List, length, Option, Some, None, refl, sym, ap, ◌∙◌, subst, arith, inl, inr}
+use Rattle.std.specs.Prelude.{Ok, IfSome, IsSomeAnd, is_some, chars}
+use Rattle.zbx_types.specs.declared.causes.Cause.{Cause}
+use Rattle.zbx_types.specs.declared.conf.Conf.{Conf}
+use Rattle.zbx_types.specs.declared.entries.Numbered.{Numbered}
+use Rattle.outside.specs.Causes.{Rose}
+use Rattle.outside.specs.Tells.{WireTells}
+use Rattle.config_templates.specs.Flat.{flat_of}
+use Rattle.intake_journal.specs.Kept.{kept, groups_of}
+use Rattle.intake_journal.specs.declared.format.Group.{Group}
+use Rattle.intake_front.specs.Fronted.{Keeps, numbered_of}
+use Rattle.intake_front.specs.declared.answer.Stop.{Stop}
+use Rattle.intake_front.specs.declared.answer.Stop.TheVariants as stop
+use Rattle.server_words.specs.declared.words.Plan.{Plan}
+use Rattle.server_words.specs.declared.status.Status.{Status}
+use Rattle.server_words.specs.declared.status.Status.TheVariants as status
+use Rattle.server_words.specs.Words.{plan_of}
+use Rattle.config_templates.specs.Places.{refuse}
+use Rattle.std.proofs.lemmas.List.Elements.{All-get_or}
+use Rattle.std.proofs.lemmas.Option.{slice_get_within, get_or_from_slice_get}
+use Rattle.regex_syntax.specs.Grammar.{read}
+use Rattle.regex.specs.Patterns.{default_config}
+use Rattle.zbx_types.specs.Ids.{at_id}
+use Rattle.pattern_set.specs.Patterns.{IsPattern, IsNoPattern}
+use Rattle.server_run.specs.Built.{is_built, IsUnbuilt}
+use Rattle.server_run.specs.Patterns.{HasFlawAt, HoldsBrace}
+use Rattle.server_run.specs.Opening.{IsAccepted, Bars, opening_lines}
+use Rattle.server_run.specs.Statuses.{Ending, at_limit, at_full, YieldsTo, EndsPrinted}
+use Rattle.server_run.specs.Stops.{refusing, Journals}
+use Rattle.server_run.specs.Events.{Doing}
+use Rattle.server_run.specs.Runs.{Configured, Refuses, IsBarred, Finished, Followed, limits_by, opening_intake}
+use Rattle.std.specs.Option.{option_to_list}
+use Rattle.std.proofs.Math.Seq.{take-append-add}
+use Rattle.outside.specs.declared.event.WireEvent.{WireEvent}
+use Rattle.intake_front.specs.Intake.{Limits, Intake}
+use Rattle.intake_front.specs.Served.{Served, served_on, served_from, served}
+use Rattle.server_run.proofs.Handling.{served_from-append}
+use Rattle.server_run.proofs.Barring.{bars_one, not_barred}
+use Rattle.server_run.proofs.Runs.{same_flaw}
+use Rattle.server_run.proofs.Texts.{at_end_of}
+
+-- what holds of a run that began, and of one that didn't
+pub either_way : {A : Type 0} (began : Bool) → (began ≡ true → A) → (began ≡ false → A) → A
+either_way true if_began if_not = if_began refl
+either_way false if_began if_not = if_not refl
+
+plan_same : (words : List (List ℕ)) (a b : Plan) → plan_of words ≡ Some a → plan_of words ≡ Some b → a ≡ b
+plan_same words a b p q = cc
+
+conf_same : (text : List ℕ) (a b : Conf) → flat_of text ≡ Ok a → flat_of text ≡ Ok b → a ≡ b
+conf_same text a b p q = cc
+
+told_text : (source : Option (List ℕ)) (text t : List ℕ) → source ≡ Some text → IfSome source (λ all. t ≡ all) → t ≡ text
+told_text None text t is told = absurd (cc)
+told_text (Some x) text t is told = told ∙ some_same x text is
+  where
+    some_same : (a b : List ℕ) → Some a ≡ Some b → a ≡ b
+    some_same a b e = cc
+
+-- the configuration of a run is that of its source's text
+config_same : (words : List (List ℕ)) (source : Option (List ℕ)) (plan : Plan) (conf conf' : Conf) (text : List ℕ) → Configured words source plan conf → source ≡ Some text → flat_of text ≡ Ok conf' → conf ≡ conf'
+config_same words source plan conf conf' text c is found =
+    let same = told_text source text conf.text is c.text_is in
+    conf_same text conf conf' (ap flat_of (sym same) ∙ c.conf_is) found
+
+short_text : (words : List (List ℕ)) (source : Option (List ℕ)) (plan : Plan) (conf : Conf) → Configured words source plan conf → length conf.text ≤ 16777216
+short_text words source plan conf c = at_end_of conf.text conf c.conf_is
+
+some_text : (a b : List ℕ) → Some a ≡ Some b → a ≡ b
+some_text a b e = cc
+
+found_same : (file : Option (List ℕ)) (b : List ℕ) (groups : List Group) → file ≡ Some b → IfSome file (λ f. groups_of (kept f) ≡ Some groups) → groups_of (kept b) ≡ Some groups
+found_same None b groups is found = absurd (cc)
+found_same (Some f) b groups is found = subst (λ x. groups_of (kept x) ≡ Some groups) (some_same f b is) found
+  where
+    some_same : (x y : List ℕ) → Some x ≡ Some y → x ≡ y
+    some_same x y e = cc
+
+module _ (words : List (List ℕ)) (source file : Option (List ℕ)) (faults faults' disk_faults disk_faults' held : ℕ) (plan : Plan) (text : List ℕ) (conf : Conf) (b : List ℕ) (t : Status)
+    (plan_is : plan_of words ≡ Some plan) (some : 0 < plan.max_entries) (source_is : source ≡ Some text) (conf_is : flat_of text ≡ Ok conf) (built : is_built conf ≡ true) (file_is : file ≡ Some b)
+    (bars : Bars conf plan.max_entries (Some b) held t) where
+  -- two things that bar a run are one
+  same_bar : (s : Status) → IsBarred words source file held s → s ≡ t
+  same_bar s (plan', conf', c, why) =
+      let same = config_same words source plan' conf' conf text c source_is conf_is in
+      let plans : plan' ≡ plan = plan_same words plan' plan c.plan_is plan_is in
+      let why' : Bars conf plan.max_entries (Some b) held s =
+      subst (λ o. Bars conf plan.max_entries o held s) file_is (subst (λ (p : Plan). Bars conf p.max_entries file held s) plans (subst (λ (k : Conf). Bars k plan'.max_entries file held s) same why)) in
+      bars_one conf plan.max_entries held b some (subst (λ (k : Conf). length k.text ≤ 16777216) same (short_text words source plan' conf' c)) s t why' bars
+
+  -- what bars a run that didn't begin is its status, or another fault stood before it
+  pub bars_unbegun : (s : Status) → Refuses words source faults faults' file disk_faults disk_faults' held s → (s ≡ t) ⊎ YieldsTo s
+  bars_unbegun status.Usage none = absurd (cc)
+  bars_unbegun status.SourceFault why = inr (inl refl)
+  bars_unbegun status.OutOfMemory why = inr (inr (inr (inl refl)))
+  bars_unbegun (status.PatternRefused path) why = inr (inr (inr (inr tt)))
+  bars_unbegun (status.PatternTooLarge path) why = inr (inr (inr (inr tt)))
+  bars_unbegun status.DiskFault why = inr (inr (inl refl))
+  bars_unbegun status.Unbuilt why = absurd (not_unbuilt source source_is why.1)
+    where
+      here : IsUnbuilt text → ⊥
+      here u = true≢false (sym built ∙ ap is_built (conf_same text conf u.conf conf_is u.conf_is) ∙ u.unbuilt)
+
+      not_unbuilt : (o : Option (List ℕ)) → o ≡ Some text → IfSome o IsUnbuilt → ⊥
+      not_unbuilt None is u = absurd (cc)
+      not_unbuilt (Some x) is u = here (subst IsUnbuilt (some_text x text is) u)
+  bars_unbegun (status.ConfigRefused path cause) why = absurd (not_refused source source_is why.1)
+    where
+      here : flat_of text ≡ refuse path cause → ⊥
+      here refused = let found = conf_is in cc
+
+      not_refused : (o : Option (List ℕ)) → o ≡ Some text → IfSome o (λ x. flat_of x ≡ refuse path cause) → ⊥
+      not_refused None is u = absurd (cc)
+      not_refused (Some x) is u = here (subst (λ y. flat_of y ≡ refuse path cause) (some_text x text is) u)
+  bars_unbegun status.NotOurs why = inl (same_bar status.NotOurs why)
+  bars_unbegun (status.Damaged at) why = inl (same_bar (status.Damaged at) why)
+  bars_unbegun (status.ConfigDiffers at) why = inl (same_bar (status.ConfigDiffers at) why)
+  bars_unbegun (status.OutboxAhead told lines) why = inl (same_bar (status.OutboxAhead told lines) why)
+  bars_unbegun (status.Full entries bytes) why = inl (same_bar (status.Full entries bytes) why)
+  bars_unbegun _ why = absurd why.3
+
+  -- a run that began isn't barred
+  pub bars_begun : (did : Doing) (wire wire' : WireTells) (s : Status) (entries : List Numbered) → Followed words source file held did wire wire' s entries → ⊥
+  bars_begun did wire wire' s entries f =
+      let same = config_same words source f.plan f.conf conf text f.configured source_is conf_is in
+      let plans : f.plan ≡ plan = plan_same words f.plan plan f.configured.plan_is plan_is in
+      let bars' : Bars f.conf plan.max_entries (Some b) held t = subst (λ (c : Conf). Bars c plan.max_entries (Some b) held t) (sym same) bars in
+      not_barred f.conf plan.max_entries held b some (short_text words source f.plan f.conf f.configured) f.groups t (found_same file b f.groups file_is f.found) f.accepted f.enough bars'
+
+module _ {D : Type 0} (bytes : D → Option (List ℕ)) (images : D → List ℕ → Type 0) (moment : D → ℕ) (since : D → ℕ → List ℕ → Type 0) (faults : D → ℕ) (also : List ℕ → Type 0) (old new : D)
+    (words : List (List ℕ)) (source file : Option (List ℕ)) (held : ℕ) (wire wire' : WireTells) (entries : List Numbered) where
+  abbrev doing : Doing
+  doing = Journals bytes images moment since faults also old new
+
+  -- a run that ended by a fault of its disk
+  pub disk_fault : (s : Status) → s ≡ status.DiskFault → Followed words source file held doing wire wire' s entries → Rose (faults old) (faults new)
+  disk_fault s is f =
+      let g : Followed words source file held doing wire wire' status.DiskFault entries = subst (λ t. Followed words source file held doing wire wire' t entries) is f in
+      g.finished.journaled.fault g.finished.ends.0
+
+  -- a run whose disk didn't fail leaves its entries
+  pub keeps_at_end : (s : Status) → Followed words source file held doing wire wire' s entries → (Rose (faults old) (faults new) → ⊥) → IfSome (bytes new) (Keeps entries)
+  keeps_at_end s f none = first (bytes new) (f.finished.journaled.kept (λ is. none (f.finished.journaled.fault is)))
+    where
+      first : (o : Option (List ℕ)) → IfSome o (λ b. Keeps entries b × ((c : List ℕ) → images new c → Keeps entries c)) → IfSome o (Keeps entries)
+      first None k = tt
+      first (Some b) k = k.0
+
+-- ---- completeness
+
+-- what holds of all holds of the one with an id
+all_at : {A : Type 0} (P : A → Type 0) (xs : List A) (k : ℕ) (x : A) → All P xs → slice_get xs k ≡ Some x → P x
+all_at P xs k x all e = subst P (get_or_from_slice_get xs k x x e) (All-get_or P xs k x (slice_get_within xs k x e) all)
+
+all_with_id : {A : Type 0} (P : A → Type 0) (xs : List A) (id : ℕ) (x : A) → All P xs → at_id xs id ≡ Some x → P x
+unfolding at_id
+all_with_id P xs id x all is = by (id == 0) is
+  where
+    by : (b : Bool) → (if b then None else slice_get xs (id - 1)) ≡ Some x → P x
+    by true e = absurd (cc)
+    by false e = all_at P xs (id - 1) x all e
+
+deep_or_not : {A : Type 0} (o : Option A) (depth : A → ℕ) (limit : ℕ) → IsSomeAnd o (λ a. depth a ≤ limit) → (o ≡ None) ⊎ IfSome o (λ a. limit < depth a) → ⊥
+deep_or_not None depth limit none flaw = none
+deep_or_not (Some a) depth limit within (inl is) = absurd (cc)
+deep_or_not (Some a) depth limit within (inr above) = omega (arith, within, above)
+
+-- a text isn't both a pattern and none
+no_pattern : (pattern : List ℕ) → IsPattern pattern → IsNoPattern pattern → ⊥
+no_pattern pattern is flaw = deep_or_not (read default_config (chars pattern)) (λ p. p.0.depth) default_config.nest_limit is flaw
+
+module _ (words : List (List ℕ)) (source file : Option (List ℕ)) (faults faults' disk_faults disk_faults' held : ℕ) (plan : Plan) (text : List ℕ) (conf : Conf) (b : List ℕ) (groups : List Group)
+    (plan_is : plan_of words ≡ Some plan) (some : 0 < plan.max_entries) (source_is : source ≡ Some text) (conf_is : flat_of text ≡ Ok conf) (built : is_built conf ≡ true) (file_is : file ≡ Some b)
+    (found : groups_of (kept b) ≡ Some groups) (accepted : IsAccepted conf groups) (enough : held ≤ length (opening_lines conf groups))
+    (source_well : Rose faults faults' → ⊥) (disk_well : Rose disk_faults disk_faults' → ⊥) (patterns : All IsPattern conf.patterns) where
+  -- what is accepted isn't barred
+  isnt_barred : (s : Status) → IsBarred words source file held s → ⊥
+  isnt_barred s (plan', conf', c, why) =
+      let same = config_same words source plan' conf' conf text c source_is conf_is in
+      let plans : plan' ≡ plan = plan_same words plan' plan c.plan_is plan_is in
+      let why' : Bars conf plan.max_entries (Some b) held s =
+      subst (λ o. Bars conf plan.max_entries o held s) file_is (subst (λ (p : Plan). Bars conf p.max_entries file held s) plans (subst (λ (k : Conf). Bars k plan'.max_entries file held s) same why)) in
+      not_barred conf plan.max_entries held b some (subst (λ (k : Conf). length k.text ≤ 16777216) same (short_text words source plan' conf' c)) groups s found accepted enough why'
+
+  -- so its run begins, unless memory is refused or a pattern is too large
+  pub begins_well : (s : Status) → Refuses words source faults faults' file disk_faults disk_faults' held s → (s ≡ status.OutOfMemory) ⊎ ((path : List ℕ) × (s ≡ status.PatternTooLarge path))
+  begins_well status.Usage none = absurd (cc)
+  begins_well status.SourceFault why = absurd (source_well why.1)
+  begins_well status.OutOfMemory why = inl refl
+  begins_well (status.PatternTooLarge path) why = inr (path, refl)
+  begins_well (status.PatternRefused path) why = absurd (not_flawed source source_is why.1)
+    where
+      here : HasFlawAt IsNoPattern path text → ⊥
+      here u =
+          let same = conf_same text conf u.conf conf_is u.conf_is in
+          no_pattern u.flawed.pattern (all_with_id IsPattern u.conf.patterns u.flawed.place u.flawed.pattern (subst (λ (k : Conf). All IsPattern k.patterns) same patterns) u.flawed.pattern_is) u.flawed.flaw
+
+      not_flawed : (o : Option (List ℕ)) → o ≡ Some text → IfSome o (HasFlawAt IsNoPattern path) → ⊥
+      not_flawed None is u = absurd (cc)
+      not_flawed (Some x) is u = here (subst (HasFlawAt IsNoPattern path) (some_text x text is) u)
+  begins_well status.DiskFault why = absurd (disk_well why.3)
+  begins_well status.Unbuilt why = absurd (not_unbuilt source source_is why.1)
+    where
+      here : IsUnbuilt text → ⊥
+      here u = true≢false (sym built ∙ ap is_built (conf_same text conf u.conf conf_is u.conf_is) ∙ u.unbuilt)
+
+      not_unbuilt : (o : Option (List ℕ)) → o ≡ Some text → IfSome o IsUnbuilt → ⊥
+      not_unbuilt None is u = absurd (cc)
+      not_unbuilt (Some x) is u = here (subst IsUnbuilt (some_text x text is) u)
+  begins_well (status.ConfigRefused path cause) why = absurd (not_refused source source_is why.1)
+    where
+      here : flat_of text ≡ refuse path cause → ⊥
+      here refused = let found = conf_is in cc
+
+      not_refused : (o : Option (List ℕ)) → o ≡ Some text → IfSome o (λ x. flat_of x ≡ refuse path cause) → ⊥
+      not_refused None is u = absurd (cc)
+      not_refused (Some x) is u = here (subst (λ y. flat_of y ≡ refuse path cause) (some_text x text is) u)
+  begins_well status.NotOurs why = absurd (isnt_barred status.NotOurs why)
+  begins_well (status.Damaged at) why = absurd (isnt_barred (status.Damaged at) why)
+  begins_well (status.ConfigDiffers at) why = absurd (isnt_barred (status.ConfigDiffers at) why)
+  begins_well (status.OutboxAhead told lines) why = absurd (isnt_barred (status.OutboxAhead told lines) why)
+  begins_well (status.Full entries bytes) why = absurd (isnt_barred (status.Full entries bytes) why)
+  begins_well _ why = absurd why.3
+
+-- ---- a run that began and was to be closed
+
+stays_stopped : (l : Limits) (conf : Conf) (s : Served) (r : Stop) (es : List WireEvent) → s.stop ≡ Some r → served_from l conf s es ≡ s
+stays_stopped l conf s r [] is = refl
+stays_stopped l conf s r (e ∷ es) is = ap (λ (t : Served). served_from l conf t es) (on_stopped s.stop is) ∙ stays_stopped l conf s r es is
+  where
+    on_stopped : (o : Option Stop) → o ≡ Some r → served_on o l conf s e ≡ s
+    on_stopped None is = absurd (cc)
+    on_stopped (Some x) is = refl
+
+-- a run that is stopped stays so, whatever follows
+stop_front : (l : Limits) (conf : Conf) (i : Intake) (a b : List WireEvent) (r : Stop) → (served l conf i a).stop ≡ Some r → (served l conf i (a ++ b)).stop ≡ Some r
+stop_front l conf i a b r is =
+    let start : Served = record { intake = i; replies = []; shut = []; stop = None } in
+    ap (λ (t : Served). t.stop) (served_from-append l conf start a b ∙ stays_stopped l conf (served l conf i a) r b is) ∙ is
+
+-- the first events, within the turns
+within_turns : (turns : ℕ) (a b : List WireEvent) → length a ≤ turns → take turns (a ++ b) ≡ a ++ take (turns - length a) b
+within_turns turns a b few = let all : turns ≡ length a + (turns - length a) = omega (arith, few) in ap (λ n. take n (a ++ b)) all ∙ take-append-add a b (turns - length a)
+
+module _ (limits : Limits) (conf : Conf) (recovered : List Numbered) (begun : Intake) (entries : List Numbered) (turns : ℕ) (did : Doing) (wire wire' : WireTells) (all : List WireEvent)
+    (left : wire.left ≡ Some all) (closes : (served (refusing limits 0) conf begun (take turns all)).stop ≡ Some stop.Closed) where
+  told_of_all : {e : Ending} (f : Finished limits conf recovered begun entries turns did wire wire' e) → (rest : List WireEvent) × (all ≡ f.handled ++ rest)
+  told_of_all f = by _ wire.left left f.told
+    where
+      some_list : (x y : List WireEvent) → Some x ≡ Some y → x ≡ y
+      some_list x y e = cc
+
+      by : (P : List WireEvent → Type 0) (o : Option (List WireEvent)) → o ≡ Some all → IfSome o (λ x. (rest : List WireEvent) × (x ≡ f.handled ++ (option_to_list f.lost ++ rest)) × P rest) → (rest : List WireEvent) × (all ≡ f.handled ++ rest)
+      by P None is told = absurd (cc)
+      by P (Some x) is told = (option_to_list f.lost ++ told.0, sym (some_list x all is) ∙ told.1)
+
+  not_refused : {e : Ending} (f : Finished limits conf recovered begun entries turns did wire wire' e) (o : Option Stop) → (served (refusing limits f.refused) conf begun f.handled).stop ≡ o → (o ≡ Some stop.DiskFault → ⊥)
+      → (served (refusing limits 0) conf begun f.handled).stop ≡ o
+  not_refused f o is other = ⊎_elim (λ none. subst (λ n. (served (refusing limits n) conf begun f.handled).stop ≡ o) none is) (λ fault. absurd (other (sym is ∙ fault))) f.refused_is
+
+  -- it doesn't end by the limit of turns
+  pub not_at_limit : Finished limits conf recovered begun entries turns did wire wire' at_limit → ⊥
+  not_at_limit f =
+      let rest = told_of_all f in
+      let none : (served (refusing limits 0) conf begun f.handled).stop ≡ None = not_refused f None f.ends.1 (λ e. cc) in
+      let count : length f.handled ≤ turns = omega (arith, f.ends.0) in
+      let empty : turns - length f.handled ≡ 0 = omega (arith, f.ends.0) in
+      let taken : take turns all ≡ f.handled = ap (take turns) rest.1 ∙ within_turns turns f.handled rest.0 count ∙ ap (λ n. f.handled ++ take n rest.0) empty ∙ append-nil f.handled in
+      let closed : (served (refusing limits 0) conf begun f.handled).stop ≡ Some stop.Closed = ap (λ es. (served (refusing limits 0) conf begun es).stop) (sym taken) ∙ closes in
+      cc
+
+  -- nor by a full journal
+  pub not_full : (a b : ℕ) → Finished limits conf recovered begun entries turns did wire wire' (at_full a b) → ⊥
+  not_full a b f =
+      let rest = told_of_all f in
+      let full : (served (refusing limits 0) conf begun f.handled).stop ≡ Some (stop.Full a b) = not_refused f (Some (stop.Full a b)) f.ends.0 (λ e. cc) in
+      let few : length f.handled ≤ turns = omega (arith, f.few) in
+      let taken : take turns all ≡ f.handled ++ take (turns - length f.handled) rest.0 = ap (take turns) rest.1 ∙ within_turns turns f.handled rest.0 few in
+      let stays = stop_front (refusing limits 0) conf begun f.handled (take (turns - length f.handled) rest.0) (stop.Full a b) full in
+      let closed : (served (refusing limits 0) conf begun (f.handled ++ take (turns - length f.handled) rest.0)).stop ≡ Some stop.Closed = ap (λ es. (served (refusing limits 0) conf begun es).stop) (sym taken) ∙ closes in
+      cc
+
+-- a fault that a run ended with came before it was printed
+pub fault_before : (s ended t : Status) → EndsPrinted s ended → ended ≡ t → (t ≡ status.OutOfMemory → ⊥) → (t ≡ status.PrintFault → ⊥) → s ≡ t
+fault_before s ended t (own, inl same) is spent cut = sym same ∙ is
+fault_before s ended t (own, inr (inl none)) is spent cut = absurd (spent (sym is ∙ none))
+fault_before s ended t (own, inr (inr (printed, well))) is spent cut = absurd (cut (sym is ∙ printed))
+
+module _ (words : List (List ℕ)) (source file : Option (List ℕ)) (held : ℕ) (did : Doing) (wire wire' : WireTells) (entries : List Numbered) (plan : Plan) (text : List ℕ) (conf : Conf) (b : List ℕ) (groups : List Group) (all : List WireEvent)
+    (plan_is : plan_of words ≡ Some plan) (source_is : source ≡ Some text) (conf_is : flat_of text ≡ Ok conf) (file_is : file ≡ Some b) (found : groups_of (kept b) ≡ Some groups) (left : wire.left ≡ Some all)
+    (closes : (served (limits_by plan) conf (opening_intake conf groups) (take plan.turns all)).stop ≡ Some stop.Closed) where
+  closes_too : {s : Status} (f : Followed words source file held did wire wire' s entries)
+      → (served (refusing (limits_by f.plan) 0) f.conf (opening_intake f.conf f.groups) (take f.plan.turns all)).stop ≡ Some stop.Closed
+  closes_too f =
+      let plans : plan ≡ f.plan = plan_same words plan f.plan plan_is f.configured.plan_is in
+      let confs : conf ≡ f.conf = sym (config_same words source f.plan f.conf conf text f.configured source_is conf_is) in
+      let same : groups ≡ f.groups = groups_same (sym found ∙ found_same file b f.groups file_is f.found) in
+      subst (λ (p : Plan). (served (limits_by p) f.conf (opening_intake f.conf f.groups) (take p.turns all)).stop ≡ Some stop.Closed) plans
+      (subst (λ (k : Conf). (served (limits_by plan) k (opening_intake k f.groups) (take plan.turns all)).stop ≡ Some stop.Closed) confs
+      (subst (λ gs. (served (limits_by plan) conf (opening_intake conf gs) (take plan.turns all)).stop ≡ Some stop.Closed) same closes))
+    where
+      groups_same : {x y : List Group} → Some x ≡ Some y → x ≡ y
+      groups_same e = cc
+
+  -- a run whose wire is to be closed ends well, unless an object failed or memory was refused
+  pub ends_well : (s : Status) → (s ≡ status.WireFault → ⊥) → (s ≡ status.DiskFault → ⊥) → (s ≡ status.OutboxFault → ⊥) → (s ≡ status.PrintFault → ⊥) → Followed words source file held did wire wire' s entries
+      → (s ≡ status.Ok) ⊎ (s ≡ status.OutOfMemory)
+  ends_well status.Ok no_wire no_disk no_outbox no_print f = inl refl
+  ends_well status.OutOfMemory no_wire no_disk no_outbox no_print f = inr refl
+  ends_well status.WireFault no_wire no_disk no_outbox no_print f = absurd (no_wire refl)
+  ends_well status.DiskFault no_wire no_disk no_outbox no_print f = absurd (no_disk refl)
+  ends_well status.OutboxFault no_wire no_disk no_outbox no_print f = absurd (no_outbox refl)
+  ends_well status.PrintFault no_wire no_disk no_outbox no_print f = absurd (no_print refl)
+  ends_well status.TurnLimit no_wire no_disk no_outbox no_print f =
+      absurd (not_at_limit (limits_by f.plan) f.conf (numbered_of f.groups) (opening_intake f.conf f.groups) entries f.plan.turns did wire wire' all left (closes_too f) f.finished)
+  ends_well (status.Full x y) no_wire no_disk no_outbox no_print f =
+      absurd (not_full (limits_by f.plan) f.conf (numbered_of f.groups) (opening_intake f.conf f.groups) entries f.plan.turns did wire wire' all left (closes_too f) x y f.finished)
+  ends_well _ no_wire no_disk no_outbox no_print f = absurd f.finished.ends
+
+-- ---- refusals that hang on the words and the configuration alone
+
+module _ (words : List (List ℕ)) (source file : Option (List ℕ)) (faults faults' disk_faults disk_faults' held : ℕ) where
+  abbrev Refused_as : Status → Type 0
+  Refused_as s = Refuses words source faults faults' file disk_faults disk_faults' held s
+
+  -- where the words have no plan
+  pub no_plan : plan_of words ≡ None → (s : Status) → Refused_as s → (s ≡ status.Usage) ⊎ (s ≡ status.OutOfMemory)
+  no_plan none status.Usage why = inl refl
+  no_plan none status.OutOfMemory why = inr refl
+  no_plan none status.SourceFault why = absurd (true≢false (sym why.0 ∙ ap is_some none))
+  no_plan none status.Unbuilt why = absurd (true≢false (sym why.0 ∙ ap is_some none))
+  no_plan none (status.PatternRefused path) why = absurd (true≢false (sym why.0 ∙ ap is_some none))
+  no_plan none (status.PatternTooLarge path) why = absurd (true≢false (sym why.0 ∙ ap is_some none))
+  no_plan none (status.ConfigRefused path cause) why = absurd (true≢false (sym why.0 ∙ ap is_some none))
+  no_plan none status.DiskFault why = let is = why.2.plan_is in absurd (cc)
+  no_plan none status.NotOurs why = let is = why.2.plan_is in absurd (cc)
+  no_plan none (status.Damaged at) why = let is = why.2.plan_is in absurd (cc)
+  no_plan none (status.ConfigDiffers at) why = let is = why.2.plan_is in absurd (cc)
+  no_plan none (status.OutboxAhead told lines) why = let is = why.2.plan_is in absurd (cc)
+  no_plan none (status.Full entries bytes) why = let is = why.2.plan_is in absurd (cc)
+  no_plan none _ why = absurd why.3
+
+  module _ (text : List ℕ) (source_is : source ≡ Some text) where
+    of_source : (P : List ℕ → Type 0) → IfSome source P → P text
+    of_source P has = by source source_is has
+      where
+        by : (o : Option (List ℕ)) → o ≡ Some text → IfSome o P → P text
+        by None is p = absurd (cc)
+        by (Some x) is p = subst P (some_text x text is) p
+
+    -- where the configuration has a form that isn't built
+    not_configured : (conf : Conf) → flat_of text ≡ Ok conf → is_built conf ≡ false → (plan' : Plan) (conf' : Conf) → Configured words source plan' conf' → ⊥
+    not_configured conf conf_is unbuilt plan' conf' c =
+        let same = config_same words source plan' conf' conf text c source_is conf_is in
+        true≢false (sym c.built ∙ ap is_built same ∙ unbuilt)
+
+    pub not_built : (conf : Conf) → flat_of text ≡ Ok conf → is_built conf ≡ false → (s : Status) → Refused_as s
+        → (s ≡ status.Unbuilt) ⊎ ((s ≡ status.SourceFault) ⊎ ((s ≡ status.Usage) ⊎ (s ≡ status.OutOfMemory)))
+    not_built conf conf_is unbuilt status.Usage why = inr (inr (inl refl))
+    not_built conf conf_is unbuilt status.OutOfMemory why = inr (inr (inr refl))
+    not_built conf conf_is unbuilt status.SourceFault why = inr (inl refl)
+    not_built conf conf_is unbuilt status.Unbuilt why = inl refl
+    not_built conf conf_is unbuilt (status.ConfigRefused path cause) why = let refused = of_source (λ x. flat_of x ≡ refuse path cause) why.1 in absurd (cc)
+    not_built conf conf_is unbuilt (status.PatternRefused path) why =
+        let u = of_source (HasFlawAt IsNoPattern path) why.1 in absurd (true≢false (sym u.built ∙ ap is_built (conf_same text u.conf conf u.conf_is conf_is) ∙ unbuilt))
+    not_built conf conf_is unbuilt (status.PatternTooLarge path) why =
+        let u = of_source (HasFlawAt HoldsBrace path) why.1 in absurd (true≢false (sym u.built ∙ ap is_built (conf_same text u.conf conf u.conf_is conf_is) ∙ unbuilt))
+    not_built conf conf_is unbuilt status.DiskFault why = absurd (not_configured conf conf_is unbuilt why.0 why.1 why.2)
+    not_built conf conf_is unbuilt status.NotOurs why = absurd (not_configured conf conf_is unbuilt why.0 why.1 why.2)
+    not_built conf conf_is unbuilt (status.Damaged at) why = absurd (not_configured conf conf_is unbuilt why.0 why.1 why.2)
+    not_built conf conf_is unbuilt (status.ConfigDiffers at) why = absurd (not_configured conf conf_is unbuilt why.0 why.1 why.2)
+    not_built conf conf_is unbuilt (status.OutboxAhead told lines) why = absurd (not_configured conf conf_is unbuilt why.0 why.1 why.2)
+    not_built conf conf_is unbuilt (status.Full entries bytes) why = absurd (not_configured conf conf_is unbuilt why.0 why.1 why.2)
+    not_built conf conf_is unbuilt _ why = absurd why.3
+
+    pub not_begun_unbuilt : (conf : Conf) → flat_of text ≡ Ok conf → is_built conf ≡ false → (did : Doing) (wire wire' : WireTells) (s : Status) (entries : List Numbered) → Followed words source file held did wire wire' s entries → ⊥
+    not_begun_unbuilt conf conf_is unbuilt did wire wire' s entries f = not_configured conf conf_is unbuilt f.plan f.conf f.configured
+
+    -- where it is refused
+    not_flat : (path : List ℕ) (cause : Cause) → flat_of text ≡ refuse path cause → (plan' : Plan) (conf' : Conf) → Configured words source plan' conf' → ⊥
+    not_flat path cause refused plan' conf' c =
+        let same = told_text source text conf'.text source_is c.text_is in
+        let found : flat_of text ≡ Ok conf' = ap flat_of (sym same) ∙ c.conf_is in
+        cc
+
+    pub refused_text : (path : List ℕ) (cause : Cause) → flat_of text ≡ refuse path cause → (s : Status) → Refused_as s
+        → (s ≡ status.ConfigRefused path cause) ⊎ ((s ≡ status.SourceFault) ⊎ ((s ≡ status.Usage) ⊎ (s ≡ status.OutOfMemory)))
+    refused_text path cause refused status.Usage why = inr (inr (inl refl))
+    refused_text path cause refused status.OutOfMemory why = inr (inr (inr refl))
+    refused_text path cause refused status.SourceFault why = inr (inl refl)
+    refused_text path cause refused status.Unbuilt why = let u = of_source IsUnbuilt why.1 in let found = u.conf_is in absurd (cc)
+    refused_text path cause refused (status.PatternRefused path') why = let u = of_source (HasFlawAt IsNoPattern path') why.1 in let found = u.conf_is in absurd (cc)
+    refused_text path cause refused (status.PatternTooLarge path') why = let u = of_source (HasFlawAt HoldsBrace path') why.1 in let found = u.conf_is in absurd (cc)
+    refused_text path cause refused (status.ConfigRefused path' cause') why =
+        let other = of_source (λ x. flat_of x ≡ refuse path' cause') why.1 in
+        inl (same_flaw path' path cause' cause (sym other ∙ refused))
+    refused_text path cause refused status.DiskFault why = absurd (not_flat path cause refused why.0 why.1 why.2)
+    refused_text path cause refused status.NotOurs why = absurd (not_flat path cause refused why.0 why.1 why.2)
+    refused_text path cause refused (status.Damaged at) why = absurd (not_flat path cause refused why.0 why.1 why.2)
+    refused_text path cause refused (status.ConfigDiffers at) why = absurd (not_flat path cause refused why.0 why.1 why.2)
+    refused_text path cause refused (status.OutboxAhead told lines) why = absurd (not_flat path cause refused why.0 why.1 why.2)
+    refused_text path cause refused (status.Full entries bytes) why = absurd (not_flat path cause refused why.0 why.1 why.2)
+    refused_text path cause refused _ why = absurd why.3
+
+    pub not_begun_refused : (path : List ℕ) (cause : Cause) → flat_of text ≡ refuse path cause → (did : Doing) (wire wire' : WireTells) (s : Status) (entries : List Numbered) → Followed words source file held did wire wire' s entries → ⊥
+    not_begun_refused path cause refused did wire wire' s entries f = not_flat path cause refused f.plan f.conf f.configured
+
+  pub not_begun_unplanned : plan_of words ≡ None → (did : Doing) (wire wire' : WireTells) (s : Status) (entries : List Numbered) → Followed words source file held did wire wire' s entries → ⊥
+  not_begun_unplanned none did wire wire' s entries f = let is = f.configured.plan_is in cc

@@ -1,0 +1,11 @@
+use Rattle.server_run.proofs.Runs.{unconfigured, is_configured}
+use Rattle.server_run.proofs.opening.set_up.Goals as goal
+
+pub returns-clause-err : goal.returns-clause-err
+returns-clause-err g c =
+    unconfigured _ c.in-Ok.plan _ _ _ c.as_slice.result.now _ c.in-Ok.ensures.ok (rw c.as_slice.ensures c.in-Ok-read_all.ensures.text) c.in-Err.ensures.err
+
+pub returns-in-Ok-prepare-clause-ok : goal.returns-in-Ok-prepare-clause-ok
+returns-in-Ok-prepare-clause-ok g c =
+    let read = c.in-Ok-prepare.ensures.ok in
+    is_configured _ c.in-Ok.plan _ _ c.as_slice.result.now _ c.in-Ok.ensures.ok (rw c.as_slice.ensures c.in-Ok-read_all.ensures.text) (rw c.as_slice.ensures c.in-Ok-read_all.ensures.end) read.0 read.1

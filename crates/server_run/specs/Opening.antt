@@ -1,0 +1,173 @@
+-- What the opening of a run finds of its journal and of its outbox, and why it ends there.
+use Rattle.std.specs.Prelude.{◌≡◌, ◌⊎◌, ◌≤◌, ◌<◌, ◌+◌, ◌-◌, ◌==◌, ◌^◌, min, ℕ, nat_lt, ◌||◌, List, [], ◌∷◌, length, drop, Option, Some, None, is_some, IfSome, IsTrue, ⊤, if◌then◌else◌}
+use Rattle.std.specs.Option.{option_map}
+use Rattle.zbx_types.specs.declared.conf.Conf.{Conf}
+use Rattle.zbx_types.specs.declared.entries.Entry.{Entry}
+use Rattle.zbx_types.specs.declared.entries.Entry.TheVariants.{Config, Value, Tick}
+use Rattle.zbx_types.specs.declared.entries.Numbered.{Numbered}
+use Rattle.intake_journal.specs.Kept.{first_gate, longest_journal, kept, groups_of}
+use Rattle.intake_journal.specs.Kept.Kept.{NotOurs, Damaged}
+use Rattle.intake_journal.specs.declared.format.Group.{Group}
+use Rattle.intake_journal.specs.Settled.{Journaled, KeepsAsOneOf}
+use Rattle.intake_journal.specs.declared.state.State.TheVariants.{Ready}
+use Rattle.outside.specs.Causes.{Rose}
+use Rattle.outside.specs.Disk.{LeavesOnly}
+use Rattle.entry_step.specs.Log.{log_of}
+use Rattle.intake_front.specs.Intake.{start, IsSound}
+use Rattle.intake_front.specs.Fronted.{Fronted, numbered_of}
+use Rattle.intake_front.specs.Batch.{IsIdle}
+use Rattle.intake_front.specs.Misfit.{IsFirstMisfit}
+use Rattle.intake_front.specs.declared.answer.FrontError.{FrontError}
+use Rattle.intake_front.specs.declared.answer.FrontError.TheVariants as front
+use Rattle.server_words.specs.declared.status.Status.{Status}
+use Rattle.server_words.specs.declared.status.Status.TheVariants as status
+use Rattle.server_run.specs.declared.book.Ledger.{Ledger}
+use Rattle.server_run.specs.Recovered.{journal_bytes, HasGroups, GoesOn}
+use Rattle.server_run.specs.Standing.{Applied, log_lines}
+use Rattle.server_run.specs.Stops.{KeepsSome, IsEither, Journals}
+
+-- a file keeps these groups, where it is told
+abbrev pub FoundGroups : Option (List ℕ) → List Group → Type 0
+FoundGroups file groups = IfSome file (λ b. groups_of (kept b) ≡ Some groups)
+
+-- where two texts differ first, or none where they are the same
+abbrev pub differ_at : List ℕ → List ℕ → Option ℕ
+differ_at [] [] = None
+differ_at [] (y ∷ ys) = Some 0
+differ_at (x ∷ xs) [] = Some 0
+differ_at (x ∷ xs) (y ∷ ys) = if x == y then option_map (λ n. n + 1) (differ_at xs ys) else Some 0
+
+-- the configuration's text in an entry
+abbrev pub config_text : Entry → Option (List ℕ)
+config_text (Config now text) = Some text
+config_text (Value now item time value) = None
+config_text (Tick now) = None
+
+-- that in the first of these entries
+abbrev pub first_text : List Entry → Option (List ℕ)
+first_text [] = None
+first_text (e ∷ es) = config_text e
+
+-- the configuration's text with which groups begin
+abbrev pub kept_text : List Group → Option (List ℕ)
+kept_text [] = None
+kept_text (g ∷ gs) = first_text g.entries
+
+-- what is said of the text with which entries are to begin, and of that with which they do: they begin with no configuration;
+-- or with another, which differs first there; or there is nothing to say
+abbrev pub IsTextJudged : List ℕ → Option (List ℕ) → Option Status → Type 0
+IsTextJudged text None (Some (status.Damaged at)) = at ≡ first_gate
+IsTextJudged text (Some found) (Some (status.ConfigDiffers at)) = differ_at text found ≡ Some at
+IsTextJudged text (Some found) None = found ≡ text
+IsTextJudged text found _ = ⊥
+
+-- why groups that begin with this text aren't those of a run with a configuration: they begin with none; or with another; or
+-- their entries don't fit
+abbrev pub IsRejectedFor : Conf → List Group → Option (List ℕ) → Status → Type 0
+IsRejectedFor conf groups None (status.Damaged at) = at ≡ first_gate
+IsRejectedFor conf groups (Some text) (status.ConfigDiffers at) = differ_at conf.text text ≡ Some at
+IsRejectedFor conf groups (Some text) (status.Damaged at) = (text ≡ conf.text) × IsFirstMisfit conf groups (Some at)
+IsRejectedFor conf groups text _ = ⊥
+
+-- why groups aren't those of a run with this configuration; no groups are those of each
+abbrev pub IsRejected : Conf → List Group → Status → Type 0
+IsRejected conf [] s = ⊥
+IsRejected conf (g ∷ gs) s = IsRejectedFor conf (g ∷ gs) (kept_text (g ∷ gs)) s
+
+-- there are no groups; or they begin with the configuration's text, and their entries fit it
+abbrev pub IsAccepted : Conf → List Group → Type 0
+IsAccepted conf [] = ⊤
+IsAccepted conf (g ∷ gs) = (kept_text (g ∷ gs) ≡ Some conf.text) × IsFirstMisfit conf (g ∷ gs) None
+
+-- the groups are accepted, or there is this reason not to
+abbrev pub IsJudged : Conf → List Group → Option Status → Type 0
+IsJudged conf groups None = IsAccepted conf groups
+IsJudged conf groups (Some s) = IsRejected conf groups s
+
+-- the entries with which a run goes on behind groups: theirs, or that of the configuration where there are none
+abbrev pub opening_entries : Conf → List Group → List Numbered
+opening_entries conf groups = (start conf.text (numbered_of groups) (journal_bytes groups)).entries
+
+-- and their lines
+abbrev pub opening_lines : Conf → List Group → List ℕ
+opening_lines conf groups = log_lines conf (log_of (opening_entries conf groups))
+
+-- an outbox of so many bytes holds more than these lines of the groups
+abbrev pub IsAhead : Conf → List Group → ℕ → ℕ → ℕ → Type 0
+IsAhead conf groups held told lines = IsAccepted conf groups × (told ≡ held) × (lines ≡ length (opening_lines conf groups)) × (lines < held)
+
+-- with the configuration alone a journal of at most so many entries would be full: it would have so many entries and bytes
+abbrev pub IsFullAtFirst : ℕ → Conf → ℕ → ℕ → Type 0
+IsFullAtFirst most conf entries bytes =
+    (entries ≡ length (start conf.text [] 9).entries) × (bytes ≡ min (start conf.text [] 9).bytes (2 ^ 64 - 1))
+    × IsTrue (nat_lt most entries || nat_lt longest_journal bytes)
+
+-- why a run with this configuration doesn't begin, which allows so many entries: what its file keeps, or how many bytes its
+-- outbox holds
+abbrev pub Bars : Conf → ℕ → Option (List ℕ) → ℕ → Status → Type 0
+Bars conf most file held status.NotOurs = IfSome file (λ b. kept b ≡ NotOurs)
+Bars conf most file held (status.Damaged at) =
+    IfSome file (λ b. kept b ≡ Damaged at) ⊎ ((groups : List Group) × FoundGroups file groups × IsRejected conf groups (status.Damaged at))
+Bars conf most file held (status.ConfigDiffers at) = (groups : List Group) × FoundGroups file groups × IsRejected conf groups (status.ConfigDiffers at)
+Bars conf most file held (status.OutboxAhead told lines) = (groups : List Group) × FoundGroups file groups × IsAhead conf groups held told lines
+Bars conf most file held (status.Full entries bytes) = FoundGroups file [] × IsFullAtFirst most conf entries bytes
+Bars conf most file held _ = ⊥
+
+-- the status of a run for which no intake was made
+abbrev pub status_for : FrontError → Status
+status_for (front.Full entries bytes) = status.Full entries bytes
+status_for front.DiskFault = status.DiskFault
+status_for front.OutOfMemory = status.OutOfMemory
+
+-- why a run that was configured doesn't begin: memory was refused, or its disk failed, or it was barred
+abbrev pub Unopened : Conf → ℕ → Option (List ℕ) → ℕ → ℕ → ℕ → Status → Type 0
+Unopened conf most file faults faults' held status.OutOfMemory = ⊤
+Unopened conf most file faults faults' held status.DiskFault = Rose faults faults'
+Unopened conf most file faults faults' held s = Bars conf most file held s
+
+-- entries that a run finds at its opening: those of its file's groups, or that of the configuration where there are none
+abbrev pub FoundEntries : Option (List ℕ) → Conf → List Numbered → Type 0
+FoundEntries file conf entries = (groups : List Group) × FoundGroups file groups × ((entries ≡ numbered_of groups) ⊎ (entries ≡ opening_entries conf groups))
+
+-- A run that was configured, with an outbox of so many bytes, and didn't begin: why, and the entries that it has, none or those
+-- that it found. A crash meanwhile left what one before it might have, or entries that it found.
+pub record TurnedAway {D : Type 0} (bytes : D → Option (List ℕ)) (images : D → List ℕ → Type 0) (moment : D → ℕ) (since : D → ℕ → List ℕ → Type 0) (faults : D → ℕ) (conf : Conf) (most held : ℕ) (old new : D)
+    (entries : List Numbered) (s : Status) : Type 0 where
+  pub told : is_some (bytes new) ≡ is_some (bytes old)
+  pub later : faults old ≤ faults new
+  pub why : Unopened conf most (bytes old) (faults old) (faults new) held s
+  pub has : (entries ≡ []) ⊎ FoundEntries (bytes old) conf entries
+  pub left : IfSome (bytes old) (λ _. LeavesOnly moment since old new (λ c. KeepsAsOneOf (images old) c ⊎ KeepsSome (FoundEntries (bytes old) conf) c))
+
+-- A journal that was opened for a run with this configuration and is ready: its groups are accepted, these are their entries, and
+-- it was gone on with as far as that.
+pub record IsTakenUp {D : Type 0} (bytes : D → Option (List ℕ)) (images : D → List ℕ → Type 0) (moment : D → ℕ) (since : D → ℕ → List ℕ → Type 0) (faults : D → ℕ) (conf : Conf) (most : ℕ) (old : D)
+    (journal : Journaled D) (kept : List Numbered) : Type 0 where
+  pub groups : List Group
+  pub found : FoundGroups (bytes old) groups
+  pub accepted : IsAccepted conf groups
+  pub kept_are : kept ≡ numbered_of groups
+  pub has : HasGroups bytes images journal groups
+  pub limits : (journal.max_entries ≡ most) × (journal.max_bytes ≡ longest_journal)
+  pub goes_on : GoesOn bytes images moment since faults old journal.disk
+
+-- A run that was configured: the intake behind its journal's groups. A crash meanwhile left what one before it might have, or
+-- the entries of the groups, or those with which the run goes on, which are kept now; nothing waits for a commit.
+pub record HasBegun {D : Type 0} (bytes : D → Option (List ℕ)) (images : D → List ℕ → Type 0) (moment : D → ℕ) (since : D → ℕ → List ℕ → Type 0) (faults : D → ℕ) (conf : Conf) (most : ℕ) (old : D) (made : Fronted D) : Type 0 where
+  pub groups : List Group
+  pub found : FoundGroups (bytes old) groups
+  pub accepted : IsAccepted conf groups
+  pub ready : made.journal.state ≡ Ready
+  pub limits : (made.journal.max_entries ≡ most) × (made.journal.max_bytes ≡ longest_journal)
+  pub intake_is : made.intake ≡ start conf.text (numbered_of groups) (journal_bytes groups)
+  pub sound : IsSound conf made.intake
+  pub idle : IsIdle made
+  pub journaled : Journals bytes images moment since faults (KeepsAsOneOf (images old)) old made.journal.disk (IsEither (numbered_of groups) made.intake.entries) None made.intake.entries
+
+-- and cells and counts that stand for its entries, and those of their lines that the outbox of so many bytes lacks
+pub record IsResumed {D : Type 0} (bytes : D → Option (List ℕ)) (images : D → List ℕ → Type 0) (moment : D → ℕ) (since : D → ℕ → List ℕ → Type 0) (faults : D → ℕ) (conf : Conf) (most held : ℕ) (old : D)
+    (made : Fronted D) (ledger : Ledger) (missing : List ℕ) : Type 0 where
+  pub begun : HasBegun bytes images moment since faults conf most old made
+  pub applied : Applied conf ledger.cells ledger.tally (log_of made.intake.entries)
+  pub enough : held ≤ length (opening_lines conf begun.groups)
+  pub missing_is : missing ≡ drop held (opening_lines conf begun.groups)

@@ -1,0 +1,64 @@
+-- What is known of a journal all of whose groups were read, and why one wasn't.
+use Rattle.std.specs.Prelude.{◌≡◌, ◌≤◌, ◌+◌, is_some, ℕ, List, [], ◌∷◌, length, Option, Some, IfSome, ⊤}
+use Rattle.outside.specs.Causes.{Rose}
+use Rattle.outside.specs.Disk.{Only, LeavesOnly}
+use Rattle.intake_journal.specs.Bytes.{entries_bytes}
+use Rattle.intake_journal.specs.Kept.{first_gate, kept_from, kept, groups_of}
+use Rattle.intake_journal.specs.Kept.Kept.{NotOurs, Damaged, Groups}
+use Rattle.intake_journal.specs.Settled.{Journaled, KeepsAsOneOf, count_entries}
+use Rattle.intake_journal.specs.declared.format.Group.{Group}
+use Rattle.intake_journal.specs.declared.state.State.TheVariants.{Ready}
+use Rattle.intake_journal.specs.declared.state.JournalError.{JournalError}
+use Rattle.intake_journal.specs.declared.state.JournalError.TheVariants as cause
+use Rattle.server_words.specs.declared.status.Status.{Status}
+use Rattle.server_words.specs.declared.status.Status.TheVariants as status
+
+-- how many bytes a journal of these groups has, up to and with the gate behind the last
+abbrev pub journal_bytes : List Group → ℕ
+journal_bytes [] = 9
+journal_bytes (g ∷ gs) = length (entries_bytes g.entries) + 9 + journal_bytes gs
+
+-- a journal with these groups, ready for more, all of it durable where its disk tells
+pub record HasGroups {D : Type 0} (bytes : D → Option (List ℕ)) (images : D → List ℕ → Type 0) (journal : Journaled D) (groups : List Group) : Type 0 where
+  pub ready : journal.state ≡ Ready
+  pub count : journal.entries ≡ count_entries groups
+  pub size : journal.at + 1 ≡ journal_bytes groups
+  pub keeps : IfSome (bytes journal.disk) (λ c. groups_of (kept c) ≡ Some groups)
+  pub durable : IfSome (bytes journal.disk) (λ c. Only c (images journal.disk))
+
+-- a journal of which all groups were read that its file keeps, these, where nothing was read before
+pub record IsReadThrough {D : Type 0} (bytes : D → Option (List ℕ)) (old new : Journaled D) (groups : List Group) : Type 0 where
+  pub ready : new.state ≡ Ready
+  pub count : new.entries ≡ count_entries groups
+  pub size : new.at + 1 ≡ journal_bytes groups
+  pub limits : (new.max_entries ≡ old.max_entries) × (new.max_bytes ≡ old.max_bytes)
+  pub found : IfSome (bytes old.disk) (λ b. kept_from first_gate b ≡ Groups groups)
+
+-- the status of a run whose journal answers this
+abbrev pub status_for : JournalError → Status
+status_for cause.NotOurs = status.NotOurs
+status_for (cause.Damaged at) = status.Damaged at
+status_for cause.DiskFault = status.DiskFault
+status_for cause.OutOfMemory = status.OutOfMemory
+
+-- why the groups of a journal weren't read to their end
+abbrev pub StopsReading : Option (List ℕ) → ℕ → ℕ → Status → Type 0
+StopsReading file faults faults' (status.Damaged at) = IfSome file (λ b. kept_from first_gate b ≡ Damaged at)
+StopsReading file faults faults' status.DiskFault = Rose faults faults'
+StopsReading file faults faults' status.OutOfMemory = ⊤
+StopsReading file faults faults' _ = ⊥
+
+-- why a journal wasn't recovered
+abbrev pub IsUnread : Option (List ℕ) → ℕ → ℕ → Status → Type 0
+IsUnread file faults faults' status.NotOurs = IfSome file (λ b. kept b ≡ NotOurs)
+IsUnread file faults faults' (status.Damaged at) = IfSome file (λ b. kept b ≡ Damaged at)
+IsUnread file faults faults' status.DiskFault = Rose faults faults'
+IsUnread file faults faults' status.OutOfMemory = ⊤
+IsUnread file faults faults' _ = ⊥
+
+-- a disk that was gone on with: a crash at any moment since then leaves a file that keeps what one did that a crash then might
+-- have left, where it tells
+pub record GoesOn {D : Type 0} (bytes : D → Option (List ℕ)) (images : D → List ℕ → Type 0) (moment : D → ℕ) (since : D → ℕ → List ℕ → Type 0) (faults : D → ℕ) (old new : D) : Type 0 where
+  pub told : is_some (bytes new) ≡ is_some (bytes old)
+  pub later : faults old ≤ faults new
+  pub moments : IfSome (bytes old) (λ _. LeavesOnly moment since old new (KeepsAsOneOf (images old)))

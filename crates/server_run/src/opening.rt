@@ -1,0 +1,180 @@
+//! The opening of a run: its words, its configuration, its journal, and what its outbox lacks.
+
+ghost use Rattle.std.specs.Prelude.{◌≡◌, ◌≤◌, true, false, Ok, Some, None, All, IfOk, IfErr};
+ghost use Rattle.zbx_types.specs.Ids.{at_id};
+ghost use Rattle.pattern_set.specs.Patterns.{IsPattern};
+ghost use Rattle.config_templates.specs.Flat.{flat_of};
+ghost use Rattle.server_words.specs.Words.{plan_of};
+ghost use Rattle.server_run.specs.Built.{is_built};
+ghost use Rattle.server_run.specs.Ports.{ReadsUpTo};
+ghost use Rattle.server_run.specs.Opening.{IsResumed, TurnedAway};
+ghost use Rattle.server_run.specs.Patterns.{IsUnready};
+ghost use Rattle.server_run.specs.Runs.{IsUntaken, IsConfigured, Unconfigured, Opened, Unbegun};
+
+use crate::built::is_built;
+use crate::reading::{ReadError, read_all};
+use crate::resuming::{Refused, Resumed, resume};
+use config_templates::{FlatError, flat};
+use entry_step::{BuildError, Ready};
+use outside::{Disk, Source};
+use server_words::{PlanError, Status, plan};
+use std::alloc::Global;
+use zbx_types::{Conf, LONGEST_TEXT, Many, OutOfMemory, Text, by_id, copy_texts};
+
+/// What a run has begun with.
+#[derive(Drop)]
+pub(crate) struct Begun<D: Disk> {
+    pub turns: u64,
+    pub ready: Ready,
+    pub resumed: Resumed<D>,
+}
+
+/// What the words and the configuration of a run ask for.
+#[derive(Drop)]
+struct Setup {
+    turns: u64,
+    max_entries: u64,
+    ready: Ready,
+}
+
+/// A configuration, where a run can do what it says.
+fn only_built(conf: Conf) -> Result<Conf, Status>
+    ensures ok { IfOk result (λ made. (made ≡ conf) × (is_built conf ≡ true)) }
+    ensures err { IfErr result (λ status. (status ≡ Status.Unbuilt) × (is_built conf ≡ false)) }
+{
+    if is_built(&conf) {
+        Ok(conf)
+    } else {
+        Err(Status::Unbuilt)
+    }
+}
+
+/// The flat configuration of these bytes.
+fn configure(alloc: Global, bytes: &[u8]) -> Result<Conf, Status>
+    ensures ok { IfOk result (λ conf. (flat_of bytes.now ≡ Ok conf) × (is_built conf ≡ true)) }
+    ensures err { IfErr result (IsUntaken bytes.now) }
+{
+    match flat(alloc, bytes) {
+        Ok(conf) => only_built(conf),
+        Err(FlatError::Refused { path, cause }) => Err(Status::ConfigRefused { path, cause }),
+        Err(FlatError::OutOfMemory) => Err(Status::OutOfMemory),
+    }
+}
+
+/// The path at a place, counted from 1. Each pattern has one.
+fn path_at(alloc: Global, paths: &Many<Text>, place: u32) -> Result<Text, OutOfMemory>
+    ensures { IfOk result (λ path. at_id paths.now place ≡ Some path) }
+{
+    match by_id(paths.as_slice(), place) {
+        Some(path) => path.copy(alloc),
+        None => Err(OutOfMemory),
+    }
+}
+
+/// Makes a configuration ready. Where a pattern of it isn't taken, the status has the path where it is used first.
+fn ready_of(alloc: Global, conf: Conf) -> Result<Ready, Status>
+    ensures ok { IfOk result (λ ready. ready ≡ conf) }
+    ensures patterns { IfOk result (λ _. All IsPattern conf.patterns) }
+    ensures err { IfErr result (IsUnready conf) }
+{
+    let Ok(paths) = copy_texts(alloc, &conf.pattern_paths) else {
+        return Err(Status::OutOfMemory);
+    };
+    match Ready::build(alloc, conf) {
+        Ok(ready) => Ok(ready),
+        Err(BuildError::Refused { place }) => match path_at(alloc, &paths, place) {
+            Ok(path) => Err(Status::PatternRefused { path }),
+            Err(OutOfMemory) => Err(Status::OutOfMemory),
+        },
+        Err(BuildError::TooLarge { place }) => match path_at(alloc, &paths, place) {
+            Ok(path) => Err(Status::PatternTooLarge { path }),
+            Err(OutOfMemory) => Err(Status::OutOfMemory),
+        },
+        Err(BuildError::OutOfMemory) => Err(Status::OutOfMemory),
+    }
+}
+
+/// Makes the configuration of these bytes ready.
+fn prepare(alloc: Global, bytes: &[u8]) -> Result<Ready, Status>
+    ensures ok { IfOk result (λ ready. (flat_of bytes.now ≡ Ok ready) × (is_built ready ≡ true)) }
+    ensures err { IfErr result (IsUntaken bytes.now) }
+{
+    match configure(alloc, bytes) {
+        Ok(conf) => ready_of(alloc, conf),
+        Err(status) => Err(status),
+    }
+}
+
+/// Reads the words and the configuration of a run.
+#[tactic(auto, using(crate::proofs::Runs::reads_none))]
+fn set_up<S: Source>(alloc: Global, words: &[Text], config: &mut S) -> Result<Setup, Status>
+    ensures later { S.faults config.old ≤ S.faults config.new }
+    ensures unread { plan_of words.now ≡ None → config.new ≡ config.old }
+    ensures taken { ReadsUpTo 16777216 (S.left config.old) (S.left config.new) }
+    ensures ok { IfOk result (λ c. IsConfigured words.now (S.left config.old) (S.left config.new) c.turns c.max_entries c.ready) }
+    ensures err { IfErr result (Unconfigured words.now (S.left config.old) (S.faults config.old) (S.faults config.new)) }
+{
+    let plan = match plan(alloc, words) {
+        Ok(plan) => plan,
+        Err(PlanError::Usage) => return Err(Status::Usage),
+        Err(PlanError::OutOfMemory) => return Err(Status::OutOfMemory),
+    };
+    let bytes = match read_all(alloc, LONGEST_TEXT as u32, config) {
+        Ok(bytes) => bytes,
+        Err(ReadError::Failed) => return Err(Status::SourceFault),
+        Err(ReadError::OutOfMemory) => return Err(Status::OutOfMemory),
+    };
+    match prepare(alloc, bytes.as_slice()) {
+        Ok(ready) => Ok(Setup {
+            turns: plan.turns,
+            max_entries: plan.max_entries,
+            ready,
+        }),
+        Err(status) => Err(status),
+    }
+}
+
+/// Goes on with a run that was configured, behind what its journal kept, with an outbox of so many bytes.
+fn resume_setup<D: Disk>(
+    alloc: Global,
+    setup: Setup,
+    disk: D,
+    held: u64,
+) -> Result<Begun<D>, Refused<D>>
+    ensures ok { IfOk result (λ b. (b.turns ≡ setup.turns) × (b.ready ≡ setup.ready)
+        × IsResumed D.bytes D.images D.moment D.images_since D.faults setup.ready setup.max_entries held disk b.resumed.front b.resumed.ledger b.resumed.missing) }
+    ensures err { IfErr result (λ r. TurnedAway D.bytes D.images D.moment D.images_since D.faults setup.ready setup.max_entries held disk r.disk r.entries r.status) }
+{
+    match resume(alloc, &setup.ready, disk, setup.max_entries, held) {
+        Ok(resumed) => Ok(Begun {
+            turns: setup.turns,
+            ready: setup.ready,
+            resumed,
+        }),
+        Err(refused) => Err(refused),
+    }
+}
+
+/// Opens a run over a disk, with an outbox of so many bytes. Takes no event.
+pub(crate) fn open<S: Source, D: Disk>(
+    alloc: Global,
+    words: &[Text],
+    config: &mut S,
+    disk: D,
+    held: u64,
+) -> Result<Begun<D>, Refused<D>>
+    ensures later { S.faults config.old ≤ S.faults config.new }
+    ensures unread { plan_of words.now ≡ None → config.new ≡ config.old }
+    ensures taken { ReadsUpTo 16777216 (S.left config.old) (S.left config.new) }
+    ensures ok { IfOk result (λ b. Opened D.bytes D.images D.moment D.images_since D.faults words.now (S.left config.old) (S.left config.new) held disk b.turns b.ready b.resumed.front b.resumed.ledger b.resumed.missing) }
+    ensures err { IfErr result (λ r. Unbegun D.bytes D.images D.moment D.images_since D.faults words.now (S.left config.old) (S.faults config.old) (S.faults config.new) held disk r.disk r.entries r.status) }
+{
+    match set_up(alloc, words, config) {
+        Ok(setup) => resume_setup(alloc, setup, disk, held),
+        Err(status) => Err(Refused {
+            status,
+            disk,
+            entries: Many::new(alloc),
+        }),
+    }
+}

@@ -1,0 +1,246 @@
+//! What a run's journal kept is compared with its configuration, and gone on with.
+
+ghost use Rattle.std.specs.Prelude.{◌≡◌, ◌+◌, ℕ, IfOk, IfErr, OnOk};
+ghost use Rattle.intake_journal.specs.declared.state.State.TheVariants as state;
+ghost use Rattle.intake_front.specs.Intake.{with_group};
+ghost use Rattle.intake_front.specs.Fronted.{HasJournaled, numbered_of};
+ghost use Rattle.intake_front.specs.Batch.{IsIdle};
+ghost use Rattle.server_run.specs.Opening.{differ_at, first_text, status_for, IsTextJudged, IsJudged, IsTakenUp, HasBegun, IsResumed, TurnedAway};
+
+use crate::book::{Ledger, replay};
+use crate::recovering::recover;
+use entry_step::Ready;
+use intake_front::{Front, FrontError, first_misfit};
+use intake_journal::{FIRST_GATE, Group, Journal};
+use outside::Disk;
+use server_words::Status;
+use std::alloc::Global;
+use zbx_types::{Bytes, Conf, Entry, Many, Numbered, OutOfMemory, Text};
+
+/// What is left of a run that was refused at its opening: why, its disk, and the entries that were found.
+#[derive(Drop)]
+pub(crate) struct Refused<D> {
+    pub status: Status,
+    pub disk: D,
+    pub entries: Many<Numbered>,
+}
+
+/// What a run goes on with: its intake, cells and counts of its entries, and those of their lines that its outbox lacks.
+#[derive(Drop)]
+pub(crate) struct Resumed<D: Disk> {
+    pub front: Front<D>,
+    pub ledger: Ledger,
+    pub missing: Bytes,
+}
+
+/// Where two texts differ first, or None where they are the same.
+fn differ_at(first: &[u8], other: &[u8]) -> Option<u64>
+    ensures { result ≡ differ_at first.now other.now }
+{
+    let shorter = first.len().min(other.len());
+    for i in 0..shorter {
+        if first[i] != other[i] {
+            return Some(i as u64);
+        }
+    }
+    if first.len() == other.len() {
+        None
+    } else {
+        Some(shorter as u64)
+    }
+}
+
+/// Why entries don't begin with a configuration of this text, or None where they do.
+#[tactic(auto, using(crate::proofs::Differences::differ_none))]
+fn text_judged(text: &Text, entries: &[Entry]) -> Option<Status>
+    ensures { IsTextJudged text.now (first_text entries.now) result }
+{
+    let Some(first) = entries.first() else {
+        return Some(Status::Damaged { at: FIRST_GATE });
+    };
+    match first {
+        Entry::Config { text: kept, .. } => match differ_at(text.as_bytes(), kept.as_bytes()) {
+            Some(at) => Some(Status::ConfigDiffers { at }),
+            None => None,
+        },
+        Entry::Value { .. } | Entry::Tick { .. } => Some(Status::Damaged { at: FIRST_GATE }),
+    }
+}
+
+/// Why the groups of a journal aren't those of a run with this configuration, or None where they are.
+fn judged(conf: &Conf, groups: &[Group]) -> Option<Status>
+    ensures { IsJudged conf.now groups.now result }
+{
+    let Some(first) = groups.first() else {
+        return None;
+    };
+    match text_judged(&conf.text, first.entries.as_slice()) {
+        Some(status) => Some(status),
+        None => match first_misfit(conf, groups) {
+            Some(at) => Some(Status::Damaged { at }),
+            None => None,
+        },
+    }
+}
+
+/// Adds entries, with the numbers behind those that are there.
+fn number_group(numbered: &mut Many<Numbered>, entries: Many<Entry>) -> Result<(), OutOfMemory>
+    ensures { OnOk result (numbered.new ≡ with_group numbered.old entries) }
+{
+    for entry in entries.into_vec() {
+        let number = numbered.as_slice().len() as u64 + 1;
+        numbered.push(Numbered { number, entry })?;
+    }
+    Ok(())
+}
+
+/// The entries of groups, numbered from 1.
+fn numbered_of(alloc: Global, groups: Many<Group>) -> Result<Many<Numbered>, OutOfMemory>
+    ensures { IfOk result (λ made. made ≡ numbered_of groups) }
+{
+    let mut numbered = Many::new(alloc);
+    for group in groups.into_vec() {
+        number_group(&mut numbered, group.entries)?;
+    }
+    Ok(numbered)
+}
+
+/// Opens the journal on a disk, which is to have at most so many entries, and reads the entries that it kept, where they are
+/// those of a run with this configuration.
+fn accepted<D: Disk>(
+    alloc: Global,
+    conf: &Conf,
+    disk: D,
+    max_entries: u64,
+) -> Result<(Journal<D>, Many<Numbered>), Refused<D>>
+    ensures ok { IfOk result (λ made. IsTakenUp D.bytes D.images D.moment D.images_since D.faults conf.now max_entries disk made.0 made.1) }
+    ensures err { IfErr result (λ r. (held : ℕ) → TurnedAway D.bytes D.images D.moment D.images_since D.faults conf.now max_entries held disk r.disk r.entries r.status) }
+{
+    let (journal, groups) = match recover(alloc, disk, max_entries) {
+        Ok(recovered) => recovered,
+        Err((disk, status)) => {
+            return Err(Refused {
+                status,
+                disk,
+                entries: Many::new(alloc),
+            });
+        }
+    };
+    let barred = judged(conf, groups.as_slice());
+    let Ok(kept) = numbered_of(alloc, groups) else {
+        return Err(Refused {
+            status: Status::OutOfMemory,
+            disk: journal.end(),
+            entries: Many::new(alloc),
+        });
+    };
+    match barred {
+        None => Ok((journal, kept)),
+        Some(status) => Err(Refused {
+            status,
+            disk: journal.end(),
+            entries: kept,
+        }),
+    }
+}
+
+/// What a run ends with for which no intake was made.
+fn status_of(error: FrontError) -> Status
+    ensures { result ≡ status_for error }
+{
+    match error {
+        FrontError::Full { entries, bytes } => Status::Full { entries, bytes },
+        FrontError::DiskFault => Status::DiskFault,
+        FrontError::OutOfMemory => Status::OutOfMemory,
+    }
+}
+
+/// The intake of a run behind the entries that its journal kept.
+fn begin<D: Disk>(
+    alloc: Global,
+    ready: &Ready,
+    journal: Journal<D>,
+    kept: Many<Numbered>,
+) -> Result<Front<D>, Refused<D>>
+    requires read { journal.state ≡ state.Ready }
+    requires journaled { HasJournaled D.bytes D.images journal kept (journal.at + 1) }
+    ensures ok { IfOk result (λ f. (most : ℕ) (old : D) → IsTakenUp D.bytes D.images D.moment D.images_since D.faults ready.now most old journal kept
+        → HasBegun D.bytes D.images D.moment D.images_since D.faults ready.now most old f) }
+    ensures idle { IfOk result (λ f. IsIdle f) }
+    ensures err { IfErr result (λ r. (most held : ℕ) (old : D) → IsTakenUp D.bytes D.images D.moment D.images_since D.faults ready.now most old journal kept
+        → TurnedAway D.bytes D.images D.moment D.images_since D.faults ready.now most held old r.disk r.entries r.status) }
+{
+    match Front::new(alloc, ready, journal, kept) {
+        Ok(front) => Ok(front),
+        Err(unmade) => Err(Refused {
+            status: status_of(unmade.error),
+            disk: unmade.disk,
+            entries: unmade.kept,
+        }),
+    }
+}
+
+/// What is left of a run that was refused behind its intake.
+fn turn_away<D: Disk>(front: Front<D>, status: Status) -> Refused<D>
+    requires { IsIdle front }
+    ensures status { result.status ≡ status }
+    ensures disk { result.disk ≡ front.journal.disk }
+    ensures entries { result.entries ≡ front.intake.entries }
+{
+    let (disk, entries) = front.end();
+    Refused {
+        status,
+        disk,
+        entries,
+    }
+}
+
+/// The cells and counts of the entries of an intake, and those of their lines that an outbox of so many bytes lacks.
+fn go_on<D: Disk>(
+    alloc: Global,
+    ready: &Ready,
+    front: Front<D>,
+    held: u64,
+) -> Result<Resumed<D>, Refused<D>>
+    requires { IsIdle front }
+    ensures ok { IfOk result (λ r. (most : ℕ) (old : D) → HasBegun D.bytes D.images D.moment D.images_since D.faults ready.now most old front
+        → IsResumed D.bytes D.images D.moment D.images_since D.faults ready.now most held old r.front r.ledger r.missing) }
+    ensures err { IfErr result (λ r. (most : ℕ) (old : D) → HasBegun D.bytes D.images D.moment D.images_since D.faults ready.now most old front
+        → TurnedAway D.bytes D.images D.moment D.images_since D.faults ready.now most held old r.disk r.entries r.status) }
+{
+    let (ledger, missing) = match replay(alloc, ready, front.entries(), held) {
+        Ok(made) => made,
+        Err(OutOfMemory) => return Err(turn_away(front, Status::OutOfMemory)),
+    };
+    let lines = ledger.tally.bytes;
+    if lines < held {
+        return Err(turn_away(front, Status::OutboxAhead { held, lines }));
+    }
+    Ok(Resumed {
+        front,
+        ledger,
+        missing,
+    })
+}
+
+/// Goes on behind what the journal on a disk kept, which is to have at most so many entries, with an outbox of so many bytes.
+pub(crate) fn resume<D: Disk>(
+    alloc: Global,
+    ready: &Ready,
+    disk: D,
+    max_entries: u64,
+    held: u64,
+) -> Result<Resumed<D>, Refused<D>>
+    ensures ok { IfOk result (λ r. IsResumed D.bytes D.images D.moment D.images_since D.faults ready.now max_entries held disk r.front r.ledger r.missing) }
+    ensures err { IfErr result (λ r. TurnedAway D.bytes D.images D.moment D.images_since D.faults ready.now max_entries held disk r.disk r.entries r.status) }
+{
+    let (journal, kept) = match accepted(alloc, ready.conf(), disk, max_entries) {
+        Ok(taken) => taken,
+        Err(refused) => return Err(refused),
+    };
+    let front = match begin(alloc, ready, journal, kept) {
+        Ok(front) => front,
+        Err(refused) => return Err(refused),
+    };
+    go_on(alloc, ready, front, held)
+}

@@ -1,0 +1,9 @@
+pub mod AnyLemmas
+pub mod TouchLemmas
+pub mod ChoiceLemmas
+pub mod MarkLemmas
+pub mod Order
+pub mod Ended
+pub mod Picked
+pub mod Claimed
+pub mod Offered

@@ -1,0 +1,6 @@
+pub mod Marks
+pub mod Gate
+pub mod Chosen
+pub mod Stamped
+pub mod Window
+pub mod Core
