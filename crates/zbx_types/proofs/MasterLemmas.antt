@@ -1,13 +1,22 @@
 -- Masters: the search along dependencies, the chains, and the walk that finds them.
 use Rattle.std.proofs.Common.{◌≡◌, ◌<◌, ◌≤◌, ◌+◌, ◌-◌, ◌∙◌, ℕ, zero, suc, ◌==◌, ◌⊎◌, inl, inr, Bool, true, false, cond, ◌&&◌, ◌||◌, List, [], ◌∷◌, ◌++◌, length, get_or, filter, Option, Some, None, refl, sym, ap, subst, arith, eqb-true, eq-eqb, ne_eqb}
-use Rattle.std.specs.Prelude.{nat_le, nat_lt, slice_get, replicate, Result, IfOk}
+use Rattle.std.specs.Prelude.{nat_le, nat_lt, slice_get, Result, IfOk}
 use Rattle.std.specs.List.{list_any, list_all}
 use Rattle.std.specs.Bool.{Decides}
+use Rattle.std.specs.BTreeMap.{is_at}
+use Rattle.std.specs.BTreeSet.{BTreeSet, contains, Updates}
+use Rattle.std.specs.Cmp.{nat_cmp_total, nat_eq_equiv, unsigned_tied}
+use Rattle.std.specs.List.{AllByRecursion}
+use Rattle.std.specs.List.Sorted.{IsStrictlySortedBy}
+use Rattle.std.specs.Ordering.{nat_cmp}
+use Rattle.std.specs.declared.cmp.Ordering.TheVariants.{Less, Equal, Greater}
+use Rattle.std.proofs.lemmas.List.Kept.{IsStrictlySortedBy-filter}
+use Rattle.std.proofs.lemmas.Map.Lookups.{btree_set_from_contains, exact_unsigned}
 use Rattle.std.proofs.lemmas.List.Folds.{list_any-append}
 use Rattle.std.proofs.lemmas.Option.{slice_get_within, slice_get-get_or, get_or_from_slice_get}
 use Rattle.std.proofs.lemmas.Bool.{le-leb, lt-ltb, ltb-true, cases_lt}
 use Rattle.zbx_types.specs.Ids.{at_id, ids_from}
-use Rattle.zbx_types.specs.Masters.{has_id, depends_by, depends_of, depth_by, depth_of, DepthsFall, are_below, depths_fall, reaches, is_master, masters_of, IsMaster, MastersByChains, noted, entered, marked, AreMarked, Finds}
+use Rattle.zbx_types.specs.Masters.{has_id, depends_by, depends_of, depth_by, depth_of, DepthsFall, are_below, depths_fall, reaches, is_master, masters_of, IsMaster, MastersByChains, noted, entered, HasKeys, Finds}
 use Rattle.zbx_types.specs.Masters.IsMaster.{direct, further}
 use Rattle.zbx_types.specs.declared.conf.Conf.{Conf}
 use Rattle.zbx_types.specs.declared.triggers.Trigger.{Trigger}
@@ -348,32 +357,126 @@ walk_ends conf id place found e w = walk_done conf id place found (side (cases_l
     side (inl less) = let q = slice_get-get_or found place 0 less in absurd (let z : None ≡ Some (get_or found place 0) = sym e ∙ q in cc)
     side (inr more) = more
 
--- The marks
-pub ids_marked : (triggers : List Trigger) (marks : List Bool) (p : ℕ → Bool) (from : ℕ) → length marks ≡ length triggers
-    → ((k : ℕ) → k < length marks → get_or marks k false ≡ p (k + from)) → marked from marks ≡ filter p (ids_from from triggers)
-ids_marked [] [] p from e h = refl
-ids_marked [] (b ∷ marks) p from e h = absurd (omega arith)
-ids_marked (t ∷ triggers) [] p from e h = absurd (omega arith)
-ids_marked (t ∷ triggers) (b ∷ marks) p from e h =
-    let head : b ≡ p from = h 0 (omega arith) ∙ ap p (let q : 0 + from ≡ from = omega arith in q) in
-    go b (p from) head (ids_marked triggers marks p (from + 1) (omega arith) (λ k l. h (suc k) (omega arith) ∙ ap p (let q : suc k + from ≡ k + (from + 1) = omega arith in q)))
-  where
-    go : (b c : Bool) → b ≡ c → marked (from + 1) marks ≡ filter p (ids_from (from + 1) triggers) → cond b (from ∷ marked (from + 1) marks) (marked (from + 1) marks) ≡ cond c (from ∷ filter p (ids_from (from + 1) triggers)) (filter p (ids_from (from + 1) triggers))
-    go true true e ih = ap (λ xs. from ∷ xs) ih
-    go true false e ih = cc
-    go false true e ih = cc
-    go false false e ih = ih
+-- The keys
+is_key : (x q : ℕ) → is_at (nat_cmp q) x ≡ (x == q)
+is_key x q = unsigned_tied q x ∙ nat_eq_equiv.symm q x
 
-pub masters_marked : (conf : Conf) (id : ℕ) (marks : List Bool) (found : List ℕ) → length marks ≡ length conf.triggers → AreMarked marks found → Finds conf id found → marked 1 marks ≡ masters_of conf id
-masters_marked conf id marks found size agree finds = ids_marked conf.triggers marks (is_master conf id) 1 size (λ k l. agree.agree k l ∙ same (k + 1) (λ z. absurd (omega arith)) (omega arith))
+has_key : (keys : List ℕ) (q : ℕ) → list_any (is_at (nat_cmp q)) keys ≡ has_id keys q
+has_key [] q = refl
+has_key (k ∷ keys) q = ap (λ b. b || list_any (is_at (nat_cmp q)) keys) (is_key k q) ∙ ap (λ b. (k == q) || b) (has_key keys q)
+
+pub no_keys : (count : ℕ) (keys found : List ℕ) → keys ≡ [] → found ≡ [] → HasKeys count keys found
+no_keys count keys found e f = record { agree = λ id. ap (λ xs. has_id xs id) (e ∙ sym f); within = λ id h. let t = ap (λ xs. has_id xs id) f in cc }
+
+pub one_key_more : (count : ℕ) (old new : BTreeSet ℕ) (found next : List ℕ) (id : ℕ) → HasKeys count old.keys found → (id ≡ 0 → ⊥) → id ≤ count → Updates nat_cmp old new id true → next ≡ found ++ id ∷ [] → HasKeys count new.keys next
+one_key_more count old new found next id h some within up is = record { agree = same; within = there }
   where
+    pushed : (q : ℕ) → has_id next q ≡ (has_id found q || ((id == q) || false))
+    pushed q = ap (λ xs. has_id xs q) is ∙ has_push found id q
+
+    turned : (a b c d : Bool) → a ≡ b → c ≡ d → cond a true c ≡ (d || (b || false))
+    turned true true c true e f = refl
+    turned true true c false e f = refl
+    turned false false true true e f = refl
+    turned false false false false e f = refl
+    turned true false c d e f = cc
+    turned false true c d e f = cc
+    turned false false true false e f = cc
+    turned false false false true e f = cc
+
+    same : (q : ℕ) → has_id new.keys q ≡ has_id next q
+    same q = sym (has_key new.keys q) ∙ up.0 q ∙ turned (is_at (nat_cmp id) q) (id == q) (contains nat_cmp old q) (has_id found q) (unsigned_tied id q) (has_key old.keys q ∙ h.agree q) ∙ sym (pushed q)
+
+    last : (b : Bool) → (b || false) ≡ true → b ≡ true
+    last true e = refl
+    last false e = e
+
+    there : (q : ℕ) → has_id next q ≡ true → (q ≡ 0 → ⊥) × (q ≤ count)
+    there q t = go (or_cases (has_id found q) ((id == q) || false) (sym (pushed q) ∙ t))
+      where
+        go : (has_id found q ≡ true) ⊎ (((id == q) || false) ≡ true) → (q ≡ 0 → ⊥) × (q ≤ count)
+        go (inl e) = h.within q e
+        go (inr e) = let k = eqb-true id q (last (id == q) e) in (λ z. some (k ∙ z), subst (λ x. x ≤ count) k within)
+
+-- an id that isn't noted
+pub noted_zero : (size : ℕ) (found : List ℕ) (id : ℕ) → (id == 0) ≡ true → found ≡ noted size found id
+noted_zero size found id e = ap (λ b. cond b found (cond (nat_le id size) (cond (has_id found id) found (found ++ id ∷ [])) found)) (sym e)
+
+pub noted_new : (size : ℕ) (found : List ℕ) (id : ℕ) → (id == 0) ≡ false → id ≤ size → has_id found id ≡ false → found ++ id ∷ [] ≡ noted size found id
+noted_new size found id a b c = rw a (rw (le-leb id size b) (rw c refl))
+
+-- the ids of triggers
+ids_above : {A : Type 0} (n from : ℕ) (xs : List A) → n < from → AllByRecursion (λ y. nat_cmp n y ≡ Less) (ids_from from xs)
+ids_above n from [] l = tt
+ids_above n from (x ∷ xs) l = (ap (λ b. cond b Less (cond (n == from) Equal Greater)) (lt-ltb n from l), ids_above n (from + 1) xs (omega arith))
+
+ids_rise : {A : Type 0} (from : ℕ) (xs : List A) → IsStrictlySortedBy nat_cmp (ids_from from xs)
+unfolding IsStrictlySortedBy
+ids_rise from [] = tt
+ids_rise from (x ∷ xs) = (ids_above from (from + 1) xs (omega arith), ids_rise (from + 1) xs)
+
+ids_there : {A : Type 0} (from : ℕ) (xs : List A) (q : ℕ) → from ≤ q → q < from + length xs → has_id (ids_from from xs) q ≡ true
+ids_there from [] q l m = absurd (omega arith)
+ids_there from (x ∷ xs) q l m = go (cases_lt from q) (ids_there (from + 1) xs q)
+  where
+    go : (from < q) ⊎ (q ≤ from) → (from + 1 ≤ q → q < from + 1 + length xs → has_id (ids_from (from + 1) xs) q ≡ true) → ((from == q) || has_id (ids_from (from + 1) xs) q) ≡ true
+    go (inl less) ih = or_right (from == q) (has_id (ids_from (from + 1) xs) q) (ih (omega arith) (omega arith))
+    go (inr more) ih = or_left (from == q) (has_id (ids_from (from + 1) xs) q) (eq-eqb from q (omega arith))
+
+ids_only : {A : Type 0} (from : ℕ) (xs : List A) (q : ℕ) → has_id (ids_from from xs) q ≡ true → (from ≤ q) × (q < from + length xs)
+ids_only from [] q h = cc
+ids_only from (x ∷ xs) q h = go (or_cases (from == q) (has_id (ids_from (from + 1) xs) q) h) (ids_only (from + 1) xs q)
+  where
+    go : ((from == q) ≡ true) ⊎ (has_id (ids_from (from + 1) xs) q ≡ true) → (has_id (ids_from (from + 1) xs) q ≡ true → (from + 1 ≤ q) × (q < from + 1 + length xs)) → (from ≤ q) × (q < from + length (x ∷ xs))
+    go (inl e) ih = let k = eqb-true from q e in (omega arith, omega arith)
+    go (inr e) ih = let r = ih e in (omega arith, omega arith)
+
+filter_has : (p : ℕ → Bool) (xs : List ℕ) (q : ℕ) → has_id xs q ≡ true → p q ≡ true → has_id (filter p xs) q ≡ true
+filter_has p [] q h e = h
+filter_has p (x ∷ xs) q h e = go (p x) refl (or_cases (x == q) (has_id xs q) h) (filter_has p xs q)
+  where
+    go : (b : Bool) → p x ≡ b → ((x == q) ≡ true) ⊎ (has_id xs q ≡ true) → (has_id xs q ≡ true → p q ≡ true → has_id (filter p xs) q ≡ true) → has_id (cond b (x ∷ filter p xs) (filter p xs)) q ≡ true
+    go true pe (inl t) ih = or_left (x == q) (has_id (filter p xs) q) t
+    go true pe (inr t) ih = or_right (x == q) (has_id (filter p xs) q) (ih t e)
+    go false pe (inl t) ih = let k = ap p (eqb-true x q t) in cc
+    go false pe (inr t) ih = ih t e
+
+filter_only : (p : ℕ → Bool) (xs : List ℕ) (q : ℕ) → has_id (filter p xs) q ≡ true → (has_id xs q ≡ true) × (p q ≡ true)
+filter_only p [] q h = cc
+filter_only p (x ∷ xs) q h = go (p x) refl h (filter_only p xs q)
+  where
+    side : p x ≡ true → ((x == q) ≡ true) ⊎ (has_id (filter p xs) q ≡ true) → (has_id (filter p xs) q ≡ true → (has_id xs q ≡ true) × (p q ≡ true)) → (has_id (x ∷ xs) q ≡ true) × (p q ≡ true)
+    side pe (inl t) ih = (or_left (x == q) (has_id xs q) t, sym (ap p (eqb-true x q t)) ∙ pe)
+    side pe (inr t) ih = let r = ih t in (or_right (x == q) (has_id xs q) r.0, r.1)
+
+    go : (b : Bool) → p x ≡ b → has_id (cond b (x ∷ filter p xs) (filter p xs)) q ≡ true → (has_id (filter p xs) q ≡ true → (has_id xs q ≡ true) × (p q ≡ true)) → (has_id (x ∷ xs) q ≡ true) × (p q ≡ true)
+    go true pe t ih = side pe (or_cases (x == q) (has_id (filter p xs) q) t) ih
+    go false pe t ih = let r = ih t in (or_right (x == q) (has_id xs q) r.0, r.1)
+
+-- a set whose keys are what was found holds the masters, in their order
+masters_keys : (conf : Conf) (id : ℕ) (s : BTreeSet ℕ) (found : List ℕ) → IsStrictlySortedBy nat_cmp s.keys → HasKeys (length conf.triggers) s.keys found → Finds conf id found → s.keys ≡ masters_of conf id
+masters_keys conf id s found sorted keys finds = btree_set_from_contains nat_cmp_total s masters sorted (IsStrictlySortedBy-filter nat_cmp (is_master conf id) (ids_from 1 conf.triggers) (ids_rise 1 conf.triggers)) same exact_unsigned
+  where
+    masters : BTreeSet ℕ
+    masters = record { keys = masters_of conf id }
+
     both : (a b : Bool) → (a ≡ true → b ≡ true) → (b ≡ true → a ≡ true) → a ≡ b
     both true b f g = sym (f refl)
     both false true f g = g refl
     both false false f g = refl
 
-    same : (m : ℕ) → (m ≡ 0 → ⊥) → m ≤ length conf.triggers → has_id found m ≡ is_master conf id m
-    same m some within = both (has_id found m) (is_master conf id m) (finds.sound m) (finds.whole m some within)
+    in_masters : (q : ℕ) → has_id found q ≡ true → has_id (masters_of conf id) q ≡ true
+    in_masters q h = let w = keys.within q h in filter_has (is_master conf id) (ids_from 1 conf.triggers) q (ids_there 1 conf.triggers q (go q w.0) (omega (arith, w.1))) (finds.sound q h)
+      where
+        go : (x : ℕ) → (x ≡ 0 → ⊥) → 1 ≤ x
+        go zero f = absurd (f refl)
+        go (suc x) f = omega arith
+
+    in_found : (q : ℕ) → has_id (masters_of conf id) q ≡ true → has_id found q ≡ true
+    in_found q h = let r = filter_only (is_master conf id) (ids_from 1 conf.triggers) q h in let l = ids_only 1 conf.triggers q r.0 in finds.whole q (λ z. omega arith) (omega arith) r.1
+
+    same : (q : ℕ) → contains nat_cmp s q ≡ contains nat_cmp masters q
+    same q = has_key s.keys q ∙ keys.agree q ∙ both (has_id found q) (has_id (masters_of conf id) q) (in_masters q) (in_found q) ∙ sym (has_key (masters_of conf id) q)
 
 -- a trigger that depends on none has no masters
 pub no_masters : (conf : Conf) (id : ℕ) → depends_of conf id ≡ [] → masters_of conf id ≡ []
@@ -387,21 +490,13 @@ no_masters conf id e = all_out (ids_from 1 conf.triggers)
     all_out [] = refl
     all_out (x ∷ ids) = rw (none (depth_of conf id) x) (all_out ids)
 
-pub then_masters : {E : Type 0} (r : Result (List ℕ) E) (conf : Conf) (id : ℕ) (seen marks : List Bool) (found : List ℕ) → seen ≡ marks → length marks ≡ length conf.triggers → AreMarked marks found → Finds conf id found
-    → IfOk r (λ ids. ids ≡ marked 1 seen) → IfOk r (λ ids. ids ≡ masters_of conf id)
-then_masters r conf id seen marks found e size agree finds h = subst (λ xs. IfOk r (λ ids. ids ≡ xs)) (ap (marked 1) e ∙ masters_marked conf id marks found size agree finds) h
+pub then_masters : {E : Type 0} (r : Result (List ℕ) E) (conf : Conf) (id : ℕ) (s : BTreeSet ℕ) (found : List ℕ) → IsStrictlySortedBy nat_cmp s.keys → HasKeys (length conf.triggers) s.keys found → Finds conf id found
+    → IfOk r (λ ids. ids ≡ s.keys) → IfOk r (λ ids. ids ≡ masters_of conf id)
+then_masters r conf id s found sorted keys finds h = subst (λ xs. IfOk r (λ ids. ids ≡ xs)) (masters_keys conf id s found sorted keys finds) h
 
 pub empty_is : (xs : List ℕ) → (length xs == 0) ≡ true → xs ≡ []
 empty_is [] e = refl
 empty_is (x ∷ xs) e = let q = eqb-true (length (x ∷ xs)) 0 e in absurd (omega arith)
-
-pub none_marked : (marks : List Bool) (size : ℕ) → marks ≡ replicate size false → AreMarked marks []
-none_marked marks size e = record { agree = λ k l. ap (λ xs. get_or xs k false) e ∙ none size k }
-  where
-    none : (n k : ℕ) → get_or (replicate n false) k false ≡ false
-    none zero k = refl
-    none (suc n) zero = refl
-    none (suc n) (suc k) = none n k
 
 -- The test of depths
 all_below : (conf : Conf) (depth m : ℕ) (ids : List ℕ) → are_below conf depth ids ≡ true → has_id ids m ≡ true → depth_of conf m < depth

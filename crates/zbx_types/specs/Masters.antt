@@ -1,6 +1,6 @@
 -- Dependencies of triggers (the Zabbix 6.0 manual, "Trigger dependencies"). The masters of a trigger are those that it
 -- depends on, directly or through others.
-use Rattle.std.specs.Prelude.{◌≡◌, ◌<◌, ◌≤◌, ◌+◌, ℕ, zero, suc, ◌==◌, nat_le, nat_lt, Bool, true, false, ◌||◌, List, [], ◌∷◌, ◌++◌, filter, Option, Some, None, if◌then◌else◌, get_or, length}
+use Rattle.std.specs.Prelude.{◌≡◌, ◌<◌, ◌≤◌, ℕ, zero, suc, ◌==◌, nat_le, nat_lt, Bool, true, false, ◌||◌, List, [], ◌∷◌, ◌++◌, filter, Option, Some, None, if◌then◌else◌, length}
 use Rattle.std.specs.List.{list_any, list_all}
 use Rattle.zbx_types.specs.Ids.{at_id, ids_from}
 use Rattle.zbx_types.specs.declared.conf.Conf.{Conf}
@@ -66,14 +66,10 @@ abbrev pub entered : ℕ → List ℕ → List ℕ → List ℕ
 entered size found [] = found
 entered size found (id ∷ ids) = entered size (noted size found id) ids
 
--- the marks say which ids are found
-pub record AreMarked (marks : List Bool) (found : List ℕ) : Type 0 where
-  pub agree : (k : ℕ) → k < length marks → get_or marks k false ≡ has_id found (k + 1)
-
--- the ids whose marks are set, from this one on
-abbrev pub marked : ℕ → List Bool → List ℕ
-marked id [] = []
-marked id (mark ∷ rest) = if mark then id ∷ marked (id + 1) rest else marked (id + 1) rest
+-- the keys of a set are the ids that are found, each of one of so many triggers
+pub record HasKeys (count : ℕ) (keys found : List ℕ) : Type 0 where
+  pub agree : (id : ℕ) → has_id keys id ≡ has_id found id
+  pub within : (id : ℕ) → has_id found id ≡ true → (id ≡ 0 → ⊥) × (id ≤ count)
 
 -- found are the masters, as far as there are such triggers
 pub record Finds (conf : Conf) (id : ℕ) (found : List ℕ) : Type 0 where

@@ -1,20 +1,23 @@
 //! Masters of a trigger: the triggers that it depends on, directly or through others.
 
-ghost use Rattle.std.specs.Prelude.{◌≡◌, false, length, replicate, slice_get, Decides, IfOk, OnOk};
-ghost use Rattle.zbx_types.specs.Masters.{depends_of, depth_of, DepthsFall, are_below, depths_fall, masters_of, MastersByChains, noted, entered, marked, AreMarked, Finds};
+ghost use Rattle.std.specs.Prelude.{◌≡◌, length, slice_get, Decides, IfOk, OnOk};
+ghost use Rattle.std.specs.List.Sorted.{IsStrictlySortedBy};
+ghost use Rattle.std.specs.Ordering.{nat_cmp};
+ghost use Rattle.zbx_types.specs.Masters.{depends_of, depth_of, DepthsFall, are_below, depths_fall, masters_of, MastersByChains, noted, entered, HasKeys, Finds};
 
 use crate::conf::Conf;
-use crate::ids::{by_id, id_of};
+use crate::ids::by_id;
 use crate::many::Many;
 use crate::memory::OutOfMemory;
 use std::alloc::Global;
+use std::collections::BTreeSet;
 
 /// What a walk along dependencies has found.
 #[derive(Drop)]
 struct Walk {
-    /// For each trigger whether it is found.
-    marks: Vec<bool>,
-    /// The ids of the triggers that are found, each once.
+    /// The ids of the triggers that are found.
+    ids: BTreeSet<u32>,
+    /// The same in the order in which they are found, each once.
     found: Vec<u32>,
 }
 
@@ -65,37 +68,24 @@ pub fn depths_fall(conf: &Conf) -> bool
     all_fall(conf)
 }
 
-/// So many marks that aren't set.
-fn no_marks(alloc: Global, count: usize) -> Result<Vec<bool>, OutOfMemory>
-    ensures { IfOk result (λ marks. marks.items ≡ replicate count false) }
-{
-    let mut marks = Vec::new(alloc);
-    for _place in 0..count {
-        marks.push(false)?;
-    }
-    Ok(marks)
-}
-
 impl Walk {
-    /// Notes the trigger with an id, where there is one and it isn't found yet.
-    fn note(&mut self, id: u32) -> Result<(), OutOfMemory>
-        requires { AreMarked self.old.marks.items self.old.found.items }
-        ensures marked { OnOk result (AreMarked self.new.marks.items self.new.found.items) }
-        ensures size { OnOk result (length self.new.marks.items ≡ length self.old.marks.items) }
-        ensures found { OnOk result (self.new.found.items ≡ noted (length self.old.marks.items) self.old.found.items id) }
+    /// Notes the trigger with an id, of so many triggers, where there is one and it isn't found yet.
+    fn note(&mut self, count: usize, id: u32) -> Result<(), OutOfMemory>
+        requires { HasKeys count self.old.ids.keys self.old.found.items }
+        ensures keys { OnOk result (HasKeys count self.new.ids.keys self.new.found.items) }
+        ensures found { OnOk result (self.new.found.items ≡ noted count self.old.found.items id) }
     {
         if id == 0 {
             return Ok(());
         }
-        let place = id as usize - 1;
-        if place >= self.marks.len() {
+        if id as usize > count {
             return Ok(());
         }
-        if self.marks[place] {
+        if self.ids.contains(&id) {
             return Ok(());
         }
         self.found.push(id)?;
-        self.marks[place] = true;
+        self.ids.insert(id)?;
         Ok(())
     }
 
@@ -107,14 +97,13 @@ impl Walk {
     }
 
     /// Notes the triggers with these ids.
-    fn enter(&mut self, ids: &[u32]) -> Result<(), OutOfMemory>
-        requires { AreMarked self.old.marks.items self.old.found.items }
-        ensures marked { OnOk result (AreMarked self.new.marks.items self.new.found.items) }
-        ensures size { OnOk result (length self.new.marks.items ≡ length self.old.marks.items) }
-        ensures found { OnOk result (self.new.found.items ≡ entered (length self.old.marks.items) self.old.found.items ids.now) }
+    fn enter(&mut self, count: usize, ids: &[u32]) -> Result<(), OutOfMemory>
+        requires { HasKeys count self.old.ids.keys self.old.found.items }
+        ensures keys { OnOk result (HasKeys count self.new.ids.keys self.new.found.items) }
+        ensures found { OnOk result (self.new.found.items ≡ entered count self.old.found.items ids.now) }
     {
         for id in ids {
-            self.note(*id)?;
+            self.note(count, *id)?;
         }
         Ok(())
     }
@@ -123,35 +112,34 @@ impl Walk {
 /// Finds the masters of a trigger: goes on from each that it finds.
 fn walk_from(alloc: Global, conf: &Conf, id: u32) -> Result<Walk, OutOfMemory>
     requires { DepthsFall conf.now }
-    ensures marked { IfOk result (λ walk. AreMarked walk.marks.items walk.found.items) }
-    ensures size { IfOk result (λ walk. length walk.marks.items ≡ length conf.now.triggers) }
+    ensures keys { IfOk result (λ walk. HasKeys (length conf.now.triggers) walk.ids.keys walk.found.items) }
     ensures finds { IfOk result (λ walk. Finds conf.now id walk.found.items) }
 {
+    let count = conf.triggers.len();
     let mut walk = Walk {
-        marks: no_marks(alloc, conf.triggers.len())?,
+        ids: BTreeSet::new(alloc),
         found: Vec::new(alloc),
     };
-    walk.enter(depends_of(conf, id))?;
+    walk.enter(count, depends_of(conf, id))?;
     for place in 0..usize::MAX {
         let Some(id) = walk.at(place) else {
             return Ok(walk);
         };
-        walk.enter(depends_of(conf, id))?;
+        walk.enter(count, depends_of(conf, id))?;
     }
     Ok(walk)
 }
 
-/// The ids whose marks are set.
-fn marked(alloc: Global, marks: &[bool]) -> Result<Many<u32>, OutOfMemory>
-    ensures { IfOk result (λ ids. ids ≡ marked 1 marks.now) }
+/// The ids of a set, in their order.
+fn rising(alloc: Global, ids: &BTreeSet<u32>) -> Result<Many<u32>, OutOfMemory>
+    ensures made { IfOk result (λ made. made ≡ ids.now.keys) }
+    ensures ordered { IsStrictlySortedBy nat_cmp ids.now.keys }
 {
-    let mut ids = Many::new(alloc);
-    for (place, mark) in marks.iter().enumerate() {
-        if *mark {
-            ids.push(id_of(place)?)?;
-        }
+    let mut made = Many::new(alloc);
+    for id in ids.iter() {
+        made.push(*id)?;
     }
-    Ok(ids)
+    Ok(made)
 }
 
 /// The masters of a trigger: the ids of the triggers that it depends on, directly or through others, each once and
@@ -160,7 +148,7 @@ fn marked(alloc: Global, marks: &[bool]) -> Result<Many<u32>, OutOfMemory>
 ///
 /// Each trigger that one depends on must have a smaller depth, as a configuration without cycles has it.
 ///
-/// It takes time linear in the triggers and their dependencies.
+/// The time it takes grows with the masters and their dependencies, not with the triggers that it doesn't come to.
 pub fn masters(alloc: Global, conf: &Conf, trigger: u32) -> Result<Many<u32>, OutOfMemory>
     requires { DepthsFall conf.now }
     ensures { IfOk result (λ ids. ids ≡ masters_of conf.now trigger) }
@@ -169,7 +157,7 @@ pub fn masters(alloc: Global, conf: &Conf, trigger: u32) -> Result<Many<u32>, Ou
         return Ok(Many::new(alloc));
     }
     let walk = walk_from(alloc, conf, trigger)?;
-    marked(alloc, walk.marks.as_slice())
+    rising(alloc, &walk.ids)
 }
 
 /// Where depths fall, the masters of a trigger are exactly what one or more dependencies lead to. The function does

@@ -6,4 +6,4 @@ pub returns-then-is_empty : goal.returns-then-is_empty
 returns-then-is_empty c = c.new.ensures ∙ sym (no_masters _ _ (sym c.depends_of.ensures ∙ empty_is _ (sym c.is_empty.ensures ∙ c.if-is_empty.true)))
 
 pub returns : goal.returns
-returns c = then_masters _ _ _ _ _ _ c.as_slice.ensures.value c.in_ok-walk.ensures.size c.in_ok-walk.ensures.marked c.in_ok-walk.ensures.finds c.marked.ensures
+returns c = then_masters _ _ _ _ _ c.rising.ensures.ordered c.in_ok-walk.ensures.keys c.in_ok-walk.ensures.finds c.rising.ensures.made
