@@ -10,7 +10,7 @@ use Rattle.zbx_types.specs.declared.conf.Conf.{Conf}
 use Rattle.zbx_types.specs.declared.maintenances.Maintenance.{Maintenance}
 use Rattle.maintenance.specs.Force.{is_active, is_in_force}
 use Rattle.maintenance.specs.Covering.{is_of_host}
-use Rattle.maintenance.specs.Suppression.{is_collected}
+use Rattle.maintenance.specs.Suppression.{keeps_out, is_collected}
 use Rattle.intake_front.specs.Taking.{AllCollected}
 
 -- it keeps the values of its hosts out
@@ -53,3 +53,8 @@ none_narrower wide more (x ∷ xs) h = none_before (wide x) (more x) (list_any w
 pub all_collected : (conf : Conf) (now : ℕ) → list_any (is_out conf now) conf.maintenances ≡ false → AllCollected conf now
 unfolding is_collected
 all_collected conf now none = λ host. ap not (none_narrower (is_out conf now) (λ m. is_of_host conf m host) conf.maintenances none)
+
+-- what is found of a moment holds in its whole second
+pub same_second : (conf : Conf) (a b : ℕ) → a / 1000000000 ≡ b / 1000000000 → AllCollected conf a → AllCollected conf b
+unfolding is_collected
+same_second conf a b e all = λ host. ap (λ (s : ℕ). not (list_any (keeps_out conf host s) conf.maintenances)) (sym e) ∙ all host

@@ -1,4 +1,5 @@
 pub mod Taking
+pub mod Collected
 pub mod Intake
 pub mod Served
 pub mod Fronted

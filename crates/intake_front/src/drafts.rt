@@ -5,8 +5,8 @@ ghost use Rattle.intake_journal.specs.Bytes.{HasShortValue};
 ghost use Rattle.intake_front.specs.Intake.{ticks_at, is_due, only, replying, counting, answered_values, answered_request, turned, stop_of, stopping};
 
 use crate::answer::{Answer, Reply, Stop};
+use crate::collection::Collection;
 use crate::taking::group;
-use entry_step::Ready;
 use outside::WireEvent;
 use sender_json::{Asked, Refusal, Request, read, refusal, reply};
 use std::alloc::Global;
@@ -60,17 +60,18 @@ fn counting(
 #[tactic(auto, unfolding(crate::specs::Intake::answered_values))]
 fn answered_values(
     alloc: Global,
-    ready: &Ready,
+    collection: &mut Collection<'_>,
     now: Moment,
     conn: u64,
     since: Moment,
     all: Many<Asked>,
 ) -> Result<Draft, OutOfMemory>
-    ensures made { IfOk result (λ draft. draft ≡ answered_values ready.now now conn since all) }
+    ensures made { IfOk result (λ draft. draft ≡ answered_values collection.old now conn since all) }
+    ensures same { collection.new ≡ collection.old }
     ensures short { IfOk result (λ draft. All HasShortValue draft.group) }
 {
     let total = all.as_slice().len() as u64;
-    let group = group(alloc, ready, now, all)?;
+    let group = group(alloc, collection, now, all)?;
     let processed = group.as_slice().len() as u64;
     let good = counting(
         alloc,
@@ -92,13 +93,14 @@ fn answered_values(
 #[tactic(auto, unfolding(crate::specs::Intake::answered_request))]
 fn answered_request(
     alloc: Global,
-    ready: &Ready,
+    collection: &mut Collection<'_>,
     now: Moment,
     conn: u64,
     since: Moment,
     request: Request,
 ) -> Result<Draft, OutOfMemory>
-    ensures made { IfOk result (λ draft. draft ≡ answered_request ready.now now conn since request) }
+    ensures made { IfOk result (λ draft. draft ≡ answered_request collection.old now conn since request) }
+    ensures same { collection.new ≡ collection.old }
     ensures short { IfOk result (λ draft. All HasShortValue draft.group) }
 {
     match request {
@@ -110,7 +112,7 @@ fn answered_request(
             let bytes = refusal(alloc, Refusal::Unsupported)?;
             Ok(only(alloc, replying(conn, bytes), Some(conn)))
         }
-        Request::Values(all) => answered_values(alloc, ready, now, conn, since, all),
+        Request::Values(all) => answered_values(alloc, collection, now, conn, since, all),
     }
 }
 
@@ -118,11 +120,12 @@ fn answered_request(
 #[tactic(auto, unfolding(crate::specs::Intake::turned))]
 pub(crate) fn turned(
     alloc: Global,
-    ready: &Ready,
+    collection: &mut Collection<'_>,
     now: Moment,
     turn: Turn,
 ) -> Result<Draft, OutOfMemory>
-    ensures made { IfOk result (λ draft. draft ≡ turned ready.now now turn) }
+    ensures made { IfOk result (λ draft. draft ≡ turned collection.old now turn) }
+    ensures same { collection.new ≡ collection.old }
     ensures short { IfOk result (λ draft. All HasShortValue draft.group) }
 {
     match turn {
@@ -130,7 +133,7 @@ pub(crate) fn turned(
         Turn::Shut { conn } => Ok(only(alloc, None, Some(conn))),
         Turn::Whole { conn, body, since } => {
             let request = read(alloc, body.as_slice())?;
-            answered_request(alloc, ready, now, conn, since, request)
+            answered_request(alloc, collection, now, conn, since, request)
         }
     }
 }

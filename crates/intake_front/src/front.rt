@@ -17,6 +17,7 @@ ghost use Rattle.intake_front.specs.declared.answer.FrontError.TheVariants as er
 
 use crate::answer::{Answer, FrontError, Stop, Unmade};
 use crate::batch::{Batch, commit};
+use crate::collection::Collection;
 use crate::held::Held;
 use crate::offering::{receive, receive_alone};
 use crate::opening::open;
@@ -204,17 +205,18 @@ impl<D: Disk> Front<D> {
     pub fn take(
         &mut self,
         alloc: Global,
-        ready: &Ready,
+        collection: &mut Collection<'_>,
         event: &WireEvent,
     ) -> Result<Option<Stop>, OutOfMemory>
         requires going { self.old.journal.state ≡ state.Ready }
 
-        ensures stop { IfOk result (λ s. s ≡ (handled (limits_of self.old.journal 0) ready.now self.old.intake event.now).answer.stop) }
-        ensures after { OnOk result (self.new.intake ≡ (handled (limits_of self.old.journal 0) ready.now self.old.intake event.now).intake) }
-        ensures taken { OnOk result ((begun : Intake) → (events : List WireEvent) → self.old.intake ≡ (answered (limits_of self.old.journal 0) ready.now begun events).intake
-            → (answered (limits_of self.old.journal 0) ready.now begun events).stop ≡ None
-            → HasTaken ready.now begun events self.old → HasTaken ready.now begun (events ++ event.now ∷ []) self.new) }
-        ensures keeps { OnOk result (IsSound ready.now self.old.intake → IsSound ready.now self.new.intake) }
+        ensures stop { IfOk result (λ s. s ≡ (handled (limits_of self.old.journal 0) collection.old self.old.intake event.now).answer.stop) }
+        ensures after { OnOk result (self.new.intake ≡ (handled (limits_of self.old.journal 0) collection.old self.old.intake event.now).intake) }
+        ensures taken { OnOk result ((begun : Intake) → (events : List WireEvent) → self.old.intake ≡ (answered (limits_of self.old.journal 0) collection.old begun events).intake
+            → (answered (limits_of self.old.journal 0) collection.old begun events).stop ≡ None
+            → HasTaken collection.old begun events self.old → HasTaken collection.old begun (events ++ event.now ∷ []) self.new) }
+        ensures keeps { OnOk result (IsSound collection.old self.old.intake → IsSound collection.old self.new.intake) }
+        ensures same { collection.new ≡ collection.old }
         ensures journal { self.new.journal ≡ self.old.journal }
         ensures kept { self.new.kept ≡ self.old.kept }
         ensures err { OnErr result ((self.new.intake.entries ≡ self.old.intake.entries) × (self.new.block ≡ self.old.block) × (self.new.answers ≡ self.old.answers) × (self.new.failing ≡ self.old.failing)) }
@@ -225,7 +227,7 @@ impl<D: Disk> Front<D> {
             &inside.journal,
             &mut inside.held,
             &mut inside.batch,
-            ready,
+            collection,
             event,
         )
     }

@@ -292,8 +292,9 @@ fn take_all(
 ) -> Result<Many<Answer>, OutOfMemory>
     requires { front.old.journal.state ≡ state.Ready }
 {
+    let mut collection = Collection::new(ready);
     for event in events {
-        front.take(alloc, ready, event)?;
+        front.take(alloc, &mut collection, event)?;
     }
     Ok(front.commit(alloc))
 }

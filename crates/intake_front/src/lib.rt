@@ -23,7 +23,8 @@
 //!
 //! ```text
 //! let mut front = Front::new(alloc, &ready, journal, kept)?; // entry 1 is the configuration of `ready`
-//! front.take(alloc, &ready, &event)?;                        // more events while `front.goes_on()`
+//! let mut collection = Collection::new(&ready);
+//! front.take(alloc, &mut collection, &event)?;               // more events while `front.goes_on()`
 //! for answer in front.commit(alloc).as_slice() { .. }        // durable: send its reply, then close answer.shut
 //! let (disk, entries) = front.end();
 //! ```
@@ -33,6 +34,7 @@
 
 mod answer;
 mod batch;
+mod collection;
 mod drafts;
 mod fitting;
 mod front;
@@ -45,6 +47,7 @@ mod staging;
 mod taking;
 
 pub use answer::{Answer, FrontError, Reply, Stop, Unmade};
+pub use collection::Collection;
 pub use fitting::first_misfit;
 pub use front::Front;
 pub use refusal::ValueRefusal;

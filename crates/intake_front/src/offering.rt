@@ -11,6 +11,7 @@ ghost use Rattle.intake_front.specs.declared.answer.Stop.TheVariants as stop;
 
 use crate::answer::{Answer, Stop};
 use crate::batch::{Batch, commit};
+use crate::collection::Collection;
 use crate::drafts::{Draft, stop_of, ticks_at, turned};
 use crate::held::Held;
 use crate::settling::{Settled, enter, groups_of, numbered_both, settle, ticked_with};
@@ -86,18 +87,19 @@ pub(crate) fn receive<D: Disk>(
     journal: &Journal<D>,
     held: &mut Held,
     batch: &mut Batch,
-    ready: &Ready,
+    collection: &mut Collection<'_>,
     event: &WireEvent,
 ) -> Result<Option<Stop>, OutOfMemory>
     requires stands { Stands journal.now batch.old.block held.old }
     requires batch { IsBatch held.old batch.old }
-    ensures taken { MatchResult result (IsTaken held.old held.new batch.old batch.new (λ s. handled (limits_of journal.now s) ready.now held.old event.now)) (λ _. IsLeft held.old held.new batch.old batch.new) }
+    ensures taken { MatchResult result (IsTaken held.old held.new batch.old batch.new (λ s. handled (limits_of journal.now s) collection.old held.old event.now)) (λ _. IsLeft held.old held.new batch.old batch.new) }
+    ensures same { collection.new ≡ collection.old }
     ensures room { HasRoom journal.now batch.old.block → HasRoom journal.now batch.new.block }
 {
     let now = held.now.later(event.at());
     let ticks = ticks_at(alloc, held.tick, now)?;
     let turn = held.table.on(alloc, event, now)?;
-    let draft = turned(alloc, ready, now, turn)?;
+    let draft = turned(alloc, collection, now, turn)?;
     held.now = now;
     offer(alloc, journal, held, batch, ticks, draft, stop_of(event))
 }
@@ -121,7 +123,8 @@ pub(crate) fn receive_alone<D: Disk>(
     ensures answers { batch.new.answers.items ≡ [] }
     ensures first { batch.new.first ≡ None }
 {
-    receive(alloc, journal, held, batch, ready, event)?;
+    let mut collection = Collection::new(ready);
+    receive(alloc, journal, held, batch, &mut collection, event)?;
     match commit(alloc, journal, held, batch).into_vec().pop() {
         Some(answer) => Ok(answer),
         None => Err(OutOfMemory),

@@ -7,6 +7,7 @@ ghost use Rattle.entry_step.specs.Names.{host_named, item_keyed};
 ghost use Rattle.intake_front.specs.Taking.{is_enabled_host, is_enabled_item, is_trapper_item, AllCollected, clocked, valued, keyed, hosted, taken_of, entry_in, group_of};
 ghost use Rattle.intake_journal.specs.Bytes.{HasShortValue};
 
+use crate::collection::Collection;
 use crate::refusal::ValueRefusal;
 use entry_step::Ready;
 use maintenance::{collects, in_force};
@@ -73,7 +74,7 @@ fn keeps_out(conf: &Conf, now: Moment, id: u32, maintenance: &Maintenance) -> bo
 }
 
 /// Whether some maintenance keeps values out at a moment. Where none does, no value need ask for its host.
-fn some_keeps_out(conf: &Conf, now: Moment) -> Result<bool, OutOfMemory>
+pub(crate) fn some_keeps_out(conf: &Conf, now: Moment) -> Result<bool, OutOfMemory>
     ensures { IfOk result (λ some. some ≡ false → AllCollected conf.now now) }
 {
     for (place, maintenance) in conf.maintenances.as_slice().iter().enumerate() {
@@ -195,18 +196,20 @@ fn add(made: &mut Many<Entry>, taken: Result<Entry, ValueRefusal>) -> Result<(),
     Ok(())
 }
 
-/// The values that are taken, as entries. All are taken at one moment, so the maintenances are looked through once.
+/// The values that are taken, as entries. All are taken at one moment.
 #[tactic(auto, using(crate::proofs::Numbers::group_none, crate::proofs::Numbers::group_more, crate::proofs::Short::group_short))]
 pub(crate) fn group(
     alloc: Global,
-    ready: &Ready,
+    collection: &mut Collection<'_>,
     now: Moment,
     all: Many<Asked>,
 ) -> Result<Many<Entry>, OutOfMemory>
-    ensures made { IfOk result (λ made. made ≡ group_of ready.now now all) }
+    ensures made { IfOk result (λ made. made ≡ group_of collection.old now all) }
+    ensures same { collection.new ≡ collection.old }
     ensures short { IfOk result (λ made. All HasShortValue made) }
 {
-    let some_out = some_keeps_out(ready.conf(), now)?;
+    let some_out = collection.some_out(now)?;
+    let ready = collection.ready();
     let mut made = Many::new(alloc);
     for asked in all.into_vec() {
         add(&mut made, taken(ready, now, some_out, asked))?;

@@ -230,11 +230,12 @@ module _ {D : Type 0} (bytes : D → Option (List ℕ)) (images : D → List ℕ
 
   -- more events that stop nothing
   pub ran_on : (limits : Limits) (conf : Conf) (recovered : List Numbered) (start now new : Intake) (d0 d1 d2 : D) (w0 w1 w2 : WireTells) (count more : ℕ)
-      → Ran (refusing limits 0) conf recovered start now (doing d0 d1) w0 w1 count None None anywhere → (l : Limits) → l ≡ limits → Ran (refusing l 0) conf now.entries now new (doing d1 d2) w1 w2 more None None anywhere
+      → Ran (refusing limits 0) conf recovered start now (doing d0 d1) w0 w1 count None None anywhere → (l : Limits) → l ≡ limits → (k : Conf) → k ≡ conf → Ran (refusing l 0) k now.entries now new (doing d1 d2) w1 w2 more None None anywhere
       → Ran (refusing limits 0) conf recovered start new (doing d0 d2) w0 w2 (count + more) None None anywhere
-  ran_on limits conf recovered start now new d0 d1 d2 w0 w1 w2 count more r l same t =
+  ran_on limits conf recovered start now new d0 d1 d2 w0 w1 w2 count more r l same k is t =
       ran_more limits conf recovered start now new d0 d1 d2 w0 w1 w2 count more None None anywhere r
-      (subst (λ (x : Limits). Ran (refusing x 0) conf now.entries now new (doing d1 d2) w1 w2 more None None anywhere) same t)
+      (subst (λ (x : Limits). Ran (refusing x 0) conf now.entries now new (doing d1 d2) w1 w2 more None None anywhere) same
+      (subst (λ (x : Conf). Ran (refusing l 0) x now.entries now new (doing d1 d2) w1 w2 more None None anywhere) is t))
 
   -- a run that took its events
   pub finish : (limits : Limits) (conf : Conf) (recovered : List Numbered) (start now : Intake) (d0 d1 : D) (w0 w1 : WireTells) (count turns n : ℕ) (s : Option Stop) (lost : Option WireEvent) (ending e : Ending)
@@ -269,10 +270,10 @@ module _ {D : Type 0} (bytes : D → Option (List ℕ)) (images : D → List ℕ
 
   -- a run that ends behind events that were committed together
   pub finish_with : (limits : Limits) (conf : Conf) (recovered : List Numbered) (start now new : Intake) (d0 d1 d2 : D) (w0 w1 w2 : WireTells) (count most turns : ℕ) (e : Status)
-      → Ran (refusing limits 0) conf recovered start now (doing d0 d1) w0 w1 count None None anywhere → (l : Limits) → l ≡ limits → Ends l conf now new (doing d1 d2) w1 w2 most e
+      → Ran (refusing limits 0) conf recovered start now (doing d0 d1) w0 w1 count None None anywhere → (l : Limits) → l ≡ limits → (k : Conf) → k ≡ conf → Ends l k now new (doing d1 d2) w1 w2 most e
       → count + most ≤ turns → w0.faults ≤ w1.faults → Finished limits conf recovered start new.entries turns (doing d0 d2) w0 w2 (course_of e).ending
-  finish_with limits conf recovered start now new d0 d1 d2 w0 w1 w2 count most turns e r l same t few later =
-      let x : Ends limits conf now new (doing d1 d2) w1 w2 most e = subst (λ (k : Limits). Ends k conf now new (doing d1 d2) w1 w2 most e) same t in
+  finish_with limits conf recovered start now new d0 d1 d2 w0 w1 w2 count most turns e r l same k is t few later =
+      let x : Ends limits conf now new (doing d1 d2) w1 w2 most e = subst (λ (x : Limits). Ends x conf now new (doing d1 d2) w1 w2 most e) same (subst (λ (x : Conf). Ends l x now new (doing d1 d2) w1 w2 most e) is t) in
       finish limits conf recovered start new d0 d2 w0 w2 (count + x.count) turns (refused_group now x.stop) x.stop x.lost x.ending (course_of e).ending
       (ran_more limits conf recovered start now new d0 d1 d2 w0 w1 w2 count x.count x.stop x.lost x.ending r x.ran) (refused_is now x.stop) (omega (arith, few, x.few)) (x.ends turns (count + x.count))
       (λ left rest has. ⊎_elim (λ is. inl is) (λ rose. inr (omega (arith, later, rose))) (x.left left rest has))

@@ -16,7 +16,7 @@ ghost use Rattle.server_run.specs.Stops.{Journals};
 use crate::book::{Ledger, settle};
 use crate::taking::{Batch, take_batch};
 use entry_step::Ready;
-use intake_front::{Front, Stop};
+use intake_front::{Collection, Front, Stop};
 use outside::{Disk, Sink, Trouble, Wire};
 use server_words::Status;
 use std::alloc::Global;
@@ -118,7 +118,7 @@ fn ended_with(
 fn serve_batch<W: Wire, D: Disk, O: Sink>(
     alloc: Global,
     most: u64,
-    ready: &Ready,
+    collection: &mut Collection<'_>,
     wire: &mut W,
     front: &mut Front<D>,
     ledger: &mut Ledger,
@@ -131,10 +131,11 @@ fn serve_batch<W: Wire, D: Disk, O: Sink>(
     ensures outbox_later { (O.tells outbox.old).faults ≤ (O.tells outbox.new).faults }
     ensures outbox { IsErrOf result Status.OutboxFault → Rose (O.tells outbox.old).faults (O.tells outbox.new).faults }
     ensures unprinted { IfErr result IsUnprinted }
-    ensures took { TookOrEnded (limits_of front.old.journal 0) ready.now front.old.intake front.new.intake (Journals D.bytes D.images D.moment D.images_since D.faults (λ c. ⊥) front.old.journal.disk front.new.journal.disk)
+    ensures took { TookOrEnded (limits_of front.old.journal 0) collection.old front.old.intake front.new.intake (Journals D.bytes D.images D.moment D.images_since D.faults (λ c. ⊥) front.old.journal.disk front.new.journal.disk)
         (W.tells wire.old) (W.tells wire.new) most result }
-    ensures keeps_up { (sink : SinkTells) → UpToDate ready.now front.old.intake ledger.old sink (O.tells outbox.old)
-        → KeepsUp ready.now front.new.intake ledger.new sink (O.tells outbox.new) result }
+    ensures keeps_up { (sink : SinkTells) → UpToDate collection.old front.old.intake ledger.old sink (O.tells outbox.old)
+        → KeepsUp collection.old front.new.intake ledger.new sink (O.tells outbox.new) result }
+    ensures same { collection.new ≡ collection.old }
     ensures idle { IsIdle front.new }
     ensures state { OnOk result (IsReady front.old.journal front.new.journal) }
 {
@@ -143,7 +144,8 @@ fn serve_batch<W: Wire, D: Disk, O: Sink>(
         count,
         stop,
         gathered,
-    } = take_batch(alloc, most, ready, wire, front);
+    } = take_batch(alloc, most, collection, wire, front);
+    let ready = collection.ready();
     let settled = settle_unless(alloc, ready, front, from, stop, ledger, outbox);
     match ended_with(stop, gathered, settled) {
         None => Ok(count),
@@ -176,10 +178,11 @@ pub(crate) fn serve<W: Wire, D: Disk, O: Sink>(
         → Leaves ready.now front.new.intake.entries ledger.new.tally sink (O.tells outbox.new) (course_of result).out }
     ensures idle { IsIdle front.new }
 {
+    let mut collection = Collection::new(ready);
     let mut taken = 0;
     while taken < turns {
         let most = (turns - taken).min(MOST_TOGETHER);
-        match serve_batch(alloc, most, ready, wire, front, ledger, outbox) {
+        match serve_batch(alloc, most, &mut collection, wire, front, ledger, outbox) {
             Ok(count) => taken += count,
             Err(status) => return status,
         }

@@ -12,8 +12,7 @@ ghost use Rattle.server_run.specs.Statuses.{anywhere};
 ghost use Rattle.server_run.specs.Stops.{Journals};
 
 use crate::delivery::deliver_all;
-use entry_step::Ready;
-use intake_front::{Front, Stop};
+use intake_front::{Collection, Front, Stop};
 use outside::{Disk, Trouble, Wire};
 use std::alloc::Global;
 use zbx_types::OutOfMemory;
@@ -34,17 +33,18 @@ pub(crate) struct Batch {
 /// `Failed` where the wire gave no event. `OutOfMemory` where memory was refused. What waited before still does.
 fn take_one<W: Wire, D: Disk>(
     alloc: Global,
-    ready: &Ready,
+    collection: &mut Collection<'_>,
     wire: &mut W,
     front: &mut Front<D>,
 ) -> Result<Option<Stop>, Trouble>
     requires going { front.old.journal.state ≡ state.Ready }
     ensures cause { HasNextCause (W.tells wire.old).faults (W.tells wire.new).faults result }
-    ensures gathered { (begun : Fronted D) (before : WireTells) (count : ℕ) → Gathered ready.now begun front.old before (W.tells wire.old) count None None anywhere
-        → GatheredMore ready.now begun front.new before (W.tells wire.new) count result }
+    ensures same { collection.new ≡ collection.old }
+    ensures gathered { (begun : Fronted D) (before : WireTells) (count : ℕ) → Gathered collection.old begun front.old before (W.tells wire.old) count None None anywhere
+        → GatheredMore collection.old begun front.new before (W.tells wire.new) count result }
 {
     let event = wire.next(alloc)?;
-    match front.take(alloc, ready, &event) {
+    match front.take(alloc, collection, &event) {
         Ok(stop) => Ok(stop),
         Err(OutOfMemory) => Err(Trouble::OutOfMemory),
     }
@@ -55,20 +55,21 @@ fn take_one<W: Wire, D: Disk>(
 fn gather<W: Wire, D: Disk>(
     alloc: Global,
     most: u64,
-    ready: &Ready,
+    collection: &mut Collection<'_>,
     wire: &mut W,
     front: &mut Front<D>,
 ) -> (u64, Result<(), Trouble>)
     requires going { front.old.journal.state ≡ state.Ready }
     requires idle { IsIdle front.old }
     ensures cause { HasNextCause (W.tells wire.old).faults (W.tells wire.new).faults result.1 }
-    ensures gathered { GatheredBy ready.now front.old front.new (W.tells wire.old) (W.tells wire.new) result.0 result.1 }
+    ensures same { collection.new ≡ collection.old }
+    ensures gathered { GatheredBy collection.old front.old front.new (W.tells wire.old) (W.tells wire.new) result.0 result.1 }
     ensures few { result.0 ≤ most }
     ensures fewer { OnErr result.1 (result.0 < most) }
     ensures some { IfOk result.1 (λ _. 0 < most → 0 < result.0) }
 {
     for count in 0..most {
-        match take_one(alloc, ready, wire, front) {
+        match take_one(alloc, collection, wire, front) {
             Ok(None) => {
                 if !(wire.ready() && front.goes_on()) {
                     return (count + 1, Ok(()));
@@ -86,19 +87,20 @@ fn gather<W: Wire, D: Disk>(
 pub(crate) fn take_batch<W: Wire, D: Disk>(
     alloc: Global,
     most: u64,
-    ready: &Ready,
+    collection: &mut Collection<'_>,
     wire: &mut W,
     front: &mut Front<D>,
 ) -> Batch
     requires going { front.old.journal.state ≡ state.Ready }
     requires idle { IsIdle front.old }
     ensures cause { HasNextCause (W.tells wire.old).faults (W.tells wire.new).faults result.gathered }
-    ensures took { Took (limits_of front.old.journal 0) ready.now front.old.intake front.new.intake (Journals D.bytes D.images D.moment D.images_since D.faults (λ c. ⊥) front.old.journal.disk front.new.journal.disk)
+    ensures same { collection.new ≡ collection.old }
+    ensures took { Took (limits_of front.old.journal 0) collection.old front.old.intake front.new.intake (Journals D.bytes D.images D.moment D.images_since D.faults (λ c. ⊥) front.old.journal.disk front.new.journal.disk)
         (W.tells wire.old) (W.tells wire.new) most result.count result.stop result.gathered }
     ensures idle { IsIdle front.new }
     ensures state { result.stop ≢ Some stop.DiskFault → IsReady front.old.journal front.new.journal }
 {
-    let (count, gathered) = gather(alloc, most, ready, wire, front);
+    let (count, gathered) = gather(alloc, most, collection, wire, front);
     let answers = front.commit(alloc);
     let stop = deliver_all(wire, answers.as_slice());
     Batch {

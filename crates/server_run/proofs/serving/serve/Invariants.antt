@@ -1,4 +1,4 @@
-use Rattle.std.proofs.Common.{◌≤◌, ◌-◌}
+use Rattle.std.proofs.Common.{◌≡◌, ◌≤◌, ◌-◌}
 use Rattle.std.specs.Prelude.{None}
 use Rattle.outside.specs.Tells.{SinkTells}
 use Rattle.intake_front.specs.Fronted.{IsReady, limits_of}
@@ -11,6 +11,7 @@ use Rattle.server_run.proofs.serving.serve.Given as goal
 
 abbrev pub invariant-loop-taken : goal.invariant-loop-taken
 invariant-loop-taken g l = record {
+  same : l.collection ≡ l.ready;
   within : l.taken ≤ l.turns;
   wire_later : (g.W.Wire.tells l.fn.wire).faults ≤ (g.W.Wire.tells l.wire).faults;
   outbox_later : (g.O.Sink.tells l.fn.outbox).faults ≤ (g.O.Sink.tells l.outbox).faults;

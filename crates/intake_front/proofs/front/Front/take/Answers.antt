@@ -17,12 +17,12 @@ receive-requires-clause-stands g c =
 pub invariant_of-self : goal.invariant_of-self
 invariant_of-self g c =
     let f = c.self.inside.inside in
-    did_waiting f.journal c.args.ready.now f.held c.receive.new.held f.batch c.receive.new.batch c.args.event.now g.D.Disk.bytes g.D.Disk.images c.receive.result c.self.invariant c.receive.ensures.room c.receive.ensures.taken
+    did_waiting f.journal c.args.collection.now f.held c.receive.new.held f.batch c.receive.new.batch c.args.event.now g.D.Disk.bytes g.D.Disk.images c.receive.result c.self.invariant c.receive.ensures.room c.receive.ensures.taken
 
 pub returns-clause-taken : goal.returns-clause-taken
 returns-clause-taken g c =
     let f = c.self.inside.inside in
-    let conf = c.args.ready.now in
+    let conf = c.args.collection.now in
     let e = c.args.event.now in
     let new = front_of f.journal c.receive.new.held c.receive.new.batch in
     subst (λ v. OnOk c.receive.result ((begun : Intake) → (events : List WireEvent) → v.intake ≡ (answered (limits_of v.journal 0) conf begun events).intake
@@ -32,11 +32,11 @@ returns-clause-taken g c =
 pub returns-clause-keeps : goal.returns-clause-keeps
 returns-clause-keeps g c =
     let f = c.self.inside.inside in
-    let conf = c.args.ready.now in
+    let conf = c.args.collection.now in
     subst (λ v. OnOk c.receive.result (IsSound conf v.intake → IsSound conf c.receive.new.held)) c.self.view_is
     (did_keep f.journal conf f.held c.receive.new.held f.batch c.receive.new.batch c.args.event.now c.receive.result c.receive.ensures.taken)
 
 pub returns-clause-kept : goal.returns-clause-kept
 returns-clause-kept g c =
     let f = c.self.inside.inside in
-    did_kept f.journal c.args.ready.now f.held c.receive.new.held f.batch c.receive.new.batch c.args.event.now c.receive.result c.self.invariant.batch c.receive.ensures.taken ∙ ap (λ v. v.kept) c.self.view_is
+    did_kept f.journal c.args.collection.now f.held c.receive.new.held f.batch c.receive.new.batch c.args.event.now c.receive.result c.self.invariant.batch c.receive.ensures.taken ∙ ap (λ v. v.kept) c.self.view_is

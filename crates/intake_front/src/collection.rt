@@ -1,0 +1,66 @@
+//! The configuration by which values are taken.
+
+ghost use Rattle.std.specs.Prelude.{◌≡◌, false, IfOk};
+ghost use Rattle.intake_front.specs.Taking.{AllCollected};
+
+use crate::taking::some_keeps_out;
+use entry_step::Ready;
+use std::marker::Model;
+use zbx_types::{Moment, OutOfMemory};
+
+/// Whether some maintenance keeps values out at a moment, and so in the whole second.
+#[derive(Clone, Copy)]
+pub(crate) struct Found {
+    pub(crate) at: Moment,
+    pub(crate) some_out: bool,
+}
+
+/// The configuration by which values are taken. It remembers what was found of its maintenances at the last moment, so that
+/// they are looked through once a second and not for each event. Contracts see the configuration.
+pub struct Collection<'a> {
+    ready: &'a Ready,
+    found: Option<Found>,
+}
+
+impl<'a> Model for Collection<'a> {
+    ghost use Rattle.zbx_types.specs.declared.conf.Conf.{Conf};
+    ghost use Rattle.intake_front.specs.Collected.{HasFound};
+
+    ghost Value = { Conf };
+
+    ghost view = { λ c. c.ready.now };
+
+    ghost invariant = { λ c. HasFound c.ready.now c.found };
+}
+
+impl<'a> Collection<'a> {
+    /// Values are taken by this configuration. Takes no memory.
+    pub fn new(ready: &'a Ready) -> Collection<'a>
+        ensures { result ≡ ready.now }
+    {
+        Collection { ready, found: None }
+    }
+
+    /// The configuration.
+    pub fn ready(&self) -> &'a Ready
+        ensures { result.now ≡ self.now }
+    {
+        self.ready
+    }
+
+    /// Whether some maintenance keeps values out at a moment. Where none does, no value need ask for its host.
+    #[tactic(auto, using(crate::proofs::Collecting::same_second))]
+    pub(crate) fn some_out(&mut self, now: Moment) -> Result<bool, OutOfMemory>
+        ensures some { IfOk result (λ some. some ≡ false → AllCollected self.old now) }
+        ensures same { self.new ≡ self.old }
+    {
+        if let Some(found) = self.found {
+            if found.at.sec == now.sec {
+                return Ok(found.some_out);
+            }
+        }
+        let some_out = some_keeps_out(self.ready.conf(), now)?;
+        self.found = Some(Found { at: now, some_out });
+        Ok(some_out)
+    }
+}
