@@ -1,6 +1,6 @@
 ghost use Rattle.std.specs.Prelude.{◌≡◌, ◌<◌};
 
-use super::*;
+use entry_step::{Cells, Ready, Steps, step};
 use std::alloc::Global;
 use std::convert::AsStr;
 use std::marker::Brand;
