@@ -17,6 +17,7 @@ pub(crate) struct Found {
 
 /// The configuration by which values are taken. It remembers what was found of its maintenances at the last moment, so that
 /// they are looked through once a second and not for each event. Contracts see the configuration.
+#[derive(Drop)]
 pub struct Collection<'a> {
     ready: &'a Ready,
     found: Option<Found>,
