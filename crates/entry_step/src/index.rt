@@ -86,8 +86,7 @@ impl Model for Ready {
 }
 
 impl Ready {
-    /// Makes the indexes of a configuration, in time that grows with its length, and for each trigger that depends on
-    /// others with the number of triggers.
+    /// Makes the indexes of a configuration, in time that grows with its length and with the masters of its triggers.
     ///
     /// # Errors
     ///

@@ -24,10 +24,14 @@ pub struct Collection<'a> {
 }
 
 impl<'a> Model for Collection<'a> {
+    ghost use Rattle.std.specs.Coded.{codes};
+    ghost use Rattle.zbx_types.specs.Tree.{tree_code};
     ghost use Rattle.zbx_types.specs.declared.conf.Conf.{Conf};
     ghost use Rattle.intake_front.specs.Collected.{HasFound};
 
     ghost Value = { Conf };
+
+    ghost coded = { Prim.hlevel (codes, tree_code) };
 
     ghost view = { λ c. c.ready.now };
 
