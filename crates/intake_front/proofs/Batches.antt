@@ -1,5 +1,5 @@
 -- What an event that is taken adds to what waits.
-use Rattle.std.proofs.Common.{◌≡◌, ◌≢◌, ℕ, ◌+◌, ◌≤◌, ◌<◌, Bool, true, false, List, [], ◌∷◌, ◌++◌, length, take, Option, Some, None, refl, sym, ◌∙◌, ap, subst, arith, append_assoc, append-nil, length-append, add-one}
+use Rattle.std.proofs.Common.{◌≡◌, ℕ, ◌+◌, ◌≤◌, ◌<◌, Bool, List, [], ◌∷◌, ◌++◌, length, take, Option, Some, None, refl, sym, ◌∙◌, ap, subst, arith, append_assoc, append-nil, length-append, add-one}
 use Rattle.std.specs.Prelude.{◌||◌, slice_set}
 use Rattle.std.proofs.Math.Seq.{take-suc-set}
 use Rattle.std.proofs.lemmas.List.{take-append-le}
@@ -15,12 +15,11 @@ use Rattle.intake_front.specs.Fronted.{all_of, staged_with}
 use Rattle.intake_front.specs.Staging.{Stands, groups_in}
 use Rattle.intake_front.specs.Waiting.{has_tick, HasFirst, IsBatch, first_with, FirstBy, IsTaken}
 use Rattle.intake_front.specs.declared.answer.Answer.{Answer}
-use Rattle.intake_front.specs.declared.answer.Stop.{Stop}
 use Rattle.intake_front.specs.declared.batch.Batch.{Batch}
 use Rattle.intake_front.specs.declared.batch.First.{First}
 use Rattle.intake_front.specs.declared.batch.Mark.{Mark}
 use Rattle.intake_front.proofs.Numbers.{length_numbered, numbered-append}
-use Rattle.intake_front.proofs.Offers.{Says, FaultIs, ticked_entries}
+use Rattle.intake_front.proofs.Offers.{Says, ticked_entries}
 
 -- one answer put in the place of another, and what stood behind it cut off
 pub cut_at : (xs ys : List Answer) (at : ℕ) (a : Answer) → ys ≡ slice_set xs at a → at < length xs → take (at + 1) ys ≡ take at xs ++ a ∷ []

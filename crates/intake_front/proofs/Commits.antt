@@ -1,30 +1,21 @@
 -- What a commit leaves of an intake and of what waited.
-use Rattle.std.proofs.Common.{◌≡◌, ◌≢◌, ℕ, ◌+◌, ◌≤◌, ◌<◌, true, false, List, [], ◌∷◌, ◌++◌, length, take, Option, Some, None, IfSome, refl, sym, ◌∙◌, ap, subst, arith, append-nil, length-append}
-use Rattle.std.specs.Prelude.{Result, Ok, Err, is_some}
+use Rattle.std.proofs.Common.{◌≡◌, ℕ, ◌+◌, ◌≤◌, false, List, [], length, take, Option, None, IfSome, sym, ◌∙◌, ap, subst, arith, append-nil, length-append}
+use Rattle.std.specs.Prelude.{is_some}
 use Rattle.std.proofs.lemmas.List.{take_all, length-take-le}
 use Rattle.zbx_types.specs.declared.entries.Entry.{Entry}
 use Rattle.zbx_types.specs.declared.entries.Numbered.{Numbered}
-use Rattle.zbx_types.specs.declared.memory.OutOfMemory.{OutOfMemory}
-use Rattle.outside.specs.Causes.{Rose}
 use Rattle.outside.specs.Disk.{LeavesOnly}
-use Rattle.outside.specs.declared.event.WireEvent.{WireEvent}
-use Rattle.zbx_types.specs.declared.conf.Conf.{Conf}
-use Rattle.intake_journal.specs.Block.{opened_bytes, count_all}
+use Rattle.intake_journal.specs.Block.{opened_bytes}
 use Rattle.intake_journal.specs.Settled.{Journaled}
 use Rattle.intake_journal.specs.declared.state.State.TheVariants.{Ready, Broken}
-use Rattle.intake_front.specs.Intake.{Intake, Handled, handled, numbered_behind, with_group}
-use Rattle.intake_front.specs.Fronted.{HasJournaled, HasRoom, KeepsEither, IsReady, limits_of, refused_group, all_of}
-use Rattle.intake_front.specs.Staging.{Stands, IsWritten, IsOffered}
-use Rattle.intake_front.specs.Waiting.{failing_of, mark_of, back_to, has_tick, HasFirst, IsBatch, IsWaiting, FirstBy, IsTaken, IsLeft}
-use Rattle.intake_front.specs.declared.answer.Answer.{Answer}
-use Rattle.intake_front.specs.declared.answer.Stop.{Stop}
-use Rattle.intake_front.specs.declared.answer.Stop.TheVariants as stop
+use Rattle.intake_front.specs.Intake.{Intake, numbered_behind, with_group}
+use Rattle.intake_front.specs.Fronted.{HasJournaled, HasRoom, KeepsEither, all_of}
+use Rattle.intake_front.specs.Staging.{Stands, IsWritten}
+use Rattle.intake_front.specs.Waiting.{mark_of, back_to, has_tick, HasFirst, IsBatch, IsWaiting}
 use Rattle.intake_front.specs.declared.batch.Batch.{Batch}
-use Rattle.intake_front.specs.declared.batch.First.{First}
 use Rattle.intake_front.specs.declared.batch.Mark.{Mark}
-use Rattle.intake_front.proofs.Journals.{count_of, leaves_same}
+use Rattle.intake_front.proofs.Journals.{count_of}
 use Rattle.intake_front.proofs.Numbers.{length_numbered}
-use Rattle.intake_front.proofs.Taken.{none_waits, front_kept}
 
 -- nothing waits behind an intake's own mark
 pub idle_batch : (i : Intake) (b : Batch) → b.block ≡ [] → b.first ≡ None → b.is_ticked ≡ false → b.mark ≡ mark_of i → i.groups ≤ length i.entries → IsBatch i b

@@ -1,16 +1,14 @@
 -- What contracts see of a front that takes an event.
-use Rattle.std.proofs.Common.{◌≡◌, ℕ, ◌+◌, ◌≤◌, List, [], ◌∷◌, ◌++◌, length, take, Option, Some, None, refl, sym, ◌∙◌, ap, subst}
+use Rattle.std.proofs.Common.{◌≡◌, ℕ, List, [], ◌∷◌, ◌++◌, take, Option, None, ◌∙◌, ap}
 use Rattle.std.specs.Prelude.{Result, Ok, Err, IfOk, OnOk, OnErr}
 use Rattle.zbx_types.specs.declared.conf.Conf.{Conf}
-use Rattle.zbx_types.specs.declared.entries.Entry.{Entry}
-use Rattle.zbx_types.specs.declared.entries.Numbered.{Numbered}
 use Rattle.zbx_types.specs.declared.memory.OutOfMemory.{OutOfMemory}
 use Rattle.outside.specs.declared.event.WireEvent.{WireEvent}
 use Rattle.intake_journal.specs.Settled.{Journaled}
 use Rattle.intake_front.specs.Intake.{Intake, handled, IsSound}
-use Rattle.intake_front.specs.Fronted.{Fronted, HasRoom, limits_of}
+use Rattle.intake_front.specs.Fronted.{HasRoom, limits_of}
 use Rattle.intake_front.specs.Batch.{answered, HasTaken}
-use Rattle.intake_front.specs.Waiting.{failing_of, front_of, IsBatch, IsWaiting, IsTaken, IsLeft}
+use Rattle.intake_front.specs.Waiting.{failing_of, front_of, IsBatch, IsWaiting}
 use Rattle.intake_front.specs.declared.answer.Answer.{Answer}
 use Rattle.intake_front.specs.declared.answer.Stop.{Stop}
 use Rattle.intake_front.specs.declared.batch.Batch.{Batch}

@@ -1,11 +1,11 @@
 -- What becomes of an event's groups, by what the journal has room for.
-use Rattle.std.proofs.Common.{◌≡◌, ◌≢◌, ℕ, ◌+◌, ◌-◌, ◌<◌, Bool, true, false, not, List, [], ◌∷◌, ◌++◌, length, take, Option, Some, None, refl, sym, ◌∙◌, ap, arith, append_assoc, append-nil, length-append}
+use Rattle.std.proofs.Common.{◌≡◌, ◌≢◌, ℕ, ◌+◌, ◌-◌, ◌<◌, Bool, true, false, List, [], ◌∷◌, ◌++◌, length, take, Option, Some, None, refl, sym, ◌∙◌, ap, arith, append-nil, length-append}
 use Rattle.std.proofs.Math.Seq.{take-append_seam}
 use Rattle.std.specs.Prelude.{if◌then◌else◌, ◌==◌, min, ◌^◌}
 use Rattle.std.proofs.lemmas.Bool.{ne_eqb, eq-eqb}
 use Rattle.zbx_types.specs.declared.entries.Entry.{Entry}
 use Rattle.zbx_types.specs.declared.entries.Numbered.{Numbered}
-use Rattle.intake_journal.specs.Block.{opened_bytes, count_all, entries_with_all, bytes_with_all, passes_with_all}
+use Rattle.intake_journal.specs.Block.{entries_with_all, bytes_with_all, passes_with_all}
 use Rattle.intake_journal.specs.Settled.{Journaled}
 use Rattle.intake_journal.proofs.Staged.{count-push, more_long}
 use Rattle.intake_front.specs.Intake.{Intake, Handled, numbered_from, numbered_behind, with_group, bytes_with, refused_at, refused, kept_with, ticked, stopping, values_offered, behind_tick, tick_offered, offered}

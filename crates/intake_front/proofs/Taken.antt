@@ -1,5 +1,5 @@
 -- Events that are taken one after the other, and what is held back of them.
-use Rattle.std.proofs.Common.{◌≡◌, ◌≢◌, ℕ, ◌+◌, ◌≤◌, ◌<◌, List, [], ◌∷◌, ◌++◌, length, take, Option, Some, None, refl, sym, ◌∙◌, ap, subst, arith, append-nil, length-append}
+use Rattle.std.proofs.Common.{◌≡◌, ℕ, ◌+◌, ◌≤◌, ◌<◌, List, [], ◌∷◌, ◌++◌, length, take, Option, Some, None, refl, sym, ◌∙◌, ap, subst, arith, append-nil}
 use Rattle.std.proofs.Math.Seq.{take-append_seam}
 use Rattle.std.proofs.lemmas.List.{take-append-le}
 use Rattle.zbx_types.specs.declared.conf.Conf.{Conf}
@@ -8,7 +8,7 @@ use Rattle.zbx_types.specs.declared.entries.Numbered.{Numbered}
 use Rattle.outside.specs.declared.event.WireEvent.{WireEvent}
 use Rattle.intake_journal.specs.Settled.{Journaled}
 use Rattle.intake_front.specs.Intake.{Limits, Intake, Handled, handled, with_group}
-use Rattle.intake_front.specs.Fronted.{Fronted, limits_of, all_of}
+use Rattle.intake_front.specs.Fronted.{limits_of, all_of}
 use Rattle.intake_front.specs.Batch.{Answered, answered_more, answered_on, answered_from, answered, HasTaken}
 use Rattle.intake_front.specs.Waiting.{failing_of, front_of, HasFirst, IsBatch, FirstBy, IsTaken}
 use Rattle.intake_front.specs.declared.answer.Answer.{Answer}

@@ -1,5 +1,5 @@
 use Rattle.std.proofs.Common.{◌≡◌, ℕ, ◌+◌, ◌++◌, [], ◌∷◌, List, length, sym, ◌∙◌, ap, subst, arith}
-use Rattle.std.specs.Prelude.{Bool, ◌||◌}
+use Rattle.std.specs.Prelude.{◌||◌}
 use Rattle.zbx_types.specs.declared.entries.Entry.{Entry}
 use Rattle.zbx_types.specs.declared.entries.Numbered.{Numbered}
 use Rattle.intake_journal.specs.Block.{opened_bytes}

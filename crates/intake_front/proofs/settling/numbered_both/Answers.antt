@@ -1,6 +1,3 @@
-use Rattle.std.proofs.Common.{◌+◌, ◌++◌, List, length, sym, ◌∙◌, ap}
-use Rattle.zbx_types.specs.declared.entries.Numbered.{Numbered}
-use Rattle.intake_front.specs.Intake.{numbered_from}
 use Rattle.intake_front.proofs.Numbers.{both_from}
 use Rattle.intake_front.proofs.settling.numbered_both.Goals as goal
 

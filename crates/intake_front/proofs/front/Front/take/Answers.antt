@@ -1,4 +1,4 @@
-use Rattle.std.proofs.Common.{◌≡◌, ◌++◌, ◌∷◌, [], List, None, sym, ◌∙◌, ap, subst}
+use Rattle.std.proofs.Common.{◌≡◌, ◌++◌, ◌∷◌, [], List, None, ◌∙◌, ap, subst}
 use Rattle.std.specs.Prelude.{OnOk}
 use Rattle.outside.specs.declared.event.WireEvent.{WireEvent}
 use Rattle.intake_front.specs.Intake.{Intake, IsSound}
