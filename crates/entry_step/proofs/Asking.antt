@@ -1,6 +1,5 @@
 -- What calls ask for, and what they are worth.
-use Rattle.std.proofs.Common.{◌≡◌, ◌≢◌, ◌≤◌, ◌<◌, ◌⊎◌, inl, inr, ◌+◌, ◌-◌, ◌==◌, ℕ, zero, suc, Bool, true, false, cond, List, [], ◌∷◌, ◌++◌, length, map, get_or, slice_get, Option, Some, None, ℤ, All, refl, sym, ◌∙◌, ap, subst, option_and_then, take, reverse, filter, arith}
-use mathlib.Core.Path.{fun_ext}
+use Rattle.std.proofs.Common.{◌≡◌, ◌≤◌, ◌<◌, ◌⊎◌, inl, inr, ◌+◌, ◌-◌, ◌==◌, ℕ, zero, suc, Bool, true, false, cond, List, [], ◌∷◌, ◌++◌, length, map, get_or, slice_get, Option, Some, None, ℤ, All, refl, sym, ◌∙◌, ap, subst, option_and_then, take, arith}
 use Rattle.std.proofs.lemmas.Option.{slice_get_within, get_or_from_slice_get, slice_get_past}
 use Rattle.std.proofs.lemmas.List.{take_more}
 use Rattle.std.proofs.lemmas.Bool.{cases_order}
@@ -17,7 +16,6 @@ use Rattle.history_functions.specs.Functions.{value_of}
 use Rattle.history_functions.specs.Matching.{pattern_place}
 use Rattle.value_cache.specs.Cells.{CellView, IsWithin, Shows, ShowsWith}
 use Rattle.value_cache.specs.Keeps.{seconds_in, most_seconds, keep_of}
-use Rattle.value_cache.specs.Laws.{AsksWithin}
 use Rattle.value_cache.specs.Windows.{window_of}
 use Rattle.value_cache.specs.declared.keeping.Keep.{Keep}
 use Rattle.entry_step.specs.declared.occasions.Occasion.{Occasion}

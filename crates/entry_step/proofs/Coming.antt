@@ -1,6 +1,6 @@
 -- Cells of items, and what comes into them.
 use Rattle.std.proofs.Common.{◌≡◌, ◌≢◌, ◌≤◌, ◌<◌, ◌+◌, ◌-◌, ◌==◌, ℕ, zero, suc, Bool, true, false, cond, List, [], ◌∷◌, ◌++◌, length, map, get_or, set, slice_get, take, Option, Some, None, refl, sym, ◌∙◌, ap, subst, option_map, arith, ne_eqb, eq-eqb}
-use Rattle.std.proofs.lemmas.List.{length-set, set_past, length-map}
+use Rattle.std.proofs.lemmas.List.{length-set, length-map}
 use Rattle.std.proofs.lemmas.Option.{slice_get_past, slice_get-get_or}
 use Rattle.zbx_types.specs.Ids.{at_id, ids_from}
 use Rattle.zbx_types.specs.declared.conf.Conf.{Conf}

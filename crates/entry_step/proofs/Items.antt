@@ -1,5 +1,5 @@
 -- Items of lists by ids, where one is changed.
-use Rattle.std.proofs.Common.{◌≡◌, ◌≢◌, ℕ, zero, suc, ◌-◌, ◌==◌, false, Option, None, List, [], ◌∷◌, set, slice_get, refl, ap, ne_eqb, arith, option_map}
+use Rattle.std.proofs.Common.{◌≡◌, ◌≢◌, ℕ, zero, suc, ◌-◌, ◌==◌, false, None, List, [], ◌∷◌, set, slice_get, refl, ap, ne_eqb, arith, option_map}
 use Rattle.zbx_types.specs.Ids.{at_id}
 
 pub slice_get_set_same : {A : Type 0} (xs : List A) (i : ℕ) (v : A) → slice_get (set xs i v) i ≡ option_map (λ _. v) (slice_get xs i)

@@ -1,10 +1,8 @@
 -- Open problems and more records.
-use Rattle.std.proofs.Common.{◌≡◌, ℕ, ◌==◌, Bool, true, false, cond, not, ◌||◌, suc, List, [], ◌∷◌, ◌++◌, length, Option, Some, map, filter, arith, refl, sym, ◌∙◌, ap, eq-eqb, eqb-true}
-use Rattle.std.specs.List.{list_any}
+use Rattle.std.proofs.Common.{◌≡◌, ℕ, ◌==◌, Bool, true, false, cond, not, suc, List, [], ◌∷◌, ◌++◌, length, Option, Some, map, filter, arith, refl, sym, ◌∙◌, ap, eq-eqb, eqb-true}
 use Rattle.zbx_types.specs.Ids.{at_id}
 use Rattle.zbx_types.specs.declared.conf.Conf.{Conf}
 use Rattle.zbx_types.specs.declared.triggers.Trigger.{Trigger}
-use Rattle.zbx_types.specs.declared.entries.EventId.{EventId}
 use Rattle.zbx_types.specs.declared.entries.Rec.{Rec}
 use Rattle.zbx_types.specs.declared.entries.Rec.TheVariants.{Failure, Problem, Recovery, Step, Message}
 use Rattle.zbx_types.specs.Records.{same_event, event_of}
@@ -13,7 +11,6 @@ use Rattle.trigger_state.proofs.Searches.{search_grows}
 use Rattle.escalations.specs.Escalations.{first_records_of}
 use Rattle.entry_step.specs.Records.{problem_of, begun_records}
 use Rattle.zbx_types.specs.declared.entries.Held.{Held}
-use Rattle.entry_step.specs.Each.{Each}
 use Rattle.entry_step.specs.Represents.{AllAtHome}
 use Rattle.trigger_state.specs.declared.problems.Open.{Open}
 

@@ -1,5 +1,5 @@
 -- What is kept goes on representing cells.
-use Rattle.std.proofs.Common.{◌≡◌, ◌≢◌, ◌≤◌, ℕ, zero, suc, slice_get, ◌==◌, Bool, true, false, cond, ◌&&◌, Option, Some, None, List, [], ◌∷◌, ◌++◌, length, filter, replicate, is_some, refl, sym, ◌∙◌, ap, subst, eqb-true, eq-eqb, arith, append-nil, Result, Ok, Err, IfOk, OnOk, reverse, ◌+◌}
+use Rattle.std.proofs.Common.{◌≡◌, ◌≤◌, ℕ, zero, suc, slice_get, ◌==◌, Bool, true, false, cond, ◌&&◌, Option, Some, None, List, [], ◌∷◌, ◌++◌, length, filter, replicate, is_some, refl, sym, ◌∙◌, ap, subst, eqb-true, eq-eqb, arith, append-nil, Result, Ok, Err, IfOk, OnOk, reverse, ◌+◌}
 use mathlib.Core.Path.{fun_ext}
 use Rattle.std.specs.List.{list_any}
 use Rattle.std.specs.Option.{option_or, unwrap_or}
@@ -25,7 +25,7 @@ use Rattle.entry_step.specs.History.{stored_of, with_stored, history_of}
 use Rattle.entry_step.specs.Kept.{Keeps, still_to_come, Sees, IsCalled, SeesFor, Became, AreEmpty}
 use Rattle.entry_step.specs.Order.{order}
 use Rattle.entry_step.specs.Due.{due_at}
-use Rattle.entry_step.specs.Records.{evaluated, phase, phase_over, has_call, is_over, triggers_over, timed_triggers, stores, triggers_at, failure_by, failure_of, failures_at, judged_of, out_of, replay}
+use Rattle.entry_step.specs.Records.{evaluated, phase, has_call, is_over, triggers_over, timed_triggers, stores, triggers_at, failure_by, failure_of, failures_at, judged_of, out_of, replay}
 use Rattle.entry_step.specs.Cells.{Key, ItemKey, TriggerKey, TickKey, ItemCell, Cells, opens_in, touches, item_after, histories_after, judged_at, records_at, records, after, seen_of, look, StandFor}
 use Rattle.entry_step.specs.Represents.{CellsView, problems_at, AllAtHome, Represents, Holds, ComesAfter, StepsTo}
 use Rattle.entry_step.specs.Changes.{with_rows, put_back, AreTidy, Runs, RunsOver, Absorbed, TakesIn, Takes, TakesTick}

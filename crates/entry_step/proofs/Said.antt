@@ -1,10 +1,8 @@
 -- What actions add about a problem: steps of its event, and messages.
-use Rattle.std.proofs.Common.{◌≡◌, ℕ, Bool, List, [], ◌∷◌, ◌++◌, map, Option, Some, None, refl}
-use Rattle.std.specs.Prelude.{filter, flat_map, is_some, if◌then◌else◌}
+use Rattle.std.proofs.Common.{ℕ, Bool, List, [], ◌∷◌, map, Option, Some, None, refl}
+use Rattle.std.specs.Prelude.{filter, flat_map, is_some}
 use Rattle.zbx_types.specs.Records.{same_event, event_of, tags_of}
 use Rattle.zbx_types.specs.declared.actions.Action.{Action}
-use Rattle.zbx_types.specs.declared.actions.Operation.{Operation}
-use Rattle.zbx_types.specs.declared.actions.Sending.{Sending}
 use Rattle.zbx_types.specs.declared.conf.Conf.{Conf}
 use Rattle.zbx_types.specs.declared.entries.EventId.{EventId}
 use Rattle.zbx_types.specs.declared.entries.Rec.{Rec}

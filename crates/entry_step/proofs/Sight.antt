@@ -1,5 +1,5 @@
 -- What a trigger's events show: its tags where a verdict asks for them, and its patterns.
-use Rattle.std.proofs.Common.{◌≡◌, ℕ, zero, suc, ◌+◌, ◌<◌, ◌≤◌, ◌-◌, ◌==◌, Bool, true, false, cond, not, ◌||◌, ◌&&◌, List, [], ◌∷◌, Option, Some, None, length, get_or, take, map, filter, slice_get, refl, sym, ap, ◌∙◌, subst, ℤ, pos, arith}
+use Rattle.std.proofs.Common.{◌≡◌, ℕ, zero, suc, ◌+◌, ◌<◌, ◌≤◌, cond, List, [], ◌∷◌, Option, Some, None, length, get_or, take, map, filter, slice_get, refl, sym, ap, subst, pos, arith}
 use Rattle.std.specs.Prelude.{All, IfSome}
 use Rattle.std.specs.Ordering.{int_eq}
 use Rattle.std.proofs.lemmas.List.{take_all}
@@ -10,8 +10,7 @@ use Rattle.zbx_types.specs.declared.entries.Tag.{Tag}
 use Rattle.zbx_types.specs.declared.triggers.Trigger.{Trigger}
 use Rattle.event_text.specs.Titles.{HasPatterns, HasTitlePatterns, HasTagPatterns}
 use Rattle.trigger_state.specs.Problems.{event_in}
-use Rattle.trigger_state.specs.Verdicts.{is_closed_by, closing, close_all, lets_close, on_true, verdict_over}
-use Rattle.trigger_state.specs.declared.answer.Verdict.{Verdict}
+use Rattle.trigger_state.specs.Verdicts.{is_closed_by, closing, close_all, lets_close, on_true}
 use Rattle.trigger_state.specs.declared.answer.Verdict.TheVariants.{Nothing}
 use Rattle.trigger_state.specs.declared.problems.Open.{Open}
 use Rattle.entry_step.specs.Changes.{Serve}

@@ -1,5 +1,5 @@
 -- What the calls of a configuration ask for.
-use Rattle.std.specs.Prelude.{◌≡◌, ◌≤◌, ℕ, ◌+◌, List, [], map, All}
+use Rattle.std.specs.Prelude.{◌≡◌, ◌≤◌, ℕ, ◌+◌, List, map, All}
 use Rattle.zbx_types.specs.Ids.{at_id}
 use Rattle.zbx_types.specs.Operators.{call_pattern}
 use Rattle.zbx_types.specs.declared.calls.Call.{Call}

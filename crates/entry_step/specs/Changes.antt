@@ -1,5 +1,5 @@
 -- How a step changes what is kept of the triggers, and how that is put back.
-use Rattle.std.specs.Prelude.{◌≡◌, ℕ, ◌-◌, ◌==◌, Bool, true, List, [], ◌∷◌, ◌++◌, reverse, take, length, Option, Some, None, ℤ, if◌then◌else◌, slice_set, slice_index_or}
+use Rattle.std.specs.Prelude.{◌≡◌, ℕ, ◌-◌, ◌==◌, Bool, List, [], ◌∷◌, ◌++◌, reverse, take, length, Option, Some, None, ℤ, if◌then◌else◌, slice_set, slice_index_or}
 use Rattle.std.specs.Option.{unwrap_or}
 use Rattle.zbx_types.specs.declared.conf.Conf.{Conf}
 use Rattle.zbx_types.specs.declared.triggers.Trigger.{Trigger}

@@ -1,4 +1,3 @@
-use Rattle.std.proofs.Common.{◌≡◌}
 use Rattle.zbx_types.specs.Operators.{call_pattern}
 use Rattle.history_functions.specs.Matching.{pattern_place}
 use Rattle.entry_step.specs.Asked.{IsAsked}

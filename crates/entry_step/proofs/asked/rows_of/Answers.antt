@@ -1,4 +1,4 @@
-use Rattle.std.proofs.Common.{◌≡◌, ◌∙◌, List, All, ap, map, subst}
+use Rattle.std.proofs.Common.{◌∙◌, List, All, ap, map, subst}
 use Rattle.zbx_types.specs.Operators.{call_pattern}
 use Rattle.zbx_types.specs.declared.calls.Call.{Call}
 use Rattle.history_functions.specs.Matching.{pattern_place}

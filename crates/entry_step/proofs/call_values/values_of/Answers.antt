@@ -1,4 +1,4 @@
-use Rattle.std.proofs.Common.{rules, ◌≡◌, ◌≤◌, length}
+use Rattle.std.proofs.Common.{rules, ◌≤◌, length}
 use Rattle.entry_step.proofs.Asking.{all_values}
 use Rattle.entry_step.proofs.call_values.values_of.Goals as goal
 

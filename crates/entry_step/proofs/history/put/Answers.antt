@@ -1,4 +1,4 @@
-use Rattle.std.proofs.Common.{rules, ◌≡◌, ◌-◌, ◌<◌, ◌≤◌, length}
+use Rattle.std.proofs.Common.{rules, ◌-◌, ◌<◌, ◌≤◌, length}
 use Rattle.entry_step.proofs.Coming.{came_zero, came_past, came_in}
 use Rattle.entry_step.proofs.Loops.{on_on}
 use Rattle.entry_step.proofs.history.put.Goals as goal

@@ -1,4 +1,4 @@
-use Rattle.std.proofs.Common.{get_or, subst}
+use Rattle.std.proofs.Common.{subst}
 use Rattle.std.specs.Prelude.{Contains}
 use Rattle.zbx_types.specs.declared.text.Text.{Text}
 use Rattle.entry_step.proofs.Sight.{all_more, all_end}

@@ -1,10 +1,8 @@
-use Rattle.std.proofs.Common.{◌∙◌, get_or, subst, List, ℕ}
-use Rattle.std.specs.Prelude.{All, Contains}
+use Rattle.std.proofs.Common.{subst, List}
+use Rattle.std.specs.Prelude.{All}
 use Rattle.zbx_types.specs.declared.entries.Tag.{Tag}
-use Rattle.zbx_types.specs.declared.triggers.Trigger.{Trigger}
 use Rattle.event_text.specs.Titles.{HasPatterns}
-use Rattle.entry_step.specs.Seen.{HasTexts, ArePatterned}
-use Rattle.entry_step.proofs.Sight.{all_more, all_end}
+use Rattle.entry_step.specs.Seen.{HasTexts}
 use Rattle.entry_step.proofs.patterned.trigger_has.Goals as goal
 
 pub returns : goal.returns

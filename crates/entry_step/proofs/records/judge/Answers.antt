@@ -1,4 +1,3 @@
-use Rattle.std.proofs.Common.{true}
 use Rattle.entry_step.proofs.Landing.{settled_opens}
 use Rattle.entry_step.proofs.records.judge.Goals as goal
 

@@ -1,4 +1,4 @@
-use Rattle.std.proofs.Common.{◌≡◌, ◌++◌, ◌+◌, drop, ◌∙◌, ◌<◌, ◌≤◌, ◌≢◌, ℕ, List, length, get_or, ap, sym, subst, rules}
+use Rattle.std.proofs.Common.{◌≡◌, ◌++◌, ◌+◌, drop, ◌∙◌, ◌<◌, ◌≤◌, ◌≢◌, ℕ, List, length, get_or, ap, sym, subst}
 use Rattle.value_cache.specs.Keeps.{keep_of}
 use Rattle.value_cache.specs.Cells.{IsWithin}
 use Rattle.zbx_types.specs.declared.calls.Range.TheVariants.{Count}

@@ -1,8 +1,7 @@
-use Rattle.std.proofs.Common.{◌≡◌, ◌<◌, ◌+◌, ℕ, List, length, get_or, ◌∙◌, ap, subst, refl, arith, take}
+use Rattle.std.proofs.Common.{◌≡◌, ◌+◌, ℕ, List, get_or, ◌∙◌, subst, refl, arith}
 use Rattle.std.proofs.lemmas.List.{take_all}
 use Rattle.zbx_types.specs.declared.entries.Stored.{Stored}
 use Rattle.trigger_state.specs.Problems.{absorbed_all}
-use Rattle.entry_step.specs.Each.{Each}
 use Rattle.entry_step.specs.Kept.{still_to_come, SeesFor}
 use Rattle.entry_step.specs.Records.{evaluated}
 use Rattle.entry_step.specs.Represents.{AllAtHome, problems_at}

@@ -1,4 +1,4 @@
-use Rattle.std.proofs.Common.{◌≡◌, Some, None, List, length, refl, sym, ◌∙◌, ap, subst, ◌+◌}
+use Rattle.std.proofs.Common.{length, refl, sym, ◌∙◌, ap, subst, ◌+◌}
 use Rattle.zbx_types.specs.declared.entries.Entry.TheVariants.{Value}
 use Rattle.entry_step.specs.History.{stored_of}
 use Rattle.entry_step.specs.Changes.{Takes}
