@@ -26,6 +26,8 @@ pub(crate) enum Stage {
     Ended,
     /// This side has closed it. What the other side still sends is read away.
     Closed,
+    /// As closed, since before the last look.
+    Left,
 }
 
 /// A connection.
@@ -33,17 +35,32 @@ pub(crate) enum Stage {
 pub(crate) struct Peer {
     pub(crate) stream: TcpStream,
     pub(crate) stage: Stage,
+    /// Whether the system was asked to report what comes on it.
+    pub(crate) watched: bool,
+}
+
+impl Peer {
+    /// A connection that has just been accepted.
+    pub(crate) fn new(stream: TcpStream) -> Peer {
+        Peer {
+            stream,
+            stage: Stage::Open,
+            watched: false,
+        }
+    }
 }
 
 /// The connections that are there, by their numbers, at most 128. Contracts see how many there are.
 ///
-/// One that has ended or was closed stays for some seconds, by a clock that doesn't go back, and no longer.
+/// One that has ended or was closed stays for some seconds from the next look on, by a clock that doesn't go back, and no
+/// longer.
 #[derive(Drop)]
 pub(crate) struct Connections {
     peers: HashMap<u64, Peer>,
+    /// Those that have begun to part since the last look.
+    leaving: VecDeque<u64>,
+    /// Those that have parted before, and until when they stay.
     parting: VecDeque<(u64, Instant)>,
-    /// Until when one stays that parts now. None where the clock can't be read.
-    until: Option<Instant>,
 }
 
 impl Model for Connections {
@@ -65,8 +82,8 @@ impl Connections {
     {
         Connections {
             peers: HashMap::new(alloc),
+            leaving: VecDeque::new(alloc),
             parting: VecDeque::new(alloc),
-            until: None,
         }
     }
 
@@ -89,7 +106,7 @@ impl Connections {
     pub(crate) fn reserve(&mut self) -> Result<(), OutOfMemory>
         ensures { self.new ≡ self.old }
     {
-        if self.parting.reserve(1).is_err() || self.peers.reserve(1).is_err() {
+        if self.leaving.reserve(1).is_err() || self.peers.reserve(1).is_err() {
             return Err(OutOfMemory);
         }
         Ok(())
@@ -110,14 +127,12 @@ impl Connections {
         let _ = self.peers.insert(conn, peer);
     }
 
-    /// Puts a connection in that parts. Without a clock, or memory for it, it goes at once.
+    /// Puts a connection in that parts. Without memory for it, it goes at once.
     pub(crate) fn put_parting(&mut self, conn: u64, peer: Peer)
         requires { self.old < most_connections }
     {
-        if let Some(until) = self.until {
-            if self.parting.push_back((conn, until)).is_ok() {
-                self.put(conn, peer);
-            }
+        if self.leaving.push_back(conn).is_ok() {
+            self.put(conn, peer);
         }
     }
 
@@ -126,20 +141,20 @@ impl Connections {
     pub(crate) fn close(&mut self, conn: u64) {
         if let Some(peer) = self.take(conn) {
             if peer.stage == Stage::Open && peer.stream.shutdown(Shutdown::Write).is_ok() {
-                let stream = peer.stream;
-                let stage = Stage::Closed;
-                self.put_parting(conn, Peer { stream, stage });
+                let mut peer = peer;
+                peer.stage = Stage::Closed;
+                self.put_parting(conn, peer);
             }
         }
     }
 
-    /// Takes the time, and lets those go that have parted for long enough.
+    /// Takes the time of a look, from which those stay for some seconds that have begun to part since the last one, and lets
+    /// those go that have parted for long enough. Where the clock can't be read, those that have begun to part go at once.
     pub(crate) fn part(&mut self, now: Option<Instant>) {
+        self.date_leaving(now.and_then(stays_until));
         let Some(now) = now else {
-            self.until = None;
             return;
         };
-        self.until = now.checked_add(Duration::from_secs(PARTING));
         for _ in 0..self.parting.len() {
             if !self.part_first(now) {
                 return;
@@ -147,10 +162,25 @@ impl Connections {
         }
     }
 
-    /// Lets the one go that has been parting longest, if its moment has come.
+    /// Has those that have begun to part stay until a moment. Without one, or memory for it, they go at once.
+    fn date_leaving(&mut self, until: Option<Instant>) {
+        for _ in 0..self.leaving.len() {
+            if let Some(conn) = self.leaving.pop_front() {
+                let stays = match until {
+                    Some(until) => self.parting.push_back((conn, until)).is_ok(),
+                    None => false,
+                };
+                if !stays {
+                    self.peers.remove(&conn);
+                }
+            }
+        }
+    }
+
+    /// Lets the one go that has been parting longest, if its moment has come or it is gone already.
     fn part_first(&mut self, now: Instant) -> bool {
         match self.parting.front() {
-            Some((conn, until)) if *until <= now => {
+            Some((conn, until)) if *until <= now || !self.peers.contains_key(conn) => {
                 let conn = *conn;
                 self.parting.pop_front();
                 self.peers.remove(&conn);
@@ -180,7 +210,7 @@ impl Connections {
         };
         let conn = *conn;
         if let Some(peer) = self.peers.get(&conn) {
-            if peer.stage != Stage::Closed {
+            if !matches!(peer.stage, Stage::Closed | Stage::Left) {
                 return false;
             }
         }
@@ -188,4 +218,9 @@ impl Connections {
         self.peers.remove(&conn);
         true
     }
+}
+
+/// Until when a connection stays that parts at a moment.
+fn stays_until(now: Instant) -> Option<Instant> {
+    now.checked_add(Duration::from_secs(PARTING))
 }

@@ -32,6 +32,11 @@
 //!
 //! A look at the sockets reads each one that has something once, so no peer holds up another, and takes time by the
 //! sockets that have something, not by those that are there. Only `send` waits for one peer, 10 seconds at most.
+//!
+//! A connection is read as soon as it is accepted. The system is asked to watch it where nothing has come then, or where it
+//! is still open at the next look. One that was closed is read at the second look after that, or at the first where more
+//! than 64 are there, and is watched only if the peer hasn't ended by then. So a peer that sends all at once, gets its reply
+//! and ends is never watched.
 #![tactic(auto)]
 
 mod clock;
@@ -39,6 +44,7 @@ mod connections;
 mod file_disk;
 mod piece;
 mod queue;
+mod room;
 mod sink;
 mod sockets;
 mod source;

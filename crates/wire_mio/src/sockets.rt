@@ -7,13 +7,14 @@ use crate::clock::moment;
 use crate::connections::{Connections, Peer, Stage};
 use crate::piece::{Away, Got, fill_out, read_away, read_piece};
 use crate::queue::Queue;
+use crate::room::Room;
 use mio::net::{TcpListener, TcpStream};
 use mio::{Events, Interest, Poll, Token};
 use outside::{Failed, Trouble, WireEvent};
 use std::alloc::Global;
 use std::collections::VecDeque;
 use std::io;
-use std::io::{ErrorKind, Write};
+use std::io::ErrorKind;
 use std::net::{Net, SocketAddr};
 use std::time::{Clock, Duration, Instant};
 use zbx_types::{Moment, OutOfMemory};
@@ -30,10 +31,11 @@ const ACCEPTS: u32 = 128;
 /// How many milliseconds one look waits.
 const LOOK: u64 = 100;
 
-/// How often a send waits for room, and how many milliseconds each time.
-const ROOM_WAITS: u32 = 1_000;
+/// How many sockets one look takes from at most: those that were reported, and those that were accepted.
+const TAKES: u32 = 384;
 
-const ROOM_WAIT: u64 = 10;
+/// With more connections than so many, one that was closed doesn't wait for its second look.
+const CROWD: usize = 64;
 
 /// A listening socket, and what is needed to look at it and at connections.
 #[derive(Drop)]
@@ -41,12 +43,12 @@ pub(crate) struct Sockets {
     poll: Poll,
     events: Events,
     listener: TcpListener,
-    /// What was reported and isn't looked at yet.
+    /// What was reported or accepted and isn't looked at yet.
     reported: VecDeque<u64>,
+    /// Those on which more may come, or have come already, than is reported.
+    unsettled: VecDeque<u64>,
     buffer: Vec<u8>,
-    /// Looks for room in one connection.
-    room: Poll,
-    room_events: Events,
+    room: Room,
 }
 
 impl Sockets {
@@ -67,9 +69,9 @@ impl Sockets {
             events: Events::with_capacity(alloc, REPORTS)?,
             listener,
             reported: VecDeque::with_capacity(alloc, REPORTS)?,
+            unsettled: VecDeque::new(alloc),
             buffer: Vec::new(alloc),
-            room,
-            room_events: Events::with_capacity(alloc, 1)?,
+            room: Room::new(alloc, room)?,
         }))
     }
 
@@ -87,14 +89,14 @@ impl Sockets {
     ) -> Result<Moment, Trouble>
         ensures { queue.new.told ≡ queue.old.told }
     {
-        self.gather()?;
+        self.gather(alloc, peers)?;
         peers.part(Instant::now(clock).ok());
         let at = moment(clock)?;
         self.take_all(alloc, at, peers, queue)?;
         Ok(at)
     }
 
-    /// Takes what each socket has that was reported.
+    /// Takes what each socket has that was reported, and each that is accepted meanwhile.
     fn take_all(
         &mut self,
         alloc: Global,
@@ -104,7 +106,10 @@ impl Sockets {
     ) -> Result<(), OutOfMemory>
         ensures { queue.new.told ≡ queue.old.told }
     {
-        'reports: for _ in 0..self.reported.len() {
+        'reports: for _ in 0..TAKES {
+            if self.reported.is_empty() {
+                break;
+            }
             self.take_first(alloc, at, peers, queue)?;
         }
         Ok(())
@@ -129,13 +134,14 @@ impl Sockets {
 
     /// Waits until a socket has something, and keeps the numbers of those that have. Where none has the listening socket
     /// is looked at all the same. While some are kept it does nothing.
-    fn gather(&mut self) -> Result<(), Trouble> {
+    fn gather(&mut self, alloc: Global, peers: &mut Connections) -> Result<(), Trouble> {
         if !self.reported.is_empty() {
             return Ok(());
         }
         if self.reported.reserve(REPORTS).is_err() {
             return Err(Trouble::OutOfMemory);
         }
+        self.settle_all(alloc, peers)?;
         self.poll
             .poll(&mut self.events, Some(Duration::from_millis(LOOK)))
             .or(Err(Trouble::Failed))?;
@@ -146,6 +152,42 @@ impl Sockets {
             self.reported.push_back(LISTENER)?;
         }
         Ok(())
+    }
+
+    /// Settles the connections on which more may have come than is reported.
+    fn settle_all(&mut self, alloc: Global, peers: &mut Connections) -> Result<(), OutOfMemory> {
+        if self.unsettled.is_empty() {
+            return Ok(());
+        }
+        fill_out(alloc, &mut self.buffer)?;
+        for _ in 0..self.unsettled.len() {
+            if let Some(conn) = self.unsettled.pop_front() {
+                self.settle(conn, peers);
+            }
+        }
+        Ok(())
+    }
+
+    /// Has an open connection watched, and reads away what one brings that was closed. Most peers have ended by the second
+    /// look after that, so it waits for that one, where there are few connections.
+    fn settle(&mut self, conn: u64, peers: &mut Connections) {
+        let Some(peer) = peers.take(conn) else {
+            return;
+        };
+        let mut peer = peer;
+        match peer.stage {
+            Stage::Open => {
+                self.watch(conn, &mut peer);
+                peers.put(conn, peer);
+            }
+            Stage::Ended => peers.put(conn, peer),
+            Stage::Closed if peers.count() < CROWD => {
+                peer.stage = Stage::Left;
+                let _ = self.unsettled.push_back(conn);
+                peers.put(conn, peer);
+            }
+            Stage::Closed | Stage::Left => self.read_closed(conn, peer, peers),
+        }
     }
 
     /// Takes what a socket has.
@@ -200,6 +242,9 @@ impl Sockets {
     {
         queue.reserve()?;
         peers.reserve()?;
+        if self.reported.reserve(1).is_err() {
+            return Err(OutOfMemory);
+        }
         match self.listener.accept() {
             Ok((stream, _)) => {
                 self.admit(stream, at, peers, queue);
@@ -212,7 +257,7 @@ impl Sockets {
         }
     }
 
-    /// Takes a connection in, under the next number. Where there is no room for it, it is closed.
+    /// Takes a connection in, under the next number, to be read in this look. Where there is no room for it, it is closed.
     fn admit(&mut self, stream: TcpStream, at: Moment, peers: &mut Connections, queue: &mut Queue)
         requires { 0 < queue.old.room }
         ensures { queue.new.told ≡ queue.old.told }
@@ -223,14 +268,8 @@ impl Sockets {
         if !peers.make_room() {
             return;
         }
-        let mut stream = stream;
-        let registry = self.poll.registry();
-        if registry
-            .register(&mut stream, Token(conn as usize), Interest::READABLE)
-            .is_ok()
-        {
-            let stage = Stage::Open;
-            peers.put(conn, Peer { stream, stage });
+        if self.reported.push_back(conn).is_ok() {
+            peers.put(conn, Peer::new(stream));
             queue.push(WireEvent::Opened { conn, at });
         }
     }
@@ -251,24 +290,27 @@ impl Sockets {
         }
         queue.reserve()?;
         peers.reserve()?;
+        if self.unsettled.reserve(1).is_err() {
+            return Err(OutOfMemory);
+        }
         fill_out(alloc, &mut self.buffer)?;
         let Some(peer) = peers.take(conn) else {
             return Ok(());
         };
         match peer.stage {
-            Stage::Open => self.read_open(alloc, conn, peer.stream, at, peers, queue),
+            Stage::Open => self.read_open(alloc, conn, peer, at, peers, queue),
             Stage::Ended => peers.put(conn, peer),
-            Stage::Closed => self.read_closed(conn, peer, peers),
+            Stage::Closed | Stage::Left => self.read_closed(conn, peer, peers),
         }
         Ok(())
     }
 
-    /// Reads once from an open connection, and tells what came. Where there may be more it is reported again.
+    /// Reads once from an open connection, and tells what came. Where there may be more it is settled at the next look.
     fn read_open(
         &mut self,
         alloc: Global,
         conn: u64,
-        stream: TcpStream,
+        peer: Peer,
         at: Moment,
         peers: &mut Connections,
         queue: &mut Queue,
@@ -279,28 +321,25 @@ impl Sockets {
         requires room { 0 < queue.old.room }
         ensures { queue.new.told ≡ queue.old.told }
     {
-        let mut stream = stream;
-        let got = read_piece(alloc, &mut self.buffer, &mut stream);
-        match got {
+        let mut peer = peer;
+        match read_piece(alloc, &mut self.buffer, &mut peer.stream) {
             Got::Piece(bytes) => {
-                self.report_again(conn, &mut stream);
-                let stage = Stage::Open;
-                peers.put(conn, Peer { stream, stage });
+                let _ = self.unsettled.push_back(conn);
+                peers.put(conn, peer);
                 queue.push(WireEvent::Piece { conn, bytes, at });
             }
             Got::End => {
-                let stage = Stage::Ended;
-                peers.put_parting(conn, Peer { stream, stage });
+                peer.stage = Stage::Ended;
+                peers.put_parting(conn, peer);
                 queue.push(WireEvent::Ended { conn, at });
             }
             Got::Nothing => {
-                let stage = Stage::Open;
-                peers.put(conn, Peer { stream, stage });
+                self.begin_watch(conn, &mut peer);
+                peers.put(conn, peer);
             }
             Got::Again => {
-                self.report_again(conn, &mut stream);
-                let stage = Stage::Open;
-                peers.put(conn, Peer { stream, stage });
+                self.watch(conn, &mut peer);
+                peers.put(conn, peer);
             }
             Got::Lost => queue.push(WireEvent::Broke { conn, at }),
         }
@@ -312,68 +351,45 @@ impl Sockets {
     {
         let mut peer = peer;
         match read_away(&mut self.buffer, &mut peer.stream) {
-            Away::Nothing => peers.put(conn, peer),
+            Away::Nothing => {
+                self.begin_watch(conn, &mut peer);
+                peers.put(conn, peer);
+            }
             Away::More => {
-                self.report_again(conn, &mut peer.stream);
+                self.watch(conn, &mut peer);
                 peers.put(conn, peer);
             }
             Away::Gone => {}
         }
     }
 
-    /// Has a connection reported again where it has something. One that can't be is looked at when something comes.
-    fn report_again(&mut self, conn: u64, stream: &mut TcpStream)
-        ensures { self.new.buffer ≡ self.old.buffer }
-    {
+    /// Watches a connection that isn't watched yet.
+    fn begin_watch(&mut self, conn: u64, peer: &mut Peer) {
+        if !peer.watched {
+            self.watch(conn, peer);
+        }
+    }
+
+    /// Has a connection reported when something comes, and also where something is there already. Where the system fails it
+    /// is settled at the next look.
+    fn watch(&mut self, conn: u64, peer: &mut Peer) {
         let registry = self.poll.registry();
-        let _ = registry.reregister(stream, Token(conn as usize), Interest::READABLE);
+        let (stream, token) = (&mut peer.stream, Token(conn as usize));
+        let watched = if peer.watched {
+            registry.reregister(stream, token, Interest::READABLE)
+        } else {
+            registry.register(stream, token, Interest::READABLE)
+        };
+        if watched.is_ok() {
+            peer.watched = true;
+        } else {
+            let _ = self.unsettled.push_back(conn);
+        }
     }
 
     /// Sends bytes on a connection, and waits for room where there is none.
     pub(crate) fn send(&mut self, stream: &mut TcpStream, bytes: &[u8]) -> Result<(), Failed> {
-        let mut left = write_front(stream, bytes)?;
-        if left.is_empty() {
-            return Ok(());
-        }
-        let registry = self.room.registry();
-        if registry
-            .register(stream, Token(0), Interest::WRITABLE)
-            .is_err()
-        {
-            return Err(Failed);
-        }
-        for _ in 0..ROOM_WAITS {
-            if self
-                .room
-                .poll(
-                    &mut self.room_events,
-                    Some(Duration::from_millis(ROOM_WAIT)),
-                )
-                .is_err()
-            {
-                break;
-            }
-            match write_front(stream, left) {
-                Ok(rest) => left = rest,
-                Err(Failed) => break,
-            }
-            if left.is_empty() {
-                break;
-            }
-        }
-        let _ = self.room.registry().deregister(stream);
-        if left.is_empty() { Ok(()) } else { Err(Failed) }
-    }
-}
-
-/// Writes bytes from the front of a slice, as many as there is room for, and answers those that are left.
-fn write_front<'a, W: Write>(to: &mut W, bytes: &'a [u8]) -> Result<&'a [u8], Failed> {
-    match to.write(bytes) {
-        Ok(count) => Ok(&bytes[count..]),
-        Err(error) => match error.kind() {
-            ErrorKind::WouldBlock | ErrorKind::Interrupted => Ok(bytes),
-            _ => Err(Failed),
-        },
+        self.room.send(stream, bytes)
     }
 }
 

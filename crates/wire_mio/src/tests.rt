@@ -186,7 +186,7 @@ fn ask(rt: &HostRuntime, address: &str) -> io::Result<u64> {
 }
 
 /// What a wire told up to the first Quiet or error: the latest connection that opened, how many bytes came, and how many
-/// connections ended. Where as many bytes came as are stated, it sends the reply and closes the connection.
+/// connections ended. Where at least as many bytes came as are stated, it sends the reply and closes the connection.
 fn told(
     wire: &mut MioWire<&HostRuntime>,
     alloc: Global,
@@ -199,7 +199,7 @@ fn told(
             Ok(WireEvent::Opened { conn, .. }) => opened = conn,
             Ok(WireEvent::Piece { conn, bytes, .. }) => {
                 came = came.saturating_add(bytes.len());
-                if came == length {
+                if length <= came {
                     let _ = wire.send(conn, reply);
                     wire.close(conn);
                 }
@@ -226,6 +226,28 @@ fn a_client_reads_its_whole_reply(rt: HostRuntime) -> Result<(), Fail> {
     Ok(())
 }
 
+/// A client that has sent three bytes before the wire looks: what is told behind its reply, and the five bytes that it gets,
+/// where it is gone then.
+fn answered_at_once(
+    rt: &HostRuntime,
+    wire: &mut MioWire<&HostRuntime>,
+    address: &str,
+) -> io::Result<((u64, usize, u64), usize)> {
+    let mut client = TcpStream::connect(rt, address)?;
+    client.write_all(b"abc")?;
+    for _ in 0..2 {
+        if let Ok(WireEvent::Piece { conn, .. }) = wire.next(rt.alloc()) {
+            let _ = wire.send(conn, b"reply");
+            wire.close(conn);
+        }
+    }
+    let mut reply = [0; 8];
+    let got = client.read(&mut reply)?;
+    drop(client);
+    let events = told(wire, rt.alloc(), usize::MAX, b"");
+    Ok((events, if wire.connections() == 0 { got } else { 0 }))
+}
+
 /// A client that sends three bytes and no more, and the five that it gets.
 fn half_closed(
     rt: &HostRuntime,
@@ -235,9 +257,9 @@ fn half_closed(
     let mut client = TcpStream::connect(rt, address)?;
     client.write_all(b"abc")?;
     client.shutdown(Shutdown::Write)?;
-    let events = told(wire, rt.alloc(), 0, b"");
-    let _ = wire.send(1, b"reply");
-    wire.close(1);
+    let events = told(wire, rt.alloc(), usize::MAX, b"");
+    let _ = wire.send(events.0, b"reply");
+    wire.close(events.0);
     let mut reply = [0; 8];
     Ok((events, client.read(&mut reply)?))
 }
@@ -253,30 +275,32 @@ fn crowd(
     for _ in 0..size {
         clients.push(TcpStream::connect(rt, address)?)?;
     }
-    Ok((told(wire, rt.alloc(), 0, b""), wire.connections()))
+    Ok((told(wire, rt.alloc(), usize::MAX, b""), wire.connections()))
 }
 
-/// What half a client, a crowd, and a client in its place come to.
+/// What a client that is answered at once, half a client, a crowd, and a client in its place come to.
 fn visits(
     rt: &HostRuntime,
     address: &Text,
-) -> Result<[((u64, usize, u64), usize); 3], OutOfMemory> {
+) -> Result<[((u64, usize, u64), usize); 4], OutOfMemory> {
     let mut wire = MioWire::listen(rt, rt.alloc(), address)?;
     let none = ((0, 0, 0), 0);
-    let first = half_closed(rt, &mut wire, address.as_str()).unwrap_or(none);
+    let at_once = answered_at_once(rt, &mut wire, address.as_str()).unwrap_or(none);
+    let half = half_closed(rt, &mut wire, address.as_str()).unwrap_or(none);
     let crowd_of = crowd(rt, &mut wire, address.as_str(), 130).unwrap_or(none);
     let unknown = usize::from(wire.send(7_000, b"reply").is_err() && wire.unsent() == 1);
-    let after = told(&mut wire, rt.alloc(), 0, b"");
-    Ok([first, crowd_of, (after, unknown)])
+    let after = told(&mut wire, rt.alloc(), usize::MAX, b"");
+    Ok([at_once, half, crowd_of, (after, unknown)])
 }
 
 #[test]
 fn an_ended_connection_gets_its_reply_and_a_129th_is_closed(rt: HostRuntime) -> Result<(), Fail> {
     let address = free_address(&rt)?;
     let seen = visits(&rt, &address)?;
-    assert_eq!(rt; seen[0], ((1, 3, 1), 5));
-    assert_eq!(rt; seen[1], ((129, 0, 0), 128));
-    assert_eq!(rt; seen[2], ((0, 0, 128), 1));
+    assert_eq!(rt; seen[0], ((0, 0, 0), 5));
+    assert_eq!(rt; seen[1], ((2, 3, 1), 5));
+    assert_eq!(rt; seen[2], ((130, 0, 0), 128));
+    assert_eq!(rt; seen[3], ((0, 0, 128), 1));
     Ok(())
 }
 

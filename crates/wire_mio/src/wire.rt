@@ -15,7 +15,7 @@ use std::alloc::Global;
 use std::convert::AsStr;
 use std::marker::Model;
 use std::net::Net;
-use std::time::{Clock, Instant};
+use std::time::Clock;
 use zbx_types::{Moment, OutOfMemory, Text};
 
 /// How many looks at the sockets make a second of waiting.
@@ -160,7 +160,6 @@ impl<C: Clock> Wire for MioWire<C> {
         ensures sends { self.new.sends ≡ self.old.sends }
         ensures unsent { self.new.unsent ≡ self.old.unsent }
     {
-        self.peers.part(Instant::now(&self.clock).ok());
         self.peers.close(conn);
     }
 }
