@@ -199,6 +199,13 @@ pub gathered_by : {D : Type 0} (conf : Conf) (old new : Fronted D) (w w' : WireT
 gathered_by conf old new w w' count trouble.Failed g = g
 gathered_by conf old new w w' count trouble.OutOfMemory g = g
 
+-- by an equal configuration the same
+pub gathered_of : {D : Type 0} (a b : Conf) (old new : Fronted D) (w w' : WireTells) (count : ℕ) (s : Option Stop) (lost : Option WireEvent) (e : Ending) → a ≡ b → Gathered a old new w w' count s lost e → Gathered b old new w w' count s lost e
+gathered_of a b old new w w' count s lost e is = subst (λ (k : Conf). Gathered k old new w w' count s lost e) is
+
+pub more_of : {D : Type 0} (a b : Conf) (old new : Fronted D) (w w' : WireTells) (count : ℕ) (r : Result (Option Stop) Trouble) → a ≡ b → GatheredMore a old new w w' count r → GatheredMore b old new w w' count r
+more_of a b old new w w' count r is = subst (λ (k : Conf). GatheredMore k old new w w' count r) is
+
 -- ---- and committed
 
 refused_none : (i : Intake) (s : Option Stop) → (s ≡ Some stop.DiskFault → ⊥) → refused_group i s ≡ 0

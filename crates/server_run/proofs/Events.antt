@@ -172,6 +172,10 @@ module _ (limits : Limits) (conf : Conf) (old new : Intake) (did : Doing) (w w' 
   pub keeps_ended : (e : Status) → ended_with s g t ≡ Some e → Leaves conf new.entries ledger'.tally sink later (course_of e).out
   keeps_ended e is = leaves_ended conf old new ledger ledger' sink now later n s took.lost t all grown took.none_added took.sound set u g t e refl is
 
+-- by an equal configuration the same is settled
+pub settled_of : (a b : Conf) (l l' : Ledger) (es : List Numbered) (k k' : SinkTells) (s : Option Stop) (t : Result (Unit {0}) Trouble) → a ≡ b → SettlesUnless a l l' es k k' s t → SettlesUnless b l l' es k k' s t
+settled_of a b l l' es k k' s t is = subst (λ (x : Conf). SettlesUnless x l l' es k k' s t) is
+
 -- ---- a run, some events at a time
 
 module _ {D : Type 0} (bytes : D → Option (List ℕ)) (images : D → List ℕ → Type 0) (moment : D → ℕ) (since : D → ℕ → List ℕ → Type 0) (faults : D → ℕ) where
