@@ -29,7 +29,7 @@ numbered_append n [] b = (numbered_from n b, refl)
 numbered_append n (e ∷ es) b = let rest = numbered_append (n + 1) es b in (rest.0, ap (λ l. record { number = n; entry = e } ∷ l) rest.1)
 
 -- where groups fit, those in front fit
-fits_prefix : (conf : Conf) (a b : List Group) → GroupsFit conf (a ++ b) → GroupsFit conf a
+pub fits_prefix : (conf : Conf) (a b : List Group) → GroupsFit conf (a ++ b) → GroupsFit conf a
 fits_prefix conf a b fits =
     let entries : List Group → List Entry = λ gs. flat_map (λ (g : Group). g.entries) gs in
     let more = numbered_append 1 (entries a) (entries b) in
@@ -46,7 +46,8 @@ cons_head a b xs ys e = cc
 cons_tail : (a b : Group) (xs ys : List Group) → a ∷ xs ≡ b ∷ ys → xs ≡ ys
 cons_tail a b xs ys e = cc
 
-split_same : (b1 b2 : List Group) (g1 g2 : Group) (r1 r2 : List Group) → b1 ++ g1 ∷ r1 ≡ b2 ++ g2 ∷ r2
+-- the same list, split in two ways
+pub split_same : (b1 b2 : List Group) (g1 g2 : Group) (r1 r2 : List Group) → b1 ++ g1 ∷ r1 ≡ b2 ++ g2 ∷ r2
     → (g1 ≡ g2) ⊎ (((more : List Group) × (b2 ≡ (b1 ++ g1 ∷ []) ++ more)) ⊎ ((more : List Group) × (b1 ≡ (b2 ++ g2 ∷ []) ++ more)))
 split_same [] [] g1 g2 r1 r2 e = inl (cons_head g1 g2 r1 r2 e)
 split_same [] (x ∷ xs) g1 g2 r1 r2 e = inr (inl (xs, ap (λ g. g ∷ xs) (sym (cons_head g1 x r1 (xs ++ g2 ∷ r2) e))))

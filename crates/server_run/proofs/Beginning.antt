@@ -24,7 +24,8 @@ use Rattle.intake_front.specs.declared.answer.FrontError.{FrontError}
 use Rattle.intake_front.specs.declared.answer.FrontError.TheVariants as front
 use Rattle.server_words.specs.declared.status.Status.{Status}
 use Rattle.server_words.specs.declared.status.Status.TheVariants as status
-use Rattle.server_run.specs.Recovered.{journal_bytes, HasGroups, IsUnread, GoesOn}
+use Rattle.server_run.specs.Recovered.{journal_bytes, IsNumbered, HasGroups, IsRecovered, IsUnread, GoesOn}
+use Rattle.server_run.specs.declared.numbering.Numbering.{Numbering}
 use Rattle.server_run.specs.declared.book.Ledger.{Ledger}
 use Rattle.server_run.specs.Standing.{onto, Applied, log_lines}
 use Rattle.server_run.specs.Opening.{FoundGroups, first_text, kept_text, IsRejectedFor, IsRejected, IsAccepted, IsFullAtFirst, Unopened, status_for, FoundEntries, TurnedAway, IsTakenUp, HasBegun, IsResumed, opening_entries, opening_lines}
@@ -51,21 +52,6 @@ count_numbered groups = sym (numbered_length 1 (flat_map (λ (g : Group). g.entr
 full_onto : (log : List Numbered) (es : List Entry) (n : ℕ) → n ≡ length log + 1 → IsFull log → IsFull (onto log (numbered_from n es))
 full_onto log [] n is full = full
 full_onto log (e ∷ es) n is full = full_onto (record { number = n; entry = e } ∷ log) es (n + 1) (omega (arith, is)) (full, is)
-
-numbered_append : (n : ℕ) (a b : List Entry) → numbered_from n (a ++ b) ≡ numbered_from n a ++ numbered_from (n + length a) b
-numbered_append n [] b = let same : n ≡ n + 0 = omega arith in ap (λ k. numbered_from k b) same
-numbered_append n (e ∷ es) b =
-    let next : n + 1 + length es ≡ n + length (e ∷ es) = omega arith in
-    ap (λ t. record { number = n; entry = e } ∷ t) (numbered_append (n + 1) es b ∙ ap (λ k. numbered_from (n + 1) es ++ numbered_from k b) next)
-
--- the entries of one more group, and of those that are left
-pub numbers_on : (made : List Numbered) (g : Group) (gs : List Group)
-    → with_group made g.entries ++ numbered_from (length (with_group made g.entries) + 1) (flat_map (λ (h : Group). h.entries) gs) ≡ made ++ numbered_from (length made + 1) (flat_map (λ (h : Group). h.entries) (g ∷ gs))
-numbers_on made g gs =
-    let rest = flat_map (λ (h : Group). h.entries) gs in
-    let count : length (with_group made g.entries) + 1 ≡ length made + 1 + length g.entries = omega (arith, length-append made (numbered_from (length made + 1) g.entries), numbered_length (length made + 1) g.entries) in
-    ap (λ k. with_group made g.entries ++ numbered_from k rest) count ∙ append_assoc made (numbered_from (length made + 1) g.entries) (numbered_from (length made + 1 + length g.entries) rest)
-    ∙ ap (λ l. made ++ l) (sym (numbered_append (length made + 1) g.entries rest)) ∙ ap (λ es. made ++ numbered_from (length made + 1) es) (sym (flat_map-cons (λ (h : Group). h.entries) g gs))
 
 -- they are a full log
 pub full_numbered : (groups : List Group) → IsFull (log_of (numbered_of groups))
@@ -292,3 +278,22 @@ module _ {D : Type 0} (bytes : D → Option (List ℕ)) (images : D → List ℕ
   pub turned_rejected : (groups : List Group) (entries : List Numbered) (s : Status) → FoundGroups (bytes old) groups → IsRejected conf groups s → entries ≡ numbered_of groups
       → TurnedAway bytes images moment since faults conf most held old new entries s
   turned_rejected groups entries s found why is = turned_back entries s (inr (groups, found, inl is)) (rejected_unopened conf most (bytes old) (faults old) (faults new) held groups s found why)
+
+  -- a journal that was recovered, of which this is said
+  pub turned_judged : (journal : Journaled D) (numbering : Numbering) (s : Status) → new ≡ journal.disk → IsRecovered bytes images conf old journal numbering
+      → ((groups : List Group) → IsNumbered conf groups numbering → IsRejected conf groups s) → TurnedAway bytes images moment since faults conf most held old new numbering.entries s
+  turned_judged journal numbering s same r why = turned_rejected r.groups numbering.entries s r.found (why r.groups r.numbered) r.numbered.entries_are
+
+-- one that is taken up
+pub taken_up : {D : Type 0} (bytes : D → Option (List ℕ)) (images : D → List ℕ → Type 0) (moment : D → ℕ) (since : D → ℕ → List ℕ → Type 0) (faults : D → ℕ) (conf : Conf) (most : ℕ) (old : D) (journal : Journaled D) (numbering : Numbering)
+    → IsRecovered bytes images conf old journal numbering → (journal.max_entries ≡ most) × (journal.max_bytes ≡ longest_journal) → GoesOn bytes images moment since faults old journal.disk
+    → ((groups : List Group) → IsNumbered conf groups numbering → IsAccepted conf groups) → IsTakenUp bytes images moment since faults conf most old journal numbering.entries
+taken_up bytes images moment since faults conf most old journal numbering r limits on accepted = record {
+  groups = r.groups;
+  found = r.found;
+  accepted = accepted r.groups r.numbered;
+  kept_are = r.numbered.entries_are;
+  has = r.has;
+  limits = limits;
+  goes_on = on;
+}

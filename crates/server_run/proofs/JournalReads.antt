@@ -1,26 +1,29 @@
 -- Laws of reading a journal.
 use Rattle.std.proofs.Common.{◌≡◌, ◌⊎◌, ℕ, ◌+◌, ◌<◌, ◌≤◌, Bool, true, false, List, [], ◌∷◌, ◌++◌, length, drop, take, Option, Some, None, refl, sym, ap, ◌∙◌, arith, append-nil, inl, inr, true≢false}
-use Rattle.std.specs.Prelude.{IfSome, is_some, Err, ◌==◌, if◌then◌else◌, nat_le}
+use Rattle.std.specs.Prelude.{IfSome, is_some, Ok, Err, ◌==◌, if◌then◌else◌, nat_le}
 use Rattle.std.proofs.lemmas.List.{length-drop}
 use Rattle.std.proofs.lemmas.Bool.Decides.{nat_tests}
+use Rattle.zbx_types.specs.declared.conf.Conf.{Conf}
 use Rattle.outside.specs.Causes.{Rose}
 use Rattle.outside.specs.Disk.{Only}
 use Rattle.intake_journal.specs.Bytes.{entries_bytes}
 use Rattle.intake_journal.specs.Kept.{magic, first_gate, group_behind, with_group, followed, kept_behind, kept_from, kept, groups_of}
-use Rattle.intake_journal.specs.Kept.Kept.{Damaged, Groups}
+use Rattle.intake_journal.specs.Kept.{Kept}
+use Rattle.intake_journal.specs.Kept.Kept.{Fresh, NotOurs, Damaged, Groups}
 use Rattle.intake_journal.specs.Next.{ReadsNext}
 use Rattle.intake_journal.specs.Moments.{IsAsBefore}
-use Rattle.intake_journal.specs.Opened.{IsOpened}
-use Rattle.intake_journal.specs.Settled.{Journaled, onto}
+use Rattle.intake_journal.specs.Opened.{left_of, IsOpened}
+use Rattle.intake_journal.specs.Settled.{Journaled, onto, count_entries}
 use Rattle.intake_journal.specs.declared.format.Group.{Group}
 use Rattle.intake_journal.specs.declared.state.State.TheVariants.{Reading, Broken}
 use Rattle.intake_journal.specs.declared.state.JournalError.{JournalError}
 use Rattle.intake_journal.specs.declared.state.JournalError.TheVariants as cause
 use Rattle.intake_journal.proofs.Adding.{fresh}
 use Rattle.intake_journal.proofs.Behind.{group_lacks}
-use Rattle.intake_journal.proofs.Fronts.{onto-push, onto-groups, kept_long}
+use Rattle.intake_journal.proofs.Fronts.{onto-push, onto-groups, kept_long, count_entries-push}
 use Rattle.intake_journal.proofs.Moments.{if_some, told_of}
-use Rattle.server_run.specs.Recovered.{journal_bytes, HasGroups, IsReadThrough, StopsReading, status_for}
+use Rattle.server_run.specs.declared.numbering.Numbering.{Numbering}
+use Rattle.server_run.specs.Recovered.{journal_bytes, IsNumbered, IsReadSoFar, IsReadThrough, IsRecovered, StopsReading, status_for}
 
 -- the bytes of a journal with one group more
 pub bytes-push : (gs : List Group) (g : Group) → journal_bytes (gs ++ g ∷ []) ≡ journal_bytes gs + length (entries_bytes g.entries) + 9
@@ -103,21 +106,81 @@ keeps_read c gs ours gate is = by_length (le_or_more (length c) 9)
         ap groups_of (fresh c short) ∙ ap Some (sym none)
     by_length (inr long) = ap groups_of (kept_long c long ours ∙ is)
 
+left_groups : (k : Kept) (gs : List Group) → left_of k ≡ Groups gs → groups_of k ≡ Some gs
+left_groups Fresh gs is = ap groups_of is
+left_groups NotOurs gs is = absurd (cc)
+left_groups (Damaged at) gs is = absurd (cc)
+left_groups (Groups hs) gs is = ap groups_of is
+
+-- what was read of a file that was opened is what it kept before
+found_opened : (o o' : Option (List ℕ)) (images : List ℕ → Type 0) (groups : List Group) → is_some o' ≡ is_some o → IfSome o (λ b. IfSome o' (λ c. IsOpened images b c))
+    → IfSome o' (λ c. kept_from first_gate c ≡ Groups groups) → IfSome o (λ b. groups_of (kept b) ≡ Some groups)
+found_opened None o' images groups told opened found = tt
+found_opened (Some b) None images groups told opened found = absurd (true≢false (sym told))
+found_opened (Some b) (Some c) images groups told opened found = left_groups (kept b) groups (sym opened.left ∙ found)
+
+-- nothing is read yet
+pub begins_reading : {D : Type 0} (bytes : D → Option (List ℕ)) (conf : Conf) (journal : Journaled D) (numbering : Numbering) → journal.at ≡ first_gate → journal.entries ≡ 0
+    → ((c : Conf) → IsNumbered c [] numbering) → IsReadSoFar bytes conf journal journal numbering
+begins_reading bytes conf journal numbering first none numbered = record {
+  groups = [];
+  numbered = numbered conf;
+  count = none;
+  size = omega (arith, first);
+  limits = (refl, refl);
+  found = here (bytes journal.disk);
+}
+  where
+    here : (o : Option (List ℕ)) → IfSome o (λ b. kept_from first_gate b ≡ kept_from journal.at b)
+    here None = tt
+    here (Some b) = ap (λ at. kept_from at b) (sym first)
+
+-- one group more
+pub reads_more : {D : Type 0} (bytes : D → Option (List ℕ)) (conf : Conf) (first old new : Journaled D) (read more : Numbering) (group : Group) → bytes old.disk ≡ bytes first.disk
+    → IsReadSoFar bytes conf first old read → ReadsNext (bytes old.disk) old new (Ok (Some group)) → new.at ≡ old.at + length (entries_bytes group.entries) + 9
+    → ((groups : List Group) → IsNumbered conf groups read → IsNumbered conf (groups ++ group ∷ []) more) → IsReadSoFar bytes conf first new more
+reads_more bytes conf first old new read more group same r next place adds = record {
+  groups = r.groups ++ group ∷ [];
+  numbered = adds r.groups r.numbered;
+  count = ap (λ (j : Journaled _). j.entries) next.0 ∙ ap (λ n. n + length group.entries) r.count ∙ sym (count_entries-push r.groups group);
+  size = omega (arith, place, r.size, bytes-push r.groups group);
+  limits = (ap (λ (j : Journaled _). j.max_entries) next.0 ∙ r.limits.0, ap (λ (j : Journaled _). j.max_bytes) next.0 ∙ r.limits.1);
+  found = found_more (bytes first.disk) (bytes old.disk) r.groups (r.groups ++ group ∷ []) group old.at new.at same refl r.found next.2;
+}
+
+-- and none more
+pub reads_all : {D : Type 0} (bytes : D → Option (List ℕ)) (conf : Conf) (first old new : Journaled D) (read : Numbering) → bytes old.disk ≡ bytes first.disk
+    → IsReadSoFar bytes conf first old read → ReadsNext (bytes old.disk) old new (Ok None) → IsReadThrough bytes conf first new read
+reads_all bytes conf first old new read same r next = record {
+  groups = r.groups;
+  numbered = r.numbered;
+  ready = ap (λ (j : Journaled _). j.state) next.0;
+  count = ap (λ (j : Journaled _). j.entries) next.0 ∙ r.count;
+  size = ap (λ (j : Journaled _). j.at + 1) next.0 ∙ r.size;
+  limits = (ap (λ (j : Journaled _). j.max_entries) next.0 ∙ r.limits.0, ap (λ (j : Journaled _). j.max_bytes) next.0 ∙ r.limits.1);
+  found = found_end (bytes first.disk) (bytes old.disk) r.groups old.at same r.found next.1;
+}
+
 module _ {D : Type 0} (bytes : D → Option (List ℕ)) (images : D → List ℕ → Type 0) (moment : D → ℕ) (since : D → ℕ → List ℕ → Type 0) where
-  -- a journal that was opened and read through, with its groups
-  pub has_groups : (disk : D) (old new : Journaled D) (groups : List Group) → is_some (bytes old.disk) ≡ is_some (bytes disk)
+  -- a journal that was opened and read through
+  pub is_recovered : (conf : Conf) (disk : D) (old new : Journaled D) (numbering : Numbering) → is_some (bytes old.disk) ≡ is_some (bytes disk)
       → IfSome (bytes disk) (λ b. IfSome (bytes old.disk) (λ c. IsOpened (images old.disk) b c)) → IsAsBefore bytes images moment since old.disk new.disk
-      → IsReadThrough bytes old new groups → HasGroups bytes images new groups
-  has_groups disk old new groups told opened before read = record {
-    ready = read.ready;
-    count = read.count;
-    size = read.size;
-    keeps = if_some (bytes new.disk) (λ c. groups_of (kept c) ≡ Some groups) (λ c is.
-        let is_old : bytes old.disk ≡ Some c = sym before.same ∙ is in
-        let opening = (opened_of (bytes disk) c is_old told opened).1 in
-        keeps_read c groups opening.ours opening.gate (told_of (bytes old.disk) c (λ b. kept_from first_gate b ≡ Groups groups) is_old read.found));
-    durable = if_some (bytes new.disk) (λ c. Only c (images new.disk)) (λ c is d now.
-        (opened_of (bytes disk) c (sym before.same ∙ is) told opened).1.durable d (before.no_others d now));
+      → IsReadThrough bytes conf old new numbering → IsRecovered bytes images conf disk new numbering
+  is_recovered conf disk old new numbering told opened before read = record {
+    groups = read.groups;
+    numbered = read.numbered;
+    found = found_opened (bytes disk) (bytes old.disk) (images old.disk) read.groups told opened read.found;
+    has = record {
+      ready = read.ready;
+      count = read.count;
+      size = read.size;
+      keeps = if_some (bytes new.disk) (λ c. groups_of (kept c) ≡ Some read.groups) (λ c is.
+          let is_old : bytes old.disk ≡ Some c = sym before.same ∙ is in
+          let opening = (opened_of (bytes disk) c is_old told opened).1 in
+          keeps_read c read.groups opening.ours opening.gate (told_of (bytes old.disk) c (λ b. kept_from first_gate b ≡ Groups read.groups) is_old read.found));
+      durable = if_some (bytes new.disk) (λ c. Only c (images new.disk)) (λ c is d now.
+          (opened_of (bytes disk) c (sym before.same ∙ is) told opened).1.durable d (before.no_others d now));
+    };
   }
     where
       opened_of : (o : Option (List ℕ)) (c : List ℕ) → bytes old.disk ≡ Some c → is_some (bytes old.disk) ≡ is_some o

@@ -13,5 +13,6 @@ pub mod Texts
 pub mod Differences
 pub mod Beginning
 pub mod Barring
+pub mod Judging
 pub mod Runs
 pub mod Closings

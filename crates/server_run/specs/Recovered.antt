@@ -1,17 +1,21 @@
 -- What is known of a journal all of whose groups were read, and why one wasn't.
-use Rattle.std.specs.Prelude.{◌≡◌, ◌≤◌, ◌+◌, is_some, ℕ, List, [], ◌∷◌, length, Option, Some, IfSome, ⊤}
+use Rattle.std.specs.Prelude.{◌≡◌, ◌≤◌, ◌<◌, ◌+◌, is_some, ℕ, List, [], ◌∷◌, length, Option, Some, All, IfSome, ⊤}
+use Rattle.zbx_types.specs.declared.conf.Conf.{Conf}
 use Rattle.outside.specs.Causes.{Rose}
 use Rattle.outside.specs.Disk.{Only, LeavesOnly}
 use Rattle.intake_journal.specs.Bytes.{entries_bytes}
 use Rattle.intake_journal.specs.Kept.{first_gate, kept_from, kept, groups_of}
 use Rattle.intake_journal.specs.Kept.Kept.{NotOurs, Damaged, Groups}
-use Rattle.intake_journal.specs.Settled.{Journaled, KeepsAsOneOf, count_entries}
+use Rattle.intake_journal.specs.Settled.{Journaled, KeepsAsOneOf, onto, count_entries}
 use Rattle.intake_journal.specs.declared.format.Group.{Group}
 use Rattle.intake_journal.specs.declared.state.State.TheVariants.{Ready}
 use Rattle.intake_journal.specs.declared.state.JournalError.{JournalError}
 use Rattle.intake_journal.specs.declared.state.JournalError.TheVariants as cause
+use Rattle.intake_front.specs.Fronted.{numbered_of}
+use Rattle.intake_front.specs.Misfit.{IsFirstMisfit}
 use Rattle.server_words.specs.declared.status.Status.{Status}
 use Rattle.server_words.specs.declared.status.Status.TheVariants as status
+use Rattle.server_run.specs.declared.numbering.Numbering.{Numbering}
 
 -- how many bytes a journal of these groups has, up to and with the gate behind the last
 abbrev pub journal_bytes : List Group → ℕ
@@ -26,8 +30,26 @@ pub record HasGroups {D : Type 0} (bytes : D → Option (List ℕ)) (images : D 
   pub keeps : IfSome (bytes journal.disk) (λ c. groups_of (kept c) ≡ Some groups)
   pub durable : IfSome (bytes journal.disk) (λ c. Only c (images journal.disk))
 
--- a journal of which all groups were read that its file keeps, these, where nothing was read before
-pub record IsReadThrough {D : Type 0} (bytes : D → Option (List ℕ)) (old new : Journaled D) (groups : List Group) : Type 0 where
+-- what groups come to that were read, each of which has an entry: their entries are numbered from 1, and the place is that of
+-- the first one that doesn't fit a configuration
+pub record IsNumbered (conf : Conf) (groups : List Group) (numbering : Numbering) : Type 0 where
+  pub some : All (λ (g : Group). 0 < length g.entries) groups
+  pub entries_are : numbering.entries ≡ numbered_of groups
+  pub misfit_is : IsFirstMisfit conf groups numbering.misfit
+
+-- a journal of which groups were read, where nothing was read before: these, in front of what is left
+pub record IsReadSoFar {D : Type 0} (bytes : D → Option (List ℕ)) (conf : Conf) (old new : Journaled D) (numbering : Numbering) : Type 0 where
+  pub groups : List Group
+  pub numbered : IsNumbered conf groups numbering
+  pub count : new.entries ≡ count_entries groups
+  pub size : new.at + 1 ≡ journal_bytes groups
+  pub limits : (new.max_entries ≡ old.max_entries) × (new.max_bytes ≡ old.max_bytes)
+  pub found : IfSome (bytes old.disk) (λ b. kept_from first_gate b ≡ onto groups (kept_from new.at b))
+
+-- a journal of which all groups were read that its file keeps, where nothing was read before
+pub record IsReadThrough {D : Type 0} (bytes : D → Option (List ℕ)) (conf : Conf) (old new : Journaled D) (numbering : Numbering) : Type 0 where
+  pub groups : List Group
+  pub numbered : IsNumbered conf groups numbering
   pub ready : new.state ≡ Ready
   pub count : new.entries ≡ count_entries groups
   pub size : new.at + 1 ≡ journal_bytes groups
@@ -62,3 +84,11 @@ pub record GoesOn {D : Type 0} (bytes : D → Option (List ℕ)) (images : D →
   pub told : is_some (bytes new) ≡ is_some (bytes old)
   pub later : faults old ≤ faults new
   pub moments : IfSome (bytes old) (λ _. LeavesOnly moment since old new (KeepsAsOneOf (images old)))
+
+-- a journal that was opened on a disk and is ready: its groups, which the disk's file kept, and what they come to beside a
+-- configuration
+pub record IsRecovered {D : Type 0} (bytes : D → Option (List ℕ)) (images : D → List ℕ → Type 0) (conf : Conf) (old : D) (journal : Journaled D) (numbering : Numbering) : Type 0 where
+  pub groups : List Group
+  pub numbered : IsNumbered conf groups numbering
+  pub found : IfSome (bytes old) (λ b. groups_of (kept b) ≡ Some groups)
+  pub has : HasGroups bytes images journal groups

@@ -25,6 +25,7 @@
 mod book;
 mod built;
 mod delivery;
+mod numbering;
 mod opening;
 mod reading;
 mod recovering;

@@ -1,16 +1,17 @@
-//! A journal is opened, and all its groups are read.
+//! A journal is opened, and all its groups are read, of which one at a time is held.
 
-ghost use Rattle.std.specs.Prelude.{◌≡◌, ◌≤◌, Some, IfSome, IfOk, IfErr};
-ghost use Rattle.intake_journal.specs.Kept.{first_gate, longest_journal, kept, groups_of};
+ghost use Rattle.std.specs.Prelude.{◌≡◌, ◌≤◌, IfOk, IfErr};
+ghost use Rattle.intake_journal.specs.Kept.{first_gate, longest_journal};
 ghost use Rattle.intake_journal.specs.Moments.{IsAsBefore};
 ghost use Rattle.intake_journal.specs.declared.state.State.TheVariants.{Reading};
-ghost use Rattle.server_run.specs.Recovered.{HasGroups, IsUnread, IsReadThrough, StopsReading, GoesOn, status_for};
+ghost use Rattle.server_run.specs.Recovered.{IsRecovered, IsUnread, IsReadThrough, StopsReading, GoesOn, status_for};
 
-use intake_journal::{Group, Journal, JournalError, LONGEST_JOURNAL};
+use crate::numbering::Numbering;
+use intake_journal::{Journal, JournalError, LONGEST_JOURNAL};
 use outside::Disk;
 use server_words::Status;
 use std::alloc::Global;
-use zbx_types::Many;
+use zbx_types::{Conf, OutOfMemory};
 
 /// What a run ends with whose journal couldn't be read.
 fn status_of(error: JournalError) -> Status
@@ -24,39 +25,44 @@ fn status_of(error: JournalError) -> Status
     }
 }
 
-/// Reads all groups of a journal that was opened, none of which was read before. It is ready then.
-fn read_all<D: Disk>(alloc: Global, journal: &mut Journal<D>) -> Result<Many<Group>, Status>
+/// Reads all groups of a journal that was opened, none of which was read before, and numbers and judges their entries. It is
+/// ready then.
+fn read_all<D: Disk>(
+    alloc: Global,
+    conf: &Conf,
+    journal: &mut Journal<D>,
+) -> Result<Numbering, Status>
     requires reading { journal.old.state ≡ Reading }
     requires first { journal.old.at ≡ first_gate }
     requires none { journal.old.entries ≡ 0 }
-    ensures read { IfOk result (IsReadThrough D.bytes journal.old journal.new) }
+    ensures read { IfOk result (IsReadThrough D.bytes conf.now journal.old journal.new) }
     ensures before { IsAsBefore D.bytes D.images D.moment D.images_since journal.old.disk journal.new.disk }
     ensures later { D.faults journal.old.disk ≤ D.faults journal.new.disk }
     ensures why { IfErr result (StopsReading (D.bytes journal.old.disk) (D.faults journal.old.disk) (D.faults journal.new.disk)) }
 {
-    let mut groups = Many::new(alloc);
+    let mut numbering = Numbering::new(alloc);
     for _ in 0..u64::MAX {
         match journal.read_next(alloc) {
-            Ok(Some(group)) => match groups.push(group) {
+            Ok(Some(group)) => match numbering.add(alloc, conf, group) {
                 Ok(()) => {}
-                Err(_) => return Err(Status::OutOfMemory),
+                Err(OutOfMemory) => return Err(Status::OutOfMemory),
             },
-            Ok(None) => return Ok(groups),
+            Ok(None) => return Ok(numbering),
             Err(error) => return Err(status_of(error)),
         }
     }
     Err(Status::OutOfMemory)
 }
 
-/// Opens the journal on a disk and reads all its groups. It is to have at most so many entries. The disk comes back with
-/// the status that ends the run where that can't be done.
+/// Opens the journal on a disk, which is to have at most so many entries, reads all its groups, and numbers their entries and
+/// judges them beside a configuration. The disk comes back with the status that ends the run where that can't be done.
 pub(crate) fn recover<D: Disk>(
     alloc: Global,
+    conf: &Conf,
     disk: D,
     max_entries: u64,
-) -> Result<(Journal<D>, Many<Group>), (D, Status)>
-    ensures found { IfOk result (λ made. IfSome (D.bytes disk) (λ b. groups_of (kept b) ≡ Some made.1)) }
-    ensures groups { IfOk result (λ made. HasGroups D.bytes D.images made.0 made.1) }
+) -> Result<(Journal<D>, Numbering), (D, Status)>
+    ensures recovered { IfOk result (λ made. IsRecovered D.bytes D.images conf.now disk made.0 made.1) }
     ensures limits { IfOk result (λ made. (made.0.max_entries ≡ max_entries) × (made.0.max_bytes ≡ longest_journal)) }
     ensures goes_on { IfOk result (λ made. GoesOn D.bytes D.images D.moment D.images_since D.faults disk made.0.disk) }
     ensures gives_back { IfErr result (λ why. GoesOn D.bytes D.images D.moment D.images_since D.faults disk why.0) }
@@ -66,8 +72,8 @@ pub(crate) fn recover<D: Disk>(
         Ok(journal) => journal,
         Err((disk, error)) => return Err((disk, status_of(error))),
     };
-    match read_all(alloc, &mut journal) {
-        Ok(groups) => Ok((journal, groups)),
+    match read_all(alloc, conf, &mut journal) {
+        Ok(numbering) => Ok((journal, numbering)),
         Err(status) => Err((journal.end(), status)),
     }
 }

@@ -1,17 +1,19 @@
 //! What a run's journal kept is compared with its configuration, and gone on with.
 
-ghost use Rattle.std.specs.Prelude.{◌≡◌, ◌+◌, ℕ, IfOk, IfErr, OnOk};
+ghost use Rattle.std.specs.Prelude.{◌≡◌, ◌+◌, ℕ, List, IfOk, IfErr};
 ghost use Rattle.intake_journal.specs.declared.state.State.TheVariants as state;
-ghost use Rattle.intake_front.specs.Intake.{with_group};
-ghost use Rattle.intake_front.specs.Fronted.{HasJournaled, numbered_of};
+ghost use Rattle.intake_front.specs.Fronted.{HasJournaled};
 ghost use Rattle.intake_front.specs.Batch.{IsIdle};
-ghost use Rattle.server_run.specs.Opening.{differ_at, first_text, status_for, IsTextJudged, IsJudged, IsTakenUp, HasBegun, IsResumed, TurnedAway};
+ghost use Rattle.intake_journal.specs.declared.format.Group.{Group};
+ghost use Rattle.server_run.specs.Recovered.{IsNumbered};
+ghost use Rattle.server_run.specs.Opening.{differ_at, config_text, status_for, IsTextJudged, IsJudged, IsTakenUp, HasBegun, IsResumed, TurnedAway};
 
 use crate::book::{Ledger, replay};
+use crate::numbering::Numbering;
 use crate::recovering::recover;
 use entry_step::Ready;
-use intake_front::{Front, FrontError, first_misfit};
-use intake_journal::{FIRST_GATE, Group, Journal};
+use intake_front::{Front, FrontError};
+use intake_journal::{FIRST_GATE, Journal};
 use outside::Disk;
 use server_words::Status;
 use std::alloc::Global;
@@ -50,14 +52,11 @@ fn differ_at(first: &[u8], other: &[u8]) -> Option<u64>
     }
 }
 
-/// Why entries don't begin with a configuration of this text, or None where they do.
+/// Why an entry isn't the configuration of this text, or None where it is.
 #[tactic(auto, using(crate::proofs::Differences::differ_none))]
-fn text_judged(text: &Text, entries: &[Entry]) -> Option<Status>
-    ensures { IsTextJudged text.now (first_text entries.now) result }
+fn text_judged(text: &Text, first: &Entry) -> Option<Status>
+    ensures { IsTextJudged text.now (config_text first.now) result }
 {
-    let Some(first) = entries.first() else {
-        return Some(Status::Damaged { at: FIRST_GATE });
-    };
     match first {
         Entry::Config { text: kept, .. } => match differ_at(text.as_bytes(), kept.as_bytes()) {
             Some(at) => Some(Status::ConfigDiffers { at }),
@@ -68,41 +67,19 @@ fn text_judged(text: &Text, entries: &[Entry]) -> Option<Status>
 }
 
 /// Why the groups of a journal aren't those of a run with this configuration, or None where they are.
-fn judged(conf: &Conf, groups: &[Group]) -> Option<Status>
-    ensures { IsJudged conf.now groups.now result }
+fn judged(conf: &Conf, numbering: &Numbering) -> Option<Status>
+    ensures { (groups : List Group) → IsNumbered conf.now groups numbering.now → IsJudged conf.now groups result }
 {
-    let Some(first) = groups.first() else {
+    let Some(first) = numbering.entries.as_slice().first() else {
         return None;
     };
-    match text_judged(&conf.text, first.entries.as_slice()) {
+    match text_judged(&conf.text, &first.entry) {
         Some(status) => Some(status),
-        None => match first_misfit(conf, groups) {
+        None => match numbering.misfit {
             Some(at) => Some(Status::Damaged { at }),
             None => None,
         },
     }
-}
-
-/// Adds entries, with the numbers behind those that are there.
-fn number_group(numbered: &mut Many<Numbered>, entries: Many<Entry>) -> Result<(), OutOfMemory>
-    ensures { OnOk result (numbered.new ≡ with_group numbered.old entries) }
-{
-    for entry in entries.into_vec() {
-        let number = numbered.as_slice().len() as u64 + 1;
-        numbered.push(Numbered { number, entry })?;
-    }
-    Ok(())
-}
-
-/// The entries of groups, numbered from 1.
-fn numbered_of(alloc: Global, groups: Many<Group>) -> Result<Many<Numbered>, OutOfMemory>
-    ensures { IfOk result (λ made. made ≡ numbered_of groups) }
-{
-    let mut numbered = Many::new(alloc);
-    for group in groups.into_vec() {
-        number_group(&mut numbered, group.entries)?;
-    }
-    Ok(numbered)
 }
 
 /// Opens the journal on a disk, which is to have at most so many entries, and reads the entries that it kept, where they are
@@ -116,7 +93,7 @@ fn accepted<D: Disk>(
     ensures ok { IfOk result (λ made. IsTakenUp D.bytes D.images D.moment D.images_since D.faults conf.now max_entries disk made.0 made.1) }
     ensures err { IfErr result (λ r. (held : ℕ) → TurnedAway D.bytes D.images D.moment D.images_since D.faults conf.now max_entries held disk r.disk r.entries r.status) }
 {
-    let (journal, groups) = match recover(alloc, disk, max_entries) {
+    let (journal, numbering) = match recover(alloc, conf, disk, max_entries) {
         Ok(recovered) => recovered,
         Err((disk, status)) => {
             return Err(Refused {
@@ -126,20 +103,12 @@ fn accepted<D: Disk>(
             });
         }
     };
-    let barred = judged(conf, groups.as_slice());
-    let Ok(kept) = numbered_of(alloc, groups) else {
-        return Err(Refused {
-            status: Status::OutOfMemory,
-            disk: journal.end(),
-            entries: Many::new(alloc),
-        });
-    };
-    match barred {
-        None => Ok((journal, kept)),
+    match judged(conf, &numbering) {
+        None => Ok((journal, numbering.entries)),
         Some(status) => Err(Refused {
             status,
             disk: journal.end(),
-            entries: kept,
+            entries: numbering.entries,
         }),
     }
 }

@@ -1,5 +1,5 @@
 use super::*;
-use outside::{Failed, MemDisk, MemSink, MemSource, ScriptWire, Trouble, Wire, WireEvent};
+use outside::{Disk, Failed, MemDisk, MemSink, MemSource, ScriptWire, Trouble, Wire, WireEvent};
 use server_words::Status;
 use std::alloc::Global;
 use std::convert::AsStr;
@@ -753,6 +753,272 @@ fn a_restart_has_each_answered_value_whichever_call_of_the_disk_failed(
             "call {disk}"
         );
     }
+    Ok(())
+}
+
+/// A disk in memory that tells what a crash leaves of it: the bytes at its last sync, and the piece that was written since.
+#[derive(Drop)]
+struct CrashDisk {
+    alloc: Global,
+    disk: MemDisk,
+    synced: Bytes,
+    written: Option<(u64, Bytes)>,
+    /// More than one piece was written since the last sync, or memory was refused to what is told.
+    untold: bool,
+}
+
+impl CrashDisk {
+    fn new(alloc: Global, fails: Many<u64>) -> CrashDisk {
+        CrashDisk {
+            alloc,
+            disk: MemDisk::new(alloc, Bytes::new(alloc), fails),
+            synced: Bytes::new(alloc),
+            written: None,
+            untold: false,
+        }
+    }
+
+    fn note_written(&mut self, at: u64, piece: &[u8]) {
+        match Bytes::of(self.alloc, piece) {
+            Ok(piece) if self.written.is_none() => self.written = Some((at, piece)),
+            _ => self.untold = true,
+        }
+    }
+
+    fn note_synced(&mut self) {
+        match Bytes::of(self.alloc, self.disk.bytes().as_slice()) {
+            Ok(bytes) => {
+                self.synced = bytes;
+                self.written = None;
+            }
+            Err(OutOfMemory) => self.untold = true,
+        }
+    }
+}
+
+impl Disk for CrashDisk {
+    ghost bytes = { λ _. None };
+
+    ghost images = { λ _ _. ⊥ };
+
+    ghost moment = { λ _. 0 };
+
+    ghost images_since = { λ _ _ _. ⊥ };
+
+    ghost faults = { λ d. d.disk.faults };
+
+    ghost reads_as = { λ _. tt };
+
+    ghost counts_now = { λ _ _ _ _ image. image };
+
+    ghost only_now = { λ _ _ image. image };
+
+    fn faults(&self) -> u64 {
+        self.disk.faults()
+    }
+
+    fn len(&mut self) -> Result<u64, Failed> {
+        self.disk.len()
+    }
+
+    fn read(&mut self, at: u64, into: &mut [u8]) -> Result<usize, Failed> {
+        self.disk.read(at, into)
+    }
+
+    fn write_at(&mut self, at: u64, piece: &[u8]) -> Result<(), Failed> {
+        self.disk.write_at(at, piece)?;
+        self.note_written(at, piece);
+        Ok(())
+    }
+
+    fn sync(&mut self) -> Result<(), Failed> {
+        self.disk.sync()?;
+        self.note_synced();
+        Ok(())
+    }
+}
+
+/// What a run left that stopped: its disk, its outbox, and how many of its replies tell a value as processed.
+#[derive(Drop)]
+struct AtStop {
+    disk: CrashDisk,
+    outbox: Bytes,
+    answered: usize,
+}
+
+/// How many replies tell a value as processed.
+fn answered(sent: &[(u64, Bytes)]) -> usize {
+    sent.iter()
+        .filter(|(_, reply)| {
+            reply
+                .as_slice()
+                .windows(12)
+                .any(|part| part == "processed: 1".as_bytes())
+        })
+        .count()
+}
+
+/// Runs over these objects up to the stop.
+fn run_to_stop(
+    alloc: Global,
+    words: Many<Text>,
+    config: MemSource,
+    wire: ScriptWire<MemSource>,
+    disk: CrashDisk,
+    outbox: MemSink,
+    print: MemSink,
+) -> (CrashDisk, MemSink, usize) {
+    let mut config = config;
+    let mut wire = wire;
+    let mut print = print;
+    let ended = run_single(
+        alloc,
+        words.as_slice(),
+        &mut config,
+        &mut wire,
+        disk,
+        outbox,
+        &mut print,
+    );
+    let answered = answered(wire.sent().as_slice());
+    (ended.disk, ended.outbox, answered)
+}
+
+/// Runs over the plain configuration and two values, up to the disk's call of this number, which fails.
+fn run_up_to(alloc: Global, call: u64) -> Result<AtStop, OutOfMemory> {
+    let words = words_of(alloc, "--mode feed --config c --script s")?;
+    let config = source(alloc, plain_config(), 0)?;
+    let script = source(alloc, two_frames(), 0)?;
+    let disk_fails = only(alloc, call)?;
+    let outbox = sink(alloc, &[], 0)?;
+    let print = sink(alloc, &[], 0)?;
+    let wire = ScriptWire::new(alloc, script, Many::new(alloc));
+    let disk = CrashDisk::new(alloc, disk_fails);
+    let (disk, outbox, answered) = run_to_stop(alloc, words, config, wire, disk, outbox, print);
+    Ok(AtStop {
+        disk,
+        outbox: Bytes::of(alloc, outbox.bytes().as_slice())?,
+        answered,
+    })
+}
+
+/// What a crash leaves of a piece that no sync followed.
+#[derive(Clone, Copy)]
+enum Torn {
+    /// Its first bytes, so many.
+    Front(usize),
+    /// All but its first bytes, so many.
+    Back(usize),
+    /// This byte in place of each of its own.
+    Filled(u8),
+}
+
+/// The place and the bytes of what is left of a piece.
+fn left_of(alloc: Global, at: u64, piece: &[u8], torn: Torn) -> Result<(u64, Bytes), OutOfMemory> {
+    match torn {
+        Torn::Front(count) => Ok((at, Bytes::of(alloc, piece.get(..count).unwrap_or(piece))?)),
+        Torn::Back(count) => Ok((
+            at.saturating_add(count as u64),
+            Bytes::of(alloc, piece.get(count..).unwrap_or(&[]))?,
+        )),
+        Torn::Filled(byte) => Ok((at, Bytes::from(vec![in alloc; byte; piece.len()]?))),
+    }
+}
+
+/// A file that a crash leaves of a disk.
+fn image(alloc: Global, disk: &CrashDisk, torn: Torn) -> Result<Bytes, OutOfMemory> {
+    let synced = Bytes::of(alloc, disk.synced.as_slice())?;
+    let Some((at, piece)) = &disk.written else {
+        return Ok(synced);
+    };
+    let (place, part) = left_of(alloc, *at, piece.as_slice(), torn)?;
+    let mut left = MemDisk::new(alloc, synced, Many::new(alloc));
+    match left.write_at(place, part.as_slice()) {
+        Ok(()) => Bytes::of(alloc, left.bytes().as_slice()),
+        Err(Failed) => Err(OutOfMemory),
+    }
+}
+
+/// The values of entries, each with a comma behind it, where the run has begun and ended well.
+fn put_values(report: &mut Bytes, over: &Over) -> Result<(), OutOfMemory> {
+    if !over.ended.began || over.ended.status.exit() != 0 {
+        report.extend(b"none")?;
+    }
+    for entry in over.ended.entries.as_slice() {
+        if let Entry::Value { value, .. } = &entry.entry {
+            report.extend_both(value.as_bytes(), b",")?;
+        }
+    }
+    Ok(())
+}
+
+/// The values that a run finds in a journal.
+fn reopened(alloc: Global, journal: &[u8], outbox: &[u8]) -> Result<Bytes, OutOfMemory> {
+    let over = run_behind(
+        alloc,
+        "--mode feed --config c --script s",
+        plain_config(),
+        "100.000000000 closed\n",
+        Found { journal, outbox },
+        none_fails(),
+    )?;
+    let mut values = Bytes::new(alloc);
+    put_values(&mut values, &over)?;
+    Ok(values)
+}
+
+/// Whether a run that opens a file which a crash leaves finds all answered values in their order, and none that didn't come.
+fn has_answered(alloc: Global, stopped: &AtStop, torn: Torn) -> Result<bool, OutOfMemory> {
+    let journal = image(alloc, &stopped.disk, torn)?;
+    let values = reopened(alloc, journal.as_slice(), stopped.outbox.as_slice())?;
+    let least = match stopped.answered {
+        0 => "",
+        1 => "10,",
+        _ => "10,1,",
+    };
+    let came = ["", "10,", "10,1,"]
+        .iter()
+        .any(|all| values.as_slice() == all.as_bytes());
+    Ok(came && values.as_slice().starts_with(least.as_bytes()))
+}
+
+/// Whether that holds where a half or all of a piece of this size is there, and where each of its bytes is another one.
+fn all_have_answered(alloc: Global, stopped: &AtStop, size: usize) -> Result<bool, OutOfMemory> {
+    let half = size / 2;
+    let all = [
+        Torn::Front(half),
+        Torn::Back(half),
+        Torn::Front(size),
+        Torn::Filled(1),
+        Torn::Filled(2),
+    ];
+    for torn in all {
+        if !has_answered(alloc, stopped, torn)? {
+            return Ok(false);
+        }
+    }
+    Ok(true)
+}
+
+/// Whether it holds where the disk's call of this number fails: its piece is the one that no sync followed, if any.
+fn stop_has_answered(alloc: Global, call: u64) -> Result<bool, OutOfMemory> {
+    let stopped = run_up_to(alloc, call)?;
+    if stopped.disk.untold {
+        return Ok(false);
+    }
+    match &stopped.disk.written {
+        Some((_, piece)) => all_have_answered(alloc, &stopped, piece.len()),
+        None => has_answered(alloc, &stopped, Torn::Front(0)),
+    }
+}
+
+#[test]
+fn each_file_that_a_crash_leaves_has_the_answered_values(rt: HostRuntime) -> Result<(), Fail> {
+    let alloc = rt.alloc();
+    for call in 1..24u64 {
+        assert!(rt; stop_has_answered(alloc, call)?, "call {call}");
+    }
+    assert!(rt; run_up_to(alloc, 24)?.answered == 2);
     Ok(())
 }
 

@@ -1,7 +1,7 @@
 use Rattle.std.proofs.Common.{◌≡◌, ◌++◌, ◌+◌, length}
 use Rattle.std.specs.Vec.Iter.{into_iter_items}
 use Rattle.intake_front.specs.Intake.{numbered_from, with_group}
-use Rattle.server_run.proofs.resuming.number_group.Given as goal
+use Rattle.server_run.proofs.numbering.number_group.Given as goal
 
 -- the entries so far, and those that are left with the numbers behind them
 abbrev pub invariant-loop-entry : goal.invariant-loop-entry
