@@ -34,3 +34,4 @@ pub mod FoundCounts
 pub mod Linked
 pub mod HostFaults
 pub mod KeptPatterns
+pub mod Titled

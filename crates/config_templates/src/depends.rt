@@ -123,7 +123,7 @@ fn trigger_of(
     requires { IsKnown known.now }
     ensures { IfOk result (λ place. place ≡ trigger_placed known.now.list.now.triggers host name.now) }
 {
-    match known.list.names.place(alloc, host, name.as_bytes())? {
+    match known.list.names.place(alloc, host, name.as_str())? {
         None => Ok(None),
         Some(place) => Ok(Some(kept(place)?)),
     }

@@ -23,6 +23,7 @@ use crate::templates::sources::Source;
 use config_read::{RawConf, RawHost, RawItem};
 use macro_text::{Expansion, expand_within};
 use std::alloc::Global;
+use std::convert::AsStr;
 use zbx_types::{Cause, Item, LONGEST_KEY, Many, Text};
 
 /// The most items of all hosts (this project's own).
@@ -79,7 +80,7 @@ fn keyed_item(
     if !is_key(key.as_bytes()) {
         return Err(bad_key(alloc, source, index, key.as_bytes()));
     }
-    if !list.names.take(alloc, host, key.as_bytes())? {
+    if !list.names.take(alloc, host, key.as_str())? {
         let cause = Cause::Duplicate;
         return Err(refused_member(alloc, source, "/items", index, "/key", cause));
     }

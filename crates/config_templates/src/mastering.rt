@@ -25,6 +25,7 @@ use dependency_graph::first_on_cycle;
 use indexmap::IndexMap;
 use macro_text::{Expansion, expand_within};
 use std::alloc::Global;
+use std::convert::AsStr;
 use zbx_types::{Cause, Item, LONGEST_KEY, Many, OutOfMemory, by_id, id_of};
 
 /// The most dependent items of one master (this project's own).
@@ -40,7 +41,7 @@ fn named_master(
     ensures { IfOk result (λ place. place ≡ key_place names.now owner.now.id (expanded owner.now.macros raw.now.master)) }
 {
     match expand_within(alloc, &raw.master, &owner.macros, LONGEST_KEY)? {
-        Expansion::Whole(key) => names.place(alloc, owner.id, key.as_bytes()),
+        Expansion::Whole(key) => names.place(alloc, owner.id, key.as_str()),
         Expansion::Longer(_) => Ok(None),
     }
 }

@@ -11,6 +11,7 @@ use crate::items::ItemList;
 use crate::owners::Owner;
 use config_read::RawConf;
 use std::alloc::Global;
+use std::convert::AsStr;
 use zbx_types::{Call, OutOfMemory, Text, ValueType, id_of};
 
 /// What expressions are read against.
@@ -92,7 +93,7 @@ fn item_place(
     alloc: Global,
     items: &ItemList,
     host: u32,
-    key: &[u8],
+    key: &str,
 ) -> Result<Option<usize>, OutOfMemory>
     requires { items.now.names ≡ named_items items.now.items }
     ensures { IfOk result (λ place. place ≡ position (is_keyed host key.now) items.now.items) }
@@ -106,7 +107,7 @@ fn item_named(
     alloc: Global,
     items: &ItemList,
     host: u32,
-    key: &[u8],
+    key: &str,
 ) -> Result<Option<ItemFound>, OutOfMemory>
     requires { items.now.names ≡ named_items items.now.items }
     ensures { IfOk result (λ found. option_map item_now found ≡ item_named items.now.items host key.now) }
@@ -142,7 +143,7 @@ pub(crate) fn looked_at(
     let Some(host) = referenced(alloc, scope, owner, call.host.as_bytes())? else {
         return Ok(None);
     };
-    let Some(item) = item_named(alloc, scope.items, host.id, call.key.as_bytes())? else {
+    let Some(item) = item_named(alloc, scope.items, host.id, call.key.as_str())? else {
         return Ok(None);
     };
     Ok(Some(LookedAt {

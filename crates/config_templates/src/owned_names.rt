@@ -12,16 +12,16 @@ use zbx_types::OutOfMemory;
 /// which they were taken. A name is found without a search over the others.
 #[derive(Drop)]
 pub(crate) struct OwnedNames {
-    taken: IndexSet<(u32, Vec<u8>)>,
+    taken: IndexSet<(u32, String)>,
 }
 
 impl Model for OwnedNames {
-    ghost use Rattle.std.specs.Prelude.{List, map};
+    ghost use Rattle.std.specs.Prelude.{List, map, string_bytes};
     ghost use Rattle.config_templates.specs.Names.{Named, named};
 
     ghost Value = { List Named };
 
-    ghost view = { λ n. map (λ k. named k.0 k.1.items) n.taken.keys };
+    ghost view = { λ n. map (λ k. named k.0 (string_bytes k.1)) n.taken.keys };
 }
 
 impl OwnedNames {
@@ -35,16 +35,11 @@ impl OwnedNames {
     }
 
     /// Takes the host's name if it is free, and says whether it was.
-    pub(crate) fn take(
-        &mut self,
-        alloc: Global,
-        host: u32,
-        name: &[u8],
-    ) -> Result<bool, OutOfMemory>
+    pub(crate) fn take(&mut self, alloc: Global, host: u32, name: &str) -> Result<bool, OutOfMemory>
         ensures free { IfOk result (λ free. free ≡ not (has_named self.old host name.now)) }
         ensures taken { IfOk result (λ free. self.new ≡ (if free then self.old ++ named host name.now ∷ [] else self.old)) }
     {
-        let name = Vec::from_slice(alloc, name)?;
+        let name = String::from_str(alloc, name)?;
         Ok(self.taken.insert((host, name))?)
     }
 
@@ -53,11 +48,11 @@ impl OwnedNames {
         &self,
         alloc: Global,
         host: u32,
-        name: &[u8],
+        name: &str,
     ) -> Result<Option<usize>, OutOfMemory>
         ensures { IfOk result (λ place. place ≡ position (is_named host name.now) self.now) }
     {
-        let name = Vec::from_slice(alloc, name)?;
+        let name = String::from_str(alloc, name)?;
         Ok(self.taken.get_index_of(&(host, name)))
     }
 }

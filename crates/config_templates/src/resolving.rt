@@ -1,6 +1,6 @@
 //! What the expressions of triggers mean.
 
-ghost use Rattle.std.specs.Prelude.{◌≡◌, ◌+◌, ◌++◌, ◌∷◌, [], ◌||◌, map, codes, IfOk, OnOk};
+ghost use Rattle.std.specs.Prelude.{◌≡◌, ◌+◌, ◌++◌, ◌∷◌, [], ◌||◌, false, None, map, codes, IfOk, OnOk};
 ghost use Rattle.std.specs.List.{list_any};
 ghost use Rattle.std.specs.Option.{option_or};
 ghost use Rattle.zbx_types.specs.Trees.{tree_of};
@@ -103,6 +103,23 @@ fn hosted(call: Call, looked: Option<LookedAt>) -> Call
     }
 }
 
+/// No calls, and room for so many.
+fn with_room(alloc: Global, room: usize) -> Result<CallList, OutOfMemory>
+    ensures calls { IfOk result (λ l. l.calls ≡ []) }
+    ensures items { IfOk result (λ l. l.call_items ≡ []) }
+    ensures misread { IfOk result (λ l. l.misread ≡ false) }
+    ensures cause { IfOk result (λ l. l.cause ≡ None) }
+{
+    let calls = Vec::with_capacity(alloc, room)?;
+    let call_items = Vec::with_capacity(alloc, room)?;
+    Ok(CallList {
+        calls: Many::from_vec(calls),
+        call_items: Many::from_vec(call_items),
+        misread: false,
+        cause: None,
+    })
+}
+
 /// Adds a call.
 fn add_call(
     alloc: Global,
@@ -141,12 +158,7 @@ fn call_list(
     ensures misread { IfOk result (λ l. l.misread ≡ list_any (λ c. is_misread c (seen_by scope.now owner.now c)) calls) }
     ensures cause { IfOk result (λ l. l.cause ≡ first_cause (λ c. call_cause c (seen_by scope.now owner.now c)) calls) }
 {
-    let mut list = CallList {
-        calls: Many::new(alloc),
-        call_items: Many::new(alloc),
-        misread: false,
-        cause: None,
-    };
+    let mut list = with_room(alloc, calls.len())?;
     for call in calls.into_vec() {
         add_call(alloc, scope, owner, &mut list, call)?;
     }

@@ -1,10 +1,11 @@
 //! Titles of triggers, and their tags.
 
-ghost use Rattle.std.specs.Prelude.{◌≡◌, IfOk};
+ghost use Rattle.std.specs.Prelude.{◌≡◌, ◌≤◌, IfOk};
+ghost use Rattle.zbx_types.specs.Limits.{longest_value};
 ghost use Rattle.config_templates.specs.Titles.{has_brace, filled, shown, title_of, tag_of, tags_of};
 
 use config_read::RawTrigger;
-use macro_text::{Macros, expand_front};
+use macro_text::{Expansion, Macros, expand_front, expand_within};
 use std::alloc::Global;
 use zbx_types::{LONGEST_VALUE, Many, OutOfMemory, Tag, Text};
 
@@ -30,7 +31,7 @@ fn filled(alloc: Global, text: &Text, macros: &Macros<'_, '_>) -> Result<Text, O
 
 /// The same of a text of which an event shows so many bytes: no more than these where no macro of events begins in them.
 #[tactic(auto, unfolding(crate::specs::Titles::shown))]
-fn shown(
+fn shown_front(
     alloc: Global,
     text: &Text,
     macros: &Macros<'_, '_>,
@@ -43,6 +44,23 @@ fn shown(
         return filled(alloc, text, macros);
     }
     Ok(front)
+}
+
+/// The same, where most texts are so short: of these it is made once.
+#[tactic(auto, using(crate::proofs::Titled::short_shown))]
+fn shown(
+    alloc: Global,
+    text: &Text,
+    macros: &Macros<'_, '_>,
+    most: usize,
+) -> Result<Text, OutOfMemory>
+    requires { most ≤ longest_value }
+    ensures { IfOk result (λ made. made ≡ shown most macros.now text.now) }
+{
+    match expand_within(alloc, text, macros, most)? {
+        Expansion::Whole(whole) => Ok(whole),
+        Expansion::Longer(_) => shown_front(alloc, text, macros, most),
+    }
 }
 
 /// The title of a trigger.

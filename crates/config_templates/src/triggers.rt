@@ -28,6 +28,7 @@ use crate::titles::{tags, title};
 use crate::uses::{Users, join_trigger};
 use config_read::{RawHost, RawTrigger};
 use std::alloc::Global;
+use std::convert::AsStr;
 use zbx_types::{Cause, Many, OutOfMemory, Tag, Text, Trigger};
 
 /// The most triggers of all hosts (this project's own).
@@ -152,7 +153,7 @@ fn trigger(
     ensures triggers { IfOk result (λ t. list.new.found.triggers ≡ list.old.found.triggers) }
     ensures names { IfOk result (λ t. list.new.names ≡ list.old.names ++ named_trigger t ∷ []) }
 {
-    if !list.names.take(alloc, owner.id, raw.name.as_bytes())? {
+    if !list.names.take(alloc, owner.id, raw.name.as_str())? {
         let cause = Cause::Duplicate;
         return Err(refused_member(alloc, source, "/triggers", index, "/name", cause));
     }

@@ -56,25 +56,29 @@ fn looks(calls: &[Call]) -> bool
     false
 }
 
-fn started(alloc: Global) -> State
-    ensures { state result ≡ machine.start }
+/// The calls of most expressions, for which there is room from the first on.
+const CALL_ROOM: usize = 16;
+
+fn started(alloc: Global) -> Result<State, OutOfMemory>
+    ensures { IfOk result (λ made. state made ≡ machine.start) }
 {
-    State {
+    let calls = Vec::with_capacity(alloc, CALL_ROOM)?;
+    Ok(State {
         mode: Mode::Begin,
         last: b'(',
         base: Base {
             open_ones: 0,
             stack: Vec::new(alloc),
-            calls: Many::new(alloc),
+            calls: Many::from_vec(calls),
         },
-    }
+    })
 }
 
 /// The state before the first byte.
 fn begun(alloc: Global) -> Result<Box<State>, OutOfMemory>
     ensures { IfOk result (λ made. state made.value ≡ machine.start) }
 {
-    match Box::new(alloc, started(alloc)) {
+    match Box::new(alloc, started(alloc)?) {
         Ok(made) => Ok(made),
         Err(_) => Err(OutOfMemory),
     }

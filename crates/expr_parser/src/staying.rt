@@ -1,6 +1,6 @@
 //! Bytes that lead from a place in a token to a place in the same token, which are taken where it stands.
 
-ghost use Rattle.std.specs.Prelude.{◌≡◌, ℕ, List, Bool, false, Option, IfOk, Some, None};
+ghost use Rattle.std.specs.Prelude.{◌≡◌, ◌++◌, ◌∷◌, [], ℕ, List, Bool, false, Option, IfOk, OnOk, Some, None};
 ghost use Rattle.expr_parser.specs.Machine as machine;
 ghost use Rattle.expr_parser.specs.Parts as parts;
 ghost use Rattle.expr_parser.specs.Staying.{reach};
@@ -32,9 +32,20 @@ use zbx_types::{Bytes, LONGEST_KEY, LONGEST_NAME, OutOfMemory};
 /// Whether an expression goes on with a byte, or none where the byte wasn't taken.
 type Stay = Result<Option<bool>, OutOfMemory>;
 
+/// Adds a byte at the end. After an error the bytes are any.
+#[inline(always)]
+fn put(alloc: Global, text: &mut Bytes, byte: u8) -> Result<(), OutOfMemory>
+    ensures { OnOk result (text.new ≡ text.old ++ byte ∷ []) }
+{
+    let mut bytes = replace(text, Bytes::new(alloc)).into_vec();
+    bytes.push(byte)?;
+    *text = Bytes::from(bytes);
+    Ok(())
+}
+
 /// Takes a byte of a host.
 #[inline(always)]
-fn host_on(text: &mut Bytes, byte: u8) -> Stay
+fn host_on(alloc: Global, text: &mut Bytes, byte: u8) -> Stay
     ensures goes { IfOk result (λ is. (on : Bool) → is ≡ Some on → (f : Fun) (o : ℕ) (k : List Pending) (cs : List Call) → reach on (machine.state (machine.Host f text.new) byte o k cs) ≡ machine.host f text.old o k cs byte) }
     ensures stays { IfOk result (λ is. is ≡ None → text.new ≡ text.old) }
 {
@@ -44,13 +55,19 @@ fn host_on(text: &mut Bytes, byte: u8) -> Stay
     if text.len() >= LONGEST_NAME {
         return Ok(Some(false));
     }
-    text.extend(&[byte])?;
+    put(alloc, text, byte)?;
     Ok(Some(true))
 }
 
 /// Takes a byte of a key.
 #[inline(always)]
-fn key_on(key: &mut Bytes, place: &mut Place, character: &mut Character, byte: u8) -> Stay
+fn key_on(
+    alloc: Global,
+    key: &mut Bytes,
+    place: &mut Place,
+    character: &mut Character,
+    byte: u8,
+) -> Stay
     ensures goes { IfOk result (λ is. (on : Bool) → is ≡ Some on → (f : Fun) (h : List ℕ) (o : ℕ) (k : List Pending) (cs : List Call) → reach on (machine.state (machine.Key f h key.new place.new character.new) byte o k cs) ≡ machine.key_byte false f h key.old place.old character.old o k cs byte) }
     ensures stays { IfOk result (λ is. is ≡ None → (key.new ≡ key.old) × (place.new ≡ place.old) × (character.new ≡ character.old)) }
 {
@@ -66,7 +83,7 @@ fn key_on(key: &mut Bytes, place: &mut Place, character: &mut Character, byte: u
     let Some(open) = byte_grammar::next(*character, byte) else {
         return Ok(Some(false));
     };
-    key.extend(&[byte])?;
+    put(alloc, key, byte)?;
     *place = behind;
     *character = open;
     Ok(Some(true))
@@ -173,8 +190,8 @@ fn mode_on(alloc: Global, mode: &mut Mode, room: bool, byte: u8) -> Stay
     ensures stays { IfOk result (λ is. is ≡ None → mode.new ≡ mode.old) }
 {
     match mode {
-        Mode::Host(_, text) => host_on(text, byte),
-        Mode::Key(_, _, key, place, character) => key_on(key, place, character, byte),
+        Mode::Host(_, text) => host_on(alloc, text, byte),
+        Mode::Key(_, _, key, place, character) => key_on(alloc, key, place, character, byte),
         Mode::Argument(fresh, _, slot, _, place) => Ok(argument_on(fresh, *slot, place, byte)),
         Mode::Word(nots, text) => word_on(*nots, room, text, byte),
         Mode::Number(figures) => number_on(alloc, figures, byte),
