@@ -1,6 +1,6 @@
 -- Laws of groups that are numbered and judged one after another.
 use Rattle.std.proofs.Common.{◌≡◌, ◌⊎◌, ℕ, ◌+◌, ◌<◌, ◌≤◌, zero, suc, List, [], ◌∷◌, ◌++◌, length, get_or, Option, Some, None, refl, sym, ap, ◌∙◌, subst, arith, inl, inr, append_assoc, append-nil}
-use Rattle.std.specs.Prelude.{All}
+use Rattle.std.specs.Prelude.{All, slice_get}
 use Rattle.std.specs.List.{flat_map}
 use Rattle.std.proofs.lemmas.Bool.{ne_eqb}
 use Rattle.std.proofs.lemmas.List.Concat.{flat_map-cons}
@@ -104,9 +104,13 @@ no_numbers (g ∷ gs) some none = absurd (by g.entries (some 0 g (omega arith)) 
     by [] few none = omega (arith, few)
     by (e ∷ es) few none = cc
 
+none_first : (es : List Numbered) → slice_get es 0 ≡ None → es ≡ []
+none_first [] none = refl
+none_first (e ∷ es) none = absurd (cc)
+
 -- groups without entries are none
-pub accepted_none : (conf : Conf) (groups : List Group) (n : Numbering) → IsNumbered conf groups n → n.entries ≡ [] → IsAccepted conf groups
-accepted_none conf groups n are none = subst (IsAccepted conf) (sym (no_numbers groups are.some (sym are.entries_are ∙ none))) tt
+pub accepted_none : (conf : Conf) (groups : List Group) (n : Numbering) → IsNumbered conf groups n → slice_get n.entries 0 ≡ None → IsAccepted conf groups
+accepted_none conf groups n are none = subst (IsAccepted conf) (sym (no_numbers groups are.some (sym are.entries_are ∙ none_first n.entries none))) tt
 
 -- the first group's text is that of the first entry
 kept_first : (g : Group) (gs : List Group) (first : Numbered) (rest : List Numbered) → 0 < length g.entries → first ∷ rest ≡ numbered_of (g ∷ gs) → kept_text (g ∷ gs) ≡ config_text first.entry

@@ -1,10 +1,11 @@
-use Rattle.std.proofs.Common.{◌≡◌, [], ◌∷◌, drop, rules}
+use Rattle.std.proofs.Common.{◌≡◌, ◌∷◌, None, drop, rules}
+use Rattle.std.specs.Prelude.{slice_get}
 use Rattle.server_run.proofs.Judging.{accepted_none, rejected_text, accepted_all}
 use Rattle.server_run.proofs.resuming.judged.Goals as goal
 
 pub returns-in_default : goal.returns-in_default
 returns-in_default c = λ groups are.
-    let none : c.args.numbering.now.entries ≡ [] = search rules in
+    let none : slice_get c.args.numbering.now.entries 0 ≡ None = search rules in
     accepted_none c.args.conf.now groups c.args.numbering.now are none
 
 pub returns-in-Some-text_judged : goal.returns-in-Some-text_judged
