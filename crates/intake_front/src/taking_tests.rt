@@ -1,3 +1,4 @@
+use super::Collection;
 use super::taking::group;
 use super::tests::{conf, second};
 use entry_step::Ready;
@@ -50,12 +51,26 @@ fn asked(alloc: Global, clock: Clock) -> Result<Many<Asked>, OutOfMemory> {
     Ok(all)
 }
 
-/// Whether the value is taken at a moment.
-fn is_taken(alloc: Global, collect: bool, now: Moment, clock: Clock) -> Result<bool, OutOfMemory> {
+/// Whether the value is taken at the second of two moments, behind one that was asked for at the first.
+fn is_taken(
+    alloc: Global,
+    collect: bool,
+    moments: (Moment, Moment),
+    clock: Clock,
+) -> Result<bool, OutOfMemory> {
+    let (before, now) = moments;
+    let first = asked(alloc, Clock::Absent)?;
     let all = asked(alloc, clock)?;
     let ready = in_maintenance(alloc, collect)?;
-    let made = group(alloc, &ready, now, all)?;
+    let mut collection = Collection::new(&ready);
+    group(alloc, &mut collection, before, first)?;
+    let made = group(alloc, &mut collection, now, all)?;
     Ok(made.len() == 1)
+}
+
+/// Two moments of whole seconds.
+fn seconds(before: u32, now: u32) -> (Moment, Moment) {
+    (second(before), second(now))
 }
 
 #[test]
@@ -63,10 +78,10 @@ fn a_value_is_refused_while_a_maintenance_without_collection_is_in_force(
     rt: HostRuntime,
 ) -> Result<(), Fail> {
     let alloc = rt.alloc();
-    assert!(rt; is_taken(alloc, false, second(999), Clock::Absent)?);
-    assert!(rt; !is_taken(alloc, false, second(1000), Clock::Absent)?);
-    assert!(rt; !is_taken(alloc, false, second(1299), Clock::At(second(999)))?);
-    assert!(rt; is_taken(alloc, false, second(1300), Clock::At(second(1299)))?);
-    assert!(rt; is_taken(alloc, true, second(1000), Clock::Absent)?);
+    assert!(rt; is_taken(alloc, false, seconds(999, 999), Clock::Absent)?);
+    assert!(rt; !is_taken(alloc, false, seconds(999, 1000), Clock::Absent)?);
+    assert!(rt; !is_taken(alloc, false, seconds(1000, 1299), Clock::At(second(999)))?);
+    assert!(rt; is_taken(alloc, false, seconds(1299, 1300), Clock::At(second(1299)))?);
+    assert!(rt; is_taken(alloc, true, seconds(999, 1000), Clock::Absent)?);
     Ok(())
 }
