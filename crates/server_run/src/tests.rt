@@ -1,3 +1,5 @@
+ghost use Rattle.std.specs.Prelude.{None};
+
 use super::*;
 use outside::{Disk, Failed, MemDisk, MemSink, MemSource, ScriptWire, Trouble, Wire, WireEvent};
 use server_words::Status;
