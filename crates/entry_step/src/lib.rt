@@ -67,3 +67,8 @@ pub use fault::BuildError;
 pub use index::Ready;
 pub use stepping::step;
 pub use steps::Steps;
+
+#[cfg(test)]
+mod event_tests;
+#[cfg(test)]
+mod tests;

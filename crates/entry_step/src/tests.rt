@@ -1,6 +1,6 @@
 ghost use Rattle.std.specs.Prelude.{◌≡◌, ◌<◌};
 
-use entry_step::{Cells, Ready, Steps, step};
+use super::*;
 use std::alloc::Global;
 use std::convert::AsStr;
 use std::marker::Brand;

@@ -1,7 +1,7 @@
 ghost use Rattle.std.specs.Prelude.{◌≡◌, ◌<◌};
 
+use super::*;
 use crate::tests::{Run, entry_at, host, item, of_these, one, trigger};
-use entry_step::step;
 use event_text::lines;
 use std::alloc::Global;
 use std::marker::Brand;
