@@ -283,23 +283,6 @@ fn opening(conn: u64) -> WireEvent {
     }
 }
 
-/// Takes an event by a collection of its own.
-fn take_by(
-    alloc: Global,
-    collection: Collection<'_>,
-    front: &mut Front<Frail>,
-    event: &WireEvent,
-) -> Result<(), OutOfMemory>
-    requires { front.old.journal.state ≡ state.Ready }
-    ensures { front.new.journal.state ≡ state.Ready }
-{
-    let mut collection = collection;
-    match front.take(alloc, &mut collection, event) {
-        Ok(_) => Ok(()),
-        Err(OutOfMemory) => Err(OutOfMemory),
-    }
-}
-
 /// What events are answered with that are taken together.
 fn take_all(
     alloc: Global,
@@ -310,7 +293,8 @@ fn take_all(
     requires { front.old.journal.state ≡ state.Ready }
 {
     for event in events {
-        take_by(alloc, Collection::new(ready), front, event)?;
+        let mut collection = Collection::new(ready);
+        front.take(alloc, &mut collection, event)?;
     }
     Ok(front.commit(alloc))
 }
