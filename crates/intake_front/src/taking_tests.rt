@@ -51,21 +51,38 @@ fn asked(alloc: Global, clock: Clock) -> Result<Many<Asked>, OutOfMemory> {
     Ok(all)
 }
 
-/// Whether the value is taken at the second of two moments, behind one that was asked for at the first.
+/// How many values are taken of one that is asked for at a moment.
+fn taken_at(
+    alloc: Global,
+    collection: &mut Collection<'_>,
+    now: Moment,
+    clock: Clock,
+) -> Result<usize, OutOfMemory> {
+    let all = asked(alloc, clock)?;
+    Ok(group(alloc, collection, now, all)?.len())
+}
+
+/// The same at the second of two moments, behind one that is asked for at the first.
+fn taken_behind(
+    alloc: Global,
+    ready: &Ready,
+    moments: (Moment, Moment),
+    clock: Clock,
+) -> Result<usize, OutOfMemory> {
+    let mut collection = Collection::new(ready);
+    taken_at(alloc, &mut collection, moments.0, Clock::Absent)?;
+    taken_at(alloc, &mut collection, moments.1, clock)
+}
+
+/// Whether a value is taken at the second of two moments.
 fn is_taken(
     alloc: Global,
     collect: bool,
     moments: (Moment, Moment),
     clock: Clock,
 ) -> Result<bool, OutOfMemory> {
-    let (before, now) = moments;
-    let first = asked(alloc, Clock::Absent)?;
-    let all = asked(alloc, clock)?;
     let ready = in_maintenance(alloc, collect)?;
-    let mut collection = Collection::new(&ready);
-    group(alloc, &mut collection, before, first)?;
-    let made = group(alloc, &mut collection, now, all)?;
-    Ok(made.len() == 1)
+    Ok(taken_behind(alloc, &ready, moments, clock)? == 1)
 }
 
 /// Two moments of whole seconds.
