@@ -74,15 +74,15 @@ fn taken_behind(
     taken_at(alloc, &mut collection, moments.1, clock)
 }
 
-/// Whether a value is taken at the second of two moments.
-fn is_taken(
+/// The same by the configuration with such a maintenance.
+fn taken_in(
     alloc: Global,
     collect: bool,
     moments: (Moment, Moment),
     clock: Clock,
-) -> Result<bool, OutOfMemory> {
+) -> Result<usize, OutOfMemory> {
     let ready = in_maintenance(alloc, collect)?;
-    Ok(taken_behind(alloc, &ready, moments, clock)? == 1)
+    taken_behind(alloc, &ready, moments, clock)
 }
 
 /// Two moments of whole seconds.
@@ -95,10 +95,25 @@ fn a_value_is_refused_while_a_maintenance_without_collection_is_in_force(
     rt: HostRuntime,
 ) -> Result<(), Fail> {
     let alloc = rt.alloc();
-    assert!(rt; is_taken(alloc, false, seconds(999, 999), Clock::Absent)?);
-    assert!(rt; !is_taken(alloc, false, seconds(999, 1000), Clock::Absent)?);
-    assert!(rt; !is_taken(alloc, false, seconds(1000, 1299), Clock::At(second(999)))?);
-    assert!(rt; is_taken(alloc, false, seconds(1299, 1300), Clock::At(second(1299)))?);
-    assert!(rt; is_taken(alloc, true, seconds(999, 1000), Clock::Absent)?);
+    assert_eq!(rt;
+        taken_in(alloc, false, seconds(999, 999), Clock::Absent)?,
+        1
+    );
+    assert_eq!(rt;
+        taken_in(alloc, false, seconds(999, 1000), Clock::Absent)?,
+        0
+    );
+    assert_eq!(rt;
+        taken_in(alloc, false, seconds(1000, 1299), Clock::At(second(999)))?,
+        0
+    );
+    assert_eq!(rt;
+        taken_in(alloc, false, seconds(1299, 1300), Clock::At(second(1299)))?,
+        1
+    );
+    assert_eq!(rt;
+        taken_in(alloc, true, seconds(999, 1000), Clock::Absent)?,
+        1
+    );
     Ok(())
 }
