@@ -20,6 +20,7 @@ pub mod PartLives
 pub mod Lives
 pub mod Bounds
 pub mod Places
+pub mod KeyRuns
 pub mod SlotViews
 pub mod Escapes
 pub mod WrittenNumbers

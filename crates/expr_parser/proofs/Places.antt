@@ -42,7 +42,7 @@ positive zero h = absurd (omega arith)
 positive (suc n) h = refl
 
 -- one byte more
-after_more : (n : ℕ) (o : Option State) (bs : List ℕ) (i : ℕ) → i < length bs → i < n → after n o (take (suc i) bs) ≡ go false (after n o (take i bs)) (get_or bs i 0)
+pub after_more : (n : ℕ) (o : Option State) (bs : List ℕ) (i : ℕ) → i < length bs → i < n → after n o (take (suc i) bs) ≡ go false (after n o (take i bs)) (get_or bs i 0)
 unfolding after
 after_more n o [] i h g = absurd (omega arith)
 after_more zero o (b ∷ bs) i h g = absurd (omega arith)

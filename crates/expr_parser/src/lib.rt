@@ -31,6 +31,7 @@
 mod call_bytes;
 mod call_text;
 mod figures;
+mod keys;
 mod moves;
 mod names;
 mod operand_bytes;

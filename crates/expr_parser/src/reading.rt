@@ -1,6 +1,6 @@
 //! Reading of expressions.
 
-ghost use Rattle.std.specs.Prelude.{◌≡◌, ◌≤◌, ℕ, List, [], length, true, false, IfOk, IfErr, Some, None, option_map};
+ghost use Rattle.std.specs.Prelude.{◌≡◌, ◌≤◌, ◌<◌, ℕ, List, [], length, get_or, true, false, IfOk, IfErr, Some, None};
 ghost use Rattle.std.specs.List.{All};
 ghost use Rattle.zbx_types.specs.Tree.{Tree};
 ghost use Rattle.zbx_types.specs.Trees.{CallsBelow, tree_of};
@@ -8,13 +8,15 @@ ghost use Rattle.zbx_types.specs.declared.calls.Call.{Call};
 ghost use Rattle.expr_parser.specs.Calls.{IsBoundedCall};
 ghost use Rattle.expr_parser.specs.Fault.{IsFault};
 ghost use Rattle.expr_parser.specs.Machine as machine;
-ghost use Rattle.expr_parser.specs.Staying.{reach};
+ghost use Rattle.expr_parser.specs.Staying.{Leads, reach};
 ghost use Rattle.expr_parser.specs.View.{state};
 ghost use Rattle.expr_parser.specs.Grammar.{IsExpr, IsText, looks_at_item};
+ghost use Rattle.expr_parser.specs.declared.reading.Onward.{Onward};
 ghost use Rattle.expr_parser.specs.declared.reading.ParseError.TheVariants.{At};
 
+use crate::keys::key_run;
 use crate::moves::{finished, move_on};
-use crate::states::{Base, Mode, Moved, State};
+use crate::states::{Base, MOST_CALLS, Mode, Moved, State};
 use crate::staying::stay;
 use std::alloc::Global;
 use thiserror::Error;
@@ -22,6 +24,9 @@ use zbx_types::{Call, Expr, Many, OutOfMemory};
 
 /// The most bytes of an expression (this project's own).
 pub const LONGEST_EXPRESSION: u32 = zbx_types::LONGEST_EXPRESSION as u32;
+
+/// The same, as a length.
+const LONGEST: usize = zbx_types::LONGEST_EXPRESSION;
 
 /// An expression, and the calls of functions in it.
 #[derive(Drop)]
@@ -56,13 +61,17 @@ fn looks(calls: &[Call]) -> bool
     false
 }
 
-/// The calls of most expressions, for which there is room from the first on.
-const CALL_ROOM: usize = 16;
+/// How many calls a text may have, so that there is room for them from the first on.
+fn call_room(text: &[u8]) -> usize {
+    let opened = text.iter().filter(|byte| **byte == b'(').count();
+    opened.min(MOST_CALLS)
+}
 
-fn started(alloc: Global) -> Result<State, OutOfMemory>
+/// The state before the first byte of a text.
+fn started(alloc: Global, text: &[u8]) -> Result<State, OutOfMemory>
     ensures { IfOk result (λ made. state made ≡ machine.start) }
 {
-    let calls = Vec::with_capacity(alloc, CALL_ROOM)?;
+    let calls = Vec::with_capacity(alloc, call_room(text))?;
     Ok(State {
         mode: Mode::Begin,
         last: b'(',
@@ -74,11 +83,11 @@ fn started(alloc: Global) -> Result<State, OutOfMemory>
     })
 }
 
-/// The state before the first byte.
-fn begun(alloc: Global) -> Result<Box<State>, OutOfMemory>
+/// The state before the first byte, in its place in memory.
+fn begun(alloc: Global, text: &[u8]) -> Result<Box<State>, OutOfMemory>
     ensures { IfOk result (λ made. state made.value ≡ machine.start) }
 {
-    match Box::new(alloc, started(alloc)?) {
+    match Box::new(alloc, started(alloc, text)?) {
         Ok(made) => Ok(made),
         Err(_) => Err(OutOfMemory),
     }
@@ -95,16 +104,55 @@ fn go_on(alloc: Global, s: &mut State, byte: u8) -> Moved
     move_on(alloc, s, byte)
 }
 
-/// The state behind one byte more, in its place in memory, or none where no expression goes on with it.
+/// Takes bytes from the front of what is left, at most so many, and answers how many: none where no expression goes on
+/// with the first.
 #[inline(always)]
-fn advance(alloc: Global, s: Box<State>, byte: u8) -> Result<Option<Box<State>>, OutOfMemory>
-    ensures { IfOk result (λ r. option_map (λ made. state made.value) r ≡ machine.step false (state s.value) byte) }
+#[tactic(auto, using(crate::proofs::KeyRuns::none_after, crate::proofs::KeyRuns::one_on))]
+fn advance(alloc: Global, s: &mut State, rest: &[u8], most: usize) -> Result<usize, OutOfMemory>
+    requires more { 0 < length rest.now }
+    requires room { 0 < most }
+    ensures within { IfOk result (λ n. n ≤ length rest.now) }
+    ensures few { IfOk result (λ n. n ≤ most) }
+    ensures goes { IfOk result (λ n. 0 < n → Leads (state s.old) rest.now n (state s.new)) }
+    ensures stops { IfOk result (λ n. n ≡ 0 → machine.step false (state s.old) (get_or rest.now 0 0) ≡ None) }
+{
+    let several = key_run(s, rest, most)?;
+    if several > 0 {
+        Ok(several)
+    } else if go_on(alloc, s, rest[0])? {
+        Ok(1)
+    } else {
+        Ok(0)
+    }
+}
+
+/// A state behind some bytes more, and how many they are.
+#[derive(Drop)]
+struct Onward {
+    state: Box<State>,
+    taken: usize,
+}
+
+/// The state behind some bytes from the front of what is left, at most so many, or none where no expression goes on with the
+/// first.
+#[inline(always)]
+fn behind_some(
+    alloc: Global,
+    s: Box<State>,
+    rest: &[u8],
+    most: usize,
+) -> Result<Option<Onward>, OutOfMemory>
+    requires more { 0 < length rest.now }
+    requires room { 0 < most }
+    ensures goes { IfOk result (λ r. (on : Onward) → r ≡ Some on → (on.taken ≤ length rest.now) × (on.taken ≤ most) × (0 < on.taken) × Leads (state s.value) rest.now on.taken (state on.state.value)) }
+    ensures stops { IfOk result (λ r. r ≡ None → machine.step false (state s.value) (get_or rest.now 0 0) ≡ None) }
 {
     let mut s = s;
-    if go_on(alloc, &mut *s, byte)? {
-        Ok(Some(s))
-    } else {
+    let taken = advance(alloc, &mut *s, rest, most)?;
+    if taken == 0 {
         Ok(None)
+    } else {
+        Ok(Some(Onward { state: s, taken }))
     }
 }
 
@@ -148,23 +196,25 @@ pub fn read(alloc: Global, text: &[u8]) -> Result<Parsed, ParseError>
     ensures dates { IfErr result (λ x. (at : ℕ) → x ≡ At at → (e : Tree) (ks : List Call) → IsExpr text.now e ks → length text.now ≤ 4096 → at ≡ 0) }
     ensures place { IfErr result (λ x. (at : ℕ) → x ≡ At at → ((e : Tree) (ks : List Call) → IsExpr text.now e ks → length text.now ≤ 4096 → ⊥) → IsFault IsText 4096 text.now at) }
 {
-    let mut state = match begun(alloc) {
+    let mut state = match begun(alloc, text) {
         Ok(begun) => begun,
         Err(OutOfMemory) => return Err(ParseError::OutOfMemory),
     };
     let mut count = 0;
-    for byte in text {
-        if count == LONGEST_EXPRESSION {
-            return Err(ParseError::At(count));
+    while count < text.len() {
+        if count == LONGEST {
+            return Err(ParseError::At(count as u32));
         }
-        match advance(alloc, state, *byte) {
-            Ok(Some(next)) => state = next,
-            Ok(None) => return Err(ParseError::At(count)),
+        match behind_some(alloc, state, &text[count..], LONGEST - count) {
+            Ok(Some(on)) => {
+                count += on.taken;
+                state = on.state;
+            }
+            Ok(None) => return Err(ParseError::At(count as u32)),
             Err(OutOfMemory) => return Err(ParseError::OutOfMemory),
         }
-        count += 1;
     }
-    answer(alloc, state, count)
+    answer(alloc, state, count as u32)
 }
 
 /// No text is two expressions: a law of the grammar, which does nothing when it is called.

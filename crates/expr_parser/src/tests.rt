@@ -187,6 +187,14 @@ fn long_call(alloc: Global, host: usize, key: usize) -> Result<Bytes, OutOfMemor
     Ok(text)
 }
 
+/// Two calls with long keys, of which the second goes on behind 4,096 bytes.
+fn long_calls(alloc: Global) -> Result<Bytes, OutOfMemory> {
+    let mut text = long_call(alloc, 1, 2047)?;
+    text.extend(b"])+")?;
+    text.extend(long_call(alloc, 1, 2050)?.as_slice())?;
+    Ok(text)
+}
+
 #[test]
 fn the_byte_that_passes_a_limit_is_the_place(rt: HostRuntime) -> Result<(), Fail> {
     let a = rt.alloc();
@@ -198,6 +206,7 @@ fn the_byte_that_passes_a_limit_is_the_place(rt: HostRuntime) -> Result<(), Fail
     assert_eq!(rt; place(a, long_call(a, 129, 9)?.as_slice()), 134);
     assert_eq!(rt; place(a, long_call(a, 1, 2048)?.as_slice()), 2056);
     assert_eq!(rt; place(a, long_call(a, 1, 2050)?.as_slice()), 2056);
+    assert_eq!(rt; place(a, long_calls(a)?.as_slice()), 4096);
     Ok(())
 }
 

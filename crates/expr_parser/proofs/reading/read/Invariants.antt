@@ -1,11 +1,14 @@
-use Rattle.std.proofs.Common.{◌≡◌, ◌≤◌}
+use Rattle.std.proofs.Common.{◌≡◌, ◌≤◌, ◌-◌, length}
 use Rattle.expr_parser.specs.View.{state}
 use Rattle.expr_parser.proofs.Places.{Reached}
 use Rattle.expr_parser.proofs.reading.read.Given as goal
 
-abbrev pub invariant-loop-byte : goal.invariant-loop-byte
-invariant-loop-byte l = record {
-  count : l.count ≡ l.byte-index;
+abbrev pub invariant-loop-count : goal.invariant-loop-count
+invariant-loop-count l = record {
+  within : l.count ≤ length l.text;
   fits : l.count ≤ 4096;
-  reached : Reached l.text l.byte-index (state l.state.value);
+  reached : Reached l.text l.count (state l.state.value);
 }
+
+abbrev pub decreases-loop-count : goal.decreases-loop-count
+decreases-loop-count l = length l.text - l.count
