@@ -1,112 +1,161 @@
--- Cells of items, and what comes into them.
-use Rattle.std.proofs.Common.{◌≡◌, ◌≢◌, ◌≤◌, ◌<◌, ◌+◌, ◌-◌, ◌==◌, ℕ, zero, suc, Bool, true, false, cond, List, [], ◌∷◌, ◌++◌, length, map, get_or, set, slice_get, take, Option, Some, None, refl, sym, ◌∙◌, ap, subst, option_map, arith, ne_eqb, eq-eqb}
-use Rattle.std.proofs.lemmas.List.{length-set, length-map}
-use Rattle.std.proofs.lemmas.Option.{slice_get_past, slice_get-get_or}
-use Rattle.zbx_types.specs.Ids.{at_id, ids_from}
+-- What is kept of the items, and what comes into it.
+use Rattle.std.proofs.Common.{◌≡◌, ◌≢◌, ◌≤◌, ℕ, suc, true, false, List, [], ◌∷◌, length, map, slice_get, Option, Some, None, IfSome, is_some, refl, sym, ◌∙◌, ap, subst, option_map, arith}
+use Rattle.std.specs.Option.{unwrap_or}
+use Rattle.zbx_types.specs.Ids.{at_id}
 use Rattle.zbx_types.specs.declared.conf.Conf.{Conf}
+use Rattle.zbx_types.specs.declared.items.Item.{Item}
 use Rattle.zbx_types.specs.declared.entries.Stored.{Stored}
-use Rattle.value_cache.specs.Cells.{CellView, StandsFor, Gains}
-use Rattle.value_cache.specs.Keeps.{keep_of, keeps_of}
-use Rattle.value_cache.specs.declared.keeping.Keep.{Keep}
-use Rattle.entry_step.specs.Kept.{Keeps, Became, CameIn, AreEmpty}
-use Rattle.entry_step.proofs.Items.{at_zero, at_suc, slice_get_set_same, slice_get_set_other}
+use Rattle.prep_steps.specs.declared.memory.StepMemory.{StepMemory}
+use Rattle.value_cache.specs.Cells.{CellView, StandsFor, trim}
+use Rattle.value_cache.specs.Histories.{placed, IsOrdered}
+use Rattle.value_cache.specs.Keeps.{keep_of}
+use Rattle.value_cache.proofs.Orders.{ordered_placed}
+use Rattle.value_cache.proofs.Pruning.{gains, ordered_trim}
+use Rattle.preprocess.specs.Chains.{listed}
+use Rattle.preprocess.specs.Draft.{Kept, kept_of, kept_with, kept_after, marks_after, visit_at}
+use Rattle.preprocess.specs.Cells.{Becomes}
+use Rattle.preprocess.specs.Laws.{HoldLog}
+use Rattle.preprocess.specs.declared.cells.Cells.{Cells as ItemCells}
+use Rattle.preprocess.specs.declared.visit.Visit.{Visit}
+use Rattle.preprocess.proofs.Logs.{at_map}
+use Rattle.entry_step.specs.History.{with_stored}
+use Rattle.entry_step.specs.Kept.{Keeps, roomless, Sees, CameIn}
+use Rattle.entry_step.proofs.Items.{at_suc}
 
--- nothing came
-became_none : (o : Option CellView) (s : Stored) (now : ℕ) → o ≡ None → Became o s now o
-became_none o s now e = subst (λ x. Became x s now x) (sym e) tt
-
-pub came_none : (cells : List CellView) (item : ℕ) (s : Stored) (now : ℕ) → at_id cells item ≡ None → CameIn cells item s now cells
-came_none cells item s now e = record { size = refl; own = became_none (at_id cells item) s now e; others = λ id ne. refl }
-
-pub came_zero : (cells : List CellView) (item : ℕ) (s : Stored) (now : ℕ) → item ≡ 0 → CameIn cells item s now cells
-came_zero cells item s now e = came_none cells item s now (ap (at_id cells) e ∙ at_zero cells)
-
-suc_of : (item : ℕ) → item ≢ 0 → suc (item - 1) ≡ item
-suc_of item h = omega arith
-
-pub came_past : (cells : List CellView) (item : ℕ) (s : Stored) (now : ℕ) → item ≢ 0 → length cells ≤ item - 1 → CameIn cells item s now cells
-came_past cells item s now h p = came_none cells item s now (ap (at_id cells) (sym (suc_of item h)) ∙ at_suc cells (item - 1) ∙ slice_get_past cells (item - 1) p)
-
--- one more value of an item that is there
-pub came_in : (cells : List CellView) (item : ℕ) (s : Stored) (now : ℕ) (cell next : CellView) → item ≢ 0 → item - 1 < length cells → cell ≡ get_or cells (item - 1) cell → next.keep ≡ cell.keep → Gains cell next s now
-    → CameIn cells item s now (set cells (item - 1) next)
-came_in cells item s now cell next h l is keep gains =
-    record {
-      size = length-set cells (item - 1) next;
-      own = subst (λ x. Became x s now (at_id (set cells (item - 1) next) item)) (sym before) (subst (λ x. Became (Some cell) s now x) (sym after) (keep, gains));
-      others = λ id ne. other id ne;
-    }
+-- two lists whose ids have something at the same places are of one length
+pub same_length : {A B : Type 0} (xs : List A) (ys : List B) → ((id : ℕ) → is_some (at_id xs id) ≡ is_some (at_id ys id)) → length xs ≡ length ys
+same_length {A} {B} xs ys h = go xs ys (λ k. sym (ap is_some (at_suc xs k)) ∙ h (suc k) ∙ ap is_some (at_suc ys k))
   where
-    there : slice_get cells (item - 1) ≡ Some cell
-    there = slice_get-get_or cells (item - 1) cell l ∙ ap Some (sym is)
+    go : (us : List A) (vs : List B) → ((k : ℕ) → is_some (slice_get us k) ≡ is_some (slice_get vs k)) → length us ≡ length vs
+    go [] [] e = refl
+    go [] (b ∷ vs) e = let z : false ≡ true = e 0 in cc
+    go (a ∷ us) [] e = let z : true ≡ false = e 0 in cc
+    go (a ∷ us) (b ∷ vs) e = ap suc (go us vs (λ k. e (suc k)))
 
-    before : at_id cells item ≡ Some cell
-    before = ap (at_id cells) (sym (suc_of item h)) ∙ at_suc cells (item - 1) ∙ there
+pub some_map : {A B : Type 0} (f : A → B) (o : Option A) → is_some (option_map f o) ≡ is_some o
+some_map f None = refl
+some_map f (Some a) = refl
 
-    after : at_id (set cells (item - 1) next) item ≡ Some next
-    after = ap (at_id (set cells (item - 1) next)) (sym (suc_of item h)) ∙ at_suc (set cells (item - 1) next) (item - 1) ∙ slice_get_set_same cells (item - 1) next ∙ ap (option_map (λ _. next)) there
+-- ---- cells as what they keep alone
 
-    other : (id : ℕ) → (item ≡ id → ⊥) → at_id (set cells (item - 1) next) id ≡ at_id cells id
-    other zero ne = at_zero (set cells (item - 1) next) ∙ sym (at_zero cells)
-    other (suc k) ne = at_suc (set cells (item - 1) next) k ∙ slice_get_set_other cells (item - 1) k next (λ e. ne (sym (suc_of item h) ∙ ap suc e)) ∙ sym (at_suc cells k)
+abbrev pub of_kept : Kept → CellView
+of_kept kept = record { keep = kept.keep; values = kept.values; room = 0 }
 
--- The cells of all items, without values
-slice_push : {A : Type 0} (xs : List A) (x : A) (P : ℕ → A → Type 0) → ((k : ℕ) (c : A) → slice_get xs k ≡ Some c → P k c) → P (length xs) x → (k : ℕ) (c : A) → slice_get (xs ++ x ∷ []) k ≡ Some c → P k c
-slice_push [] x P h last zero c e = let q : x ≡ c = cc in subst (P zero) q last
-slice_push [] x P h last (suc k) c e = cc
-slice_push (y ∷ ys) x P h last zero c e = h zero c e
-slice_push (y ∷ ys) x P h last (suc k) c e = slice_push ys x (λ j. P (suc j)) (λ j d q. h (suc j) d q) last k c e
+pub roomless_of : (cells : List CellView) → map roomless cells ≡ map of_kept (map kept_of cells)
+roomless_of [] = refl
+roomless_of (cell ∷ cells) = ap (λ xs. roomless cell ∷ xs) (roomless_of cells)
 
-map_ids : {A : Type 0} (f : ℕ → Keep) (first : ℕ) (xs : List A) (k : ℕ) (d : Keep) → k < length xs → get_or (map f (ids_from first xs)) k d ≡ f (first + k)
-map_ids f first [] k d l = absurd (omega arith)
-map_ids f first (x ∷ xs) zero d l = let n : first ≡ first + 0 = omega arith in ap f n
-map_ids f first (x ∷ xs) (suc k) d l = let n : (first + 1) + k ≡ first + suc k = omega arith in map_ids f (first + 1) xs k d (omega arith) ∙ ap f n
+pub kept_roomless : (cells : List CellView) → map kept_of (map roomless cells) ≡ map kept_of cells
+kept_roomless [] = refl
+kept_roomless (cell ∷ cells) = ap (λ xs. kept_of cell ∷ xs) (kept_roomless cells)
 
-length_ids : {A : Type 0} (first : ℕ) (xs : List A) → length (ids_from first xs) ≡ length xs
-length_ids first [] = refl
-length_ids first (x ∷ xs) = ap suc (length_ids (first + 1) xs)
+pub roomless_same : (a b : List CellView) → map kept_of a ≡ map kept_of b → map roomless a ≡ map roomless b
+roomless_same a b e = roomless_of a ∙ ap (map of_kept) e ∙ sym (roomless_of b)
 
-pub length_keeps : (conf : Conf) → length (keeps_of conf) ≡ length conf.items
-length_keeps conf = length-map (ids_from 1 conf.items) (keep_of conf) ∙ length_ids 1 conf.items
+-- two cells that keep the same stand for the same
+pub stands_same : (one other : CellView) (seen : ℕ) (history : List Stored) → kept_of other ≡ kept_of one → StandsFor one seen history → StandsFor other seen history
+stands_same one other seen history e stands = record {
+  ordered = stands.ordered;
+  kept = λ now m. ap (λ (k : Kept). trim k.keep now k.values) e ∙ stands.kept now m ∙ sym (ap (λ (k : Kept). trim k.keep now history) e);
+}
 
--- the cells so far
-pub record AreEmptySoFar (conf : Conf) (k : ℕ) (cells : List CellView) : Type 0 where
-  pub size : length cells ≡ k
-  pub each : (j : ℕ) (cell : CellView) → slice_get cells j ≡ Some cell → (cell.keep ≡ keep_of conf (j + 1)) × StandsFor cell 0 []
+pub keeps_same : (conf : Conf) (id seen : ℕ) (history : List Stored) (one other : CellView) → kept_of other ≡ kept_of one → Keeps conf id seen history (Some one) → Keeps conf id seen history (Some other)
+keeps_same conf id seen history one other e k = (ap (λ (x : Kept). x.keep) e ∙ k.0, stands_same one other seen history e k.1)
 
-pub no_cells : (conf : Conf) (cells : List CellView) → cells ≡ [] → AreEmptySoFar conf 0 cells
-no_cells conf cells e = record { size = ap length e; each = λ j cell q. (let n : None ≡ Some cell = ap (λ xs. slice_get xs j) (sym e) ∙ q in cc) }
-
-pub one_cell : (conf : Conf) (k : ℕ) (cells next : List CellView) (cell : CellView) (xs : List Keep) (d : Keep) → xs ≡ keeps_of conf → k < length xs → cell.keep ≡ get_or xs k d → StandsFor cell 0 []
-    → next ≡ cells ++ cell ∷ [] → AreEmptySoFar conf k cells → AreEmptySoFar conf (k + 1) next
-one_cell conf k cells next cell xs d keeps l same stands made so_far = subst (AreEmptySoFar conf (k + 1)) (sym made) (record {
-  size = sized cells so_far.size;
-  each = slice_push cells cell (λ j c. (c.keep ≡ keep_of conf (j + 1)) × StandsFor c 0 []) so_far.each (kept, stands);
-})
+pub sees_roomless : (conf : Conf) (id : ℕ) (cells : List CellView) (stored : Option Stored) (now : ℕ) (history : List Stored) → Sees conf id (at_id (map roomless cells) id) stored now history → Sees conf id (at_id cells id) stored now history
+sees_roomless conf id cells stored now history sees = go (at_id cells id) (subst (λ o. Sees conf id o stored now history) (at_map roomless cells id) sees)
   where
-    sized : (xs : List CellView) {n : ℕ} → length xs ≡ n → length (xs ++ cell ∷ []) ≡ n + 1
-    sized xs {n} e = let a : length (xs ++ cell ∷ []) ≡ length xs + 1 = Rattle.std.proofs.Common.length-append xs (cell ∷ []) in omega arith
+    go : (o : Option CellView) → Sees conf id (option_map roomless o) stored now history → Sees conf id o stored now history
+    go None s = s
+    go (Some cell) s = record { seen = s.seen; before = s.before; by = s.by; keeps = keeps_same conf id s.seen s.before (roomless cell) cell refl s.keeps; is = s.is }
 
-    kept : cell.keep ≡ keep_of conf (length cells + 1)
-    kept =
-        let size = length_keeps conf in
-        let all = ap length keeps in
-        let n : 1 + k ≡ length cells + 1 = (let z = so_far.size in omega arith) in
-        same ∙ ap (λ ks. get_or ks k d) keeps ∙ map_ids (keep_of conf) 1 conf.items k d (omega arith) ∙ ap (keep_of conf) n
+-- ---- what comes into them
 
-pub all_cells : (conf : Conf) (k : ℕ) (cells : List CellView) → length (keeps_of conf) ≤ k → k ≤ length (keeps_of conf) → AreEmptySoFar conf k cells → AreEmpty conf cells
-all_cells conf k cells past within so_far = record { size = (let a = so_far.size in let b = length_keeps conf in omega arith); each = so_far.each }
+-- what is kept of an item, with a value that came in at this moment, if one did
+abbrev pub Became : Option CellView → Option Stored → ℕ → Option CellView → Type 0
+Became None s now None = Unit {0}
+Became (Some cell) s now (Some next) = kept_of next ≡ kept_with now s (kept_of cell)
+Became None s now (Some next) = ⊥
+Became (Some cell) s now None = ⊥
 
--- what is kept of an item without values
-pub empty_keeps : (conf : Conf) (cells : List CellView) → AreEmpty conf cells → (id : ℕ) → Keeps conf id 0 [] (at_id cells id)
-empty_keeps conf cells empty zero = subst (Keeps conf zero 0 []) (sym (at_zero cells)) refl
-empty_keeps conf cells empty (suc k) = subst (Keeps conf (suc k) 0 []) (sym (at_suc cells k)) (go (slice_get cells k) refl)
+pub became : (cells next : List CellView) (now id : ℕ) (s : Option Stored) → at_id (map kept_of next) id ≡ option_map (kept_with now s) (at_id (map kept_of cells) id) → Became (at_id cells id) s now (at_id next id)
+became cells next now id s e = go (at_id cells id) (at_id next id) (sym (at_map kept_of next id) ∙ e ∙ ap (option_map (kept_with now s)) (at_map kept_of cells id))
   where
-    go : (o : Option CellView) → slice_get cells k ≡ o → Keeps conf (suc k) 0 [] o
-    go None e = refl
-    go (Some cell) e = let h = empty.each k cell e in let n : k + 1 ≡ suc k = omega arith in (h.0 ∙ ap (keep_of conf) n, h.1)
+    go : (o p : Option CellView) → option_map kept_of p ≡ option_map (kept_with now s) (option_map kept_of o) → Became o s now p
+    go None None q = tt
+    go None (Some p) q = cc
+    go (Some o) None q = cc
+    go (Some o) (Some p) q = cc
+
+-- values stay in order
+pub still_ordered : (o p : Option CellView) (s : Option Stored) (now : ℕ) → Became o s now p → IfSome o (λ cell. IsOrdered cell.values) → IfSome p (λ cell. IsOrdered cell.values)
+still_ordered None None s now b h = tt
+still_ordered None (Some p) s now b h = absurd b
+still_ordered (Some o) None s now b h = absurd b
+still_ordered (Some o) (Some p) None now b h = subst IsOrdered (sym (ap (λ (k : Kept). k.values) b)) h
+still_ordered (Some o) (Some p) (Some s) now b h = subst IsOrdered (sym (ap (λ (k : Kept). k.values) b)) (ordered_trim o.keep now (placed s o.values) (ordered_placed s o.values h))
 
 -- what is kept stands for a history from any later moment on
 pub keeps_later : (conf : Conf) (id seen later : ℕ) (history : List Stored) (o : Option CellView) → seen ≤ later → Keeps conf id seen history o → Keeps conf id later history o
 keeps_later conf id seen later history None l k = k
 keeps_later conf id seen later history (Some cell) l k = (k.0, record { ordered = k.1.ordered; kept = λ now m. k.1.kept now (omega arith) })
+
+-- and with what came in for the history with it, at a moment that isn't before the last one that was seen
+pub keeps_with : (conf : Conf) (id seen later now : ℕ) (history : List Stored) (s : Option Stored) (o p : Option CellView) → seen ≤ later → (s ≢ None → (seen ≤ now) × (now ≤ later)) → (o ≡ None → s ≡ None)
+    → IfSome o (λ cell. IsOrdered cell.values) → Became o s now p → Keeps conf id seen history o → Keeps conf id later (with_stored s history) p
+keeps_with conf id seen later now history None None None l m none ordered b k = k
+keeps_with conf id seen later now history (Some s) None None l m none ordered b k = let z : Some s ≡ None = none refl in cc
+keeps_with conf id seen later now history s None (Some p) l m none ordered b k = absurd b
+keeps_with conf id seen later now history s (Some o) None l m none ordered b k = absurd b
+keeps_with conf id seen later now history None (Some o) (Some p) l m none ordered b k = keeps_later conf id seen later history (Some p) l (keeps_same conf id seen history o p b k)
+keeps_with conf id seen later now history (Some s) (Some o) (Some p) l m none ordered b k =
+    let keep : p.keep ≡ o.keep = ap (λ (x : Kept). x.keep) b in
+    let moments = m (λ q. cc) in
+    keeps_later conf id now later (placed s history) (Some p) moments.1 (keep ∙ k.0, gains o p s now ordered keep (ap (λ (x : Kept). x.values) b) seen history moments.0 k.1)
+
+-- ---- what is kept of items without values
+
+pub empty_keeps : (conf : Conf) (made : ItemCells) → HoldLog conf [] made → (id : ℕ) → Keeps conf id 0 [] (at_id (map roomless made.cells.items) id)
+unfolding Rattle.preprocess.specs.Laws.inserts_behind
+empty_keeps conf made holds id = subst (Keeps conf id 0 []) (sym (at_map roomless made.cells.items id)) (go (at_id made.cells.items id) (at_id conf.items id) (sym (at_map kept_of made.cells.items id) ∙ holds.kept id))
+  where
+    empty : Kept
+    empty = record { keep = keep_of conf id; values = [] }
+
+    go : (o : Option CellView) (x : Option Item) → option_map kept_of o ≡ option_map (λ item. empty) x → Keeps conf id 0 [] (option_map roomless o)
+    go None x e = refl
+    go (Some cell) None e = cc
+    go (Some cell) (Some x) e =
+        let same : kept_of cell ≡ empty = cc in
+        (ap (λ (k : Kept). k.keep) same, record { ordered = tt; kept = λ now m. ap (λ (k : Kept). trim k.keep now k.values) same ∙ sym (ap (λ (k : Kept). trim k.keep now []) same) })
+
+pub empty_ordered : (conf : Conf) (made : ItemCells) → HoldLog conf [] made → (id : ℕ) → IfSome (at_id (map roomless made.cells.items) id) (λ cell. IsOrdered cell.values)
+unfolding Rattle.preprocess.specs.Laws.inserts_behind
+empty_ordered conf made holds id = subst (λ o. IfSome o (λ cell. IsOrdered cell.values)) (sym (at_map roomless made.cells.items id)) (go (at_id made.cells.items id) (at_id conf.items id) (sym (at_map kept_of made.cells.items id) ∙ holds.kept id))
+  where
+    empty : Kept
+    empty = record { keep = keep_of conf id; values = [] }
+
+    go : (o : Option CellView) (x : Option Item) → option_map kept_of o ≡ option_map (λ item. empty) x → IfSome (option_map roomless o) (λ cell. IsOrdered cell.values)
+    go None x e = tt
+    go (Some cell) None e = cc
+    go (Some cell) (Some x) e = let same : kept_of cell ≡ empty = cc in subst IsOrdered (sym (ap (λ (k : Kept). k.values) same)) tt
+
+pub size_roomless : (cells : List CellView) → length (map roomless cells) ≡ length cells
+size_roomless [] = refl
+size_roomless (cell ∷ cells) = ap suc (size_roomless cells)
+
+-- the rows of what steps remember, with what visits leave
+pub marks_listed : (rows next : List (List StepMemory)) (v : Option Visit) (id : ℕ) → (at_id rows id ≡ None → v ≡ None) → at_id next id ≡ option_map (marks_after v) (at_id rows id) → listed next id ≡ marks_after v (listed rows id)
+marks_listed rows next v id none e = ap (λ o. unwrap_or o []) e ∙ go (at_id rows id) refl
+  where
+    go : (o : Option (List StepMemory)) → at_id rows id ≡ o → unwrap_or (option_map (marks_after v) o) [] ≡ marks_after v (unwrap_or o [])
+    go None q = sym (ap (λ x. marks_after x []) (none q))
+    go (Some row) q = refl
+
+-- what comes into cells, as what they keep alone
+pub came_in : (now : ℕ) (visits : List Visit) (before after : ItemCells) → Becomes now visits before after → CameIn now visits (map roomless before.cells.items) (map roomless after.cells.items) before.memories.items after.memories.items
+came_in now visits before after b = record {
+  cells = λ id. ap (λ rows. at_id rows id) (kept_roomless after.cells.items) ∙ b.cells id ∙ ap (λ rows. option_map (kept_after now (visit_at visits id)) (at_id rows id)) (sym (kept_roomless before.cells.items));
+  marks = b.memories;
+}

@@ -1,21 +1,24 @@
--- Which triggers' problems an evaluation changes: its own alone.
-use Rattle.std.proofs.Common.{◌≡◌, ℕ, ◌==◌, Bool, true, false, cond, Option, Some, None, List, [], ◌∷◌, ◌++◌, filter, refl, sym, ◌∙◌, ap, subst, eqb-true, ℤ, pos, Result, Ok, Err, IfOk}
+-- Which triggers' problems records change, and what a trigger adds.
+use Rattle.std.proofs.Common.{◌≡◌, length, ℕ, ◌==◌, Bool, true, false, cond, Option, Some, None, List, [], ◌∷◌, ◌++◌, filter, refl, sym, ◌∙◌, ap, subst, eqb-true, ℤ, pos, Result, Ok, Err, IfOk}
 use mathlib.Core.Path.{fun_ext}
 use Rattle.std.specs.Ordering.{int_eq}
 use Rattle.zbx_types.specs.Ids.{at_id}
 use Rattle.zbx_types.specs.Masters.{masters_of}
 use Rattle.zbx_types.specs.declared.conf.Conf.{Conf}
 use Rattle.zbx_types.specs.declared.triggers.Trigger.{Trigger}
+use Rattle.zbx_types.specs.declared.entries.Cause2.{Cause2}
+use Rattle.zbx_types.specs.declared.entries.Cause2.TheVariants as causes
+use Rattle.event_correlation.specs.declared.answer.Closes.{Closes}
 use Rattle.zbx_types.specs.declared.entries.EventId.{EventId}
 use Rattle.zbx_types.specs.declared.entries.Rec.{Rec}
 use Rattle.zbx_types.specs.declared.entries.Stored.{Stored}
-use Rattle.trigger_state.specs.Problems.{home, event_in, lands, absorbed_all, grown}
+use Rattle.trigger_state.specs.Problems.{home, event_in, lands, absorbed_all}
 use Rattle.entry_step.specs.Seen.{shown_values, Seen, seen_in}
 use Rattle.entry_step.specs.Evaluation.{call_value}
 use Rattle.event_text.specs.Titles.{event_tags}
 use Rattle.zbx_types.specs.declared.entries.Held.{Held}
-use Rattle.entry_step.specs.Records.{problem_of, closed_records, verdict_records, expression_value, recovery_value, records_by, evaluated, phase}
-use Rattle.entry_step.specs.Changes.{outcome_records, outcome_opens, Closes, judged}
+use Rattle.entry_step.specs.Records.{problem_of, closed_records, ruled, ruled_records, last_records, begun_with, verdict_records, expression_value, recovery_value, records_by, evaluated}
+use Rattle.entry_step.specs.Changes.{outcome_records, outcome_rows, EachClosed, judged, AreTidy, Absorbed}
 use Rattle.entry_step.specs.declared.changes.Outcome.{Outcome}
 use Rattle.trigger_state.specs.Verdicts.{some_open, is_held, lets_close, makes_new, is_closed_by, closing, close_all, verdict_over, verdict_by}
 use Rattle.trigger_state.specs.declared.answer.Verdict.{Verdict}
@@ -29,10 +32,9 @@ use Rattle.entry_step.specs.Due.{IsAbout}
 use Rattle.entry_step.proofs.Said.{due_about, closed_about}
 use Rattle.entry_step.specs.Each.{Each}
 use Rattle.entry_step.proofs.Members.{each_map, each_cond}
-use Rattle.entry_step.specs.Represents.{AllAtHome}
+use Rattle.entry_step.specs.Represents.{problems_at, AllAtHome}
 use Rattle.trigger_state.specs.declared.problems.Open.{Open}
 use Rattle.trigger_state.proofs.Searches.{lands_alone}
-use Rattle.entry_step.proofs.Problems.{home_all}
 use Rattle.entry_step.specs.declared.occasions.Occasion.{Occasion}
 
 -- the records change the problems of triggers in K alone
@@ -56,34 +58,53 @@ land_sub conf K L (r ∷ rs) h l = (λ id e. l.0 id (h id e), land_sub conf K L 
 abbrev pub only : ℕ → ℕ → Bool
 only id j = id == j
 
-at_home : (conf : Conf) (event : EventId) (id j : ℕ) → home conf event ≡ id → only id j ≡ false → (home conf event == j) ≡ false
-at_home conf event id j h e = ap (λ t. t == j) h ∙ e
-
-pub about_lands : (conf : Conf) (e : EventId) (id : ℕ) (rs : List Rec) → home conf e ≡ id → Each (IsAbout e) rs → LandIn conf (only id) rs
-about_lands conf e id [] h a = tt
-about_lands conf e id (r ∷ rs) h a = (one r a.0, about_lands conf e id rs h a.1)
+pub in_only : (K : ℕ → Bool) (id j : ℕ) → K id ≡ true → K j ≡ false → only id j ≡ false
+in_only K id j t f = go (id == j) refl
   where
-    one : (r : Rec) → IsAbout e r → (j : ℕ) → only id j ≡ false → lands conf r j ≡ false
-    one (Step event action step now) is j q = at_home conf event id j (ap (home conf) is ∙ h) q
+    go : (b : Bool) → (id == j) ≡ b → b ≡ false
+    go true e = let s : K j ≡ true = subst (λ x. K x ≡ true) (eqb-true id j e) t in cc
+    go false e = refl
+
+pub about_lands : (conf : Conf) (e : EventId) (K : ℕ → Bool) (rs : List Rec) → K (home conf e) ≡ true → Each (IsAbout e) rs → LandIn conf K rs
+about_lands conf e K [] h a = tt
+about_lands conf e K (r ∷ rs) h a = (one r a.0, about_lands conf e K rs h a.1)
+  where
+    one : (r : Rec) → IsAbout e r → (j : ℕ) → K j ≡ false → lands conf r j ≡ false
+    one (Step event action step now) is j q = in_only K (home conf event) j (ap (λ x. K (home conf x)) is ∙ h) q
     one (Message event action step recipient subject body) is j q = refl
     one (Failure number host key why) is j q = absurd is
     one (Problem event now severity suppressed host trigger name tags) is j q = absurd is
     one (Recovery event by now cause) is j q = absurd is
 
-closed_land : (conf : Conf) (number now id : ℕ) (os : List Open) (events : List EventId) → Each (λ e. home conf e ≡ id) events → LandIn conf (only id) (flat_map (closed_records conf number now os) events)
-closed_land conf number now id os [] h = tt
-closed_land conf number now id os (e ∷ es) h =
-    land_append conf (only id) (closed_records conf number now os e) (flat_map (closed_records conf number now os) es)
-    (λ j q. at_home conf e id j h.0 q, about_lands conf e id (flat_map (λ o. recovered_records conf o.problem o.steps now) (filter (λ o. same_event (event_in o) e) os)) h.0 (closed_about e e conf now os))
-    (closed_land conf number now id os es h.1)
+pub closed_lands : (conf : Conf) (number now : ℕ) (cause : Cause2) (K : ℕ → Bool) (os : EventId → List Open) (events : List EventId) → Each (λ e. K (home conf e) ≡ true) events
+    → LandIn conf K (flat_map (λ e. closed_records conf number now cause (os e) e) events)
+closed_lands conf number now cause K os [] h = tt
+closed_lands conf number now cause K os (e ∷ es) h =
+    land_append conf K (closed_records conf number now cause (os e) e) (flat_map (λ x. closed_records conf number now cause (os x) x) es)
+    (λ j q. in_only K (home conf e) j h.0 q, about_lands conf e K (flat_map (λ o. recovered_records conf o.problem o.steps now) (filter (λ o. same_event (event_in o) e) (os e))) h.0 (closed_about e e conf now (os e)))
+    (closed_lands conf number now cause K os es h.1)
 
-verdict_lands : (conf : Conf) (number now : ℕ) (values : List (Option Held)) (id : ℕ) (trigger : Trigger) (os : List Open) (v : Verdict) → Closes (λ e. home conf e ≡ id) v → LandIn conf (only id) (verdict_records conf number now values id trigger os v)
-unfolding verdict_records problem_of
-verdict_lands conf number now values id trigger os Nothing h = tt
-verdict_lands conf number now values id trigger os New h =
-    let problem : Rec = problem_of conf number now values id trigger in
-    (λ j e. e, about_lands conf (event_of problem) id (first_records_of conf id problem now) refl (due_about conf id problem [] now))
-verdict_lands conf number now values id trigger os (Close events) h = closed_land conf number now id os events h
+-- a new problem lands in the cell of its trigger, and what closes for it in the cells of theirs
+last_lands : (conf : Conf) (number now id : ℕ) (K : ℕ → Bool) (problem : Rec) (is_closed : Bool) → K (home conf (event_of problem)) ≡ true → LandIn conf K (last_records conf number now id problem is_closed)
+last_lands conf number now id K problem true h = (λ j q. in_only K (home conf (event_of problem)) j h q, tt)
+last_lands conf number now id K problem false h = about_lands conf (event_of problem) K (first_records_of conf id problem now) h (due_about conf id problem [] now)
+
+pub begun_lands : (conf : Conf) (number now : ℕ) (values : List (Option Held)) (all : ℕ → List Open) (id : ℕ) (trigger : Trigger) (K : ℕ → Bool) (closes : Closes) → K id ≡ true → Each (λ e. K (home conf e) ≡ true) closes.old
+    → LandIn conf K (begun_with conf number now all id (problem_of conf number now values id trigger) closes)
+unfolding problem_of
+begun_lands conf number now values all id trigger K closes self old =
+    let problem : Rec = problem_of conf number now values id trigger in (
+      λ j q. in_only K id j self q,
+      land_append conf K (ruled_records conf number now all closes.old) (last_records conf number now id problem closes.new)
+          (closed_lands conf number now causes.Correlation K (λ e. all (home conf e)) closes.old old) (last_lands conf number now id K problem closes.new self),
+    )
+
+pub verdict_lands : (conf : Conf) (number now : ℕ) (values : List (Option Held)) (all : ℕ → List Open) (id : ℕ) (trigger : Trigger) (K : ℕ → Bool) → K id ≡ true
+    → Each (λ e. K (home conf e) ≡ true) (ruled conf (problem_of conf number now values id trigger) all).old → (v : Verdict) → EachClosed (λ e. K (home conf e) ≡ true) v → LandIn conf K (verdict_records conf number now values id trigger all v)
+unfolding verdict_records
+verdict_lands conf number now values all id trigger K self old Nothing h = tt
+verdict_lands conf number now values all id trigger K self old New h = begun_lands conf number now values all id trigger K (ruled conf (problem_of conf number now values id trigger) all) self old
+verdict_lands conf number now values all id trigger K self old (Close events) h = closed_lands conf number now causes.Expression K (λ e. all id) events h
 
 -- what a verdict closes is among the open problems
 module _ (P : EventId → Type 0) where
@@ -94,88 +115,58 @@ module _ (P : EventId → Type 0) where
       kept [] e = tt
       kept (x ∷ xs) e = each_cond (λ o. P (event_in o)) (is_closed_by trigger.close_tag tags x) (x ∷ filter (is_closed_by trigger.close_tag tags) xs) (filter (is_closed_by trigger.close_tag tags) xs) (e.0, kept xs e.1) (kept xs e.1)
 
-  all_own : (events : List EventId) → Each P events → Closes P (close_all events)
+  all_own : (events : List EventId) → Each P events → EachClosed P (close_all events)
   all_own [] h = tt
   all_own (e ∷ es) h = h
 
-  pub closes_own : (trigger : Trigger) (held : Bool) (os : List Open) (p r : Option ℤ) (tags : List Tag) (is_value : Bool) → Each (λ o. P (event_in o)) os → Closes P (verdict_over trigger held os p r tags is_value)
+  pub closes_own : (trigger : Trigger) (held : Bool) (os : List Open) (p r : Option ℤ) (tags : List Tag) (is_value : Bool) → Each (λ o. P (event_in o)) os → EachClosed P (verdict_over trigger held os p r tags is_value)
   closes_own trigger true os p r tags is_value h = tt
   closes_own trigger false os None r tags is_value h = tt
   closes_own trigger false os (Some z) r tags is_value h = go (int_eq z (pos 0)) (lets_close trigger.recovery r) (makes_new trigger os is_value)
     where
-      go : (a b d : Bool) → Closes P (cond a (cond b (close_all (closing trigger tags os)) Nothing) (cond d New Nothing))
+      go : (a b d : Bool) → EachClosed P (cond a (cond b (close_all (closing trigger tags os)) Nothing) (cond d New Nothing))
       go true true d = all_own (closing trigger tags os) (closing_own trigger tags os h)
       go true false d = tt
       go false b true = tt
       go false b false = tt
 
--- what the outcome of a verdict makes of the open problems
-pub settled_opens : {E : Type 0} (result : Result (Option Outcome) E) (conf : Conf) (id : ℕ) (trigger : Trigger) (held : Bool) (os : List Open) (p r : Option ℤ) (tags : List Tag) (is_value : Bool) (v : Verdict)
-    → v ≡ verdict_over trigger held os p r tags is_value
-    → IfOk result (λ made. Closes (λ e. home conf e ≡ id) v → outcome_opens os made ≡ absorbed_all conf id os (outcome_records made))
-    → IfOk result (λ made. AllAtHome conf id os → outcome_opens os made ≡ absorbed_all conf id os (outcome_records made))
-settled_opens (Ok made) conf id trigger held os p r tags is_value v is h = λ homes.
-    h (subst (Closes (λ e. home conf e ≡ id)) (sym is) (closes_own (λ e. home conf e ≡ id) trigger held os p r tags is_value homes))
-settled_opens (Err e) conf id trigger held os p r tags is_value v is h = tt
+-- what the outcome of a verdict makes of the rows
+pub settled_rows : {E : Type 0} (result : Result (Option Outcome) E) (conf : Conf) (rows : List (List Open)) (id : ℕ) (trigger : Trigger) (held : Bool) (os : List Open) (p r : Option ℤ) (tags : List Tag) (is_value : Bool) (v : Verdict)
+    → v ≡ verdict_over trigger held os p r tags is_value → os ≡ problems_at rows id
+    → IfOk result (λ made. EachClosed (λ e. home conf e ≡ id) v → length rows ≡ length conf.triggers → Absorbed conf rows (outcome_records made) (outcome_rows rows id made))
+    → IfOk result (λ made. AreTidy conf rows → Absorbed conf rows (outcome_records made) (outcome_rows rows id made))
+settled_rows (Ok made) conf rows id trigger held os p r tags is_value v is own h = λ tidy.
+    h (subst (EachClosed (λ e. home conf e ≡ id)) (sym is) (closes_own (λ e. home conf e ≡ id) trigger held os p r tags is_value (subst (AllAtHome conf id) (sym own) (tidy.homes id)))) tidy.size
+settled_rows (Err e) conf rows id trigger held os p r tags is_value v is own h = tt
 
 -- what a trigger adds that is there
 pub judged_is : (conf : Conf) (occasion : Occasion) (items : ℕ → List Stored) (all : ℕ → List Open) (id : ℕ) (trigger : Trigger) → at_id conf.triggers id ≡ Some trigger
-    → evaluated conf occasion items all id ≡ judged conf occasion (seen_in items occasion conf.utc_offset trigger) id trigger (is_held conf all id) (all id)
+    → evaluated conf occasion items all id ≡ judged conf occasion (seen_in items occasion conf.utc_offset trigger) id trigger (is_held conf all id) all
 unfolding evaluated
 judged_is conf occasion items all id trigger e =
     let seen : Seen = seen_in items occasion conf.utc_offset trigger in
     ap (records_by conf occasion items all id) e
-    ∙ ap (λ t. verdict_records conf occasion.number occasion.now seen.values id trigger (all id) (verdict_by t (is_held conf all id) (all id) (expression_value seen.calls trigger.expr) (recovery_value seen.calls trigger.recovery_expr) (event_tags conf id seen.values) occasion.is_value)) e
+    ∙ ap (λ t. verdict_records conf occasion.number occasion.now seen.values id trigger all (verdict_by t (is_held conf all id) (all id) (expression_value seen.calls trigger.expr) (recovery_value seen.calls trigger.recovery_expr) (event_tags conf id seen.values) occasion.is_value)) e
 
-pub outcome_is : (conf other : Conf) (occasion : Occasion) (calls : ℕ → Option ℤ) (items : ℕ → List Stored) (all : ℕ → List Open) (id : ℕ) (trigger : Trigger) (held : Bool) (os : List Open) (ms : List ℕ) → other ≡ conf
-    → ((place : ℕ) → calls place ≡ call_value items occasion conf.utc_offset trigger place) → at_id conf.triggers id ≡ Some trigger → ms ≡ masters_of conf id → held ≡ some_open all ms → os ≡ all id
-    → judged other occasion (record { calls = calls; values = shown_values items occasion.now trigger }) id trigger held os ≡ evaluated conf occasion items all id
-outcome_is conf other occasion calls items all id trigger held os ms same values there m h o =
+pub outcome_is : (conf other : Conf) (occasion : Occasion) (calls : ℕ → Option ℤ) (items : ℕ → List Stored) (all : ℕ → List Open) (id : ℕ) (trigger : Trigger) (held : Bool) (ms : List ℕ) → other ≡ conf
+    → ((place : ℕ) → calls place ≡ call_value items occasion conf.utc_offset trigger place) → at_id conf.triggers id ≡ Some trigger → ms ≡ masters_of conf id → held ≡ some_open all ms
+    → judged other occasion (record { calls = calls; values = shown_values items occasion.now trigger }) id trigger held all ≡ evaluated conf occasion items all id
+outcome_is conf other occasion calls items all id trigger held ms same values there m h =
     let sight : (ℕ → Option ℤ) → Seen = λ v. record { calls = v; values = shown_values items occasion.now trigger } in
-    ap (λ c. judged c occasion (sight calls) id trigger held os) same ∙ ap (λ v. judged conf occasion (sight v) id trigger held os) (fun_ext values)
-    ∙ ap (λ b. judged conf occasion (seen_in items occasion conf.utc_offset trigger) id trigger b os) (h ∙ ap (some_open all) m)
-    ∙ ap (judged conf occasion (seen_in items occasion conf.utc_offset trigger) id trigger (is_held conf all id)) o ∙ sym (judged_is conf occasion items all id trigger there)
+    ap (λ c. judged c occasion (sight calls) id trigger held all) same ∙ ap (λ v. judged conf occasion (sight v) id trigger held all) (fun_ext values)
+    ∙ ap (λ b. judged conf occasion (seen_in items occasion conf.utc_offset trigger) id trigger b all) (h ∙ ap (some_open all) m)
+    ∙ sym (judged_is conf occasion items all id trigger there)
 
 -- what holds of the records of each verdict that closes some of the open problems
-pub judged_has : (P : EventId → Type 0) (R : List Rec → Type 0) (conf : Conf) (occasion : Occasion) (seen : Seen) (id : ℕ) (trigger : Trigger) (held : Bool) (os : List Open)
-    → ((v : Verdict) → Closes P v → R (verdict_records conf occasion.number occasion.now seen.values id trigger os v)) → Each (λ o. P (event_in o)) os → R (judged conf occasion seen id trigger held os)
-judged_has P R conf occasion seen id trigger held os f h =
+pub judged_has : (P : EventId → Type 0) (R : List Rec → Type 0) (conf : Conf) (occasion : Occasion) (seen : Seen) (id : ℕ) (trigger : Trigger) (held : Bool) (all : ℕ → List Open)
+    → ((v : Verdict) → EachClosed P v → R (verdict_records conf occasion.number occasion.now seen.values id trigger all v)) → Each (λ o. P (event_in o)) (all id) → R (judged conf occasion seen id trigger held all)
+judged_has P R conf occasion seen id trigger held all f h =
     let p : Option ℤ = expression_value seen.calls trigger.expr in
     let r : Option ℤ = recovery_value seen.calls trigger.recovery_expr in
     let tags : List Tag = event_tags conf id seen.values in
-    f (verdict_over trigger held os p r tags occasion.is_value) (closes_own P trigger held os p r tags occasion.is_value h)
+    f (verdict_over trigger held (all id) p r tags occasion.is_value) (closes_own P trigger held (all id) p r tags occasion.is_value h)
 
 -- and one that isn't
 pub evaluated_none : (conf : Conf) (occasion : Occasion) (items : ℕ → List Stored) (all : ℕ → List Open) (id : ℕ) → at_id conf.triggers id ≡ None → evaluated conf occasion items all id ≡ []
 unfolding evaluated
 evaluated_none conf occasion items all id e = ap (records_by conf occasion items all id) e
-
-pub evaluated_lands : (conf : Conf) (occasion : Occasion) (items : ℕ → List Stored) (all : ℕ → List Open) (id : ℕ) → AllAtHome conf id (all id) → LandIn conf (only id) (evaluated conf occasion items all id)
-evaluated_lands conf occasion items all id h = go (at_id conf.triggers id) refl
-  where
-    go : (t : Option Trigger) → at_id conf.triggers id ≡ t → LandIn conf (only id) (evaluated conf occasion items all id)
-    go None e = subst (LandIn conf (only id)) (sym (evaluated_none conf occasion items all id e)) tt
-    go (Some trigger) e =
-        subst (LandIn conf (only id)) (sym (judged_is conf occasion items all id trigger e))
-        (judged_has (λ x. home conf x ≡ id) (LandIn conf (only id)) conf occasion (seen_in items occasion conf.utc_offset trigger) id trigger (is_held conf all id) (all id) (verdict_lands conf occasion.number occasion.now (shown_values items occasion.now trigger) id trigger (all id)) h)
-
--- the triggers of a phase are in K: so are those whose problems its records change
-abbrev pub AllIn : (ℕ → Bool) → List ℕ → Type 0
-AllIn K [] = Unit {0}
-AllIn K (id ∷ ids) = (K id ≡ true) × AllIn K ids
-
-in_only : (K : ℕ → Bool) (id j : ℕ) → K id ≡ true → K j ≡ false → only id j ≡ false
-in_only K id j t f = go (id == j) refl
-  where
-    go : (b : Bool) → (id == j) ≡ b → b ≡ false
-    go true e = let s : K j ≡ true = subst (λ x. K x ≡ true) (eqb-true id j e) t in cc
-    go false e = refl
-
-pub phase_lands : (conf : Conf) (occasion : Occasion) (items : ℕ → List Stored) (K : ℕ → Bool) (all : ℕ → List Open) (ids : List ℕ) → ((id : ℕ) → AllAtHome conf id (all id)) → AllIn K ids
-    → LandIn conf K (phase conf (evaluated conf occasion items) all ids)
-phase_lands conf occasion items K all [] h i = tt
-phase_lands conf occasion items K all (id ∷ ids) h i =
-    let rs = evaluated conf occasion items all id in
-    land_append conf K rs (phase conf (evaluated conf occasion items) (grown conf all rs) ids)
-    (land_sub conf (only id) K rs (λ j e. in_only K id j i.0 e) (evaluated_lands conf occasion items all id (h id)))
-    (phase_lands conf occasion items K (grown conf all rs) ids (λ u. home_all conf u (all u) rs (h u)) i.1)

@@ -2,12 +2,17 @@ pub mod Members
 pub mod Problems
 pub mod Writes
 pub mod Landing
+pub mod Closing
+pub mod Covered
+pub mod Started
 pub mod Histories
 pub mod Phases
 pub mod Represented
 pub mod Orders
+pub mod Meeting
 pub mod Replays
 pub mod Items
+pub mod Feet
 pub mod Naming
 pub mod Listing
 pub mod Planned
@@ -18,7 +23,9 @@ pub mod Showing
 pub mod Said
 pub mod Asking
 pub mod Coming
+pub mod Visited
 pub mod Loops
 pub mod Taking
+pub mod Turns
 pub mod Sorting
 pub mod Dues

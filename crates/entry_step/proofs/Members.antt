@@ -1,6 +1,8 @@
 -- Lists, tests and membership.
 use Rattle.std.proofs.Common.{◌≡◌, Bool, true, false, cond, ◌&&◌, ◌||◌, ◌⊎◌, inl, inr, List, [], ◌∷◌, ◌++◌, map, filter, refl, sym, ◌∙◌, ap, subst}
+use Rattle.std.specs.Prelude.{flat_map, All}
 use Rattle.std.specs.List.{list_any}
+use Rattle.std.proofs.lemmas.List.Elements.{All-nil, All-cons}
 use Rattle.entry_step.specs.Each.{Each, In}
 
 pub or_left : (a b : Bool) → a ≡ true → (a || b) ≡ true
@@ -109,3 +111,39 @@ pub in_map : {A B : Type 0} (f : A → B) (xs : List A) (x : A) → In x xs → 
 in_map f [] x i = absurd i
 in_map f (y ∷ ys) x (inl q) = inl (ap f q)
 in_map f (y ∷ ys) x (inr i) = inr (in_map f ys x i)
+
+pub each_kept : {A : Type 0} (P : A → Type 0) (p : A → Bool) (xs : List A) → Each P xs → Each P (filter p xs)
+each_kept P p xs e = each_filter P p xs (λ x i t. each_at P xs e x i)
+
+pub each_both : {A : Type 0} (P Q : A → Type 0) (xs : List A) → Each P xs → Each Q xs → Each (λ x. P x × Q x) xs
+each_both P Q [] a b = tt
+each_both P Q (x ∷ xs) a b = ((a.0, b.0), each_both P Q xs a.1 b.1)
+
+pub each_all : {A : Type 0} (P : A → Type 0) (xs : List A) → Each P xs → All P xs
+each_all P [] e = All-nil P
+each_all P (x ∷ xs) e = All-cons P x xs e.0 (each_all P xs e.1)
+
+-- lists that are made of lists, and what a test keeps of them
+map_append : {A B : Type 0} (f : A → B) (xs ys : List A) → map f (xs ++ ys) ≡ map f xs ++ map f ys
+map_append f [] ys = refl
+map_append f (x ∷ xs) ys = ap (λ zs. f x ∷ zs) (map_append f xs ys)
+
+pub flat_maps : {A B C : Type 0} (f : B → C) (g : A → List B) (xs : List A) → flat_map (λ x. map f (g x)) xs ≡ map f (flat_map g xs)
+flat_maps f g [] = refl
+flat_maps f g (x ∷ xs) = ap (λ zs. map f (g x) ++ zs) (flat_maps f g xs) ∙ sym (map_append f (g x) (flat_map g xs))
+
+pub filter_map : {A B : Type 0} (p : B → Bool) (f : A → B) (xs : List A) → filter p (map f xs) ≡ map f (filter (λ x. p (f x)) xs)
+filter_map p f [] = refl
+filter_map {A} {B} p f (x ∷ xs) = go (p (f x)) (filter_map p f xs)
+  where
+    go : (b : Bool) → filter p (map f xs) ≡ map f (filter (λ y. p (f y)) xs) → cond b (f x ∷ filter p (map f xs)) (filter p (map f xs)) ≡ map f (cond b (x ∷ filter (λ y. p (f y)) xs) (filter (λ y. p (f y)) xs))
+    go true e = ap (λ ys. f x ∷ ys) e
+    go false e = e
+
+pub filter_flat_map : {A B : Type 0} (p : B → Bool) (f : A → List B) (xs : List A) → filter p (flat_map f xs) ≡ flat_map (λ x. filter p (f x)) xs
+filter_flat_map p f [] = refl
+filter_flat_map p f (x ∷ xs) = filter-append p (f x) (flat_map f xs) ∙ ap (λ ys. filter p (f x) ++ ys) (filter_flat_map p f xs)
+
+pub flat_map_cong : {A B : Type 0} (f g : A → List B) (xs : List A) → Each (λ x. f x ≡ g x) xs → flat_map f xs ≡ flat_map g xs
+flat_map_cong f g [] e = refl
+flat_map_cong f g (x ∷ xs) e = ap (λ ys. ys ++ flat_map f xs) e.0 ∙ ap (λ ys. g x ++ ys) (flat_map_cong f g xs e.1)

@@ -1,56 +1,105 @@
 -- The laws of order.
-use Rattle.std.proofs.Common.{◌≡◌, ℕ, Bool, true, false, cond, ◌&&◌, ◌⊎◌, inl, inr, Option, Some, None, List, [], ◌∷◌, ◌++◌, filter, refl, sym, ◌∙◌, ap, ap₂, subst, append-nil}
+use Rattle.std.proofs.Common.{◌≡◌, ℕ, suc, slice_get, Bool, true, false, cond, ◌&&◌, ◌⊎◌, inl, inr, Option, Some, None, List, [], ◌∷◌, ◌++◌, filter, is_some, refl, sym, ◌∙◌, ap, ap₂, subst, append-nil}
 use mathlib.Core.Path.{fun_ext}
 use Rattle.std.specs.List.{list_any}
 use Rattle.zbx_types.specs.Ids.{at_id, ids_from}
-use Rattle.zbx_types.specs.Masters.{is_master}
+use Rattle.zbx_types.specs.Masters.{has_id, is_master}
 use Rattle.zbx_types.specs.declared.conf.Conf.{Conf}
 use Rattle.zbx_types.specs.declared.entries.Entry.{Entry}
 use Rattle.zbx_types.specs.declared.entries.Entry.TheVariants.{Config, Value, Tick}
 use Rattle.zbx_types.specs.declared.entries.Numbered.{Numbered}
 use Rattle.zbx_types.specs.declared.entries.Rec.{Rec}
+use Rattle.footprint.specs.Rows.{is_one}
+use Rattle.zbx_types.specs.Reach.{in_reach}
+use Rattle.zbx_types.specs.declared.rules.Rule.{Rule}
+use Rattle.footprint.specs.Feet.{under_of, is_of, over_of, reach_by, is_reached, feet_of}
 use Rattle.entry_step.specs.Each.{Each, In, EachPair}
 use Rattle.entry_step.specs.Log.{moment_of, first_tick}
-use Rattle.entry_step.specs.History.{stored_of, with_stored}
+use Rattle.prep_steps.specs.declared.memory.StepMemory.{StepMemory}
+use Rattle.preprocess.specs.Ways.{memory_at}
+use Rattle.preprocess.specs.Draft.{visit_at, stored_at, stored_of as stored_by, marks_after, failures_of}
+use Rattle.preprocess.specs.declared.visit.Visit.{Visit}
+use Rattle.entry_step.proofs.Visited.{Memory, untouched, visits_local, each_triggered}
+use Rattle.entry_step.specs.History.{visits_at, stored_of, with_stored}
 use Rattle.entry_step.specs.Order.{order}
 use Rattle.entry_step.specs.Due.{due_at}
 use Rattle.trigger_state.specs.Problems.{absorbed_all}
-use Rattle.entry_step.specs.Records.{evaluated, phase, is_over, triggers_at, failures_at, out_of, replay}
-use Rattle.entry_step.specs.Cells.{Key, ItemKey, TriggerKey, TickKey, CellOf, ItemCell, Cells, opens_in, touches, item_after, histories_after, judged_at, records_at, records, after, look, StandFor}
+use Rattle.entry_step.specs.Records.{evaluated, phase, has_call, triggers_at, failures_at, out_of, replay}
+use Rattle.entry_step.specs.Cells.{Key, ItemKey, TriggerKey, TickKey, CellOf, ItemCell, Cells, opens_in, memory_in, touches, item_after, histories_after, judged_at, records_at, records, after, look, StandFor}
 use Rattle.entry_step.specs.Represents.{IsTidy}
 use Rattle.entry_step.specs.Laws.{Agree, IsLocal, IsConfined, Apart, AreTidyCells, Locality, SameOut, Insertion, cells_done, records_done, any_touches, BatchOnACopy, PassedApart, AppliedPart}
-use Rattle.entry_step.proofs.Members.{or_left, or_right, and_both, each_filter, or_false_left, or_false_right, each_at, any_intro, true_or_false}
-use Rattle.entry_step.proofs.Problems.{home_all}
-use Rattle.entry_step.proofs.Landing.{LandIn, land_append, land_sub, land_off, AllIn, phase_lands}
-use Rattle.entry_step.proofs.Histories.{stored_other, SameTo, HasMasters, phase_same}
-use Rattle.entry_step.proofs.Represented.{each_triggered, calls_touched, own_touched, failures_land, records_are, after_is}
+use Rattle.entry_step.proofs.Members.{or_left, or_right, and_left, and_right, any_elim, each_filter, or_false_left, or_false_right, each_at, any_intro, true_or_false}
+use Rattle.entry_step.proofs.Feet.{there, one_of, gone, in_ids, over_in_foot, master_in_foot, reach_in_foot}
+use Rattle.entry_step.proofs.Landing.{LandIn, land_append, land_sub, land_off}
+use Rattle.entry_step.proofs.Histories.{SameTo}
+use Rattle.entry_step.proofs.Closing.{AllTidy, Covers}
+use Rattle.entry_step.proofs.Covered.{phase_lands, phase_same}
+use Rattle.entry_step.proofs.Items.{at_suc}
+use Rattle.entry_step.proofs.Represented.{calls_touched, own_touched, absent_after, stays_tidy, failures_land, records_are, after_is}
 use Rattle.entry_step.specs.Occasions.{occasion_of}
 
-all_in : (K : ℕ → Bool) (ids : List ℕ) → Each (λ id. K id ≡ true) ids → AllIn K ids
-all_in K [] h = tt
-all_in K (id ∷ ids) h = (h.0, all_in K ids h.1)
-
-trigger_touched : (conf : Conf) (now item time : ℕ) (value : List ℕ) (id : ℕ) → is_over item (at_id conf.triggers id) ≡ true → touches conf (Value now item time value) (TriggerKey id) ≡ true
+trigger_touched : (conf : Conf) (now item time : ℕ) (value : List ℕ) (id : ℕ) → has_id ((feet_of conf).triggers item) id ≡ true → touches conf (Value now item time value) (TriggerKey id) ≡ true
 unfolding touches
-trigger_touched conf now item time value id o = or_left (is_over item (at_id conf.triggers id)) (list_any (λ t. is_over item (at_id conf.triggers t) && is_master conf t id) (order conf)) o
+trigger_touched conf now item time value id o = or_left (has_id ((feet_of conf).triggers item) id) (list_any (λ rule. is_reached conf rule id) ((feet_of conf).marks item)) o
 
--- so are its masters
-masters_touched : (conf : Conf) (now item time : ℕ) (value : List ℕ) (id : ℕ) → In id (order conf) → is_over item (at_id conf.triggers id) ≡ true → HasMasters conf (λ j. touches conf (Value now item time value) (TriggerKey j)) id
+-- a trigger over an item, and its masters
+over_touched : (conf : Conf) (now item time : ℕ) (value : List ℕ) (id : ℕ) → has_id (over_of conf item) id ≡ true → touches conf (Value now item time value) (TriggerKey id) ≡ true
+over_touched conf now item time value id o = trigger_touched conf now item time value id (over_in_foot conf item id o (one_of conf.triggers (λ t. list_any (λ i. is_of conf t i) (under_of conf item)) id o))
+
+-- what a rule reaches that reaches one of the foot's triggers
+pub reach_touched : (conf : Conf) (now item time : ℕ) (value : List ℕ) (rule t u : ℕ) → is_one conf.correlations rule ≡ true → has_id ((feet_of conf).triggers item) t ≡ true → is_reached conf rule t ≡ true → is_reached conf rule u ≡ true
+    → touches conf (Value now item time value) (TriggerKey u) ≡ true
 unfolding touches
-masters_touched conf now item time value id j o =
-    (trigger_touched conf now item time value id o, each_filter (λ m. touches conf (Value now item time value) (TriggerKey m) ≡ true) (is_master conf id) (ids_from 1 conf.triggers) (λ m i e. also m e))
+reach_touched conf now item time value rule t u one f reached other =
+    or_right (has_id ((feet_of conf).triggers item) u) (list_any (λ r. is_reached conf r u) ((feet_of conf).marks item)) (reach_in_foot conf item rule t u one f reached other)
+
+-- and all that the evaluation of a trigger over the item may read or change
+rule_at : (rules : List Rule) (rule : Rule) → In rule rules → (r : ℕ) × (at_id rules r ≡ Some rule)
+rule_at rules rule i = let r = go rules i in (suc r.0, at_suc rules r.0 ∙ r.1)
   where
-    also : (m : ℕ) → is_master conf id m ≡ true → touches conf (Value now item time value) (TriggerKey m) ≡ true
-    also m e =
-        or_right (is_over item (at_id conf.triggers m)) (list_any (λ t. is_over item (at_id conf.triggers t) && is_master conf t m) (order conf))
-        (any_intro (λ t. is_over item (at_id conf.triggers t) && is_master conf t m) id (order conf) j (and_both (is_over item (at_id conf.triggers id)) (is_master conf id m) o e))
+    go : (xs : List Rule) → In rule xs → (k : ℕ) × (slice_get xs k ≡ Some rule)
+    go [] j = absurd j
+    go (x ∷ xs) (inl q) = (0, ap Some (sym q))
+    go (x ∷ xs) (inr j) = let r = go xs j in (suc r.0, r.1)
 
--- what an entry doesn't touch has nothing stored
-stored_untouched : (conf : Conf) (number : ℕ) (entry : Entry) (i : ℕ) → touches conf entry (ItemKey i) ≡ false → stored_of conf number entry i ≡ None
-stored_untouched conf number (Config now text) i e = unfold stored_of in refl
-stored_untouched conf number (Tick now) i e = unfold stored_of in refl
-stored_untouched conf number (Value now item time value) i e =
-    stored_other conf number now item time value i (λ q. let t : touches conf (Value now item time value) (ItemKey i) ≡ true = subst (λ j. touches conf (Value now item time value) (ItemKey j) ≡ true) q (own_touched conf now item time value) in cc)
+covers_over : (conf : Conf) (now item time : ℕ) (value : List ℕ) (id : ℕ) → has_id (over_of conf item) id ≡ true → Covers conf (λ j. touches conf (Value now item time value) (TriggerKey j)) id
+covers_over conf now item time value id o = record {
+  self = over_touched conf now item time value id o;
+  masters = each_filter (λ m. touches conf (Value now item time value) (TriggerKey m) ≡ true) (is_master conf id) (ids_from 1 conf.triggers)
+      (λ m i e. trigger_touched conf now item time value m (master_in_foot conf item id m o (in_ids conf.triggers m i) e));
+  reach = λ one other j its also s.
+      let found = any_elim (λ rule. in_reach rule one && in_reach rule other) conf.correlations s in
+      let at = rule_at conf.correlations found.0 found.1 in
+      let both = found.2 in
+      reach_touched conf now item time value at.0 id j (there conf.correlations at.0 found.0 at.1)
+      (over_in_foot conf item id o (one_of conf.triggers (λ t. list_any (λ i. is_of conf t i) (under_of conf item)) id o))
+      (ap (λ r. reach_by r (at_id conf.triggers id)) at.1 ∙ ap (reach_by (Some found.0)) its ∙ and_left (in_reach found.0 one) (in_reach found.0 other) both)
+      (ap (λ r. reach_by r (at_id conf.triggers j)) at.1 ∙ ap (reach_by (Some found.0)) also ∙ and_right (in_reach found.0 one) (in_reach found.0 other) both);
+}
+
+-- what is open in tidy cells
+all_tidy : (conf : Conf) (c : Cells) → IsTidy conf c → AllTidy conf (opens_in c)
+all_tidy conf c tidy = record { homes = tidy.homes; tagged = tidy.tagged }
+
+-- an entry has the same visits over cells that agree on its foot
+visits_agree : (conf : Conf) (e : Numbered) (c d : Cells) → Agree conf e c d → visits_at conf (memory_in c) e.number e.entry ≡ visits_at conf (memory_in d) e.number e.entry
+visits_agree conf e c d agree =
+    let remembered : ItemCell → ℕ → StepMemory = λ cell k. memory_at cell.marks k in
+    visits_local conf (memory_in c) (memory_in d) e.number e.entry (λ i t. ap remembered (agree.at (ItemKey i) t))
+
+-- what becomes of an item's cell by some visits
+abbrev item_by : ℕ → Bool → ℕ → List Visit → ItemCell → ItemCell
+item_by i touched now visits cell = record { history = with_stored (stored_at visits i) cell.history; marks = marks_after (visit_at visits i) cell.marks; seen = cond touched now cell.seen }
+
+item_is : (conf : Conf) (memory : Memory) (number : ℕ) (entry : Entry) (i : ℕ) (cell : ItemCell) → item_after conf memory number entry i cell ≡ item_by i (touches conf entry (ItemKey i)) (moment_of entry) (visits_at conf memory number entry) cell
+unfolding item_after stored_of
+item_is conf memory number entry i cell = refl
+
+triggers_by : (conf : Conf) (a b : Memory) (number : ℕ) (entry : Entry) → visits_at conf a number entry ≡ visits_at conf b number entry → triggers_at conf a number entry ≡ triggers_at conf b number entry
+unfolding triggers_at stored_of
+triggers_by conf a b number (Config now text) e = refl
+triggers_by conf a b number (Tick now) e = refl
+triggers_by conf a b number (Value now item time value) e = ap (λ vs. filter (λ id. has_call (λ i. is_some (stored_at vs i)) (at_id conf.triggers id)) (order conf)) e
 
 -- no step is due at a value
 value_records : (conf : Conf) (c : Cells) (number now item time : ℕ) (value : List ℕ) → records_at conf c number (Value now item time value) ≡ judged_at conf c number (Value now item time value)
@@ -66,17 +115,19 @@ records_land : (conf : Conf) (c : Cells) (number : ℕ) (entry : Entry) → IsTi
 records_land conf c number (Config now text) tidy = land_anywhere conf (λ id. touches conf (Config now text) (TriggerKey id)) (records_at conf c number (Config now text)) (λ id. unfold touches in refl)
 records_land conf c number (Tick now) tidy = land_anywhere conf (λ id. touches conf (Tick now) (TriggerKey id)) (records_at conf c number (Tick now)) (λ id. unfold touches in refl)
 records_land conf c number (Value now item time value) tidy = subst (LandIn conf (λ id. touches conf entry (TriggerKey id))) (sym (value_records conf c number now item time value)) (unfold judged_at in
-    land_append conf (λ id. touches conf entry (TriggerKey id)) (failures_at conf number entry) (phase conf (evaluated conf (occasion_of (c TickKey) number entry) (histories_after conf c number entry)) (opens_in c) (triggers_at conf number entry))
-    (land_sub conf (λ id. false) (λ id. touches conf entry (TriggerKey id)) (failures_at conf number entry) (λ id e. refl) (failures_land conf number entry))
-    (phase_lands conf (occasion_of (c TickKey) number entry) (histories_after conf c number entry) (λ id. touches conf entry (TriggerKey id)) (opens_in c) (triggers_at conf number entry) tidy
-    (all_in (λ id. touches conf entry (TriggerKey id)) (triggers_at conf number entry) (each_triggered conf number now item time value (λ id. touches conf entry (TriggerKey id) ≡ true) (λ id j o. trigger_touched conf now item time value id o)))))
+    land_append conf (λ id. touches conf entry (TriggerKey id)) (failures_at conf (memory_in c) number entry) (phase conf (evaluated conf (occasion_of (c TickKey) number entry) (histories_after conf c number entry)) (opens_in c) (triggers_at conf (memory_in c) number entry))
+    (land_sub conf (λ id. false) (λ id. touches conf entry (TriggerKey id)) (failures_at conf (memory_in c) number entry) (λ id e. refl) (failures_land conf (memory_in c) number entry))
+    (phase_lands conf (occasion_of (c TickKey) number entry) (histories_after conf c number entry) (λ id. touches conf entry (TriggerKey id)) (opens_in c) (all_tidy conf c tidy) (triggers_at conf (memory_in c) number entry)
+    (each_triggered conf (memory_in c) number now item time value (Covers conf (λ id. touches conf entry (TriggerKey id))) (λ id j o. covers_over conf now item time value id o))))
   where
     entry : Entry
     entry = Value now item time value
 
 pub confined : (conf : Conf) (e : Numbered) (c : Cells) → IsTidy conf c → IsConfined conf e c
-confined conf e c tidy (ItemKey i) f = unfold after item_after in
-    ap₂ (λ o b. (let cell : ItemCell = record { history = with_stored o (c (ItemKey i)).history; seen = cond b (moment_of e.entry) (c (ItemKey i)).seen } in cell)) (stored_untouched conf e.number e.entry i f) f
+confined conf e c tidy (ItemKey i) f = unfold after in
+    item_is conf (memory_in c) e.number e.entry i (c (ItemKey i))
+    ∙ ap₂ (λ v b. (let cell : ItemCell = record { history = with_stored (stored_by v) (c (ItemKey i)).history; marks = marks_after v (c (ItemKey i)).marks; seen = cond b (moment_of e.entry) (c (ItemKey i)).seen } in cell))
+    (untouched conf (memory_in c) e.number e.entry i f) f
 confined conf e c tidy (TriggerKey id) f = unfold after in land_off conf (λ u. touches conf e.entry (TriggerKey u)) id (c (TriggerKey id)) (records conf c e) (records_land conf c e.number e.entry tidy) f
 confined conf e c tidy TickKey f = unfold after in go e.entry f
   where
@@ -95,32 +146,58 @@ agree_all conf e c d all agree =
     let same : c ≡ d = fun_ext (λ k. agree.at k (all k)) in
     record { same_records = ap (λ x. records conf x e) same; same_changes = λ k t. ap (λ x. after conf x e k) same }
 
-value_judged : (conf : Conf) (number now item time : ℕ) (value : List ℕ) (c d : Cells) → Agree conf (record { number = number; entry = Value now item time value }) c d
+value_judged : (conf : Conf) (number now item time : ℕ) (value : List ℕ) (c d : Cells) → IsTidy conf c → IsTidy conf d → Agree conf (record { number = number; entry = Value now item time value }) c d
     → judged_at conf c number (Value now item time value) ≡ judged_at conf d number (Value now item time value)
-unfolding judged_at
-value_judged conf number now item time value c d agree =
-    ap (λ xs. failures_at conf number entry ++ xs)
-    (ap (λ t. phase conf (evaluated conf (occasion_of t number entry) (histories_after conf c number entry)) (opens_in c) (triggers_at conf number entry)) agree.tick
-    ∙ phase_same conf (occasion_of (d TickKey) number entry) (λ id. touches conf entry (TriggerKey id)) (histories_after conf c number entry) (histories_after conf d number entry) (opens_in c) (opens_in d) (triggers_at conf number entry) (λ id t. agree.at (TriggerKey id) t)
-    (each_triggered conf number now item time value (λ id. HasMasters conf (λ j. touches conf entry (TriggerKey j)) id × SameTo conf (histories_after conf c number entry) (histories_after conf d number entry) id)
-    (λ id j o. (masters_touched conf now item time value id j o, λ i calls. ap (λ cell. (item_after conf number entry i cell).history) (agree.at (ItemKey i) (calls_touched conf now item time value id i j o calls))))))
+unfolding judged_at failures_at
+value_judged conf number now item time value c d tidy_c tidy_d agree =
+    ap (λ xs. xs ++ made c (triggers_at conf (memory_in c) number entry)) failures
+    ∙ ap (λ xs. failures_at conf (memory_in d) number entry ++ xs)
+    (ap (λ t. phase conf (evaluated conf (occasion_of t number entry) (histories_after conf c number entry)) (opens_in c) (triggers_at conf (memory_in c) number entry)) agree.tick
+    ∙ phase_same conf (occasion_of (d TickKey) number entry) (λ id. touches conf entry (TriggerKey id)) (histories_after conf c number entry) (histories_after conf d number entry) (opens_in c) (opens_in d) (triggers_at conf (memory_in c) number entry) (all_tidy conf c tidy_c) (all_tidy conf d tidy_d) (λ id t. agree.at (TriggerKey id) t)
+    (each_triggered conf (memory_in c) number now item time value (λ id. Covers conf (λ j. touches conf entry (TriggerKey j)) id × SameTo conf (histories_after conf c number entry) (histories_after conf d number entry) id)
+    (λ id j o. (covers_over conf now item time value id o, λ i calls. same_history i (calls_touched conf now item time value id i o calls))))
+    ∙ ap (made d) (triggers_by conf (memory_in c) (memory_in d) number entry visits))
   where
     entry : Entry
     entry = Value now item time value
 
-value_local : (conf : Conf) (number now item time : ℕ) (value : List ℕ) (c d : Cells) → Agree conf (record { number = number; entry = Value now item time value }) c d
-    → records_at conf c number (Value now item time value) ≡ records_at conf d number (Value now item time value)
-value_local conf number now item time value c d agree =
-    value_records conf c number now item time value ∙ value_judged conf number now item time value c d agree ∙ sym (value_records conf d number now item time value)
+    made : Cells → List ℕ → List Rec
+    made x ids = phase conf (evaluated conf (occasion_of (x TickKey) number entry) (histories_after conf x number entry)) (opens_in x) ids
 
-pub local : (conf : Conf) (e : Numbered) (c d : Cells) → Agree conf e c d → IsLocal conf e c d
-local conf e c d agree = subst (λ x. Agree conf (at x) c d → IsLocal conf (at x) c d) refl (go e.entry) agree
+    visits : visits_at conf (memory_in c) number entry ≡ visits_at conf (memory_in d) number entry
+    visits = visits_agree conf (record { number = number; entry = entry }) c d agree
+
+    failures : failures_at conf (memory_in c) number entry ≡ failures_at conf (memory_in d) number entry
+    failures = ap (failures_of conf number) visits
+
+    same_history : (i : ℕ) → (is_one conf.items i ≡ true → touches conf entry (ItemKey i) ≡ true) → histories_after conf c number entry i ≡ histories_after conf d number entry i
+    same_history i touched = go (true_or_false (is_one conf.items i))
+      where
+        by : List Visit → ItemCell → ItemCell
+        by = item_by i (touches conf entry (ItemKey i)) (moment_of entry)
+
+        go : (is_one conf.items i ≡ true) ⊎ (is_one conf.items i ≡ false) → histories_after conf c number entry i ≡ histories_after conf d number entry i
+        go (inl t) =
+            ap (λ (cell : ItemCell). cell.history)
+            (item_is conf (memory_in c) number entry i (c (ItemKey i)) ∙ ap (λ vs. by vs (c (ItemKey i))) visits ∙ ap (by (visits_at conf (memory_in d) number entry)) (agree.at (ItemKey i) (touched t))
+            ∙ sym (item_is conf (memory_in d) number entry i (d (ItemKey i))))
+        go (inr f) = absent_after conf (memory_in c) c number entry i tidy_c (gone conf.items i f) ∙ sym (absent_after conf (memory_in d) d number entry i tidy_d (gone conf.items i f))
+
+value_local : (conf : Conf) (number now item time : ℕ) (value : List ℕ) (c d : Cells) → IsTidy conf c → IsTidy conf d → Agree conf (record { number = number; entry = Value now item time value }) c d
+    → records_at conf c number (Value now item time value) ≡ records_at conf d number (Value now item time value)
+value_local conf number now item time value c d tidy_c tidy_d agree =
+    value_records conf c number now item time value ∙ value_judged conf number now item time value c d tidy_c tidy_d agree ∙ sym (value_records conf d number now item time value)
+
+pub local : (conf : Conf) (e : Numbered) (c d : Cells) → IsTidy conf c → IsTidy conf d → Agree conf e c d → IsLocal conf e c d
+local conf e c d tidy_c tidy_d agree = subst (λ x. Agree conf (at x) c d → IsLocal conf (at x) c d) refl (go e.entry) agree
   where
     at : Entry → Numbered
     at x = record { number = e.number; entry = x }
 
     changes : (x : Entry) → records conf c (at x) ≡ records conf d (at x) → Agree conf (at x) c d → touches conf x TickKey ≡ false → (k : Key) → touches conf x k ≡ true → after conf c (at x) k ≡ after conf d (at x) k
-    changes x rs a f (ItemKey i) t = unfold after in ap (item_after conf e.number x i) (a.at (ItemKey i) t)
+    changes x rs a f (ItemKey i) t = unfold after in
+        item_is conf (memory_in c) e.number x i (c (ItemKey i)) ∙ ap (λ vs. item_by i (touches conf x (ItemKey i)) (moment_of x) vs (c (ItemKey i))) (visits_agree conf (at x) c d a)
+        ∙ ap (item_by i (touches conf x (ItemKey i)) (moment_of x) (visits_at conf (memory_in d) e.number x)) (a.at (ItemKey i) t) ∙ sym (item_is conf (memory_in d) e.number x i (d (ItemKey i)))
     changes x rs a f (TriggerKey id) t = unfold after in ap₂ (absorbed_all conf id) (a.at (TriggerKey id) t) rs
     changes x rs a f TickKey t = let z : true ≡ false = sym t ∙ f in cc
 
@@ -128,16 +205,13 @@ local conf e c d agree = subst (λ x. Agree conf (at x) c d → IsLocal conf (at
     go (Config now text) a = agree_all conf (at (Config now text)) c d (λ k. unfold touches in refl) a
     go (Tick now) a = agree_all conf (at (Tick now)) c d (λ k. unfold touches in refl) a
     go (Value now item time value) a =
-        let rs = value_local conf e.number now item time value c d a in
+        let rs = value_local conf e.number now item time value c d tidy_c tidy_d a in
         record { same_records = rs; same_changes = changes (Value now item time value) rs a (unfold touches in refl) }
 
 pub locality : Locality
-locality conf e c d tidy_c tidy_d agree = (local conf e c d agree, confined conf e c tidy_c)
+locality conf e c d tidy_c tidy_d agree = (local conf e c d tidy_c tidy_d agree, confined conf e c tidy_c)
 
 -- Insertion, from locality alone
-pub stays_tidy : (conf : Conf) (c : Cells) (e : Numbered) → IsTidy conf c → IsTidy conf (after conf c e)
-stays_tidy conf c e tidy id = unfold after in home_all conf id (c (TriggerKey id)) (records conf c e) (tidy id)
-
 abbrev pub cells_of : Conf → List Numbered → Cells
 cells_of conf [] = look conf [] []
 cells_of conf (e ∷ log) = after conf (cells_of conf log) e
@@ -147,14 +221,14 @@ cells_are conf [] = refl
 cells_are conf (e ∷ log) = ap (λ c. after conf c e) (cells_are conf log) ∙ after_is conf log (replay conf log) e
 
 pub tidy_cells : (conf : Conf) (log : List Numbered) → IsTidy conf (cells_of conf log)
-tidy_cells conf [] id = unfold look in tt
-tidy_cells conf (e ∷ log) id = stays_tidy conf (cells_of conf log) e (tidy_cells conf log) id
+tidy_cells conf [] = unfold look in record { homes = λ id. tt; tagged = λ id. tt; absent = λ id q. refl }
+tidy_cells conf (e ∷ log) = stays_tidy conf (cells_of conf log) e (tidy_cells conf log)
 
 pub records_of : (conf : Conf) (log : List Numbered) (e : Numbered) → records conf (cells_of conf log) e ≡ out_of conf log e e.entry (replay conf log)
 records_of conf log e = ap (λ c. records conf c e) (cells_are conf log) ∙ records_are conf log (replay conf log) e
 
 -- each entry touches something
-touches_some : (conf : Conf) (entry : Entry) → (k : Key) × (touches conf entry k ≡ true)
+pub touches_some : (conf : Conf) (entry : Entry) → (k : Key) × (touches conf entry k ≡ true)
 touches_some conf (Config now text) = (TickKey, unfold touches in refl)
 touches_some conf (Tick now) = (TickKey, unfold touches in refl)
 touches_some conf (Value now item time value) = (ItemKey item, own_touched conf now item time value)
@@ -182,10 +256,10 @@ module _ (conf : Conf) (a b : Numbered) (apart : Apart conf a b) (c : Cells) (ti
   agree_after = record { at = λ k e. confined conf a c tidy k (off_other k e); tick = confined conf a c tidy TickKey (quiet_tick conf a b apart) }
 
   records_apart : records conf (after conf c a) b ≡ records conf c b
-  records_apart = (local conf b (after conf c a) c agree_after).same_records
+  records_apart = (local conf b (after conf c a) c (stays_tidy conf c a tidy) tidy agree_after).same_records
 
   changes_apart : (k : Key) → touches conf b.entry k ≡ true → after conf (after conf c a) b k ≡ after conf c b k
-  changes_apart = (local conf b (after conf c a) c agree_after).same_changes
+  changes_apart = (local conf b (after conf c a) c (stays_tidy conf c a tidy) tidy agree_after).same_changes
 
 diamond : (conf : Conf) (a b : Numbered) → Apart conf a b → (c : Cells) → IsTidy conf c → after conf (after conf c a) b ≡ after conf (after conf c b) a
 diamond conf a b apart c tidy = fun_ext (λ k. go k (true_or_false (touches conf a.entry k)) (true_or_false (touches conf b.entry k)))
@@ -260,7 +334,7 @@ module _ (conf : Conf) (K : Key → Type 0) (ticks : K TickKey) where
   step_agrees e c d tidy_c tidy_d inside same k m = go (true_or_false (touches conf e.entry k))
     where
       law : IsLocal conf e c d
-      law = local conf e c d (record { at = λ j t. same j (inside j t); tick = same TickKey ticks })
+      law = local conf e c d tidy_c tidy_d (record { at = λ j t. same j (inside j t); tick = same TickKey ticks })
 
       go : (touches conf e.entry k ≡ true) ⊎ (touches conf e.entry k ≡ false) → after conf c e k ≡ after conf d e k
       go (inl t) = law.same_changes k t
@@ -270,7 +344,7 @@ module _ (conf : Conf) (K : Key → Type 0) (ticks : K TickKey) where
       → (records_done conf d es ≡ records_done conf c es) × ((k : Key) → K k → cells_done conf c es k ≡ cells_done conf d es k)
   batch_agrees [] c d tidy_c tidy_d inside same = (refl, same)
   batch_agrees (e ∷ es) c d tidy_c tidy_d inside same =
-      let law : IsLocal conf e c d = local conf e c d (record { at = λ j t. same j (inside e (inl refl) j t); tick = same TickKey ticks }) in
+      let law : IsLocal conf e c d = local conf e c d tidy_c tidy_d (record { at = λ j t. same j (inside e (inl refl) j t); tick = same TickKey ticks }) in
       let r = batch_agrees es (after conf c e) (after conf d e) (stays_tidy conf c e tidy_c) (stays_tidy conf d e tidy_d) (λ x i. inside x (inr i)) (step_agrees e c d tidy_c tidy_d (inside e (inl refl)) same) in
       (ap₂ (λ rs rss. rs ∷ rss) (sym law.same_records) r.0, r.1)
 
@@ -338,13 +412,13 @@ part_agree conf applied (x ∷ older) K order h k m = go (applied x) refl (part_
         same = record { at = λ j t. agree j (inr (inl t)); tick = agree TickKey (inr (inr refl)) }
 
         at : (touches conf x.entry k ≡ true) ⊎ (touches conf x.entry k ≡ false) → after conf (cells_of conf (filter applied older)) x k ≡ after conf (cells_of conf older) x k
-        at (inl t) = (local conf x (cells_of conf (filter applied older)) (cells_of conf older) same).same_changes k t
+        at (inl t) = (local conf x (cells_of conf (filter applied older)) (cells_of conf older) (tidy_cells conf (filter applied older)) (tidy_cells conf older) same).same_changes k t
         at (inr f) = confined conf x (cells_of conf (filter applied older)) (tidy_cells conf (filter applied older)) k f ∙ agree k (inl m) ∙ sym (confined conf x (cells_of conf older) (tidy_cells conf older) k f)
 
 pub applied_part : AppliedPart
 applied_part conf applied older e order free c h =
     ap (λ x. records conf x e) (stand_is conf c (filter applied older) h)
-    ∙ (local conf e (cells_of conf (filter applied older)) (cells_of conf older) (record { at = λ k t. agree k (inl t); tick = agree TickKey (inr refl) })).same_records
+    ∙ (local conf e (cells_of conf (filter applied older)) (cells_of conf older) (tidy_cells conf (filter applied older)) (tidy_cells conf older) (record { at = λ k t. agree k (inl t); tick = agree TickKey (inr refl) })).same_records
     ∙ records_of conf older e
   where
     agree : (k : Key) → Reads conf e k → cells_of conf (filter applied older) k ≡ cells_of conf older k

@@ -1,5 +1,5 @@
 -- Triggers evaluated one after another.
-use Rattle.std.proofs.Common.{◌≡◌, ◌≢◌, ℕ, zero, suc, ◌+◌, ◌<◌, ◌==◌, inl, inr, option_map, ne_eqb, Bool, true, false, Option, Some, None, List, [], ◌∷◌, ◌++◌, length, get_or, take, set, ◌-◌, slice_get, refl, sym, ◌∙◌, ap, subst, append_assoc, append-nil, eqb-true, eq-eqb, arith}
+use Rattle.std.proofs.Common.{◌≡◌, ◌≢◌, ℕ, zero, suc, ◌+◌, ◌<◌, ◌==◌, inl, inr, option_map, ne_eqb, Bool, true, false, cond, ◌||◌, Option, Some, None, List, [], ◌∷◌, ◌++◌, length, get_or, take, set, ◌-◌, slice_get, refl, sym, ◌∙◌, ap, subst, append_assoc, append-nil, eqb-true, eq-eqb, arith}
 use mathlib.Core.Path.{fun_ext}
 use Rattle.std.specs.Option.{unwrap_or}
 use Rattle.std.proofs.lemmas.List.{take_more, length-set}
@@ -11,9 +11,11 @@ use Rattle.zbx_types.specs.declared.entries.Stored.{Stored}
 use Rattle.entry_step.specs.Records.{evaluated, phase, phase_over}
 use Rattle.std.proofs.lemmas.Bool.Decides.{leb_tells}
 use Rattle.std.proofs.lemmas.Option.{slice_get_past}
-use Rattle.entry_step.proofs.Landing.{LandIn, only, land_off, evaluated_lands, evaluated_none}
+use Rattle.entry_step.proofs.Landing.{LandIn, only, land_off}
 use Rattle.entry_step.specs.Represents.{problems_at, AllAtHome}
-use Rattle.entry_step.specs.Changes.{with_row, changed, outcome_records, outcome_opens, outcome_rows, AreTidy, Runs}
+use Rattle.entry_step.specs.Each.{Each}
+use Rattle.entry_step.specs.Changes.{with_row, with_all, outcome_records, outcome_rows, IsAbsorbed, has_fresh, AreTidy, Absorbed, Runs}
+use Rattle.entry_step.specs.declared.changes.Fresh.{Fresh}
 use Rattle.trigger_state.specs.declared.problems.Open.{Open}
 use Rattle.entry_step.specs.declared.changes.Outcome.{Outcome}
 use Rattle.entry_step.proofs.Items.{at_zero, at_suc, slice_get_set_same, slice_get_set_other}
@@ -65,9 +67,9 @@ pub length_row : (rows : List (List Open)) (id : ℕ) (os : List Open) → lengt
 length_row rows zero os = unfold with_row in refl
 length_row rows (suc k) os = ap length (with_suc rows k os) ∙ length-set rows k os
 
-length_outcome : (rows : List (List Open)) (id : ℕ) (o : Option Outcome) → length (outcome_rows rows id o) ≡ length rows
-length_outcome rows id None = refl
-length_outcome rows id (Some o) = length_row rows id (changed (problems_at rows id) o.change)
+length_all : (rows : List (List Open)) (fresh : List Fresh) → length (with_all rows fresh) ≡ length rows
+length_all rows [] = refl
+length_all rows (f ∷ fs) = length_all (with_row rows f.id f.opens) fs ∙ length_row rows f.id f.opens
 
 pub none_same : {A B : Type 0} (xs : List A) (ys : List B) (id : ℕ) → length xs ≡ length ys → at_id xs id ≡ None → at_id ys id ≡ None
 none_same xs ys zero l e = at_zero ys
@@ -81,37 +83,46 @@ none_same {A} {B} xs ys (suc k) l e = elim (leb_tells (length xs) k) [
     go (x ∷ xs) zero l e = cc
     go (x ∷ xs) (suc k) l e = go xs k (omega arith) e
 
--- What the outcome of a trigger makes of the rows
-module _ (conf : Conf) (rows : List (List Open)) (id : ℕ) (o : Option Outcome)
-    (size : length rows ≡ length conf.triggers)
-    (opens : outcome_opens (problems_at rows id) o ≡ absorbed_all conf id (problems_at rows id) (outcome_records o))
-    (own : LandIn conf (only id) (outcome_records o)) (none : at_id conf.triggers id ≡ None → outcome_records o ≡ []) where
-  row_own : problems_at (outcome_rows rows id o) id ≡ absorbed_all conf id (problems_at rows id) (outcome_records o)
-  row_own = go o refl
-    where
-      go : (x : Option Outcome) → o ≡ x → problems_at (outcome_rows rows id o) id ≡ absorbed_all conf id (problems_at rows id) (outcome_records o)
-      go None e = ap (λ y. problems_at (outcome_rows rows id y) id) e ∙ sym (ap (outcome_opens (problems_at rows id)) e) ∙ opens
-      go (Some out) e = ap (λ y. problems_at (outcome_rows rows id y) id) e ∙ row_same rows id (changed (problems_at rows id) out.change) ∙ at (at_id rows id) refl
-        where
-          at : (r : Option (List Open)) → at_id rows id ≡ r → unwrap_or (option_map (λ _. changed (problems_at rows id) out.change) (at_id rows id)) [] ≡ absorbed_all conf id (problems_at rows id) (outcome_records o)
-          at None q = unfold problems_at in
-              ap (λ y. unwrap_or (option_map (λ _. changed (problems_at rows id) out.change) y) []) q
-              ∙ sym (ap (λ rs. absorbed_all conf id (unwrap_or (at_id rows id) []) rs) (none (none_same rows conf.triggers id size q)) ∙ ap (λ y. unwrap_or y []) q)
-          at (Some os) q = ap (λ y. unwrap_or (option_map (λ _. changed (problems_at rows id) out.change) y) []) q ∙ sym (ap (outcome_opens (problems_at rows id)) e) ∙ opens
+-- Rows with more records, of one trigger and of some others: those in which the records land
+module _ (conf : Conf) (rows : List (List Open)) (rs : List Rec) (gone : (j : ℕ) → at_id rows j ≡ None → absorbed_all conf j [] rs ≡ []) where
+  abbrev goal : ℕ → List Open
+  goal j = absorbed_all conf j (problems_at rows j) rs
 
-  row_off : (j : ℕ) → (id == j) ≡ false → problems_at (outcome_rows rows id o) j ≡ problems_at rows j
-  row_off j n = go o
+  one_put : (now : List (List Open)) (i : ℕ) (os : List Open) → length now ≡ length rows → os ≡ goal i → (j : ℕ) → problems_at (with_row now i os) j ≡ cond (i == j) (goal j) (problems_at now j)
+  one_put now i os size is j = go (i == j) refl
     where
-      go : (x : Option Outcome) → problems_at (outcome_rows rows id x) j ≡ problems_at rows j
-      go None = refl
-      go (Some out) = row_other rows id j (changed (problems_at rows id) out.change) (λ q. let t : (id == j) ≡ true = eq-eqb id j q in cc)
+      own : (o : Option (List Open)) → at_id now i ≡ o → unwrap_or (option_map (λ _. os) (at_id now i)) [] ≡ goal i
+      own None q = unfold problems_at in
+          ap (λ o. unwrap_or (option_map (λ _. os) o) []) q
+          ∙ sym (ap (λ o. absorbed_all conf i (unwrap_or o []) rs) (none_same now rows i size q) ∙ gone i (none_same now rows i size q))
+      own (Some x) q = ap (λ o. unwrap_or (option_map (λ _. os) o) []) q ∙ is
 
-  pub rows_after : (j : ℕ) → problems_at (outcome_rows rows id o) j ≡ absorbed_all conf j (problems_at rows j) (outcome_records o)
-  rows_after j = go (id == j) refl
+      go : (b : Bool) → (i == j) ≡ b → problems_at (with_row now i os) j ≡ cond b (goal j) (problems_at now j)
+      go true e = subst (λ k. problems_at (with_row now i os) k ≡ goal k) (eqb-true i j e) (row_same now i os ∙ own (at_id now i) refl)
+      go false e = row_other now i j os (λ q. let t : (i == j) ≡ true = eq-eqb i j q in cc)
+
+  all_put : (now : List (List Open)) (fresh : List Fresh) → length now ≡ length rows → Each (IsAbsorbed conf rows rs) fresh → (j : ℕ) → problems_at (with_all now fresh) j ≡ cond (has_fresh fresh j) (goal j) (problems_at now j)
+  all_put now [] size each j = refl
+  all_put now (f ∷ fs) size each j =
+      all_put (with_row now f.id f.opens) fs (length_row now f.id f.opens ∙ size) each.1 j
+      ∙ ap (λ os. cond (has_fresh fs j) (goal j) os) (one_put now f.id f.opens size each.0 j) ∙ go (f.id == j) (has_fresh fs j)
     where
-      go : (b : Bool) → (id == j) ≡ b → problems_at (outcome_rows rows id o) j ≡ absorbed_all conf j (problems_at rows j) (outcome_records o)
-      go true e = subst (λ i. problems_at (outcome_rows rows id o) i ≡ absorbed_all conf i (problems_at rows i) (outcome_records o)) (eqb-true id j e) row_own
-      go false e = row_off j e ∙ sym (land_off conf (only id) j (problems_at rows j) (outcome_records o) own e)
+      go : (a b : Bool) → cond b (goal j) (cond a (goal j) (problems_at now j)) ≡ cond (a || b) (goal j) (problems_at now j)
+      go true true = refl
+      go true false = refl
+      go false b = refl
+
+  pub rows_absorbed : (id : ℕ) (own : List Open) (fresh : List Fresh) → own ≡ goal id → Each (IsAbsorbed conf rows rs) fresh → LandIn conf (λ j. only id j || has_fresh fresh j) rs → Absorbed conf rows rs (with_all (with_row rows id own) fresh)
+  rows_absorbed id own fresh is each land = record {
+    each = λ j. all_put (with_row rows id own) fresh (length_row rows id own) each j ∙ ap (λ os. cond (has_fresh fresh j) (goal j) os) (one_put rows id own refl is j) ∙ go j (only id j) (has_fresh fresh j) refl refl;
+    size = length_all (with_row rows id own) fresh ∙ length_row rows id own;
+  }
+    where
+      go : (j : ℕ) (a b : Bool) → only id j ≡ a → has_fresh fresh j ≡ b → cond b (goal j) (cond a (goal j) (problems_at rows j)) ≡ goal j
+      go j true true p q = refl
+      go j true false p q = refl
+      go j false true p q = refl
+      go j false false p q = sym (land_off conf (λ k. only id k || has_fresh fresh k) j (problems_at rows j) rs land (ap (λ a. a || has_fresh fresh j) p ∙ q))
 
 -- No trigger yet
 pub run_none : (conf : Conf) (one : (ℕ → List Open) → ℕ → List Rec) (rows : List (List Open)) (made : List Rec) → made ≡ [] → Runs conf one rows [] made rows
@@ -120,16 +131,16 @@ run_none conf one rows made e = record { records = e; changes = λ id. ap (absor
 -- One trigger more, as the loop has it
 pub run_more : (conf : Conf) (occasion : Occasion) (items : ℕ → List Stored) (before rows next : List (List Open)) (ids : List ℕ) (k id : ℕ) (made more : List Rec) (o : Option Outcome)
     → k < length ids → id ≡ get_or ids k 0 → outcome_records o ≡ evaluated conf occasion items (problems_at rows) id
-    → (AllAtHome conf id (problems_at rows id) → outcome_opens (problems_at rows id) o ≡ absorbed_all conf id (problems_at rows id) (outcome_records o))
+    → (AreTidy conf rows → Absorbed conf rows (outcome_records o) (outcome_rows rows id o))
     → more ≡ made ++ outcome_records o → next ≡ outcome_rows rows id o
     → AreTidy conf before → Runs conf (evaluated conf occasion items) before (take k ids) made rows → Runs conf (evaluated conf occasion items) before (take (k + 1) ids) more next
-run_more conf occasion items before rows next ids k id made more o l is r opens m n tidy runs =
+run_more conf occasion items before rows next ids k id made more o l is r lands m n tidy runs =
     record {
       records = m ∙ ap (λ xs. xs ++ outcome_records o) runs.records ∙ ap (λ xs. so_far ++ xs) (r ∙ ap (λ p. one p id) all) ∙ sym (phase_push conf one (problems_at before) (take k ids) id) ∙ ap (phase conf one (problems_at before)) (sym front);
-      changes = λ j. ap (λ rs. problems_at rs j) n ∙ rows_after conf rows id o size (opens home) own none j
+      changes = λ j. ap (λ rs. problems_at rs j) n ∙ absorbed.each j
           ∙ ap (λ os. absorbed_all conf j os (outcome_records o)) (runs.changes j)
           ∙ sym (absorbed_append conf j (problems_at before j) made (outcome_records o)) ∙ ap (absorbed_all conf j (problems_at before j)) (sym m);
-      size = ap length n ∙ length_outcome rows id o ∙ runs.size;
+      size = ap length n ∙ absorbed.size ∙ runs.size;
     }
   where
     one : (ℕ → List Open) → ℕ → List Rec
@@ -141,17 +152,8 @@ run_more conf occasion items before rows next ids k id made more o l is r opens 
     all : problems_at rows ≡ grown conf (problems_at before) so_far
     all = fun_ext (λ j. runs.changes j ∙ ap (absorbed_all conf j (problems_at before j)) runs.records)
 
-    size : length rows ≡ length conf.triggers
-    size = runs.size ∙ tidy.size
-
-    home : AllAtHome conf id (problems_at rows id)
-    home = subst (AllAtHome conf id) (sym (runs.changes id)) (home_all conf id (problems_at before id) made (tidy.homes id))
-
-    own : LandIn conf (only id) (outcome_records o)
-    own = subst (LandIn conf (only id)) (sym r) (evaluated_lands conf occasion items (problems_at rows) id home)
-
-    none : at_id conf.triggers id ≡ None → outcome_records o ≡ []
-    none e = r ∙ evaluated_none conf occasion items (problems_at rows) id e
+    absorbed : Absorbed conf rows (outcome_records o) (outcome_rows rows id o)
+    absorbed = lands (record { size = runs.size ∙ tidy.size; homes = λ j. subst (AllAtHome conf j) (sym (runs.changes j)) (home_all conf j (problems_at before j) made (tidy.homes j)) })
 
     front : take (k + 1) ids ≡ take k ids ++ id ∷ []
     front = take_more ids k 0 l ∙ ap (λ i. take k ids ++ i ∷ []) (sym is)

@@ -7,6 +7,9 @@ use Rattle.zbx_types.specs.declared.triggers.Trigger.{Trigger}
 use Rattle.zbx_types.specs.declared.items.Item.{Item}
 use Rattle.zbx_types.specs.declared.entries.Entry.{Entry}
 use Rattle.zbx_types.specs.declared.entries.Entry.TheVariants.{Config, Value, Tick}
+use Rattle.zbx_types.specs.declared.entries.Cause2.{Cause2}
+use Rattle.zbx_types.specs.declared.entries.Cause2.TheVariants as causes
+use Rattle.event_correlation.specs.declared.answer.Closes.{Closes}
 use Rattle.zbx_types.specs.declared.entries.EventId.{EventId}
 use Rattle.zbx_types.specs.declared.entries.Numbered.{Numbered}
 use Rattle.zbx_types.specs.declared.entries.Rec.{Rec}
@@ -14,15 +17,21 @@ use Rattle.zbx_types.specs.declared.entries.Rec.TheVariants.{Failure, Problem, R
 use Rattle.zbx_types.specs.declared.entries.Stored.{Stored}
 use Rattle.entry_step.specs.Each.{Each, In}
 use Rattle.std.specs.Str.{bytes_eq}
-use Rattle.entry_step.specs.History.{history_of}
+use Rattle.std.specs.List.{cons_option}
+use Rattle.preprocess.specs.Draft.{failure_by, failure_of, failures_of}
+use Rattle.preprocess.specs.declared.visit.Visit.{Visit}
+use Rattle.preprocess.specs.declared.visit.Outcome.{Outcome}
+use Rattle.preprocess.specs.declared.visit.Outcome.TheVariants as outcome
+use Rattle.entry_step.proofs.Visited.{Memory}
+use Rattle.entry_step.specs.History.{visits_at, memory_of, history_of}
 use Rattle.entry_step.specs.Order.{level, by_depth, above_depths, order}
 use Rattle.zbx_types.specs.Records.{event_of}
 use Rattle.trigger_state.specs.Problems.{home, event_in, opens, recovers, opened, open_of}
-use Rattle.entry_step.specs.Records.{problem_of, begun_records, closed_records, verdict_records, evaluated, phase_over, has_call, is_timed_trigger, timed_triggers, stores, triggers_at, failure_by, failure_of, failures_at, judged_of, out_of, replay}
+use Rattle.entry_step.specs.Records.{problem_of, ruled, ruled_records, last_records, begun_records, closed_records, verdict_records, evaluated, phase_over, has_call, is_timed_trigger, timed_triggers, stores, triggers_at, failures_at, judged_of, out_of, replay}
 use Rattle.trigger_state.specs.Verdicts.{is_held}
 use Rattle.trigger_state.specs.declared.answer.Verdict.{Verdict}
 use Rattle.trigger_state.specs.declared.answer.Verdict.TheVariants.{Nothing, New, Close}
-use Rattle.entry_step.specs.Changes.{Closes}
+use Rattle.entry_step.specs.Changes.{EachClosed}
 use Rattle.entry_step.proofs.Landing.{judged_is, judged_has, evaluated_none}
 use Rattle.entry_step.specs.Log.{last_number, first_tick, IsRising}
 use Rattle.entry_step.specs.Named.{is_named, host_of, AreDistinct, OpenByNames}
@@ -38,7 +47,8 @@ use Rattle.zbx_types.specs.Records.{same_event}
 use Rattle.std.specs.Prelude.{flat_map}
 use Rattle.escalations.specs.Escalations.{first_records_of, recovered_records}
 use Rattle.entry_step.specs.Due.{IsAbout, by_making, due_for, due_over, due_at}
-use Rattle.entry_step.proofs.Said.{each_flat_map, due_about, closed_about}
+use Rattle.entry_step.proofs.Said.{each_flat_map, due_about, closed_about, IsQuiet, about_quiet, closed_quiet, begun_quiet}
+use Rattle.entry_step.proofs.Closing.{ruled_each}
 use Rattle.zbx_types.specs.declared.entries.Held.{Held}
 use Rattle.trigger_state.specs.declared.problems.Open.{Open}
 
@@ -198,14 +208,6 @@ is_done_sub n m a b h (Message event action step recipient subject body) d = tt
 right_sub : (conf : Conf) (n m : ℕ) (a b : List ℕ) (rs : List Rec) → ((event : EventId) → Done n a event → Done m b event) → Right conf n a rs → Right conf m b rs
 right_sub conf n m a b rs h r = record { early = r.early; ids = each_sub (IsDone n a) (IsDone m b) rs (is_done_sub n m a b h) r.ids; named = r.named }
 
--- records that are no Problems
-abbrev IsQuiet : Rec → Type 0
-IsQuiet (Problem event now severity suppressed host trigger name tags) = ⊥
-IsQuiet (Recovery event by now cause) = Unit {0}
-IsQuiet (Failure number host key why) = Unit {0}
-IsQuiet (Step event action step now) = Unit {0}
-IsQuiet (Message event action step recipient subject body) = Unit {0}
-
 quiet_again : (r : Rec) (qs : List Rec) → Each IsQuiet qs → Each (NotAgain r) qs
 quiet_again r qs e = each_sub IsQuiet (NotAgain r) qs go e
   where
@@ -251,16 +253,9 @@ open_done conf n done (r ∷ rs) id e = go (opens conf id r) refl (not (list_any
     go true q false ih = ih
     go false q b ih = ih
 
-about_right : (e : EventId) (n : ℕ) (done : List ℕ) (rs : List Rec) → Each (IsAbout e) rs → Each IsQuiet rs × Each (IsDone n done) rs
-about_right e n done rs a = (each_sub (IsAbout e) IsQuiet rs quiet a, each_sub (IsAbout e) (IsDone n done) rs right a)
+about_right : (e : EventId) (n : ℕ) (done : List ℕ) (rs : List Rec) → Each (IsAbout e) rs → Each (IsDone n done) rs
+about_right e n done rs a = each_sub (IsAbout e) (IsDone n done) rs right a
   where
-    quiet : (r : Rec) → IsAbout e r → IsQuiet r
-    quiet (Step event action step now) is = tt
-    quiet (Message event action step recipient subject body) is = tt
-    quiet (Failure number host key why) is = tt
-    quiet (Problem event now severity suppressed host trigger name tags) is = absurd is
-    quiet (Recovery event by now cause) is = tt
-
     right : (r : Rec) → IsAbout e r → IsDone n done r
     right (Step event action step now) is = tt
     right (Message event action step recipient subject body) is = tt
@@ -268,14 +263,15 @@ about_right e n done rs a = (each_sub (IsAbout e) IsQuiet rs quiet a, each_sub (
     right (Problem event now severity suppressed host trigger name tags) is = absurd is
     right (Recovery event by now cause) is = absurd is
 
-closed_right : (conf : Conf) (n now : ℕ) (os : List Open) (done : List ℕ) (events : List EventId) → Each (Done n done) events → Each IsQuiet (flat_map (closed_records conf n now os) events) × Each (IsDone n done) (flat_map (closed_records conf n now os) events)
-closed_right conf n now os done [] e = (tt, tt)
-closed_right conf n now os done (x ∷ xs) e =
-    let sent : List Rec = flat_map (λ o. recovered_records conf o.problem o.steps now) (filter (λ o. same_event (event_in o) x) os) in
-    let rest : List Rec = flat_map (closed_records conf n now os) xs in
-    let s = about_right x n done sent (closed_about x x conf now os) in
-    let r = closed_right conf n now os done xs e.1 in
-    ((tt, each_append IsQuiet sent rest s.0 r.0), (e.0, each_append (IsDone n done) sent rest s.1 r.1))
+closed_right : (conf : Conf) (n now : ℕ) (cause : Cause2) (os : EventId → List Open) (done : List ℕ) (events : List EventId) → Each (Done n done) events → Each (IsDone n done) (flat_map (λ e. closed_records conf n now cause (os e) e) events)
+closed_right conf n now cause os done [] e = tt
+closed_right conf n now cause os done (x ∷ xs) e =
+    let sent : List Rec = flat_map (λ o. recovered_records conf o.problem o.steps now) (filter (λ o. same_event (event_in o) x) (os x)) in
+    (e.0, each_append (IsDone n done) sent (flat_map (λ y. closed_records conf n now cause (os y) y) xs) (about_right x n done sent (closed_about x x conf now (os x))) (closed_right conf n now cause os done xs e.1))
+
+last_right : (conf : Conf) (n now id : ℕ) (done : List ℕ) (problem : Rec) (is_closed : Bool) → Done n done (event_of problem) → Each (IsDone n done) (last_records conf n now id problem is_closed)
+last_right conf n now id done problem true d = (d, tt)
+last_right conf n now id done problem false d = about_right (event_of problem) n done (first_records_of conf id problem now) (due_about conf id problem [] now)
 
 quiet_right : (conf : Conf) (n : ℕ) (done : List ℕ) (qs : List Rec) → Each IsQuiet qs → Each (IsDone n done) qs → Right conf n done qs
 quiet_right conf n done qs q d = record { early = quiet_early qs q; ids = d; named = quiet_named conf qs q }
@@ -309,36 +305,43 @@ module _ (conf : Conf) (occasion : Occasion) (items : ℕ → List Stored) (done
   none_next : Next []
   none_next = subst (Right conf n (id ∷ done)) (sym (append-nil rs)) weaker
 
-  close_next : (os : List Open) (events : List EventId) → Each (Done n (id ∷ done)) events → Next (flat_map (closed_records conf n now os) events)
+  close_next : (os : List Open) (events : List EventId) → Each (Done n (id ∷ done)) events → Next (flat_map (closed_records conf n now causes.Expression os) events)
   close_next os events e =
-      let made : List Rec = flat_map (closed_records conf n now os) events in
-      let r = closed_right conf n now os (id ∷ done) events e in
-      right_append conf n (id ∷ done) rs made weaker (quiet_right conf n (id ∷ done) made r.0 r.1) (quiet_all rs made r.0)
+      let made : List Rec = flat_map (closed_records conf n now causes.Expression os) events in
+      let quiet = closed_quiet conf n now causes.Expression (λ x. os) events in
+      right_append conf n (id ∷ done) rs made weaker (quiet_right conf n (id ∷ done) made quiet (closed_right conf n now causes.Expression (λ x. os) (id ∷ done) events e)) (quiet_all rs made quiet)
 
-  begin_next : (values : List (Option Held)) (t : Trigger) → at_id conf.triggers id ≡ Some t → Next (begun_records conf id (problem_of conf n now values id t) now)
+  begin_next : (values : List (Option Held)) (t : Trigger) → at_id conf.triggers id ≡ Some t → (all : ℕ → List Open) → ((j : ℕ) → Each (λ o. Done n (id ∷ done) (event_in o)) (all j)) → Next (begun_records conf n now all id (problem_of conf n now values id t))
   unfolding problem_of
-  begin_next values t is =
+  begin_next values t is all old =
       let problem : Rec = problem_of conf n now values id t in
-      let first : List Rec = first_records_of conf id problem now in
-      let a = about_right (event_of problem) n (id ∷ done) first (due_about conf id problem [] now) in
-      right_append conf n (id ∷ done) rs (problem ∷ first) weaker
-      (record { early = (quiet_again problem first a.0, quiet_early first a.0); ids = (inr (refl, inl refl), a.1); named = ((t, is, refl, refl), quiet_named conf first a.0) })
-      (each_sub (IsDone n done) (λ x. Each (NotAgain x) (problem ∷ first)) rs (λ x d. (fresh n id done out x d, quiet_again x first a.0)) right.ids)
+      let closes : Closes = ruled conf problem all in
+      let ends : List Rec = ruled_records conf n now all closes.old in
+      let last : List Rec = last_records conf n now id problem closes.new in
+      let quiet = begun_quiet conf n now all id problem closes in
+      let ended = closed_right conf n now causes.Correlation (λ e. all (home conf e)) (id ∷ done) closes.old (ruled_each (Done n (id ∷ done)) conf problem all old) in
+      let its = each_append (IsDone n (id ∷ done)) ends last ended (last_right conf n now id (id ∷ done) problem closes.new (inr (refl, inl refl))) in
+      right_append conf n (id ∷ done) rs (problem ∷ ends ++ last) weaker
+      (record { early = (quiet_again problem (ends ++ last) quiet, quiet_early (ends ++ last) quiet); ids = (inr (refl, inl refl), its); named = ((t, is, refl, refl), quiet_named conf (ends ++ last) quiet) })
+      (each_sub (IsDone n done) (λ x. Each (NotAgain x) (problem ∷ ends ++ last)) rs (λ x d. (fresh n id done out x d, quiet_again x (ends ++ last) quiet)) right.ids)
 
-  verdict_next : (values : List (Option Held)) (t : Trigger) → at_id conf.triggers id ≡ Some t → (os : List Open) (v : Verdict) → Closes (Done n (id ∷ done)) v → Next (verdict_records conf n now values id t os v)
+  verdict_next : (values : List (Option Held)) (t : Trigger) → at_id conf.triggers id ≡ Some t → (all : ℕ → List Open) → ((j : ℕ) → Each (λ o. Done n (id ∷ done) (event_in o)) (all j)) → (v : Verdict) → EachClosed (Done n (id ∷ done)) v → Next (verdict_records conf n now values id t all v)
   unfolding verdict_records
-  verdict_next values t is os Nothing h = none_next
-  verdict_next values t is os New h = begin_next values t is
-  verdict_next values t is os (Close events) h = close_next os events h
+  verdict_next values t is all old Nothing h = none_next
+  verdict_next values t is all old New h = begin_next values t is all old
+  verdict_next values t is all old (Close events) h = close_next (all id) events h
 
   one_next : Next (evaluated conf occasion items (open_of conf rs) id)
   one_next = go (at_id conf.triggers id) refl
     where
+      old : (j : ℕ) → Each (λ o. Done n (id ∷ done) (event_in o)) (open_of conf rs j)
+      old j = open_done conf n (id ∷ done) rs j weaker.ids
+
       go : (t : Option Trigger) → at_id conf.triggers id ≡ t → Next (evaluated conf occasion items (open_of conf rs) id)
       go None e = subst Next (sym (evaluated_none conf occasion items (open_of conf rs) id e)) none_next
       go (Some t) e =
           subst Next (sym (judged_is conf occasion items (open_of conf rs) id t e))
-          (judged_has (Done n (id ∷ done)) Next conf occasion (seen_in items occasion conf.utc_offset t) id t (is_held conf (open_of conf rs) id) (open_of conf rs id) (verdict_next (shown_values items occasion.now t) t e (open_of conf rs id)) (open_done conf n (id ∷ done) rs id weaker.ids))
+          (judged_has (Done n (id ∷ done)) Next conf occasion (seen_in items occasion conf.utc_offset t) id t (is_held conf (open_of conf rs) id) (open_of conf rs) (verdict_next (shown_values items occasion.now t) t e (open_of conf rs) old) (old id))
 
 phase_next : (conf : Conf) (occasion : Occasion) (items : ℕ → List Stored) (done ids : List ℕ) (rs : List Rec) → Right conf occasion.number done rs → Once ids → ((x : ℕ) → In x ids → In x done → ⊥)
     → (all : List ℕ) × Right conf occasion.number all (rs ++ phase_over conf (evaluated conf occasion items) rs ids)
@@ -352,38 +355,40 @@ phase_next conf occasion items done (id ∷ ids) rs right once apart =
     still x i (inl q) = once.0 (subst (λ y. In y ids) q i)
     still x i (inr j) = apart x (inr i) j
 
-failure_quiet : (conf : Conf) (number item : ℕ) → Each IsQuiet (failure_of conf number item) × Each (IsDone number []) (failure_of conf number item)
-unfolding failure_of
-failure_quiet conf number item = go (at_id conf.items item)
-  where
-    go : (o : Option Item) → Each IsQuiet (failure_by conf number o) × Each (IsDone number []) (failure_by conf number o)
-    go None = (tt, tt)
-    go (Some i) = ((tt, tt), (tt, tt))
+abbrev AreQuiet : ℕ → List Rec → Type 0
+AreQuiet number rs = Each IsQuiet rs × Each (IsDone number []) rs
 
-failures_quiet : (conf : Conf) (number : ℕ) (entry : Entry) → Each IsQuiet (failures_at conf number entry) × Each (IsDone number []) (failures_at conf number entry)
+failures_quiet : (conf : Conf) (memory : Memory) (number : ℕ) (entry : Entry) → AreQuiet number (failures_at conf memory number entry)
 unfolding failures_at
-failures_quiet conf number (Config now text) = (tt, tt)
-failures_quiet conf number (Tick now) = (tt, tt)
-failures_quiet conf number (Value now item time value) = go (stores conf number (Value now item time value) item)
+failures_quiet conf memory number entry = go (visits_at conf memory number entry)
   where
-    go : (b : Bool) → Each IsQuiet (cond b [] (failure_of conf number item)) × Each (IsDone number []) (cond b [] (failure_of conf number item))
-    go true = (tt, tt)
-    go false = failure_quiet conf number item
+    by : (rest : List Rec) → AreQuiet number rest → (x : Option Item) (why : List ℕ) → AreQuiet number (cons_option (failure_by conf number why x) rest)
+    by rest h None why = h
+    by rest h (Some item) why = ((tt, h.0), (tt, h.1))
 
-once_triggers : (conf : Conf) (number : ℕ) (entry : Entry) → Once (triggers_at conf number entry)
+    one : (v : Visit) (rest : List Rec) → AreQuiet number rest → (o : Outcome) → AreQuiet number (cons_option (failure_of conf number v o) rest)
+    one v rest h (outcome.Stored s) = h
+    one v rest h outcome.Discarded = h
+    one v rest h (outcome.Failed why) = by rest h (at_id conf.items v.item) why
+
+    go : (visits : List Visit) → AreQuiet number (failures_of conf number visits)
+    go [] = (tt, tt)
+    go (v ∷ visits) = one v (failures_of conf number visits) (go visits) v.outcome
+
+once_triggers : (conf : Conf) (memory : Memory) (number : ℕ) (entry : Entry) → Once (triggers_at conf memory number entry)
 unfolding triggers_at timed_triggers
-once_triggers conf number (Config now text) = tt
-once_triggers conf number (Tick now) = once_filter (λ id. is_timed_trigger (at_id conf.triggers id)) (order conf) (once_order conf)
-once_triggers conf number (Value now item time value) = once_filter (λ id. has_call (stores conf number (Value now item time value)) (at_id conf.triggers id)) (order conf) (once_order conf)
+once_triggers conf memory number (Config now text) = tt
+once_triggers conf memory number (Tick now) = once_filter (λ id. is_timed_trigger (at_id conf.triggers id)) (order conf) (once_order conf)
+once_triggers conf memory number (Value now item time value) = once_filter (λ id. has_call (stores conf memory number (Value now item time value)) (at_id conf.triggers id)) (order conf) (once_order conf)
 
 judged_next : (conf : Conf) (log : List Numbered) (e : Numbered) (rs : List Rec) → Right conf e.number [] rs → (all : List ℕ) × Right conf e.number all (rs ++ judged_of conf log e e.entry rs)
 unfolding judged_of
 judged_next conf log e rs right =
-    let f = failures_at conf e.number e.entry in
-    let q = failures_quiet conf e.number e.entry in
-    let ids = triggers_at conf e.number e.entry in
+    let f = failures_at conf (memory_of conf log) e.number e.entry in
+    let q = failures_quiet conf (memory_of conf log) e.number e.entry in
+    let ids = triggers_at conf (memory_of conf log) e.number e.entry in
     let r = phase_next conf (occasion_of (first_tick log) e.number e.entry) (history_of conf (e ∷ log)) [] ids (rs ++ f) (right_append conf e.number [] rs f right (quiet_right conf e.number [] f q.0 q.1) (quiet_all rs f q.0))
-    (once_triggers conf e.number e.entry) (λ x i j. j) in
+    (once_triggers conf (memory_of conf log) e.number e.entry) (λ x i j. j) in
     (r.0, subst (Right conf e.number r.0) (append_assoc rs f (phase_over conf (evaluated conf (occasion_of (first_tick log) e.number e.entry) (history_of conf (e ∷ log))) (rs ++ f) ids)) r.1)
 
 due_quiet : (conf : Conf) (n : ℕ) (done : List ℕ) (entry : Entry) (all : ℕ → List Open) → Each IsQuiet (due_at conf entry all) × Each (IsDone n done) (due_at conf entry all)
@@ -396,7 +401,9 @@ due_quiet conf n done (Tick now) all = (
 )
   where
     right : (o : Open) → Each IsQuiet (due_for conf now o) × Each (IsDone n done) (due_for conf now o)
-    right o = about_right (event_in o) n done (due_for conf now o) (due_about conf (home conf (event_in o)) o.problem o.steps now)
+    right o =
+        let about = due_about conf (home conf (event_in o)) o.problem o.steps now in
+        (about_quiet (event_in o) (due_for conf now o) about, about_right (event_in o) n done (due_for conf now o) about)
 
 out_next : (conf : Conf) (log : List Numbered) (e : Numbered) (rs : List Rec) → Right conf e.number [] rs → (all : List ℕ) × Right conf e.number all (rs ++ out_of conf log e e.entry rs)
 unfolding out_of

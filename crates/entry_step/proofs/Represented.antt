@@ -1,207 +1,239 @@
 -- What is kept goes on representing cells.
-use Rattle.std.proofs.Common.{◌≡◌, ◌≤◌, ℕ, zero, suc, slice_get, ◌==◌, Bool, true, false, cond, ◌&&◌, Option, Some, None, List, [], ◌∷◌, ◌++◌, length, filter, replicate, is_some, refl, sym, ◌∙◌, ap, subst, eqb-true, eq-eqb, arith, append-nil, Result, Ok, Err, IfOk, OnOk, reverse, ◌+◌}
+use Rattle.std.proofs.Common.{◌≡◌, ◌≢◌, ◌≤◌, ℕ, zero, suc, slice_get, ◌==◌, Bool, true, false, cond, Option, Some, None, List, [], ◌∷◌, ◌++◌, length, map, replicate, is_some, option_map, refl, sym, ◌∙◌, ap, subst, eq-eqb, arith, append-nil, Result, Ok, Err, IfOk, OnOk, reverse, ◌+◌}
 use mathlib.Core.Path.{fun_ext}
-use Rattle.std.specs.List.{list_any}
-use Rattle.std.specs.Option.{option_or, unwrap_or}
+use Rattle.std.specs.List.{cons_option}
+use Rattle.std.specs.Option.{option_or, unwrap_or, option_map_or}
 use Rattle.zbx_types.specs.Ids.{at_id}
+use Rattle.zbx_types.specs.Masters.{has_id}
 use Rattle.zbx_types.specs.declared.conf.Conf.{Conf}
 use Rattle.zbx_types.specs.declared.items.Item.{Item}
-use Rattle.zbx_types.specs.declared.triggers.Trigger.{Trigger}
 use Rattle.zbx_types.specs.declared.entries.Entry.{Entry}
 use Rattle.zbx_types.specs.declared.entries.Entry.TheVariants.{Config, Value, Tick}
 use Rattle.zbx_types.specs.declared.entries.Numbered.{Numbered}
 use Rattle.zbx_types.specs.declared.entries.Rec.{Rec}
 use Rattle.zbx_types.specs.declared.entries.Stored.{Stored}
-use Rattle.value_cache.specs.Histories.{placed}
-use Rattle.value_cache.specs.Cells.{CellView, StandsFor}
-use Rattle.trigger_state.specs.Problems.{absorbed_all, grown, open_of}
+use Rattle.prep_steps.specs.declared.memory.StepMemory.{StepMemory}
+use Rattle.value_cache.specs.Cells.{CellView}
+use Rattle.preprocess.specs.Ways.{memory_at}
+use Rattle.preprocess.specs.Chains.{listed}
+use Rattle.preprocess.specs.Visits.{memory_in as memory_kept}
+use Rattle.preprocess.specs.Draft.{kept_of, kept_after, marks_after, visit_at, stored_of as stored_by, failure_by, failure_of, failures_of}
+use Rattle.preprocess.specs.Cells.{no_marks, AreNew}
+use Rattle.preprocess.specs.Laws.{marks_behind, kept_behind, HoldLog}
+use Rattle.preprocess.specs.declared.cells.Cells.{Cells as ItemCells}
+use Rattle.preprocess.specs.declared.visit.Visit.{Visit}
+use Rattle.preprocess.specs.declared.visit.Outcome.{Outcome}
+use Rattle.preprocess.specs.declared.visit.Outcome.TheVariants as outcome
+use Rattle.preprocess.proofs.Logs.{at_map, hold_nothing}
+use Rattle.trigger_state.specs.Problems.{home, event_in, absorbed_all, grown, open_of}
 use Rattle.trigger_state.specs.declared.problems.Open.{Open}
 use Rattle.entry_step.specs.declared.occasions.Occasion.{Occasion}
 use Rattle.entry_step.specs.declared.changes.Row.{Row}
-use Rattle.entry_step.specs.Each.{Each, In}
+use Rattle.footprint.specs.Rows.{is_in, is_one}
+use Rattle.footprint.specs.Feet.{over_of, feet_of}
+use Rattle.entry_step.specs.Each.{Each}
 use Rattle.entry_step.specs.Log.{moment_of, last_moment, tick_with, first_tick, IsFitting, Suits}
 use Rattle.entry_step.specs.Occasions.{occasion_of}
-use Rattle.entry_step.specs.History.{stored_of, with_stored, history_of}
-use Rattle.entry_step.specs.Kept.{Keeps, still_to_come, Sees, IsCalled, SeesFor, Became, AreEmpty}
-use Rattle.entry_step.specs.Order.{order}
-use Rattle.entry_step.specs.Due.{due_at}
-use Rattle.entry_step.specs.Records.{evaluated, phase, has_call, is_over, triggers_over, timed_triggers, stores, triggers_at, failure_by, failure_of, failures_at, judged_of, out_of, replay}
-use Rattle.entry_step.specs.Cells.{Key, ItemKey, TriggerKey, TickKey, ItemCell, Cells, opens_in, touches, item_after, histories_after, judged_at, records_at, records, after, seen_of, look, StandFor}
-use Rattle.entry_step.specs.Represents.{CellsView, problems_at, AllAtHome, Represents, Holds, ComesAfter, StepsTo}
-use Rattle.entry_step.specs.Changes.{with_rows, put_back, AreTidy, Runs, RunsOver, Absorbed, TakesIn, Takes, TakesTick}
-use Rattle.entry_step.proofs.Members.{and_left, and_both, or_left, or_right, each_from, each_filter, each_sub, any_intro}
+use Rattle.entry_step.specs.History.{visits_at, stored_of, marks_of, memory_of, with_stored, history_of}
+use Rattle.entry_step.specs.Kept.{Keeps, roomless, Sees, IsCalled, SeesFor, CameIn}
+use Rattle.entry_step.specs.Due.{by_making, due_for, due_over, due_at}
+use Rattle.entry_step.specs.Records.{evaluated, phase, timed_triggers, triggers_at, failures_at, judged_of, out_of, replay}
+use Rattle.entry_step.specs.Cells.{Key, ItemKey, TriggerKey, TickKey, ItemCell, Cells, opens_in, memory_in, touches, item_after, histories_after, judged_at, records_at, records, after, seen_of, look, StandFor}
+use Rattle.entry_step.specs.Represents.{CellsView, problems_at, AllAtHome, IsTidy, Represents, Holds, ComesAfter, StepsTo}
+use Rattle.entry_step.specs.Changes.{with_rows, put_back, AreTidy, Runs, RunsOver, Absorbed, TakesIn, TakesTick}
+use Rattle.entry_step.proofs.Members.{or_left, or_right, each_append, each_from, each_sub}
 use Rattle.entry_step.proofs.Items.{at_zero, at_suc}
+use Rattle.entry_step.proofs.Feet.{there, calls_in_foot}
+use Rattle.entry_step.proofs.Visited.{Memory, untouched, absent, each_triggered}
 use Rattle.entry_step.proofs.Problems.{open_append, absorbed_append, home_all}
 use Rattle.entry_step.proofs.Landing.{LandIn, land_off}
-use Rattle.entry_step.proofs.Coming.{keeps_later, empty_keeps}
-use Rattle.entry_step.proofs.Histories.{stored_none, stored_other}
+use Rattle.entry_step.proofs.Said.{each_flat_map, due_about, IsQuiet, about_quiet}
+use Rattle.entry_step.proofs.Covered.{MakesTagged, quiet_tagged, phase_tagged, tagged_all}
+use Rattle.entry_step.proofs.Coming.{Became, became, same_length, some_map, still_ordered, keeps_with, empty_keeps, empty_ordered, size_roomless, marks_listed}
 use Rattle.entry_step.proofs.Phases.{none_same, phase_is}
 
--- Which triggers an entry evaluates
-stores_own : (conf : Conf) (number now item time : ℕ) (value : List ℕ) (s : Stored) → stored_of conf number (Value now item time value) item ≡ Some s → (i : ℕ) → stores conf number (Value now item time value) i ≡ (i == item)
-stores_own conf number now item time value s e i = go (i == item) refl
-  where
-    go : (b : Bool) → (i == item) ≡ b → stores conf number (Value now item time value) i ≡ b
-    go true q = ap (λ j. stores conf number (Value now item time value) j) (eqb-true i item q) ∙ ap is_some e
-    go false q = ap is_some (stored_other conf number now item time value i (λ r. let n : (i == item) ≡ true = eq-eqb i item (sym r) in cc))
-
-pub stores_none : (conf : Conf) (number now item time : ℕ) (value : List ℕ) → stored_of conf number (Value now item time value) item ≡ None → (i : ℕ) → stored_of conf number (Value now item time value) i ≡ None
-stores_none conf number now item time value e i = go (i == item) refl
-  where
-    go : (b : Bool) → (i == item) ≡ b → stored_of conf number (Value now item time value) i ≡ None
-    go true q = ap (λ j. stored_of conf number (Value now item time value) j) (eqb-true i item q) ∙ e
-    go false q = stored_other conf number now item time value i (λ r. let n : (i == item) ≡ true = eq-eqb i item (sym r) in cc)
-
-pub triggers_stored : (conf : Conf) (number now item time : ℕ) (value : List ℕ) (s : Stored) → stored_of conf number (Value now item time value) item ≡ Some s → triggers_at conf number (Value now item time value) ≡ triggers_over conf item
-unfolding triggers_at triggers_over
-triggers_stored conf number now item time value s e =
-    ap (λ test. filter (λ id. has_call test (at_id conf.triggers id)) (order conf)) (fun_ext (stores_own conf number now item time value s e))
-
-no_call : (t : Option Trigger) → has_call (λ i. false) t ≡ false
-no_call None = refl
-no_call (Some t) = go t.enabled t.call_items
-  where
-    none : (xs : List ℕ) → list_any (λ (i : ℕ). false) xs ≡ false
-    none [] = refl
-    none (x ∷ xs) = none xs
-
-    go : (b : Bool) (xs : List ℕ) → (b && list_any (λ (i : ℕ). false) xs) ≡ false
-    go true xs = none xs
-    go false xs = refl
-
-filter_off : (p : ℕ → Bool) (xs : List ℕ) → ((x : ℕ) → p x ≡ false) → filter p xs ≡ []
-filter_off p [] h = refl
-filter_off p (x ∷ xs) h = rw (h x) (filter_off p xs h)
-
-pub triggers_none : (conf : Conf) (number now item time : ℕ) (value : List ℕ) → ((i : ℕ) → stored_of conf number (Value now item time value) i ≡ None) → triggers_at conf number (Value now item time value) ≡ []
-unfolding triggers_at
-triggers_none conf number now item time value e =
-    ap (λ test. filter (λ id. has_call test (at_id conf.triggers id)) (order conf)) (fun_ext (λ i. ap is_some (e i)))
-    ∙ filter_off (λ id. has_call (λ i. false) (at_id conf.triggers id)) (order conf) (λ id. no_call (at_id conf.triggers id))
-
 -- the items of a trigger that is over the item of a value are in the value's foot
-pub calls_touched : (conf : Conf) (now item time : ℕ) (value : List ℕ) (id i : ℕ) → In id (order conf) → is_over item (at_id conf.triggers id) ≡ true → IsCalled conf id i → touches conf (Value now item time value) (ItemKey i) ≡ true
+pub calls_touched : (conf : Conf) (now item time : ℕ) (value : List ℕ) (id i : ℕ) → has_id (over_of conf item) id ≡ true → IsCalled conf id i → is_one conf.items i ≡ true → touches conf (Value now item time value) (ItemKey i) ≡ true
 unfolding touches
-calls_touched conf now item time value id i j o c =
-    or_right (i == item) (list_any (λ t. is_over item (at_id conf.triggers t) && is_over i (at_id conf.triggers t)) (order conf))
-    (any_intro (λ t. is_over item (at_id conf.triggers t) && is_over i (at_id conf.triggers t)) id (order conf) j
-    (and_both (is_over item (at_id conf.triggers id)) (is_over i (at_id conf.triggers id)) o also))
-  where
-    also : is_over i (at_id conf.triggers id) ≡ true
-    also =
-        let trigger = c.0 in
-        let is : at_id conf.triggers id ≡ Some trigger = c.1 in
-        let on : (trigger.enabled && list_any (λ x. x == item) trigger.call_items) ≡ true = ap (is_over item) (sym is) ∙ o in
-        ap (is_over i) is ∙ and_both trigger.enabled (list_any (λ x. x == i) trigger.call_items) (and_left trigger.enabled (list_any (λ x. x == item) trigger.call_items) on)
-        (any_intro (λ x. x == i) i trigger.call_items c.2 (eq-eqb i i refl))
-
--- each trigger that an entry evaluates is over its item
-pub each_over : (conf : Conf) (item : ℕ) (P : ℕ → Type 0) → ((id : ℕ) → In id (order conf) → is_over item (at_id conf.triggers id) ≡ true → P id) → Each P (triggers_over conf item)
-unfolding triggers_over
-each_over conf item P h = each_filter P (λ id. is_over item (at_id conf.triggers id)) (order conf) h
-
-pub each_triggered : (conf : Conf) (number now item time : ℕ) (value : List ℕ) (P : ℕ → Type 0) → ((id : ℕ) → In id (order conf) → is_over item (at_id conf.triggers id) ≡ true → P id) → Each P (triggers_at conf number (Value now item time value))
-each_triggered conf number now item time value P h = go (stored_of conf number (Value now item time value) item) refl
-  where
-    go : (o : Option Stored) → stored_of conf number (Value now item time value) item ≡ o → Each P (triggers_at conf number (Value now item time value))
-    go None e = subst (Each P) (sym (triggers_none conf number now item time value (stores_none conf number now item time value e))) tt
-    go (Some s) e = subst (Each P) (sym (triggers_stored conf number now item time value s e)) (each_over conf item P h)
+calls_touched conf now item time value id i o c one = or_right (i == item) (has_id ((feet_of conf).items item) i) (calls_in_foot conf item id i o c one)
 
 -- the items of the triggers that an entry evaluates are in its foot
-touched_calls : (conf : Conf) (number : ℕ) (entry : Entry) → Each (λ id. (i : ℕ) → IsCalled conf id i → touches conf entry (ItemKey i) ≡ true) (triggers_at conf number entry)
-touched_calls conf number (Config now text) = unfold triggers_at in tt
-touched_calls conf number (Tick now) = each_from (λ id. (i : ℕ) → IsCalled conf id i → touches conf (Tick now) (ItemKey i) ≡ true) (triggers_at conf number (Tick now)) (λ id j i calls. unfold touches in refl)
-touched_calls conf number (Value now item time value) =
-    each_triggered conf number now item time value (λ id. (i : ℕ) → IsCalled conf id i → touches conf (Value now item time value) (ItemKey i) ≡ true) (λ id j o i calls. calls_touched conf now item time value id i j o calls)
+touched_calls : (conf : Conf) (memory : Memory) (number : ℕ) (entry : Entry) → Each (λ id. (i : ℕ) → IsCalled conf id i → is_one conf.items i ≡ true → touches conf entry (ItemKey i) ≡ true) (triggers_at conf memory number entry)
+touched_calls conf memory number (Config now text) = unfold triggers_at in tt
+touched_calls conf memory number (Tick now) = each_from (λ id. (i : ℕ) → IsCalled conf id i → is_one conf.items i ≡ true → touches conf (Tick now) (ItemKey i) ≡ true) (triggers_at conf memory number (Tick now)) (λ id j i calls one. unfold touches in refl)
+touched_calls conf memory number (Value now item time value) =
+    each_triggered conf memory number now item time value (λ id. (i : ℕ) → IsCalled conf id i → is_one conf.items i ≡ true → touches conf (Value now item time value) (ItemKey i) ≡ true) (λ id j o i calls one. calls_touched conf now item time value id i o calls one)
+
+-- what isn't visited has nothing stored
+pub unstored : (conf : Conf) (memory : Memory) (number : ℕ) (entry : Entry) (i : ℕ) → visit_at (visits_at conf memory number entry) i ≡ None → stored_of conf memory number entry i ≡ None
+unfolding stored_of
+unstored conf memory number entry i e = ap stored_by e
+
+-- cells stay tidy
+pub absent_after : (conf : Conf) (memory : Memory) (c : Cells) (number : ℕ) (entry : Entry) (i : ℕ) → IsTidy conf c → at_id conf.items i ≡ None → (item_after conf memory number entry i (c (ItemKey i))).history ≡ []
+unfolding item_after
+absent_after conf memory c number entry i tidy e = ap (λ o. with_stored o (c (ItemKey i)).history) (unstored conf memory number entry i (absent conf memory number entry i e)) ∙ tidy.absent i e
+
+-- no record makes a problem without the names of its trigger's tags
+failures_tagged : (conf : Conf) (memory : Memory) (number : ℕ) (entry : Entry) → Each (MakesTagged conf) (failures_at conf memory number entry)
+unfolding failures_at
+failures_tagged conf memory number entry = quiet_tagged conf (failures_of conf number (visits_at conf memory number entry)) (go (visits_at conf memory number entry))
+  where
+    by : (v : Visit) (rest : List Rec) → Each IsQuiet rest → (x : Option Item) (why : List ℕ) → Each IsQuiet (cons_option (failure_by conf number why x) rest)
+    by v rest h None why = h
+    by v rest h (Some item) why = (tt, h)
+
+    one : (v : Visit) (rest : List Rec) → Each IsQuiet rest → (o : Outcome) → Each IsQuiet (cons_option (failure_of conf number v o) rest)
+    one v rest h (outcome.Stored s) = h
+    one v rest h outcome.Discarded = h
+    one v rest h (outcome.Failed why) = by v rest h (at_id conf.items v.item) why
+
+    go : (visits : List Visit) → Each IsQuiet (failures_of conf number visits)
+    go [] = tt
+    go (v ∷ visits) = one v (failures_of conf number visits) (go visits) v.outcome
+
+due_tagged : (conf : Conf) (entry : Entry) (all : ℕ → List Open) → Each (MakesTagged conf) (due_at conf entry all)
+unfolding due_at due_over
+due_tagged conf (Config now text) all = tt
+due_tagged conf (Value now item time value) all = tt
+due_tagged conf (Tick now) all =
+    each_flat_map (MakesTagged conf) (due_for conf now) (by_making conf all)
+    (λ o. quiet_tagged conf (due_for conf now o) (about_quiet (event_in o) (due_for conf now o) (due_about conf (home conf (event_in o)) o.problem o.steps now)))
+
+records_tagged : (conf : Conf) (c : Cells) (number : ℕ) (entry : Entry) → Each (MakesTagged conf) (records_at conf c number entry)
+unfolding records_at judged_at
+records_tagged conf c number entry =
+    each_append (MakesTagged conf) (judged_at conf c number entry) (due_at conf entry (grown conf (opens_in c) (judged_at conf c number entry)))
+    (each_append (MakesTagged conf) (failures_at conf (memory_in c) number entry) (phase conf one (opens_in c) (triggers_at conf (memory_in c) number entry)) (failures_tagged conf (memory_in c) number entry)
+    (phase_tagged conf (occasion_of (c TickKey) number entry) (histories_after conf c number entry) (opens_in c) (triggers_at conf (memory_in c) number entry)))
+    (due_tagged conf entry (grown conf (opens_in c) (judged_at conf c number entry)))
+  where
+    one : (ℕ → List Open) → ℕ → List Rec
+    one = evaluated conf (occasion_of (c TickKey) number entry) (histories_after conf c number entry)
+
+pub stays_tidy : (conf : Conf) (c : Cells) (e : Numbered) → IsTidy conf c → IsTidy conf (after conf c e)
+unfolding after
+stays_tidy conf c e tidy = record {
+  homes = λ id. home_all conf id (c (TriggerKey id)) (records conf c e) (tidy.homes id);
+  tagged = λ id. tagged_all conf id (c (TriggerKey id)) (records conf c e) (records_tagged conf c e.number e.entry) (tidy.tagged id);
+  absent = λ i q. absent_after conf (memory_in c) c e.number e.entry i tidy q;
+}
 
 pub tidy_rows : (conf : Conf) (held : CellsView) (c : Cells) → Represents conf held c → AreTidy conf held.problems
-tidy_rows conf held c r = record { size = r.triggers; homes = λ id. subst (AllAtHome conf id) (sym (r.problems id)) (r.tidy id) }
+tidy_rows conf held c r = record { size = r.triggers; homes = λ id. subst (AllAtHome conf id) (sym (r.problems id)) (r.tidy.homes id) }
 
 -- What is kept behind an entry
 seen_later : (b : Bool) (now seen : ℕ) → (b ≡ true → seen ≤ now) → seen ≤ cond b now seen
 seen_later true now seen h = h refl
 seen_later false now seen h = omega arith
 
+-- what is kept of the steps is what they remember
+pub memory_is : (conf : Conf) (held : CellsView) (c : Cells) → Represents conf held c → memory_kept held.memories ≡ memory_in c
+memory_is conf held c r = fun_ext (λ i. fun_ext (λ k. ap (λ marks. memory_at marks k) (r.marks i)))
+
+-- where rows are as many as items, one that isn't there is of none
+none_there : {A : Type 0} (rows : List A) (items : List Item) (id : ℕ) → length rows ≡ length items → at_id rows id ≡ None → at_id items id ≡ None
+none_there rows items id e q = none_same rows items id e q
+
+pub failures_land : (conf : Conf) (memory : Memory) (number : ℕ) (entry : Entry) → LandIn conf (λ id. false) (failures_at conf memory number entry)
+unfolding failures_at
+failures_land conf memory number entry = go (visits_at conf memory number entry)
+  where
+    by : (v : Visit) (rest : List Rec) → LandIn conf (λ id. false) rest → (x : Option Item) (why : List ℕ) → LandIn conf (λ id. false) (cons_option (failure_by conf number why x) rest)
+    by v rest h None why = h
+    by v rest h (Some item) why = (λ id e. refl, h)
+
+    one : (v : Visit) (rest : List Rec) → LandIn conf (λ id. false) rest → (o : Outcome) → LandIn conf (λ id. false) (cons_option (failure_of conf number v o) rest)
+    one v rest h (outcome.Stored s) = h
+    one v rest h outcome.Discarded = h
+    one v rest h (outcome.Failed why) = by v rest h (at_id conf.items v.item) why
+
+    go : (visits : List Visit) → LandIn conf (λ id. false) (failures_of conf number visits)
+    go [] = tt
+    go (v ∷ visits) = one v (failures_of conf number visits) (go visits) v.outcome
+
 module _ (conf : Conf) (held : CellsView) (c : Cells) (e : Numbered) (r : Represents conf held c) (comes : ComesAfter conf c e) where
   abbrev behind : ℕ → ItemCell
-  behind i = item_after conf e.number e.entry i (c (ItemKey i))
+  behind i = item_after conf (memory_in c) e.number e.entry i (c (ItemKey i))
+
+  abbrev stored : ℕ → Option Stored
+  stored = stored_of conf (memory_in c) e.number e.entry
 
   later : (i : ℕ) → (c (ItemKey i)).seen ≤ (behind i).seen
   unfolding item_after
   later i = seen_later (touches conf e.entry (ItemKey i)) (moment_of e.entry) (c (ItemKey i)).seen (comes i)
 
-  -- where nothing is kept of an item, it has no history
+  -- where nothing is kept of an item, nothing is stored, and it has no history
+  none_stored : (i : ℕ) → at_id held.items i ≡ None → stored i ≡ None
+  none_stored i q = unstored conf (memory_in c) e.number e.entry i (absent conf (memory_in c) e.number e.entry i (none_there held.items conf.items i r.items q))
+
   nothing : (i : ℕ) → at_id held.items i ≡ None → (behind i).history ≡ []
   unfolding item_after
   nothing i q =
       let empty : (c (ItemKey i)).history ≡ [] = subst (Keeps conf i (c (ItemKey i)).seen (c (ItemKey i)).history) q (r.histories i) in
-      ap (λ o. with_stored o (c (ItemKey i)).history) (stored_none conf e.number e.entry i (none_same held.items conf.items i r.items q)) ∙ empty
+      ap (λ o. with_stored o (c (ItemKey i)).history) (none_stored i q) ∙ empty
 
-  -- what is kept of the items that the entry stores nothing of
-  pub still_kept : (i : ℕ) → stored_of conf e.number e.entry i ≡ None → Keeps conf i (behind i).seen (behind i).history (at_id held.items i)
-  still_kept i none =
-      let same : (c (ItemKey i)).history ≡ (behind i).history = unfold item_after in sym (ap (λ o. with_stored o (c (ItemKey i)).history) none) in
-      subst (λ h. Keeps conf i (behind i).seen h (at_id held.items i)) same (keeps_later conf i (c (ItemKey i)).seen (behind i).seen (c (ItemKey i)).history (at_id held.items i) (later i) (r.histories i))
-
-  -- and of the one that it stores a value of
-  pub newly_kept : (i : ℕ) (s : Stored) (next : Option CellView) → touches conf e.entry (ItemKey i) ≡ true → stored_of conf e.number e.entry i ≡ Some s → Became (at_id held.items i) s (moment_of e.entry) next
-      → Keeps conf i (behind i).seen (behind i).history next
-  newly_kept i s next touched some became = go (at_id held.items i) refl next became
+  -- what is stored is of the foot
+  moments : (i : ℕ) → stored i ≢ None → ((c (ItemKey i)).seen ≤ moment_of e.entry) × (moment_of e.entry ≤ (behind i).seen)
+  unfolding item_after
+  moments i some = go (touches conf e.entry (ItemKey i)) refl
     where
-      seen : moment_of e.entry ≡ (behind i).seen
-      seen = unfold item_after in sym (ap (λ b. cond b (moment_of e.entry) (c (ItemKey i)).seen) touched)
+      go : (b : Bool) → touches conf e.entry (ItemKey i) ≡ b → ((c (ItemKey i)).seen ≤ moment_of e.entry) × (moment_of e.entry ≤ cond b (moment_of e.entry) (c (ItemKey i)).seen)
+      go true t = (comes i t, omega arith)
+      go false f = absurd (some (unstored conf (memory_in c) e.number e.entry i (untouched conf (memory_in c) e.number e.entry i f)))
 
-      history : placed s (c (ItemKey i)).history ≡ (behind i).history
-      history = unfold item_after in sym (ap (λ o. with_stored o (c (ItemKey i)).history) some)
-
-      go : (o : Option CellView) → at_id held.items i ≡ o → (next : Option CellView) → Became o s (moment_of e.entry) next → Keeps conf i (behind i).seen (behind i).history next
-      go None q None b = nothing i q
-      go None q (Some cell) b = absurd b
-      go (Some cell) q None b = absurd b
-      go (Some cell) q (Some more) b =
-          let before = subst (Keeps conf i (c (ItemKey i)).seen (c (ItemKey i)).history) q (r.histories i) in
-          let stands : StandsFor more (moment_of e.entry) (placed s (c (ItemKey i)).history) = b.1 (c (ItemKey i)).seen (c (ItemKey i)).history (comes i touched) before.1 in
-          (b.0 ∙ before.0, subst (λ t. StandsFor more t (behind i).history) seen (subst (StandsFor more (moment_of e.entry)) history stands))
+  -- what is kept of an item, with what the entry stores of it
+  pub still_kept : (i : ℕ) (next : Option CellView) → Became (at_id held.items i) (stored i) (moment_of e.entry) next → Keeps conf i (behind i).seen (behind i).history next
+  unfolding item_after
+  still_kept i next came =
+      keeps_with conf i (c (ItemKey i)).seen (behind i).seen (moment_of e.entry) (c (ItemKey i)).history (stored i) (at_id held.items i) next (later i) (moments i) (none_stored i) (r.ordered i) came (r.histories i)
 
   -- what the evaluation sees is the histories behind the entry
-  sees_one : (i : ℕ) → touches conf e.entry (ItemKey i) ≡ true → Sees conf i (at_id held.items i) (stored_of conf e.number e.entry i) (moment_of e.entry) (behind i).history
+  sees_one : (i : ℕ) → (is_one conf.items i ≡ true → touches conf e.entry (ItemKey i) ≡ true) → Sees conf i (at_id held.items i) (stored i) (moment_of e.entry) (behind i).history
   sees_one i touched = go (at_id held.items i) refl
     where
-      go : (o : Option CellView) → at_id held.items i ≡ o → Sees conf i o (stored_of conf e.number e.entry i) (moment_of e.entry) (behind i).history
+      go : (o : Option CellView) → at_id held.items i ≡ o → Sees conf i o (stored i) (moment_of e.entry) (behind i).history
       go None q = nothing i q
       go (Some cell) q = record {
         seen = (c (ItemKey i)).seen;
         before = (c (ItemKey i)).history;
-        by = comes i touched;
+        by = comes i (touched (ap (λ n. is_in (n + 1) i) (sym r.items) ∙ there held.items i cell q));
         keeps = subst (Keeps conf i (c (ItemKey i)).seen (c (ItemKey i)).history) q (r.histories i);
         is = unfold item_after in refl;
       }
 
-  sees_all : Each (SeesFor conf held.items (stored_of conf e.number e.entry) (moment_of e.entry) (histories_after conf c e.number e.entry)) (triggers_at conf e.number e.entry)
+  sees_all : Each (SeesFor conf held.items stored (moment_of e.entry) (histories_after conf c e.number e.entry)) (triggers_at conf (memory_in c) e.number e.entry)
   sees_all =
-      each_sub (λ id. (i : ℕ) → IsCalled conf id i → touches conf e.entry (ItemKey i) ≡ true)
-      (SeesFor conf held.items (stored_of conf e.number e.entry) (moment_of e.entry) (histories_after conf c e.number e.entry)) (triggers_at conf e.number e.entry)
-      (λ id h i calls. sees_one i (h i calls)) (touched_calls conf e.number e.entry)
+      each_sub (λ id. (i : ℕ) → IsCalled conf id i → is_one conf.items i ≡ true → touches conf e.entry (ItemKey i) ≡ true)
+      (SeesFor conf held.items stored (moment_of e.entry) (histories_after conf c e.number e.entry)) (triggers_at conf (memory_in c) e.number e.entry)
+      (λ id h i calls. sees_one i (h i calls)) (touched_calls conf (memory_in c) e.number e.entry)
 
-  -- an entry that fails nothing, evaluates its triggers, which leaves these rows, and runs the steps that are due
+  -- what steps remember
+  marked : (next : List (List StepMemory)) → ((id : ℕ) → at_id next id ≡ option_map (marks_after (visit_at (visits_at conf (memory_in c) e.number e.entry) id)) (at_id held.memories id)) → (id : ℕ) → listed next id ≡ (behind id).marks
+  unfolding item_after
+  marked next marks id =
+      marks_listed held.memories next (visit_at (visits_at conf (memory_in c) e.number e.entry) id) id (λ q. absent conf (memory_in c) e.number e.entry id (none_there held.memories conf.items id r.memories q)) (marks id)
+      ∙ ap (marks_after (visit_at (visits_at conf (memory_in c) e.number e.entry) id)) (r.marks id)
+
+  -- an entry that makes its failures, evaluates its triggers, which leaves these rows, and runs the steps that are due
   module _ (next : CellsView) (rows : List (List Open)) (judged made : List Rec)
-      (runs : RunsOver conf (occasion_of held.tick e.number e.entry) held.items (stored_of conf e.number e.entry) held.problems (triggers_at conf e.number e.entry) judged rows)
-      (is : made ≡ judged ++ due_at conf e.entry (problems_at rows)) (lands : Absorbed conf rows (due_at conf e.entry (problems_at rows)) next.problems)
-      (unfailed : failures_at conf e.number e.entry ≡ []) (items : length next.items ≡ length held.items)
-      (kept : (i : ℕ) → Keeps conf i (behind i).seen (behind i).history (at_id next.items i)) (ticks : next.tick ≡ tick_with held.tick e.entry) where
-    abbrev run : Runs conf (evaluated conf (occasion_of held.tick e.number e.entry) (histories_after conf c e.number e.entry)) held.problems (triggers_at conf e.number e.entry) judged rows
+      (runs : RunsOver conf (occasion_of held.tick e.number e.entry) held.items stored held.problems (triggers_at conf (memory_in c) e.number e.entry) judged rows)
+      (is : made ≡ (failures_at conf (memory_in c) e.number e.entry ++ judged) ++ due_at conf e.entry (problems_at rows)) (lands : Absorbed conf rows (due_at conf e.entry (problems_at rows)) next.problems)
+      (came : CameIn (moment_of e.entry) (visits_at conf (memory_in c) e.number e.entry) held.items next.items held.memories next.memories) (ticks : next.tick ≡ tick_with held.tick e.entry) where
+    abbrev run : Runs conf (evaluated conf (occasion_of held.tick e.number e.entry) (histories_after conf c e.number e.entry)) held.problems (triggers_at conf (memory_in c) e.number e.entry) judged rows
     run = runs (histories_after conf c e.number e.entry) sees_all (tidy_rows conf held c r)
 
-    run_judged : judged ≡ judged_at conf c e.number e.entry
+    run_judged : failures_at conf (memory_in c) e.number e.entry ++ judged ≡ judged_at conf c e.number e.entry
     unfolding judged_at
-    run_judged =
-        run.records
-        ∙ ap (λ p. phase conf (evaluated conf (occasion_of held.tick e.number e.entry) (histories_after conf c e.number e.entry)) p (triggers_at conf e.number e.entry)) (fun_ext r.problems)
-        ∙ ap (λ t. phase conf (evaluated conf (occasion_of t e.number e.entry) (histories_after conf c e.number e.entry)) (opens_in c) (triggers_at conf e.number e.entry)) r.tick
-        ∙ ap (λ fs. fs ++ phase conf (evaluated conf (occasion_of (c TickKey) e.number e.entry) (histories_after conf c e.number e.entry)) (opens_in c) (triggers_at conf e.number e.entry)) (sym unfailed)
+    run_judged = ap (λ xs. failures_at conf (memory_in c) e.number e.entry ++ xs)
+        (run.records
+        ∙ ap (λ p. phase conf (evaluated conf (occasion_of held.tick e.number e.entry) (histories_after conf c e.number e.entry)) p (triggers_at conf (memory_in c) e.number e.entry)) (fun_ext r.problems)
+        ∙ ap (λ t. phase conf (evaluated conf (occasion_of t e.number e.entry) (histories_after conf c e.number e.entry)) (opens_in c) (triggers_at conf (memory_in c) e.number e.entry)) r.tick)
 
     run_left : problems_at rows ≡ grown conf (opens_in c) (judged_at conf c e.number e.entry)
-    run_left = fun_ext (λ id. run.changes id ∙ ap (λ os. absorbed_all conf id os judged) (r.problems id) ∙ ap (absorbed_all conf id (c (TriggerKey id))) run_judged)
+    run_left = fun_ext (λ id. run.changes id ∙ ap (λ os. absorbed_all conf id os judged) (r.problems id)
+        ∙ ap (λ os. absorbed_all conf id os judged) (sym (land_off conf (λ u. false) id (c (TriggerKey id)) (failures_at conf (memory_in c) e.number e.entry) (failures_land conf (memory_in c) e.number e.entry) refl))
+        ∙ sym (absorbed_append conf id (c (TriggerKey id)) (failures_at conf (memory_in c) e.number e.entry) judged) ∙ ap (absorbed_all conf id (c (TriggerKey id))) run_judged)
 
     pub run_records : made ≡ records conf c e
     unfolding records_at
@@ -209,72 +241,71 @@ module _ (conf : Conf) (held : CellsView) (c : Cells) (e : Numbered) (r : Repres
         is ∙ ap (λ rs. rs ++ due_at conf e.entry (problems_at rows)) run_judged
         ∙ ap (λ all. judged_at conf c e.number e.entry ++ due_at conf e.entry all) run_left
 
-    pub run_represents : Represents conf next (after conf c e)
-    unfolding after
-    run_represents = record {
-      items = items ∙ r.items;
-      triggers = lands.size ∙ run.size ∙ r.triggers;
-      histories = kept;
-      problems = λ id. lands.each id ∙ ap (λ os. absorbed_all conf id os (due_at conf e.entry (problems_at rows))) (run.changes id)
-          ∙ sym (absorbed_append conf id (problems_at held.problems id) judged (due_at conf e.entry (problems_at rows)))
-          ∙ ap (absorbed_all conf id (problems_at held.problems id)) (sym is) ∙ ap (λ os. absorbed_all conf id os made) (r.problems id)
-          ∙ ap (absorbed_all conf id (c (TriggerKey id))) run_records;
-      tick = ticks ∙ ap (λ t. tick_with t e.entry) r.tick;
-      tidy = λ id. home_all conf id (c (TriggerKey id)) (records conf c e) (r.tidy id);
-    }
+    left_is : (id : ℕ) → absorbed_all conf id (problems_at rows id) (due_at conf e.entry (problems_at rows)) ≡ absorbed_all conf id (c (TriggerKey id)) (records conf c e)
+    unfolding records_at
+    left_is id =
+        ap (λ (all : ℕ → List Open). absorbed_all conf id (all id) (due_at conf e.entry all)) run_left
+        ∙ sym (absorbed_append conf id (c (TriggerKey id)) (judged_at conf c e.number e.entry) (due_at conf e.entry (grown conf (opens_in c) (judged_at conf c e.number e.entry))))
 
-  -- an entry that stores nothing and changes no problem
-  pub quiet : tick_with held.tick e.entry ≡ held.tick → ((i : ℕ) → stored_of conf e.number e.entry i ≡ None) → LandIn conf (λ id. false) (records conf c e) → Represents conf held (after conf c e)
-  unfolding after
-  quiet ticks none lands = record {
-    items = r.items;
-    triggers = r.triggers;
-    histories = λ id. still_kept id (none id);
-    problems = λ id. r.problems id ∙ sym (land_off conf (λ id. false) id (c (TriggerKey id)) (records conf c e) lands refl);
-    tick = sym ticks ∙ ap (λ t. tick_with t e.entry) r.tick;
-    tidy = λ id. home_all conf id (c (TriggerKey id)) (records conf c e) (r.tidy id);
-  }
+    pub run_represents : Represents conf next (after conf c e)
+    unfolding after stored_of
+    run_represents = record {
+      items = same_length next.items held.items (λ id. sym (some_map kept_of (at_id next.items id)) ∙ ap is_some (sym (at_map kept_of next.items id) ∙ came.cells id ∙ ap (option_map (kept_after (moment_of e.entry) (visit_at (visits_at conf (memory_in c) e.number e.entry) id))) (at_map kept_of held.items id))
+          ∙ some_map (kept_after (moment_of e.entry) (visit_at (visits_at conf (memory_in c) e.number e.entry) id)) (option_map kept_of (at_id held.items id)) ∙ some_map kept_of (at_id held.items id)) ∙ r.items;
+      ordered = λ id. still_ordered (at_id held.items id) (at_id next.items id) (stored id) (moment_of e.entry) (own id) (r.ordered id);
+      memories = same_length next.memories held.memories (λ id. ap is_some (came.marks id) ∙ some_map (marks_after (visit_at (visits_at conf (memory_in c) e.number e.entry) id)) (at_id held.memories id)) ∙ r.memories;
+      triggers = lands.size ∙ run.size ∙ r.triggers;
+      histories = λ id. still_kept id (at_id next.items id) (own id);
+      marks = marked next.memories came.marks;
+      problems = λ id. lands.each id ∙ left_is id;
+      tick = ticks ∙ ap (λ t. tick_with t e.entry) r.tick;
+      tidy = stays_tidy conf c e r.tidy;
+    }
+      where
+        own : (id : ℕ) → Became (at_id held.items id) (stored id) (moment_of e.entry) (at_id next.items id)
+        own id = became held.items next.items (moment_of e.entry) id (stored id) (came.cells id)
 
 none_option : (o : Option ℕ) → option_or o None ≡ o
 none_option None = refl
 none_option (Some t) = refl
 
-pub failure_lands : (conf : Conf) (number item : ℕ) → LandIn conf (λ id. false) (failure_of conf number item)
-unfolding failure_of
-failure_lands conf number item = go (at_id conf.items item)
+-- nothing comes into what is kept where nothing is visited
+pub still : (now : ℕ) (visits : List Visit) (items : List CellView) (memories : List (List StepMemory)) → visits ≡ [] → CameIn now visits items items memories memories
+still now visits items memories none = subst (λ vs. CameIn now vs items items memories memories) (sym none) (record { cells = λ id. same (at_id (map kept_of items) id); marks = λ id. same (at_id memories id) })
   where
-    go : (o : Option Item) → LandIn conf (λ id. false) (failure_by conf number o)
-    go None = tt
-    go (Some i) = (λ id e. refl, tt)
-
-pub failures_land : (conf : Conf) (number : ℕ) (entry : Entry) → LandIn conf (λ id. false) (failures_at conf number entry)
-unfolding failures_at
-failures_land conf number (Config now text) = tt
-failures_land conf number (Tick now) = tt
-failures_land conf number (Value now item time value) = go (stores conf number (Value now item time value) item)
-  where
-    go : (b : Bool) → LandIn conf (λ id. false) (cond b [] (failure_of conf number item))
-    go true = tt
-    go false = failure_lands conf number item
+    same : {A : Type 0} (o : Option A) → o ≡ option_map (λ x. x) o
+    same None = refl
+    same (Some x) = refl
 
 pub config_steps : (conf : Conf) (held : CellsView) (e : Numbered) (now : ℕ) (text : List ℕ) (made : List Rec) → e.entry ≡ Config now text → made ≡ [] → StepsTo conf held e made held
 config_steps conf held e now text made is none c r comes fits =
-    let empty : records conf c e ≡ [] = unfold records_at in unfold judged_at in unfold due_at in unfold failures_at in unfold triggers_at in ap (records_at conf c e.number) is in (
-      none ∙ sym empty,
-      quiet conf held c e r comes (ap (tick_with held.tick) is ∙ none_option held.tick) (λ i. unfold stored_of in ap (λ x. stored_of conf e.number x i) is) (subst (LandIn conf (λ id. false)) (sym empty) tt),
-    )
+    subst (λ entry. (made ≡ records conf c (record { number = e.number; entry = entry })) × Represents conf held (after conf c (record { number = e.number; entry = entry }))) (sym is) (both (subst (λ entry. ComesAfter conf c (record { number = e.number; entry = entry })) is comes))
+  where
+    at : Numbered
+    at = record { number = e.number; entry = Config now text }
+
+    both : ComesAfter conf c at → (made ≡ records conf c at) × Represents conf held (after conf c at)
+    both before =
+        let runs : RunsOver conf (occasion_of held.tick e.number (Config now text)) held.items (stored_of conf (memory_in c) e.number (Config now text)) held.problems (triggers_at conf (memory_in c) e.number (Config now text)) [] held.problems =
+        unfold triggers_at in λ items sees tidy. record { records = refl; changes = λ id. refl; size = refl } in
+        let made_is : made ≡ (failures_at conf (memory_in c) e.number (Config now text) ++ []) ++ due_at conf (Config now text) (problems_at held.problems) = unfold failures_at in unfold due_at in none in
+        let lands : Absorbed conf held.problems (due_at conf (Config now text) (problems_at held.problems)) held.problems = unfold due_at in record { each = λ id. refl; size = refl } in
+        let came : CameIn now (visits_at conf (memory_in c) e.number (Config now text)) held.items held.items held.memories held.memories = still now [] held.items held.memories refl in (
+          run_records conf held c at r before held held.problems [] made runs made_is lands came (sym (none_option held.tick)),
+          run_represents conf held c at r before held held.problems [] made runs made_is lands came (sym (none_option held.tick)),
+        )
 
 -- A Tick
 ticks_on : (conf : Conf) (held next : CellsView) (number now : ℕ) (made : List Rec) → TakesTick conf (occasion_of held.tick number (Tick now)) held made next → StepsTo conf held (record { number = number; entry = Tick now }) made next
 ticks_on conf held next number now made takes c r comes fits =
-    let runs : RunsOver conf (occasion_of held.tick number (Tick now)) held.items (stored_of conf number (Tick now)) held.problems (triggers_at conf number (Tick now)) takes.judged takes.rows =
+    let runs : RunsOver conf (occasion_of held.tick number (Tick now)) held.items (stored_of conf (memory_in c) number (Tick now)) held.problems (triggers_at conf (memory_in c) number (Tick now)) takes.judged takes.rows =
     unfold stored_of in unfold triggers_at in takes.runs in
-    let is : made ≡ takes.judged ++ due_at conf (Tick now) (problems_at takes.rows) = unfold due_at in takes.records in
+    let is : made ≡ (failures_at conf (memory_in c) number (Tick now) ++ takes.judged) ++ due_at conf (Tick now) (problems_at takes.rows) = unfold failures_at in unfold due_at in takes.records in
     let lands : Absorbed conf takes.rows (due_at conf (Tick now) (problems_at takes.rows)) next.problems = unfold due_at in takes.changes in
-    let kept : (i : ℕ) → Keeps conf i (item_after conf number (Tick now) i (c (ItemKey i))).seen (item_after conf number (Tick now) i (c (ItemKey i))).history (at_id next.items i) =
-    λ i. subst (λ xs. Keeps conf i (item_after conf number (Tick now) i (c (ItemKey i))).seen (item_after conf number (Tick now) i (c (ItemKey i))).history (at_id xs i)) (sym takes.items) (still_kept conf held c (record { number = number; entry = Tick now }) r comes i (unfold stored_of in refl)) in (
-      run_records conf held c (record { number = number; entry = Tick now }) r comes next takes.rows takes.judged made runs is lands (unfold failures_at in refl) (ap length takes.items) kept takes.tick,
-      run_represents conf held c (record { number = number; entry = Tick now }) r comes next takes.rows takes.judged made runs is lands (unfold failures_at in refl) (ap length takes.items) kept takes.tick,
+    let came : CameIn now (visits_at conf (memory_in c) number (Tick now)) held.items next.items held.memories next.memories =
+    subst (λ items. CameIn now [] held.items items held.memories next.memories) (sym takes.items) (subst (λ memories. CameIn now [] held.items held.items held.memories memories) (sym takes.memories) (still now [] held.items held.memories refl)) in (
+      run_records conf held c (record { number = number; entry = Tick now }) r comes next takes.rows takes.judged made runs is lands came takes.tick,
+      run_represents conf held c (record { number = number; entry = Tick now }) r comes next takes.rows takes.judged made runs is lands came takes.tick,
     )
 
 pub tick_taken : (conf : Conf) (held next : CellsView) (e : Numbered) (now : ℕ) (made : List Rec) (occasion : Occasion) → e.entry ≡ Tick now → occasion ≡ occasion_of held.tick e.number e.entry → TakesTick conf occasion held made next → StepsTo conf held e made next
@@ -282,92 +313,42 @@ tick_taken conf held next e now made occasion is on takes =
     subst (λ entry. StepsTo conf held (record { number = e.number; entry = entry }) made next) (sym is)
     (ticks_on conf held next e.number now made (subst (λ entry. TakesTick conf (occasion_of held.tick e.number entry) held made next) is (subst (λ o. TakesTick conf o held made next) on takes)))
 
--- A value that is stored
-to_come : (conf : Conf) (number now item time : ℕ) (value : List ℕ) (s : Stored) → stored_of conf number (Value now item time value) item ≡ Some s → (i : ℕ) → still_to_come item (Some s) i ≡ stored_of conf number (Value now item time value) i
-to_come conf number now item time value s e i = go (item == i) refl
-  where
-    go : (b : Bool) → (item == i) ≡ b → cond b (Some s) None ≡ stored_of conf number (Value now item time value) i
-    go true q = sym (ap (stored_of conf number (Value now item time value)) (sym (eqb-true item i q)) ∙ e)
-    go false q = sym (stored_other conf number now item time value i (λ p. let n : (item == i) ≡ true = eq-eqb item i p in cc))
-
 pub own_touched : (conf : Conf) (now item time : ℕ) (value : List ℕ) → touches conf (Value now item time value) (ItemKey item) ≡ true
 unfolding touches
-own_touched conf now item time value = or_left (item == item) (list_any (λ id. is_over item (at_id conf.triggers id) && is_over item (at_id conf.triggers id)) (order conf)) (eq-eqb item item refl)
+own_touched conf now item time value = or_left (item == item) (has_id ((feet_of conf).items item) item) (eq-eqb item item refl)
 
-value_on : (conf : Conf) (held next : CellsView) (number now item time : ℕ) (value : List ℕ) (s : Stored) (made : List Rec) → stored_of conf number (Value now item time value) item ≡ Some s
-    → TakesIn conf (occasion_of held.tick number (Value now item time value)) item s held made next → StepsTo conf held (record { number = number; entry = Value now item time value }) made next
-value_on conf held next number now item time value s made stored takes c r comes fits = (
-  run_records conf held c e r comes next next.problems made made runs is lands unfailed takes.came.size kept ticks,
-  run_represents conf held c e r comes next next.problems made made runs is lands unfailed takes.came.size kept ticks,
-)
-  where
-    e : Numbered
-    e = record { number = number; entry = Value now item time value }
-
-    runs : RunsOver conf (occasion_of held.tick number e.entry) held.items (stored_of conf number e.entry) held.problems (triggers_at conf number e.entry) made next.problems
-    runs =
-        subst (λ ids. RunsOver conf (occasion_of held.tick number e.entry) held.items (stored_of conf number e.entry) held.problems ids made next.problems) (sym (triggers_stored conf number now item time value s stored))
-        (subst (λ more. RunsOver conf (occasion_of held.tick number e.entry) held.items more held.problems (triggers_over conf item) made next.problems) (fun_ext (to_come conf number now item time value s stored)) takes.runs)
-
-    is : made ≡ made ++ due_at conf e.entry (problems_at next.problems)
-    is = unfold due_at in sym (append-nil made)
-
-    lands : Absorbed conf next.problems (due_at conf e.entry (problems_at next.problems)) next.problems
-    lands = unfold due_at in record { each = λ id. refl; size = refl }
-
-    unfailed : failures_at conf number e.entry ≡ []
-    unfailed = unfold failures_at in ap (λ b. cond b [] (failure_of conf number item)) (ap is_some stored)
-
-    ticks : next.tick ≡ tick_with held.tick e.entry
-    ticks = takes.tick ∙ sym (none_option held.tick)
-
-    kept : (i : ℕ) → Keeps conf i (item_after conf number e.entry i (c (ItemKey i))).seen (item_after conf number e.entry i (c (ItemKey i))).history (at_id next.items i)
-    kept i = go (item == i) refl
-      where
-        go : (b : Bool) → (item == i) ≡ b → Keeps conf i (item_after conf number e.entry i (c (ItemKey i))).seen (item_after conf number e.entry i (c (ItemKey i))).history (at_id next.items i)
-        go true q =
-            subst (λ j. Keeps conf j (item_after conf number e.entry j (c (ItemKey j))).seen (item_after conf number e.entry j (c (ItemKey j))).history (at_id next.items j)) (eqb-true item i q)
-            (newly_kept conf held c e r comes item s (at_id next.items item) (own_touched conf now item time value) stored takes.came.own)
-        go false q =
-            let ne : item ≡ i → ⊥ = λ p. (let n : (item == i) ≡ true = eq-eqb item i p in cc) in
-            subst (Keeps conf i (item_after conf number e.entry i (c (ItemKey i))).seen (item_after conf number e.entry i (c (ItemKey i))).history) (sym (takes.came.others i ne))
-            (still_kept conf held c e r comes i (stored_other conf number now item time value i ne))
-
--- A value that isn't
-failed_on : (conf : Conf) (held : CellsView) (number now item time : ℕ) (value : List ℕ) (made : List Rec) → stored_of conf number (Value now item time value) item ≡ None → made ≡ failure_of conf number item
-    → StepsTo conf held (record { number = number; entry = Value now item time value }) made held
-unfolding records_at judged_at due_at failures_at
-failed_on conf held number now item time value made none is c r comes fits =
-    (is ∙ sym all, quiet conf held c (record { number = number; entry = Value now item time value }) r comes (none_option held.tick) nowhere (subst (LandIn conf (λ id. false)) (sym all) (failure_lands conf number item)))
-  where
-    nowhere : (i : ℕ) → stored_of conf number (Value now item time value) i ≡ None
-    nowhere = stores_none conf number now item time value none
-
-    rest : List ℕ → List Rec
-    rest ids = phase conf (evaluated conf (occasion_of (c TickKey) number (Value now item time value)) (histories_after conf c number (Value now item time value))) (opens_in c) ids
-
-    all : records_at conf c number (Value now item time value) ≡ failure_of conf number item
-    all =
-        append-nil (judged_at conf c number (Value now item time value))
-        ∙ ap (λ b. cond b [] (failure_of conf number item) ++ rest (triggers_at conf number (Value now item time value))) (ap is_some none)
-        ∙ ap (λ ids. failure_of conf number item ++ rest ids) (triggers_none conf number now item time value nowhere)
-        ∙ append-nil (failure_of conf number item)
-
-value_steps : (conf : Conf) (held next : CellsView) (number now item time : ℕ) (value : List ℕ) (made : List Rec) → Takes conf (occasion_of held.tick number (Value now item time value)) item (stored_of conf number (Value now item time value) item) held made next
+-- A value: its visits are those over the memories that are kept
+value_on : (conf : Conf) (held next : CellsView) (number now item time : ℕ) (value : List ℕ) (made : List Rec)
+    → TakesIn conf (occasion_of held.tick number (Value now item time value)) (visits_at conf (memory_kept held.memories) number (Value now item time value)) (triggers_at conf (memory_kept held.memories) number (Value now item time value)) held made next
     → StepsTo conf held (record { number = number; entry = Value now item time value }) made next
-value_steps conf held next number now item time value made takes = go (stored_of conf number (Value now item time value) item) refl takes
+value_on conf held next number now item time value made takes c r comes fits = taken (memory_kept held.memories) (memory_is conf held c r) takes
   where
-    go : (o : Option Stored) → stored_of conf number (Value now item time value) item ≡ o → Takes conf (occasion_of held.tick number (Value now item time value)) item o held made next → StepsTo conf held (record { number = number; entry = Value now item time value }) made next
-    go None q t = subst (λ h. StepsTo conf held (record { number = number; entry = Value now item time value }) made h) (sym t.1) (failed_on conf held number now item time value made q t.0)
-    go (Some s) q t = value_on conf held next number now item time value s made q t
+    entry : Entry
+    entry = Value now item time value
+
+    e : Numbered
+    e = record { number = number; entry = entry }
+
+    both : TakesIn conf (occasion_of held.tick number entry) (visits_at conf (memory_in c) number entry) (triggers_at conf (memory_in c) number entry) held made next → (made ≡ records conf c e) × Represents conf next (after conf c e)
+    both t =
+        let runs : RunsOver conf (occasion_of held.tick number entry) held.items (stored_of conf (memory_in c) number entry) held.problems (triggers_at conf (memory_in c) number entry) t.judged next.problems = unfold stored_of in t.runs in
+        let is : made ≡ (failures_at conf (memory_in c) number entry ++ t.judged) ++ due_at conf entry (problems_at next.problems) =
+        unfold failures_at in unfold due_at in t.records ∙ sym (append-nil (failures_of conf number (visits_at conf (memory_in c) number entry) ++ t.judged)) in
+        let lands : Absorbed conf next.problems (due_at conf entry (problems_at next.problems)) next.problems = unfold due_at in record { each = λ id. refl; size = refl } in (
+          run_records conf held c e r comes next next.problems t.judged made runs is lands t.came (t.tick ∙ sym (none_option held.tick)),
+          run_represents conf held c e r comes next next.problems t.judged made runs is lands t.came (t.tick ∙ sym (none_option held.tick)),
+        )
+
+    taken : (memory : Memory) → memory ≡ memory_in c → TakesIn conf (occasion_of held.tick number entry) (visits_at conf memory number entry) (triggers_at conf memory number entry) held made next → (made ≡ records conf c e) × Represents conf next (after conf c e)
+    taken memory same t = both (subst (λ m. TakesIn conf (occasion_of held.tick number entry) (visits_at conf m number entry) (triggers_at conf m number entry) held made next) same t)
 
 -- the same, on the occasion of the entry
 pub value_taken : (conf : Conf) (held next : CellsView) (e : Numbered) (now item time : ℕ) (value : List ℕ) (made : List Rec) (occasion : Occasion) → e.entry ≡ Value now item time value → occasion ≡ occasion_of held.tick e.number e.entry
-    → Takes conf occasion item (stored_of conf occasion.number (Value occasion.now item time value) item) held made next → StepsTo conf held e made next
+    → TakesIn conf occasion (visits_at conf (memory_kept held.memories) occasion.number (Value occasion.now item time value)) (triggers_at conf (memory_kept held.memories) occasion.number (Value occasion.now item time value)) held made next → StepsTo conf held e made next
 value_taken conf held next e now item time value made occasion is on takes =
     subst (λ entry. StepsTo conf held (record { number = e.number; entry = entry }) made next) (sym is)
-    (value_steps conf held next e.number now item time value made
-    (subst (λ o. Takes conf o item (stored_of conf o.number (Value o.now item time value) item) held made next) (on ∙ ap (occasion_of held.tick e.number) is) takes))
+    (value_on conf held next e.number now item time value made
+    (subst (λ o. TakesIn conf o (visits_at conf (memory_kept held.memories) o.number (Value o.now item time value)) (triggers_at conf (memory_kept held.memories) o.number (Value o.now item time value)) held made next) (on ∙ ap (occasion_of held.tick e.number) is) takes))
 
 -- Over logs
 seen_by : (conf : Conf) (log : List Numbered) (i : ℕ) → Suits conf log → seen_of conf log i ≤ last_moment log
@@ -388,14 +369,20 @@ comes_after conf c log e stand h id t =
 judged_are : (conf : Conf) (log : List Numbered) (rs : List Rec) (e : Numbered) → judged_at conf (look conf log rs) e.number e.entry ≡ judged_of conf log e e.entry rs
 unfolding judged_at judged_of look item_after
 judged_are conf log rs e =
-    ap (λ xs. failures_at conf e.number e.entry ++ xs)
-    (ap (λ p. phase conf one p (triggers_at conf e.number e.entry)) (sym quietly) ∙ phase_is conf one (rs ++ failures_at conf e.number e.entry) (triggers_at conf e.number e.entry))
+    ap (λ xs. failures ++ xs)
+    (ap (λ p. phase conf one p ids) (sym quietly) ∙ phase_is conf one (rs ++ failures) ids)
   where
-    one : (ℕ → List Open) → ℕ → List Rec
-    one = evaluated conf (occasion_of (first_tick log) e.number e.entry) (λ i. with_stored (stored_of conf e.number e.entry i) (history_of conf log i))
+    failures : List Rec
+    failures = failures_at conf (memory_of conf log) e.number e.entry
 
-    quietly : open_of conf (rs ++ failures_at conf e.number e.entry) ≡ open_of conf rs
-    quietly = fun_ext (λ id. open_append conf id rs (failures_at conf e.number e.entry) ∙ land_off conf (λ id. false) id (open_of conf rs id) (failures_at conf e.number e.entry) (failures_land conf e.number e.entry) refl)
+    ids : List ℕ
+    ids = triggers_at conf (memory_of conf log) e.number e.entry
+
+    one : (ℕ → List Open) → ℕ → List Rec
+    one = evaluated conf (occasion_of (first_tick log) e.number e.entry) (λ i. with_stored (stored_of conf (memory_of conf log) e.number e.entry i) (history_of conf log i))
+
+    quietly : open_of conf (rs ++ failures) ≡ open_of conf rs
+    quietly = fun_ext (λ id. open_append conf id rs failures ∙ land_off conf (λ id. false) id (open_of conf rs id) failures (failures_land conf (memory_of conf log) e.number e.entry) refl)
 
 pub records_are : (conf : Conf) (log : List Numbered) (rs : List Rec) (e : Numbered) → records conf (look conf log rs) e ≡ out_of conf log e e.entry rs
 unfolding records_at out_of look
@@ -405,7 +392,7 @@ records_are conf log rs e =
     ∙ ap (λ all. more ++ due_at conf e.entry all) (fun_ext (λ id. sym (open_append conf id rs more)))
 
 pub after_is : (conf : Conf) (log : List Numbered) (rs : List Rec) (e : Numbered) → after conf (look conf log rs) e ≡ look conf (e ∷ log) (rs ++ out_of conf log e e.entry rs)
-unfolding after look item_after
+unfolding after look item_after marks_of
 after_is conf log rs e = fun_ext go
   where
     go : (k : Key) → after conf (look conf log rs) e k ≡ look conf (e ∷ log) (rs ++ out_of conf log e e.entry rs) k
@@ -443,20 +430,31 @@ pub length_replicated : {A : Type 0} (n : ℕ) (x : A) → length (replicate n x
 length_replicated zero x = refl
 length_replicated (suc n) x = ap suc (length_replicated n x)
 
-pub holds_nothing : (conf : Conf) (held : CellsView) → AreEmpty conf held.items → held.problems ≡ replicate (length conf.triggers) [] → held.tick ≡ None → Holds conf held []
-unfolding StandFor look
-holds_nothing conf held empty problems tick = record {
+pub holds_nothing : (conf : Conf) (made : ItemCells) (problems : List (List Open)) → AreNew conf made → problems ≡ replicate (length conf.triggers) []
+    → Holds conf (record { items = map roomless made.cells.items; memories = made.memories.items; problems = problems; tick = None }) []
+unfolding StandFor look marks_of Rattle.preprocess.specs.Laws.marks_behind
+holds_nothing conf made problems new none = record {
   cells = look conf [] [];
   stand = refl;
   represented = record {
-    items = empty.size;
-    triggers = ap length problems ∙ length_replicated (length conf.triggers) [];
-    histories = λ id. empty_keeps conf held.items empty id;
-    problems = λ id. ap (λ xs. problems_at xs id) problems ∙ replicated_rows (length conf.triggers) id;
-    tick = tick;
-    tidy = λ id. tt;
+    items = size_roomless made.cells.items ∙ same_length made.cells.items conf.items (λ id. sym (some_map kept_of (at_id made.cells.items id)) ∙ ap is_some (sym (at_map kept_of made.cells.items id) ∙ holds.kept id) ∙ some_map (λ (item : Item). kept_behind conf [] id) (at_id conf.items id));
+    ordered = empty_ordered conf made holds;
+    memories = same_length made.memories.items conf.items (λ id. ap is_some (holds.memories id) ∙ some_map (λ (item : Item). marks_behind conf [] id) (at_id conf.items id));
+    triggers = ap length none ∙ length_replicated (length conf.triggers) [];
+    histories = empty_keeps conf made holds;
+    marks = λ id. ap (λ o. unwrap_or o []) (holds.memories id) ∙ first (at_id conf.items id) (marks_behind conf [] id) (λ q. ap (λ o. option_map_or no_marks o []) q);
+    problems = λ id. ap (λ xs. problems_at xs id) none ∙ replicated_rows (length conf.triggers) id;
+    tick = refl;
+    tidy = record { homes = λ id. tt; tagged = λ id. tt; absent = λ id q. refl };
   };
 }
+  where
+    holds : HoldLog conf [] made
+    holds = hold_nothing conf made new
+
+    first : (o : Option Item) (marks : List StepMemory) → (o ≡ None → marks ≡ []) → unwrap_or (option_map (λ (item : Item). marks) o) [] ≡ marks
+    first None marks h = sym (h refl)
+    first (Some item) marks h = refl
 
 pub ok_sub : {T E : Type 0} (r : Result T E) (P Q : T → Type 0) → ((x : T) → P x → Q x) → IfOk r P → IfOk r Q
 ok_sub (Ok x) P Q f p = f x p
@@ -466,16 +464,13 @@ pub ok_const : {T E : Type 0} (r : Result T E) (P : Type 0) → P → OnOk r P
 ok_const (Ok x) P p = p
 ok_const (Err x) P p = tt
 
-pub none_counted : (conf : Conf) (number now item time steps : ℕ) (value : List ℕ) → ((i : ℕ) → stored_of conf number (Value now item time value) i ≡ None) → steps ≡ steps + length (triggers_at conf number (Value now item time value))
-none_counted conf number now item time steps value e = let t : length (triggers_at conf number (Value now item time value)) ≡ 0 = ap length (triggers_none conf number now item time value e) in omega arith
-
-pub config_counted : (conf : Conf) (number steps now : ℕ) (text : List ℕ) (entry : Entry) → entry ≡ Config now text → steps ≡ steps + length (triggers_at conf number entry)
+pub config_counted : (conf : Conf) (memory : Memory) (number steps now : ℕ) (text : List ℕ) (entry : Entry) → entry ≡ Config now text → steps ≡ steps + length (triggers_at conf memory number entry)
 unfolding triggers_at
-config_counted conf number steps now text entry is = let t : length (triggers_at conf number entry) ≡ 0 = ap (λ x. length (triggers_at conf number x)) is in omega arith
+config_counted conf memory number steps now text entry is = let t : length (triggers_at conf memory number entry) ≡ 0 = ap (λ x. length (triggers_at conf memory number x)) is in omega arith
 
-pub tick_counted : (conf : Conf) (number now : ℕ) (entry : Entry) → entry ≡ Tick now → length (timed_triggers conf) ≡ length (triggers_at conf number entry)
+pub tick_counted : (conf : Conf) (memory : Memory) (number now : ℕ) (entry : Entry) → entry ≡ Tick now → length (timed_triggers conf) ≡ length (triggers_at conf memory number entry)
 unfolding triggers_at
-tick_counted conf number now entry is = sym (ap (λ x. length (triggers_at conf number x)) is)
+tick_counted conf memory number now entry is = sym (ap (λ x. length (triggers_at conf memory number x)) is)
 
 pub put_back_none : (rows : List (List Open)) (taken : List Row) → taken ≡ [] → put_back rows taken ≡ rows
 unfolding put_back

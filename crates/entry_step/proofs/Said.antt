@@ -1,20 +1,25 @@
 -- What actions add about a problem: steps of its event, and messages.
-use Rattle.std.proofs.Common.{ℕ, Bool, List, [], ◌∷◌, map, Option, Some, None, refl}
+use Rattle.std.proofs.Common.{◌≡◌, ℕ, Bool, true, false, List, [], ◌∷◌, ◌++◌, map, Option, Some, None, refl}
 use Rattle.std.specs.Prelude.{filter, flat_map, is_some}
 use Rattle.zbx_types.specs.Records.{same_event, event_of, tags_of}
 use Rattle.zbx_types.specs.declared.actions.Action.{Action}
 use Rattle.zbx_types.specs.declared.conf.Conf.{Conf}
 use Rattle.zbx_types.specs.declared.entries.EventId.{EventId}
 use Rattle.zbx_types.specs.declared.entries.Rec.{Rec}
+use Rattle.zbx_types.specs.declared.entries.Rec.TheVariants.{Failure, Problem, Recovery, Step, Message}
+use Rattle.zbx_types.specs.declared.entries.Cause2.{Cause2}
+use Rattle.zbx_types.specs.declared.entries.Cause2.TheVariants as causes
+use Rattle.event_correlation.specs.declared.answer.Closes.{Closes}
 use Rattle.maintenance.specs.Suppression.{is_suppressed}
-use Rattle.escalations.specs.Escalations.{next_step, records_at, next_records, due_records_of, recovery_records, recovered_records}
+use Rattle.escalations.specs.Escalations.{next_step, records_at, next_records, first_records_of, due_records_of, recovery_records, recovered_records}
 use Rattle.escalations.specs.Messages.{message_to, operation_records, step_records, sending_records}
 use Rattle.escalations.specs.Steps.{operations_of, last_step}
-use Rattle.trigger_state.specs.Problems.{event_in}
+use Rattle.trigger_state.specs.Problems.{home, event_in, opens}
 use Rattle.trigger_state.specs.declared.problems.Open.{Open}
 use Rattle.entry_step.specs.Each.{Each}
 use Rattle.entry_step.specs.Due.{IsAbout}
-use Rattle.entry_step.proofs.Members.{each_append, each_cond}
+use Rattle.entry_step.specs.Records.{closed_records, ruled_records, last_records}
+use Rattle.entry_step.proofs.Members.{each_append, each_cond, each_sub}
 
 pub each_flat_map : {A B : Type 0} (P : B → Type 0) (f : A → List B) (xs : List A) → ((x : A) → Each P (f x)) → Each P (flat_map f xs)
 each_flat_map P f [] h = tt
@@ -53,3 +58,48 @@ pub closed_about : (e event : EventId) (conf : Conf) (now : ℕ) (os : List Open
 closed_about e event conf now os =
     each_flat_map (IsAbout e) (λ o. recovered_records conf o.problem o.steps now) (filter (λ o. same_event (event_in o) event) os)
     (λ o. each_flat_map (IsAbout e) (recovery_records conf o.problem o.steps now) conf.actions (recovery_about e conf o.problem o.steps now))
+
+-- records that are no Problems
+abbrev pub IsQuiet : Rec → Type 0
+IsQuiet (Problem event now severity suppressed host trigger name tags) = ⊥
+IsQuiet (Recovery event by now cause) = Unit {0}
+IsQuiet (Failure number host key why) = Unit {0}
+IsQuiet (Step event action step now) = Unit {0}
+IsQuiet (Message event action step recipient subject body) = Unit {0}
+
+pub about_quiet : (e : EventId) (rs : List Rec) → Each (IsAbout e) rs → Each IsQuiet rs
+about_quiet e rs a = each_sub (IsAbout e) IsQuiet rs quiet a
+  where
+    quiet : (r : Rec) → IsAbout e r → IsQuiet r
+    quiet (Step event action step now) is = tt
+    quiet (Message event action step recipient subject body) is = tt
+    quiet (Failure number host key why) is = tt
+    quiet (Problem event now severity suppressed host trigger name tags) is = absurd is
+    quiet (Recovery event by now cause) is = tt
+
+-- the ends of problems, and what comes last as one begins
+pub closed_quiet : (conf : Conf) (number now : ℕ) (cause : Cause2) (os : EventId → List Open) (events : List EventId) → Each IsQuiet (flat_map (λ e. closed_records conf number now cause (os e) e) events)
+closed_quiet conf number now cause os events =
+    each_flat_map IsQuiet (λ e. closed_records conf number now cause (os e) e) events
+    (λ e. (tt, about_quiet e (flat_map (λ o. recovered_records conf o.problem o.steps now) (filter (λ o. same_event (event_in o) e) (os e))) (closed_about e e conf now (os e))))
+
+pub last_quiet : (conf : Conf) (number now id : ℕ) (problem : Rec) (is_closed : Bool) → Each IsQuiet (last_records conf number now id problem is_closed)
+last_quiet conf number now id problem true = (tt, tt)
+last_quiet conf number now id problem false = about_quiet (event_of problem) (first_records_of conf id problem now) (due_about conf id problem [] now)
+
+-- what comes behind a new problem
+pub begun_quiet : (conf : Conf) (number now : ℕ) (all : ℕ → List Open) (id : ℕ) (problem : Rec) (closes : Closes) → Each IsQuiet (ruled_records conf number now all closes.old ++ last_records conf number now id problem closes.new)
+begun_quiet conf number now all id problem closes =
+    each_append IsQuiet (ruled_records conf number now all closes.old) (last_records conf number now id problem closes.new)
+    (closed_quiet conf number now causes.Correlation (λ e. all (home conf e)) closes.old) (last_quiet conf number now id problem closes.new)
+
+-- such a record opens nothing
+pub quiet_opens : (conf : Conf) (id : ℕ) (rs : List Rec) → Each IsQuiet rs → Each (λ r. opens conf id r ≡ false) rs
+quiet_opens conf id rs q = each_sub IsQuiet (λ r. opens conf id r ≡ false) rs one q
+  where
+    one : (r : Rec) → IsQuiet r → opens conf id r ≡ false
+    one (Problem event now severity suppressed host trigger name tags) is = absurd is
+    one (Recovery event by now cause) is = refl
+    one (Failure number host key why) is = refl
+    one (Step event action step now) is = refl
+    one (Message event action step recipient subject body) is = refl

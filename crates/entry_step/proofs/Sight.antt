@@ -1,11 +1,14 @@
 -- What a trigger's events show: its tags where a verdict asks for them, and its patterns.
-use Rattle.std.proofs.Common.{◌≡◌, ℕ, zero, suc, ◌+◌, ◌<◌, ◌≤◌, cond, List, [], ◌∷◌, Option, Some, None, length, get_or, take, map, filter, slice_get, refl, sym, ap, subst, pos, arith}
+use Rattle.std.proofs.Common.{◌≡◌, ℕ, zero, suc, ◌+◌, ◌<◌, ◌≤◌, cond, List, [], ◌∷◌, Option, Some, None, length, get_or, take, map, filter, slice_get, refl, sym, ◌∙◌, ap, subst, pos, arith}
 use Rattle.std.specs.Prelude.{All, IfSome}
 use Rattle.std.specs.Ordering.{int_eq}
 use Rattle.std.proofs.lemmas.List.{take_all}
 use Rattle.std.proofs.lemmas.List.Elements.{All-head, All-tail, All-more, All-same}
 use Rattle.zbx_types.specs.Ids.{at_id}
 use Rattle.zbx_types.specs.declared.conf.Conf.{Conf}
+use Rattle.zbx_types.specs.declared.items.Item.{Item}
+use Rattle.preprocess.specs.Ways.{HavePatterns}
+use Rattle.preprocess.specs.Visits.{ArePatternsOf}
 use Rattle.zbx_types.specs.declared.entries.Tag.{Tag}
 use Rattle.zbx_types.specs.declared.triggers.Trigger.{Trigger}
 use Rattle.event_text.specs.Titles.{HasPatterns, HasTitlePatterns, HasTagPatterns}
@@ -68,3 +71,20 @@ unfolding ArePatterned HasTexts
 tag_patterns conf patterns id e h =
     subst (λ texts. HasTagPatterns texts conf id) (sym e)
     (if_some (HasTexts conf.patterns) (λ trigger. All (λ (tag : Tag). HasPatterns conf.patterns tag.value) trigger.tags) (at_id conf.triggers id) (λ t has. has.1) (by_its_id (HasTexts conf.patterns) conf.triggers id h))
+
+-- the patterns of all steps are there
+pub step_patterns : (conf : Conf) (texts : List (List ℕ)) → All (λ (item : Item). HavePatterns texts item.steps) conf.items → ArePatternsOf conf texts
+step_patterns conf texts all id = go (at_id conf.items id) refl
+  where
+    at : (items : List Item) (k : ℕ) (item : Item) → All (λ (x : Item). HavePatterns texts x.steps) items → slice_get items k ≡ Some item → HavePatterns texts item.steps
+    at [] k item h e = cc
+    at (x ∷ items) zero item h e = let q : x ≡ item = cc in subst (λ (y : Item). HavePatterns texts y.steps) q (All-head (λ (y : Item). HavePatterns texts y.steps) x items h)
+    at (x ∷ items) (suc k) item h e = at items k item (All-tail (λ (y : Item). HavePatterns texts y.steps) x items h) e
+
+    by : (id : ℕ) (item : Item) → at_id conf.items id ≡ Some item → HavePatterns texts item.steps
+    by zero item e = let z : None ≡ Some item = sym (at_zero conf.items) ∙ e in cc
+    by (suc k) item e = at conf.items k item all (sym (at_suc conf.items k) ∙ e)
+
+    go : (o : Option Item) → at_id conf.items id ≡ o → IfSome o (λ item. HavePatterns texts item.steps)
+    go None e = tt
+    go (Some item) e = by id item e

@@ -2,7 +2,8 @@
 use Rattle.std.proofs.Common.{◌≡◌, ◌≢◌, ◌≤◌, ◌<◌, ◌-◌, ◌==◌, ℕ, zero, suc, List, [], ◌∷◌, ◌++◌, refl, sym, ◌∙◌, ap, set, length, get_or, reverse, take, false, ne_eqb, slice_get, arith}
 use Rattle.std.proofs.lemmas.List.{set_past, reverse-append}
 use Rattle.std.proofs.Math.Seq.{take-append_seam, take-length}
-use Rattle.entry_step.specs.Changes.{restored, with_row, with_rows, put_back}
+use Rattle.entry_step.specs.Changes.{restored, with_row, with_rows, with_all, put_back}
+use Rattle.entry_step.specs.declared.changes.Fresh.{Fresh}
 use Rattle.entry_step.specs.Represents.{problems_at}
 use Rattle.entry_step.specs.declared.changes.Before.TheVariants as before
 use Rattle.std.specs.Option.{unwrap_or}
@@ -92,3 +93,8 @@ pub back_refused : (rows : List (List Open)) (taken : List Row) (i count : ℕ) 
 back_refused rows taken i count a e c =
     let r : Row = record { index = i; before = before.First count } in
     ap (λ xs. put_back xs (taken ++ r ∷ [])) (set_same rows i a e) ∙ back_last rows rows taken r (set_kept rows i count a e c)
+
+-- fresh rows of one trigger more
+pub all_push : (rows : List (List Open)) (fs : List Fresh) (f : Fresh) → with_all rows (fs ++ f ∷ []) ≡ with_row (with_all rows fs) f.id f.opens
+all_push rows [] f = refl
+all_push rows (x ∷ fs) f = all_push (with_row rows x.id x.opens) fs f

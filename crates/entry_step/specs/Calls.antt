@@ -13,7 +13,7 @@ use Rattle.entry_step.specs.declared.plans.Node.{Node}
 
 -- what is kept shows the trigger these histories
 abbrev pub Shown : Calls → (ℕ → List Stored) → Type 0
-Shown calls items = SeesFor calls.ready.now calls.items.now (still_to_come calls.item calls.stored.now) calls.occasion.now items calls.id
+Shown calls items = SeesFor calls.ready.now calls.items.now (still_to_come calls.coming.now) calls.occasion.now items calls.id
 
 -- the values of the calls, by their places, over histories
 abbrev pub values_of : Calls → (ℕ → List Stored) → ℕ → Option ℤ

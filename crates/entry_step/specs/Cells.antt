@@ -1,21 +1,23 @@
 -- Cells: what is kept of each item and each trigger, and what they are by search.
-use Rattle.std.specs.Prelude.{◌≡◌, ℕ, ◌==◌, Bool, true, false, ◌&&◌, ◌||◌, List, [], ◌∷◌, ◌++◌, Option, if◌then◌else◌}
+use Rattle.std.specs.Prelude.{◌≡◌, ℕ, ◌==◌, Bool, true, false, ◌||◌, List, [], ◌∷◌, ◌++◌, Option, if◌then◌else◌}
 use Rattle.std.specs.List.{list_any}
-use Rattle.zbx_types.specs.Ids.{at_id}
-use Rattle.zbx_types.specs.Masters.{is_master}
+use Rattle.zbx_types.specs.Masters.{has_id}
 use Rattle.zbx_types.specs.declared.conf.Conf.{Conf}
 use Rattle.zbx_types.specs.declared.entries.Entry.{Entry}
 use Rattle.zbx_types.specs.declared.entries.Entry.TheVariants.{Config, Value, Tick}
 use Rattle.zbx_types.specs.declared.entries.Numbered.{Numbered}
 use Rattle.zbx_types.specs.declared.entries.Rec.{Rec}
 use Rattle.zbx_types.specs.declared.entries.Stored.{Stored}
+use Rattle.footprint.specs.Feet.{feet_of, is_reached}
 use Rattle.entry_step.specs.Log.{moment_of, tick_with, first_tick}
 use Rattle.entry_step.specs.Occasions.{occasion_of}
-use Rattle.entry_step.specs.History.{stored_of, with_stored, history_of}
-use Rattle.entry_step.specs.Order.{order}
+use Rattle.prep_steps.specs.declared.memory.StepMemory.{StepMemory}
+use Rattle.preprocess.specs.Ways.{memory_at}
+use Rattle.preprocess.specs.Draft.{visit_at, marks_after}
+use Rattle.entry_step.specs.History.{visits_at, stored_of, marks_of, with_stored, history_of}
 use Rattle.entry_step.specs.Due.{due_at}
 use Rattle.trigger_state.specs.Problems.{open_of, absorbed_all, grown}
-use Rattle.entry_step.specs.Records.{evaluated, phase, is_over, triggers_at, failures_at, replay}
+use Rattle.entry_step.specs.Records.{evaluated, phase, triggers_at, failures_at, replay}
 use Rattle.trigger_state.specs.declared.problems.Open.{Open}
 
 -- the key of a cell: that of an item, of a trigger, or of the first Tick
@@ -24,9 +26,10 @@ pub data Key : Type 0 where
   TriggerKey : ℕ → Key
   TickKey : Key
 
--- an item's values, the latest first, and the moment of the last entry whose foot holds the item
+-- an item's values, the latest first, what its steps remember, and the moment of the last entry whose foot holds the item
 pub record ItemCell : Type 0 where
   pub history : List Stored
+  pub marks : List StepMemory
   pub seen : ℕ
 
 -- what a cell holds: of a trigger its open problems in the order of making, and the moment of the first Tick
@@ -41,33 +44,37 @@ Cells = (k : Key) → CellOf k
 abbrev pub opens_in : Cells → ℕ → List Open
 opens_in c id = c (TriggerKey id)
 
--- The foot of an entry, as a test of keys: what it may read or change. Of a value that is its item, the triggers over it,
--- their items and all their masters; of other entries everything.
+-- what the steps of the items remember
+abbrev pub memory_in : Cells → ℕ → ℕ → StepMemory
+memory_in c i k = memory_at (c (ItemKey i)).marks k
+
+-- The foot of an entry, as a test of keys: what it may read or change. Of a value it is the foot of its item, with the
+-- triggers that its marks stand for; of other entries everything.
 unfoldable pub touches : Conf → Entry → Key → Bool
 touches conf (Config now text) k = true
 touches conf (Tick now) k = true
-touches conf (Value now item time value) (ItemKey i) =
-    (i == item) || list_any (λ id. is_over item (at_id conf.triggers id) && is_over i (at_id conf.triggers id)) (order conf)
+touches conf (Value now item time value) (ItemKey i) = (i == item) || has_id ((feet_of conf).items item) i
 touches conf (Value now item time value) (TriggerKey id) =
-    is_over item (at_id conf.triggers id) || list_any (λ t. is_over item (at_id conf.triggers t) && is_master conf t id) (order conf)
+    has_id ((feet_of conf).triggers item) id || list_any (λ rule. is_reached conf rule id) ((feet_of conf).marks item)
 touches conf (Value now item time value) TickKey = false
 
--- the cell of an item behind an entry
-unfoldable pub item_after : Conf → ℕ → Entry → ℕ → ItemCell → ItemCell
-item_after conf number entry i cell = record {
-  history = with_stored (stored_of conf number entry i) cell.history;
+-- the cell of an item behind an entry, where the steps of the items remember this
+unfoldable pub item_after : Conf → (ℕ → ℕ → StepMemory) → ℕ → Entry → ℕ → ItemCell → ItemCell
+item_after conf memory number entry i cell = record {
+  history = with_stored (stored_of conf memory number entry i) cell.history;
+  marks = marks_after (visit_at (visits_at conf memory number entry) i) cell.marks;
   seen = if touches conf entry (ItemKey i) then moment_of entry else cell.seen;
 }
 
 -- the histories behind an entry
 abbrev pub histories_after : Conf → Cells → ℕ → Entry → ℕ → List Stored
-histories_after conf c number entry i = (item_after conf number entry i (c (ItemKey i))).history
+histories_after conf c number entry i = (item_after conf (memory_in c) number entry i (c (ItemKey i))).history
 
 -- what an entry makes over cells before any step is due: its failures, and then the records of the triggers that it evaluates
 unfoldable pub judged_at : Conf → Cells → ℕ → Entry → List Rec
 judged_at conf c number entry =
-    failures_at conf number entry
-    ++ phase conf (evaluated conf (occasion_of (c TickKey) number entry) (histories_after conf c number entry)) (opens_in c) (triggers_at conf number entry)
+    failures_at conf (memory_in c) number entry
+    ++ phase conf (evaluated conf (occasion_of (c TickKey) number entry) (histories_after conf c number entry)) (opens_in c) (triggers_at conf (memory_in c) number entry)
 
 -- the records that an entry makes over cells: with those, at a Tick, the steps that are due for what is open then
 unfoldable pub records_at : Conf → Cells → ℕ → Entry → List Rec
@@ -79,7 +86,7 @@ records conf c e = records_at conf c e.number e.entry
 
 -- the cells behind an entry
 unfoldable pub after : Conf → Cells → Numbered → Cells
-after conf c e (ItemKey i) = item_after conf e.number e.entry i (c (ItemKey i))
+after conf c e (ItemKey i) = item_after conf (memory_in c) e.number e.entry i (c (ItemKey i))
 after conf c e (TriggerKey id) = absorbed_all conf id (c (TriggerKey id)) (records conf c e)
 after conf c e TickKey = tick_with (c TickKey) e.entry
 
@@ -90,7 +97,7 @@ seen_of conf (e ∷ log) i = if touches conf e.entry (ItemKey i) then moment_of 
 
 -- what the cells hold, found by searching a log and its records
 unfoldable pub look : Conf → List Numbered → List Rec → Cells
-look conf log rs (ItemKey i) = record { history = history_of conf log i; seen = seen_of conf log i }
+look conf log rs (ItemKey i) = record { history = history_of conf log i; marks = marks_of conf log i; seen = seen_of conf log i }
 look conf log rs (TriggerKey id) = open_of conf rs id
 look conf log rs TickKey = first_tick log
 

@@ -1,5 +1,6 @@
 -- How a step changes what is kept of the triggers, and how that is put back.
-use Rattle.std.specs.Prelude.{◌≡◌, ℕ, ◌-◌, ◌==◌, Bool, List, [], ◌∷◌, ◌++◌, reverse, take, length, Option, Some, None, ℤ, if◌then◌else◌, slice_set, slice_index_or}
+use Rattle.std.specs.Prelude.{◌≡◌, ℕ, ◌-◌, ◌==◌, Bool, true, List, [], ◌∷◌, ◌++◌, reverse, take, length, Option, Some, None, is_some, ℤ, if◌then◌else◌, slice_set, slice_index_or}
+use Rattle.std.specs.List.{list_any}
 use Rattle.std.specs.Option.{unwrap_or}
 use Rattle.zbx_types.specs.declared.conf.Conf.{Conf}
 use Rattle.zbx_types.specs.declared.triggers.Trigger.{Trigger}
@@ -16,9 +17,13 @@ use Rattle.entry_step.specs.Each.{Each}
 use Rattle.entry_step.specs.Due.{due_for, due_over}
 use Rattle.entry_step.specs.declared.due.Due.{Due}
 use Rattle.entry_step.specs.Seen.{Seen}
-use Rattle.entry_step.specs.Records.{verdict_records, expression_value, recovery_value, evaluated, phase, triggers_over, timed_triggers, failure_of}
+use Rattle.entry_step.specs.Records.{verdict_records, expression_value, recovery_value, evaluated, phase, has_call, timed_triggers}
 use Rattle.entry_step.specs.Represents.{CellsView, problems_at, AllAtHome}
 use Rattle.value_cache.specs.Cells.{CellView}
+use Rattle.zbx_types.specs.Ids.{at_id}
+use Rattle.preprocess.specs.Draft.{stored_at, failures_of}
+use Rattle.preprocess.specs.declared.draft.Draft.{Draft}
+use Rattle.preprocess.specs.declared.visit.Visit.{Visit}
 use Rattle.entry_step.specs.Kept.{still_to_come, SeesFor, CameIn}
 use Rattle.trigger_state.specs.declared.problems.Open.{Open}
 use Rattle.entry_step.specs.declared.occasions.Occasion.{Occasion}
@@ -26,6 +31,7 @@ use Rattle.entry_step.specs.declared.changes.Before.{Before}
 use Rattle.entry_step.specs.declared.changes.Before.TheVariants as before
 use Rattle.entry_step.specs.declared.changes.Change.{Change}
 use Rattle.entry_step.specs.declared.changes.Change.TheVariants as change
+use Rattle.entry_step.specs.declared.changes.Fresh.{Fresh}
 use Rattle.entry_step.specs.declared.changes.Row.{Row}
 use Rattle.entry_step.specs.declared.changes.Outcome.{Outcome}
 
@@ -57,25 +63,34 @@ abbrev pub outcome_records : Option Outcome → List Rec
 outcome_records None = []
 outcome_records (Some o) = o.records
 
-abbrev pub outcome_opens : List Open → Option Outcome → List Open
-outcome_opens os None = os
-outcome_opens os (Some o) = changed os o.change
+-- the rows with fresh ones of some triggers, one after another
+abbrev pub with_all : List (List Open) → List Fresh → List (List Open)
+with_all rows [] = rows
+with_all rows (f ∷ fs) = with_all (with_row rows f.id f.opens) fs
 
 abbrev pub outcome_rows : List (List Open) → ℕ → Option Outcome → List (List Open)
 outcome_rows rows id None = rows
-outcome_rows rows id (Some o) = with_row rows id (changed (problems_at rows id) o.change)
+outcome_rows rows id (Some o) = with_all (with_row rows id (changed (problems_at rows id) o.change)) o.others
+
+-- fresh open problems of a trigger: those in the rows with more records
+abbrev pub IsAbsorbed : Conf → List (List Open) → List Rec → Fresh → Type 0
+IsAbsorbed conf rows more f = f.opens ≡ absorbed_all conf f.id (problems_at rows f.id) more
+
+-- the trigger with an id has fresh ones
+abbrev pub has_fresh : List Fresh → ℕ → Bool
+has_fresh fresh id = list_any (λ f. f.id == id) fresh
 
 -- each event that a verdict closes has the property
-abbrev pub Closes : (EventId → Type 0) → Verdict → Type 0
-Closes P Nothing = Unit {0}
-Closes P New = Unit {0}
-Closes P (Close events) = Each P events
+abbrev pub EachClosed : (EventId → Type 0) → Verdict → Type 0
+EachClosed P Nothing = Unit {0}
+EachClosed P New = Unit {0}
+EachClosed P (Close events) = Each P events
 
--- what a trigger adds that sees this, is held or not, and has these open problems
-abbrev pub judged : Conf → Occasion → Seen → ℕ → Trigger → Bool → List Open → List Rec
-judged conf occasion seen id trigger held os =
-    verdict_records conf occasion.number occasion.now seen.values id trigger os
-    (verdict_over trigger held os (expression_value seen.calls trigger.expr) (recovery_value seen.calls trigger.recovery_expr) (event_tags conf id seen.values) occasion.is_value)
+-- what a trigger adds that sees this and is held or not, over the open problems of all triggers
+abbrev pub judged : Conf → Occasion → Seen → ℕ → Trigger → Bool → (ℕ → List Open) → List Rec
+judged conf occasion seen id trigger held all =
+    verdict_records conf occasion.number occasion.now seen.values id trigger all
+    (verdict_over trigger held (all id) (expression_value seen.calls trigger.expr) (recovery_value seen.calls trigger.recovery_expr) (event_tags conf id seen.values) occasion.is_value)
 
 -- tags serve a trigger in place of others: with both it has the same verdict over its open problems
 abbrev pub Serve : Trigger → List Open → List Tag → List Tag → Type 0
@@ -98,16 +113,31 @@ abbrev pub RunsOver : Conf → Occasion → List CellView → (ℕ → Option St
 RunsOver conf occasion cells stored before ids made rows =
     (items : ℕ → List Stored) → Each (SeesFor conf cells stored occasion.now items) ids → AreTidy conf before → Runs conf (evaluated conf occasion items) before ids made rows
 
--- the cells take in a value that an item stored
-pub record TakesIn (conf : Conf) (occasion : Occasion) (item : ℕ) (s : Stored) (before : CellsView) (made : List Rec) (after : CellsView) : Type 0 where
-  pub runs : RunsOver conf occasion before.items (still_to_come item (Some s)) before.problems (triggers_over conf item) made after.problems
-  pub came : CameIn before.items item s occasion.now after.items
-  pub tick : after.tick ≡ before.tick
+-- one trigger more, if it is evaluated: whatever was evaluated before it and made these records and rows, now these are made
+abbrev pub RunsOn : Conf → Occasion → List CellView → (ℕ → Option Stored) → Bool → ℕ → List Rec → List (List Open) → List Rec → List (List Open) → Type 0
+RunsOn conf occasion cells stored asked id made rows more next =
+    (items : ℕ → List Stored) (before : List (List Open)) (ids : List ℕ) → AreTidy conf before → Runs conf (evaluated conf occasion items) before ids made rows
+    → (asked ≡ true → SeesFor conf cells stored occasion.now items id) → Runs conf (evaluated conf occasion items) before (if asked then ids ++ id ∷ [] else ids) more next
 
--- the cells take a value of an item, which may store it
-abbrev pub Takes : Conf → Occasion → ℕ → Option Stored → CellsView → List Rec → CellsView → Type 0
-Takes conf occasion item None before made after = (made ≡ failure_of conf occasion.number item) × (after ≡ before)
-Takes conf occasion item (Some s) before made after = TakesIn conf occasion item s before made after
+-- the triggers with a call over an item that a draft stores a value of; without a draft all
+abbrev pub is_asked : Conf → Option Draft → ℕ → Bool
+is_asked conf None id = true
+is_asked conf (Some draft) id = has_call (λ item. is_some (stored_at draft.visits item)) (at_id conf.triggers id)
+
+-- triggers are evaluated over cells with what is still to come, and their records stand behind some failures
+pub record Drafted (conf : Conf) (occasion : Occasion) (coming : Option Draft) (ids : List ℕ) (failures : List Rec) (cells : List CellView) (before : List (List Open)) (made : List Rec) (rows : List (List Open)) : Type 0 where
+  pub judged : List Rec
+  pub runs : RunsOver conf occasion cells (still_to_come coming) before ids judged rows
+  pub records : made ≡ failures ++ judged
+
+-- the cells take in these visits of a value: the triggers over what is stored are evaluated, and their records stand behind
+-- the failures
+pub record TakesIn (conf : Conf) (occasion : Occasion) (visits : List Visit) (ids : List ℕ) (before : CellsView) (made : List Rec) (after : CellsView) : Type 0 where
+  pub judged : List Rec
+  pub runs : RunsOver conf occasion before.items (stored_at visits) before.problems ids judged after.problems
+  pub records : made ≡ failures_of conf occasion.number visits ++ judged
+  pub came : CameIn occasion.now visits before.items after.items before.memories after.memories
+  pub tick : after.tick ≡ before.tick
 
 -- records change the rows that were there before into these
 pub record Absorbed (conf : Conf) (before : List (List Open)) (made : List Rec) (rows : List (List Open)) : Type 0 where
@@ -122,6 +152,7 @@ pub record TakesTick (conf : Conf) (occasion : Occasion) (before : CellsView) (m
   pub records : made ≡ judged ++ due_over conf occasion.now (problems_at rows)
   pub changes : Absorbed conf rows (due_over conf occasion.now (problems_at rows)) after.problems
   pub items : after.items ≡ before.items
+  pub memories : after.memories ≡ before.memories
   pub tick : after.tick ≡ occasion.tick
 
 -- what is due for an open problem, with its event

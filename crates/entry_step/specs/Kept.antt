@@ -1,11 +1,15 @@
 -- What is kept of the items.
-use Rattle.std.specs.Prelude.{◌≡◌, ◌≤◌, ℕ, ◌==◌, ◌+◌, List, [], length, slice_get, Option, Some, None, if◌then◌else◌}
+use Rattle.std.specs.Prelude.{◌≡◌, ◌≤◌, ℕ, List, [], map, Option, Some, None, option_map}
 use Rattle.zbx_types.specs.Ids.{at_id}
 use Rattle.zbx_types.specs.declared.conf.Conf.{Conf}
 use Rattle.zbx_types.specs.declared.triggers.Trigger.{Trigger}
 use Rattle.zbx_types.specs.declared.entries.Stored.{Stored}
-use Rattle.value_cache.specs.Cells.{CellView, StandsFor, Gains}
+use Rattle.prep_steps.specs.declared.memory.StepMemory.{StepMemory}
+use Rattle.value_cache.specs.Cells.{CellView, StandsFor}
 use Rattle.value_cache.specs.Keeps.{keep_of}
+use Rattle.preprocess.specs.Draft.{kept_of, visit_at, stored_at, kept_after, marks_after}
+use Rattle.preprocess.specs.declared.draft.Draft.{Draft}
+use Rattle.preprocess.specs.declared.visit.Visit.{Visit}
 use Rattle.entry_step.specs.Each.{In}
 use Rattle.entry_step.specs.History.{with_stored}
 
@@ -14,9 +18,10 @@ abbrev pub Keeps : Conf → ℕ → ℕ → List Stored → Option CellView → 
 Keeps conf id seen history None = history ≡ []
 Keeps conf id seen history (Some cell) = (cell.keep ≡ keep_of conf id) × StandsFor cell seen history
 
--- a value of one item that is still to come, as a look-up of items
-abbrev pub still_to_come : ℕ → Option Stored → ℕ → Option Stored
-still_to_come item stored id = if item == id then stored else None
+-- the values that are still to come, as a look-up of items: those of a draft, if there is one
+abbrev pub still_to_come : Option Draft → ℕ → Option Stored
+still_to_come None id = None
+still_to_come (Some draft) id = stored_at draft.visits id
 
 -- a cell of the item with an id, with what is still to come, shows this history at a moment
 pub record SeesIn (conf : Conf) (id : ℕ) (cell : CellView) (stored : Option Stored) (now : ℕ) (history : List Stored) : Type 0 where
@@ -39,20 +44,11 @@ IsCalled conf id item = (trigger : Trigger) × (at_id conf.triggers id ≡ Some 
 abbrev pub SeesFor : Conf → List CellView → (ℕ → Option Stored) → ℕ → (ℕ → List Stored) → ℕ → Type 0
 SeesFor conf cells stored now items id = (item : ℕ) → IsCalled conf id item → Sees conf item (at_id cells item) (stored item) now (items item)
 
--- what is kept of an item, with one more value that came in at this moment
-abbrev pub Became : Option CellView → Stored → ℕ → Option CellView → Type 0
-Became None s now None = Unit {0}
-Became (Some cell) s now (Some next) = (next.keep ≡ cell.keep) × Gains cell next s now
-Became None s now (Some next) = ⊥
-Became (Some cell) s now None = ⊥
+-- a cell as what it keeps alone, whatever room it has
+abbrev pub roomless : CellView → CellView
+roomless cell = record { keep = cell.keep; values = cell.values; room = 0 }
 
--- one more value of an item came into the cells
-pub record CameIn (before : List CellView) (item : ℕ) (s : Stored) (now : ℕ) (after : List CellView) : Type 0 where
-  pub size : length after ≡ length before
-  pub own : Became (at_id before item) s now (at_id after item)
-  pub others : (id : ℕ) → (item ≡ id → ⊥) → at_id after id ≡ at_id before id
-
--- the cells of all items, without values: each is to keep what the calls over its item ask for
-pub record AreEmpty (conf : Conf) (cells : List CellView) : Type 0 where
-  pub size : length cells ≡ length conf.items
-  pub each : (k : ℕ) (cell : CellView) → slice_get cells k ≡ Some cell → (cell.keep ≡ keep_of conf (k + 1)) × StandsFor cell 0 []
+-- what visits store came into the cells at a moment, and what they leave into the memories
+pub record CameIn (now : ℕ) (visits : List Visit) (before after : List CellView) (memories next : List (List StepMemory)) : Type 0 where
+  pub cells : (id : ℕ) → at_id (map kept_of after) id ≡ option_map (kept_after now (visit_at visits id)) (at_id (map kept_of before) id)
+  pub marks : (id : ℕ) → at_id next id ≡ option_map (marks_after (visit_at visits id)) (at_id memories id)

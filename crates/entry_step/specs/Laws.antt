@@ -4,6 +4,7 @@ use Rattle.std.specs.List.{list_any}
 use Rattle.zbx_types.specs.declared.conf.Conf.{Conf}
 use Rattle.zbx_types.specs.declared.entries.Numbered.{Numbered}
 use Rattle.zbx_types.specs.declared.entries.Rec.{Rec}
+use Rattle.footprint.specs.Conflict.{conflict_of}
 use Rattle.entry_step.specs.Each.{Each, EachPair}
 use Rattle.entry_step.specs.Records.{out_of, replay}
 use Rattle.entry_step.specs.Cells.{Key, TickKey, CellOf, Cells, touches, records, after, StandFor}
@@ -26,6 +27,11 @@ IsConfined conf e c = (k : Key) → touches conf e.entry k ≡ false → after c
 -- two entries don't conflict: no cell is in both feet
 abbrev pub Apart : Conf → Numbered → Numbered → Type 0
 Apart conf a b = (k : Key) → touches conf a.entry k ≡ true → touches conf b.entry k ≡ true → ⊥
+
+-- Two entries conflict, by their footprints, exactly where some cell is in both feet.
+abbrev pub ConflictIsMeeting : Type 0
+ConflictIsMeeting = (conf : Conf) (a b : Numbered)
+    → (conflict_of conf a.entry b.entry ≡ false → Apart conf a b) × (Apart conf a b → conflict_of conf a.entry b.entry ≡ false)
 
 -- cells that stand for a log are tidy
 abbrev pub AreTidyCells : Type 0

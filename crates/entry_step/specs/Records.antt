@@ -1,5 +1,5 @@
 -- The records that entries make.
-use Rattle.std.specs.Prelude.{ℕ, ◌==◌, Bool, false, true, ◌&&◌, List, [], ◌∷◌, ◌++◌, filter, flat_map, Option, Some, None, is_some, if◌then◌else◌, ℤ, codes}
+use Rattle.std.specs.Prelude.{ℕ, ◌==◌, Bool, false, true, ◌&&◌, List, [], ◌∷◌, ◌++◌, filter, flat_map, map, Option, Some, None, is_some, if◌then◌else◌, ℤ}
 use Rattle.std.specs.List.{list_any}
 use Rattle.zbx_types.specs.Ids.{at_id}
 use Rattle.zbx_types.specs.Operators.{is_dated}
@@ -8,7 +8,6 @@ use Rattle.zbx_types.specs.declared.calls.Fun.{Fun}
 use Rattle.zbx_types.specs.declared.calls.Fun.TheVariants.{NoData}
 use Rattle.zbx_types.specs.declared.conf.Conf.{Conf}
 use Rattle.zbx_types.specs.declared.conf.Host.{Host}
-use Rattle.zbx_types.specs.declared.items.Item.{Item}
 use Rattle.zbx_types.specs.declared.expr.Expr.{Expr}
 use Rattle.zbx_types.specs.declared.triggers.Trigger.{Trigger}
 use Rattle.zbx_types.specs.declared.entries.EventId.{EventId}
@@ -16,22 +15,27 @@ use Rattle.zbx_types.specs.declared.entries.Entry.{Entry}
 use Rattle.zbx_types.specs.declared.entries.Entry.TheVariants.{Config, Value, Tick}
 use Rattle.zbx_types.specs.declared.entries.Numbered.{Numbered}
 use Rattle.zbx_types.specs.declared.entries.Rec.{Rec}
-use Rattle.zbx_types.specs.declared.entries.Rec.TheVariants.{Failure, Problem, Recovery}
+use Rattle.zbx_types.specs.declared.entries.Rec.TheVariants.{Problem, Recovery}
+use Rattle.zbx_types.specs.declared.entries.Cause2.{Cause2}
 use Rattle.zbx_types.specs.declared.entries.Cause2.TheVariants as causes
 use Rattle.zbx_types.specs.declared.entries.Held.{Held}
 use Rattle.zbx_types.specs.declared.entries.Stored.{Stored}
 use Rattle.entry_step.specs.Log.{first_tick}
 use Rattle.entry_step.specs.Occasions.{occasion_of}
-use Rattle.entry_step.specs.History.{stored_of, history_of}
+use Rattle.prep_steps.specs.declared.memory.StepMemory.{StepMemory}
+use Rattle.preprocess.specs.Draft.{failures_of}
+use Rattle.entry_step.specs.History.{visits_at, stored_of, memory_of, history_of}
 use Rattle.expr_eval.specs.Values.{value_over}
 use Rattle.entry_step.specs.Seen.{Seen, seen_in}
 use Rattle.event_text.specs.Titles.{name_of, event_tags}
 use Rattle.maintenance.specs.Suppression.{is_suppressed}
 use Rattle.escalations.specs.Escalations.{first_records_of, recovered_records}
-use Rattle.zbx_types.specs.Records.{same_event}
+use Rattle.event_correlation.specs.Closings.{closes_of}
+use Rattle.event_correlation.specs.declared.answer.Closes.{Closes}
+use Rattle.zbx_types.specs.Records.{same_event, event_of}
 use Rattle.entry_step.specs.Order.{order}
-use Rattle.entry_step.specs.Due.{due_at}
-use Rattle.trigger_state.specs.Problems.{event_in, open_of, grown}
+use Rattle.entry_step.specs.Due.{by_making, due_at}
+use Rattle.trigger_state.specs.Problems.{home, event_in, open_of, grown}
 use Rattle.trigger_state.specs.Verdicts.{verdict_of}
 use Rattle.trigger_state.specs.declared.answer.Verdict.{Verdict}
 use Rattle.trigger_state.specs.declared.answer.Verdict.TheVariants.{Nothing, New, Close}
@@ -50,24 +54,50 @@ problem_of conf number now values id trigger =
     (host_name (at_id conf.hosts trigger.host)) trigger.name (name_of conf id values) (event_tags conf id values)
 
 -- the Recovery record of an event at an entry
-abbrev pub recovery_of : ℕ → ℕ → EventId → Rec
-recovery_of number now event = Recovery event number now causes.Expression
-
--- what a new problem of a trigger makes: its record, then step 1 of each action that matches it and isn't paused
-abbrev pub begun_records : Conf → ℕ → Rec → ℕ → List Rec
-begun_records conf id problem now = problem ∷ first_records_of conf id problem now
+abbrev pub recovery_of : ℕ → ℕ → Cause2 → EventId → Rec
+recovery_of number now cause event = Recovery event number now cause
 
 -- what the end of one of these open problems makes: its Recovery, then the recovery messages of the actions that ran a step
 -- for it
-abbrev pub closed_records : Conf → ℕ → ℕ → List Open → EventId → List Rec
-closed_records conf number now os event =
-    recovery_of number now event ∷ flat_map (λ o. recovered_records conf o.problem o.steps now) (filter (λ o. same_event (event_in o) event) os)
+abbrev pub closed_records : Conf → ℕ → ℕ → Cause2 → List Open → EventId → List Rec
+closed_records conf number now cause os event =
+    recovery_of number now cause event
+    ∷ flat_map (λ o. recovered_records conf o.problem o.steps now) (filter (λ o. same_event (event_in o) event) os)
 
--- the records that a verdict on a trigger makes with these open problems: a new one, or the ends of those that close
-unfoldable pub verdict_records : Conf → ℕ → ℕ → List (Option Held) → ℕ → Trigger → List Open → Verdict → List Rec
-verdict_records conf number now values id trigger os Nothing = []
-verdict_records conf number now values id trigger os New = begun_records conf id (problem_of conf number now values id trigger) now
-verdict_records conf number now values id trigger os (Close events) = flat_map (closed_records conf number now os) events
+-- the problems that are open, in the order of making
+abbrev pub problems_open : Conf → (ℕ → List Open) → List Rec
+problems_open conf all = map (λ o. o.problem) (by_making conf all)
+
+-- what the rules of global correlation close for a new problem, over what was open when it was made
+unfoldable pub ruled : Conf → Rec → (ℕ → List Open) → Closes
+ruled conf problem all = closes_of conf problem (problems_open conf all)
+
+-- what the ends of the problems that rules close make, each of its own trigger
+abbrev pub ruled_records : Conf → ℕ → ℕ → (ℕ → List Open) → List EventId → List Rec
+ruled_records conf number now all events = flat_map (λ e. closed_records conf number now causes.Correlation (all (home conf e)) e) events
+
+-- what comes last: the new problem's own Recovery where a rule closes it, else step 1 of each action that matches it and
+-- isn't paused
+abbrev pub last_records : Conf → ℕ → ℕ → ℕ → Rec → Bool → List Rec
+last_records conf number now id problem is_closed =
+    if is_closed then recovery_of number now causes.Correlation (event_of problem) ∷ [] else first_records_of conf id problem now
+
+-- what a new problem of a trigger makes where this closes for it: its record, then the ends of the old problems, then its own
+-- end or its first steps
+abbrev pub begun_with : Conf → ℕ → ℕ → (ℕ → List Open) → ℕ → Rec → Closes → List Rec
+begun_with conf number now all id problem closes =
+    problem ∷ ruled_records conf number now all closes.old ++ last_records conf number now id problem closes.new
+
+-- and where the rules tell what closes
+abbrev pub begun_records : Conf → ℕ → ℕ → (ℕ → List Open) → ℕ → Rec → List Rec
+begun_records conf number now all id problem = begun_with conf number now all id problem (ruled conf problem all)
+
+-- the records that a verdict on a trigger makes over the open problems of all triggers: a new one with what rules close, or
+-- the ends of those that close
+unfoldable pub verdict_records : Conf → ℕ → ℕ → List (Option Held) → ℕ → Trigger → (ℕ → List Open) → Verdict → List Rec
+verdict_records conf number now values id trigger all Nothing = []
+verdict_records conf number now values id trigger all New = begun_records conf number now all id (problem_of conf number now values id trigger)
+verdict_records conf number now values id trigger all (Close events) = flat_map (closed_records conf number now causes.Expression (all id)) events
 
 -- the value of an expression over the values of the calls, and of one that a trigger may not have
 abbrev pub expression_value : (ℕ → Option ℤ) → Expr → Option ℤ
@@ -80,7 +110,7 @@ recovery_value calls (Some expr) = expression_value calls expr
 -- the records of the verdict on a trigger that sees this: its tags are those that it has now
 abbrev pub judged_by : Conf → Occasion → Seen → (ℕ → List Open) → ℕ → Trigger → List Rec
 judged_by conf occasion seen all id trigger =
-    verdict_records conf occasion.number occasion.now seen.values id trigger (all id)
+    verdict_records conf occasion.number occasion.now seen.values id trigger all
     (verdict_of conf all id (expression_value seen.calls trigger.expr) (recovery_value seen.calls trigger.recovery_expr) (event_tags conf id seen.values) occasion.is_value)
 
 abbrev pub records_by : Conf → Occasion → (ℕ → List Stored) → (ℕ → List Open) → ℕ → Option Trigger → List Rec
@@ -111,13 +141,9 @@ has_call test (Some trigger) = trigger.enabled && list_any test trigger.call_ite
 abbrev pub is_over : ℕ → Option Trigger → Bool
 is_over item trigger = has_call (λ i. i == item) trigger
 
--- the triggers over an item, in the order of evaluation
-unfoldable pub triggers_over : Conf → ℕ → List ℕ
-triggers_over conf item = filter (λ id. is_over item (at_id conf.triggers id)) (order conf)
-
--- whether an entry stores a value of an item
-abbrev pub stores : Conf → ℕ → Entry → ℕ → Bool
-stores conf number entry item = is_some (stored_of conf number entry item)
+-- whether an entry stores a value of an item, where the steps of the items remember this
+abbrev pub stores : Conf → (ℕ → ℕ → StepMemory) → ℕ → Entry → ℕ → Bool
+stores conf memory number entry item = is_some (stored_of conf memory number entry item)
 
 -- a function's value may change with time alone: `nodata`, and those of date or time
 abbrev pub is_timed : Fun → Bool
@@ -134,33 +160,23 @@ unfoldable pub timed_triggers : Conf → List ℕ
 timed_triggers conf = filter (λ id. is_timed_trigger (at_id conf.triggers id)) (order conf)
 
 -- the triggers that an entry evaluates: at a value those with a call over an item that it stores a value of
-unfoldable pub triggers_at : Conf → ℕ → Entry → List ℕ
-triggers_at conf number (Config now text) = []
-triggers_at conf number (Tick now) = timed_triggers conf
-triggers_at conf number (Value now item time value) =
-    filter (λ id. has_call (stores conf number (Value now item time value)) (at_id conf.triggers id)) (order conf)
+unfoldable pub triggers_at : Conf → (ℕ → ℕ → StepMemory) → ℕ → Entry → List ℕ
+triggers_at conf memory number (Config now text) = []
+triggers_at conf memory number (Tick now) = timed_triggers conf
+triggers_at conf memory number (Value now item time value) =
+    filter (λ id. has_call (stores conf memory number (Value now item time value)) (at_id conf.triggers id)) (order conf)
 
--- the Failure record of a value that this item can't keep
-abbrev pub failure_by : Conf → ℕ → Option Item → List Rec
-failure_by conf number None = []
-failure_by conf number (Some item) = Failure number (host_name (at_id conf.hosts item.host)) item.key (codes "value: not a number") ∷ []
-
--- the Failure record of a value that the item with an id can't keep
-unfoldable pub failure_of : Conf → ℕ → ℕ → List Rec
-failure_of conf number item = failure_by conf number (at_id conf.items item)
-
--- the Failure records of an entry: of a value that isn't stored
-unfoldable pub failures_at : Conf → ℕ → Entry → List Rec
-failures_at conf number (Config now text) = []
-failures_at conf number (Tick now) = []
-failures_at conf number (Value now item time value) = if stores conf number (Value now item time value) item then [] else failure_of conf number item
+-- the Failure records of an entry, in the order of its visits
+unfoldable pub failures_at : Conf → (ℕ → ℕ → StepMemory) → ℕ → Entry → List Rec
+failures_at conf memory number entry = failures_of conf number (visits_at conf memory number entry)
 
 -- what an entry makes before any step is due, behind this log and the records before it: its failures, and then the records
 -- of the triggers that it evaluates
 unfoldable pub judged_of : Conf → List Numbered → Numbered → Entry → List Rec → List Rec
 judged_of conf log e entry rs =
-    failures_at conf e.number entry
-    ++ phase_over conf (evaluated conf (occasion_of (first_tick log) e.number entry) (history_of conf (e ∷ log))) (rs ++ failures_at conf e.number entry) (triggers_at conf e.number entry)
+    failures_at conf (memory_of conf log) e.number entry
+    ++ phase_over conf (evaluated conf (occasion_of (first_tick log) e.number entry) (history_of conf (e ∷ log))) (rs ++ failures_at conf (memory_of conf log) e.number entry)
+    (triggers_at conf (memory_of conf log) e.number entry)
 
 -- the records that an entry adds to those before it, behind this log: with those, at a Tick, the steps that are due for what
 -- is open then

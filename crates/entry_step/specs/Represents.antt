@@ -1,21 +1,28 @@
 -- What the cells of a run stand for.
-use Rattle.std.specs.Prelude.{◌≡◌, ◌≤◌, ℕ, true, List, [], length, Option}
+use Rattle.std.specs.Prelude.{◌≡◌, ◌≤◌, ℕ, true, List, [], length, Option, Some, None, IfSome}
 use Rattle.std.specs.Option.{unwrap_or}
 use Rattle.zbx_types.specs.Ids.{at_id}
 use Rattle.zbx_types.specs.declared.conf.Conf.{Conf}
 use Rattle.zbx_types.specs.declared.entries.Numbered.{Numbered}
 use Rattle.zbx_types.specs.declared.entries.Rec.{Rec}
+use Rattle.zbx_types.specs.declared.triggers.Trigger.{Trigger}
+use Rattle.event_correlation.specs.Laws.{HasTagsOf}
 use Rattle.entry_step.specs.Each.{Each}
 use Rattle.entry_step.specs.Log.{moment_of, IsFitting}
 use Rattle.trigger_state.specs.Problems.{home, event_in}
+use Rattle.prep_steps.specs.declared.memory.StepMemory.{StepMemory}
+use Rattle.preprocess.specs.Chains.{listed}
 use Rattle.value_cache.specs.Cells.{CellView}
+use Rattle.value_cache.specs.Histories.{IsOrdered}
 use Rattle.entry_step.specs.Kept.{Keeps}
 use Rattle.entry_step.specs.Cells.{Cells, ItemKey, TriggerKey, TickKey, opens_in, touches, records, after, StandFor}
 use Rattle.trigger_state.specs.declared.problems.Open.{Open}
 
--- the cells of the items and the open problems of each trigger, in the order of ids, and the first Tick
+-- the cells of the items, what their steps remember and the open problems of each trigger, in the order of ids, and the
+-- first Tick
 pub record CellsView : Type 0 where
   pub items : List CellView
+  pub memories : List (List StepMemory)
   pub problems : List (List Open)
   pub tick : Option ℕ
 
@@ -27,16 +34,29 @@ problems_at rows id = unwrap_or (at_id rows id) []
 abbrev pub AllAtHome : Conf → ℕ → List Open → Type 0
 AllAtHome conf id os = Each (λ o. home conf (event_in o) ≡ id) os
 
--- each open problem is in the cell of its own trigger
-abbrev pub IsTidy : Conf → Cells → Type 0
-IsTidy conf c = (id : ℕ) → AllAtHome conf id (opens_in c id)
+-- a problem has, in order, the names of the tags of the trigger with this id, which is there
+abbrev pub IsTagged : Conf → ℕ → Rec → Type 0
+IsTagged conf id problem = (trigger : Trigger) × (at_id conf.triggers id ≡ Some trigger) × HasTagsOf trigger problem
 
--- What a run keeps represents cells: the same open problems and first Tick, and of each item what stands for its history
--- from the last moment on that its cell has seen. The cells are tidy.
+abbrev pub AllTagged : Conf → ℕ → List Open → Type 0
+AllTagged conf id os = Each (λ o. IsTagged conf id o.problem) os
+
+-- each open problem is in the cell of its own trigger and has the names of its tags, and what is no item of the configuration
+-- has no history
+pub record IsTidy (conf : Conf) (c : Cells) : Type 0 where
+  pub homes : (id : ℕ) → AllAtHome conf id (opens_in c id)
+  pub tagged : (id : ℕ) → AllTagged conf id (opens_in c id)
+  pub absent : (id : ℕ) → at_id conf.items id ≡ None → (c (ItemKey id)).history ≡ []
+
+-- What a run keeps represents cells: the same open problems and first Tick, and of each item what its steps remember and
+-- what stands for its history from the last moment on that its cell has seen. The cells are tidy.
 pub record Represents (conf : Conf) (held : CellsView) (c : Cells) : Type 0 where
   pub items : length held.items ≡ length conf.items
+  pub ordered : (id : ℕ) → IfSome (at_id held.items id) (λ cell. IsOrdered cell.values)
+  pub memories : length held.memories ≡ length conf.items
   pub triggers : length held.problems ≡ length conf.triggers
   pub histories : (id : ℕ) → Keeps conf id (c (ItemKey id)).seen (c (ItemKey id)).history (at_id held.items id)
+  pub marks : (id : ℕ) → listed held.memories id ≡ (c (ItemKey id)).marks
   pub problems : (id : ℕ) → problems_at held.problems id ≡ c (TriggerKey id)
   pub tick : held.tick ≡ c TickKey
   pub tidy : IsTidy conf c

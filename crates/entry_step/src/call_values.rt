@@ -78,12 +78,11 @@ fn value_beside(
 
 /// The value of an item that is still to come.
 pub(crate) fn still_to_come<'a>(calls: &Calls<'a>, id: u32) -> Option<&'a Stored>
-    ensures { option_copied result ≡ still_to_come calls.now.item calls.now.stored.now id }
+    ensures { option_copied result ≡ still_to_come calls.now.coming.now id }
 {
-    if calls.item == id {
-        calls.stored.as_ref()
-    } else {
-        None
+    match calls.coming {
+        None => None,
+        Some(draft) => draft.stored(id),
     }
 }
 

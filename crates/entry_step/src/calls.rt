@@ -2,17 +2,16 @@
 
 use crate::index::Ready;
 use crate::occasions::Occasion;
+use preprocess::Draft;
 use value_cache::ItemCell;
-use zbx_types::{Stored, Trigger};
+use zbx_types::Trigger;
 
-/// The calls of a trigger on an occasion, by the cells of the items, and maybe one more value of an item that is still to
-/// come.
+/// The calls of a trigger on an occasion, by the cells of the items, and maybe the values that are still to come.
 #[derive(Clone, Copy)]
 pub(crate) struct Calls<'a> {
     pub(crate) ready: &'a Ready,
     pub(crate) items: &'a [ItemCell],
-    pub(crate) item: u32,
-    pub(crate) stored: &'a Option<Stored>,
+    pub(crate) coming: &'a Option<Draft>,
     pub(crate) occasion: Occasion,
     pub(crate) id: u32,
     pub(crate) trigger: &'a Trigger,

@@ -2,7 +2,7 @@
 
 ghost use Rattle.std.specs.Prelude.{◌≡◌, ◌++◌, ◌∷◌, [], OnOk};
 ghost use Rattle.entry_step.specs.Represents.{problems_at};
-ghost use Rattle.entry_step.specs.Changes.{with_row, restored, put_back, outcome_records, outcome_rows};
+ghost use Rattle.entry_step.specs.Changes.{with_row, with_all, restored, put_back, outcome_records, outcome_rows};
 
 use std::alloc::Global;
 use std::mem::replace;
@@ -18,11 +18,19 @@ pub(crate) enum Change {
     Leave(Many<Open>),
 }
 
-/// What a trigger adds, and how its open problems change with that.
+/// Open problems in place of those of the trigger with an id.
+#[derive(Drop)]
+pub(crate) struct Fresh {
+    pub(crate) id: u32,
+    pub(crate) opens: Many<Open>,
+}
+
+/// What a trigger adds, how its open problems change with that, and what other triggers have then.
 #[derive(Drop)]
 pub(crate) struct Outcome {
     pub(crate) records: Many<Rec>,
     pub(crate) change: Change,
+    pub(crate) others: Many<Fresh>,
 }
 
 /// What the open problems of a trigger were before.
@@ -121,8 +129,25 @@ fn add(
     Ok(())
 }
 
+/// Puts other open problems into the rows of some triggers, and keeps what they had, also at `Err`.
+#[tactic(auto, using(crate::proofs::Writes::all_push))]
+fn exchange_all(
+    alloc: Global,
+    problems: &mut Vec<Many<Open>>,
+    taken: &mut Many<Row>,
+    others: Many<Fresh>,
+) -> Result<(), OutOfMemory>
+    ensures rows { OnOk result (problems.new.items ≡ with_all problems.old.items others) }
+    ensures same { put_back problems.new.items taken.new ≡ put_back problems.old.items taken.old }
+{
+    for one in others.into_vec() {
+        exchange(alloc, problems, taken, one.id, one.opens)?;
+    }
+    Ok(())
+}
+
 impl Draft {
-    /// Adds the outcome of the trigger with an id, whose open problems change with it.
+    /// Adds the outcome of the trigger with an id, whose open problems change with it, and those of others.
     pub(crate) fn take(
         &mut self,
         alloc: Global,
@@ -135,11 +160,17 @@ impl Draft {
         ensures same { put_back problems.new.items self.new.taken ≡ put_back problems.old.items self.old.taken }
     {
         if let Some(outcome) = outcome {
-            self.records.append(outcome.records)?;
-            match outcome.change {
+            let Outcome {
+                records,
+                change,
+                others,
+            } = outcome;
+            self.records.append(records)?;
+            match change {
                 Change::Add(one) => add(problems, &mut self.taken, id, one)?,
                 Change::Leave(all) => exchange(alloc, problems, &mut self.taken, id, all)?,
             }
+            exchange_all(alloc, problems, &mut self.taken, others)?;
         }
         Ok(())
     }

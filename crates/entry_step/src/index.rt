@@ -7,13 +7,17 @@ ghost use Rattle.zbx_types.specs.Masters.{masters_of};
 ghost use Rattle.event_text.specs.Titles.{name_of, event_tags};
 ghost use Rattle.entry_step.specs.Plans.{plan_of, recovery_plan_of};
 ghost use Rattle.pattern_set.specs.Patterns.{IsPattern, IsNoPattern};
+ghost use Rattle.entry_step.specs.Index.{some_reaches};
 ghost use Rattle.entry_step.specs.Names.{host_named, item_keyed};
 ghost use Rattle.zbx_types.specs.Operators.{call_pattern};
 ghost use Rattle.zbx_types.specs.declared.calls.Call.{Call};
 ghost use Rattle.jiff_core.specs.Calendar.{IsWithin};
 ghost use Rattle.value_cache.specs.Keeps.{seconds_in, most_seconds};
 ghost use Rattle.entry_step.specs.Order.{order};
-ghost use Rattle.entry_step.specs.Records.{triggers_over, timed_triggers};
+ghost use Rattle.preprocess.specs.Cells.{AreSame, prepared_of};
+ghost use Rattle.preprocess.specs.Draft.{AreApart, HaveRoom};
+ghost use Rattle.entry_step.specs.Index.{triggers_under};
+ghost use Rattle.entry_step.specs.Records.{timed_triggers};
 
 use crate::asked::{near, place_in, places_of_all};
 use crate::fault::BuildError;
@@ -22,16 +26,18 @@ use crate::masters::masters_of_all;
 use crate::names::{hosts_of, keys_of};
 use crate::order::order;
 use crate::packed::{Packed, row};
-use crate::patterned::patterned;
+use crate::patterned::{patterned, stepped};
 use crate::plans::{Node, plans_of, recovery_plans_of};
+use crate::reached::reached;
 use crate::timed::timed_triggers;
 use event_text::{name, tags};
 use pattern_set::Patterns;
+use preprocess::{Chains, Prepared, prepare};
 use std::alloc::Global;
 use std::collections::HashMap;
 use std::convert::AsStr;
 use std::marker::Model;
-use zbx_types::{Conf, Held, Many, OutOfMemory, Tag, Text};
+use zbx_types::{Conf, Held, Many, Moment, OutOfMemory, Tag, Text, by_id};
 
 /// The patterns of these texts, built.
 fn patterns_of(alloc: Global, texts: &Many<Text>) -> Result<Patterns, BuildError>
@@ -68,6 +74,8 @@ pub struct Ready {
     places: Packed<u32>,
     timed: Many<u32>,
     all: Many<u32>,
+    reached: Many<bool>,
+    chains: Chains,
 }
 
 impl Model for Ready {
@@ -82,7 +90,7 @@ impl Model for Ready {
 
     ghost view = { λ r. r.conf };
 
-    ghost invariant = { λ r. IsIndex r.conf r.hosts r.keys.items r.over r.plans r.recoveries r.masters r.patterns r.places r.timed r.all };
+    ghost invariant = { λ r. IsIndex r.conf r.hosts r.keys.items r.over r.plans r.recoveries r.masters r.patterns r.places r.timed r.all r.reached r.chains };
 }
 
 impl Ready {
@@ -96,7 +104,7 @@ impl Ready {
     /// `OutOfMemory` where memory was refused, which a configuration whose hosts, items or triggers can't be counted in
     /// 32 bits stands for too, and one with a trigger whose depth isn't greater than that of each trigger that it depends
     /// on, one whose local time differs from UTC by more than 14 hours, and one with a call or with an event name or a tag
-    /// whose pattern isn't among the configuration's, or with a call whose shift and period together are 2^32 seconds or
+    /// or a preprocessing step whose pattern isn't among the configuration's, or with a call whose shift and period together are 2^32 seconds or
     /// more. There is room for each id of a host or an item that is named and for each depth, up to the greatest of them,
     /// whether it is in the configuration or not.
     pub fn build(alloc: Global, conf: Conf) -> Result<Ready, BuildError>
@@ -110,6 +118,7 @@ impl Ready {
         near(&conf)?;
         let patterns = patterns_of(alloc, &conf.patterns)?;
         patterned(alloc, &conf)?;
+        stepped(&conf)?;
         let places = places_of_all(alloc, &conf, &patterns)?;
         let timed = timed_triggers(alloc, &conf)?;
         let all = order(alloc, &conf)?;
@@ -119,6 +128,8 @@ impl Ready {
         let plans = plans_of(alloc, conf.triggers.as_slice())?;
         let recoveries = recovery_plans_of(alloc, conf.triggers.as_slice())?;
         let masters = masters_of_all(alloc, &conf)?;
+        let reached = reached(alloc, &conf)?;
+        let chains = Chains::build(alloc, &conf, &patterns)?;
         Ok(Ready {
             conf,
             hosts,
@@ -131,6 +142,8 @@ impl Ready {
             places,
             timed,
             all,
+            reached,
+            chains,
         })
     }
 
@@ -158,11 +171,39 @@ impl Ready {
         }
     }
 
-    /// The ids of the triggers that are evaluated where an item stored a value, in the order of evaluation.
+    /// The ids of the triggers over an item or over one that depends on it, in the order of evaluation.
     pub(crate) fn over(&self, item: u32) -> &[u32]
-        ensures { result.now ≡ triggers_over self.now item }
+        ensures { result.now ≡ triggers_under self.now item }
     {
         row(&self.over, item)
+    }
+
+    /// Finds what a value of an item is to leave in the cells, and takes all memory for it. They keep what they do.
+    pub(crate) fn prepare(
+        &self,
+        alloc: Global,
+        cells: &mut preprocess::Cells,
+        item: u32,
+        value: &Text,
+        time: Moment,
+        number: u64,
+    ) -> Result<Prepared, OutOfMemory>
+        ensures prepared { IfOk result (λ prepared. prepared ≡ prepared_of self.now cells.old (record { item = item; time = time; number = number; value = value.now })) }
+        ensures apart { IfOk result (λ prepared. AreApart prepared.draft.visits) }
+        ensures room { IfOk result (λ prepared. HaveRoom cells.new.cells.items prepared.draft.visits) }
+        ensures same { AreSame cells.new cells.old }
+    {
+        prepare(
+            alloc,
+            &self.conf,
+            &self.patterns,
+            &self.chains,
+            cells,
+            item,
+            value,
+            time,
+            number,
+        )
     }
 
     /// The nodes of the expression of the trigger with an id.
@@ -190,6 +231,16 @@ impl Ready {
         ensures { result.now ≡ order self.now }
     {
         self.all.as_slice()
+    }
+
+    /// Whether the reach of some rule of global correlation holds the trigger with an id.
+    pub(crate) fn is_reached(&self, id: u32) -> bool
+        ensures { (trigger : Trigger) → at_id self.now.triggers id ≡ Some trigger → result ≡ some_reaches self.now.correlations trigger }
+    {
+        match by_id(self.reached.as_slice(), id) {
+            None => false,
+            Some(reached) => *reached,
+        }
     }
 
     /// Local time less UTC, in seconds.

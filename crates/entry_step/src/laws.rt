@@ -1,9 +1,15 @@
 //! The laws of order, over the definitions of what entries make. The functions do nothing: each stands for its clause.
 
-ghost use Rattle.entry_step.specs.Laws.{AreTidyCells, Locality, Insertion, BatchOnACopy, AppliedPart};
+ghost use Rattle.entry_step.specs.Laws.{ConflictIsMeeting, AreTidyCells, Locality, Insertion, BatchOnACopy, AppliedPart};
 ghost use Rattle.entry_step.specs.Named.{OpenByNames};
 
-/// Cells that stand for a log hold each open problem in the cell of its own trigger.
+/// The crate `footprint` tells two entries to conflict exactly where some cell is in both feet.
+pub fn conflict_is_meeting()
+    ensures { ConflictIsMeeting }
+{}
+
+/// Cells that stand for a log hold each open problem in the cell of its own trigger, and nothing of an item
+/// that isn't there.
 pub fn are_tidy()
     ensures { AreTidyCells }
 {}

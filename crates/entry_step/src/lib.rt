@@ -2,7 +2,8 @@
 //!
 //! `Ready` is a configuration with indexes that are made once: hosts by their names, items by their keys, triggers by the
 //! items that they have calls over. So what is done for a value takes no walk over the configuration. `Cells` keep what a
-//! run needs between entries: the values that a later window can see, the open problems of each trigger, the first Tick.
+//! run needs between entries: the values that a later window can see, what preprocessing steps remember, the open problems
+//! of each trigger, the first Tick.
 //! `step` takes one numbered entry and answers the records that it makes.
 //!
 //! The contract: whatever cells it is that the kept ones represent (`specs/Represents.antt`), `step` answers the records
@@ -10,11 +11,12 @@
 //! held, these are the records that a search of the log and of its records finds. At `Err` all is as before.
 //!
 //! A log has its newest entry first (`specs/Log.antt`), records stand in the order in which they were made. A value
-//! goes into the history of its item by its time (`specs/History.antt`). Where an item stored a value, the enabled
-//! triggers with a call over it are evaluated one after another, by depth and then by id (`specs/Order.antt`,
-//! `specs/Evaluation.antt`, `specs/Records.antt`): the verdict of the crate `trigger_state`, over the problems that are open
-//! then, makes a problem or closes some. A number item reads a value without the blanks around it. A value that its item
-//! can't keep makes a Failure. A Tick evaluates in the same way the enabled triggers with a function that changes with time
+//! goes through the preprocessing steps of its item, and what the item stores through the items that depend on it, as the
+//! crate `preprocess` says; each failure makes a Failure record, and what is stored goes into the history of its item by its
+//! time (`specs/History.antt`). Behind the failures, the enabled triggers with a call over an item that stored a value are
+//! evaluated one after another, by depth and then by id (`specs/Order.antt`, `specs/Evaluation.antt`,
+//! `specs/Records.antt`): the verdict of the crate `trigger_state`, over the problems that are open then, makes a problem or
+//! closes some. A Tick evaluates in the same way the enabled triggers with a function that changes with time
 //! alone, as `nodata` and `time`, and then runs the steps that are due for the problems that are open, in the order of
 //! making (`specs/Due.antt`). A Config makes no records.
 //!
@@ -24,8 +26,10 @@
 //! The value of a call is that of `history_functions` over the window of the item's whole history; what is kept of it, in
 //! the cells of `value_cache`, shows the same window. Operators are those of the crate `expr_eval`.
 //! A problem's record has its name and tags with the latest values in them, and tells whether it is suppressed. Behind it
-//! comes step 1 of each action that matches it and isn't paused, and behind each Recovery its recovery messages. Global
-//! correlation isn't built.
+//! come the Recovery records of global correlation, whose rules are those of the crate `event_correlation`, over all that is
+//! open as the problem is made: the old problems first, and the new one last. Where that stays open, step 1 comes of each
+//! action that matches it and isn't paused. Behind each Recovery come its recovery messages. Where no rule's reach holds a
+//! trigger, nothing is looked at for its problems.
 //!
 //! ```text
 //! let ready = Ready::build(alloc, conf)?;
@@ -43,7 +47,6 @@ mod changes;
 mod due;
 mod evaluation;
 mod fault;
-mod history;
 mod index;
 pub mod laws;
 mod lists;
@@ -55,8 +58,10 @@ mod order;
 mod packed;
 mod patterned;
 mod plans;
+mod reached;
 mod records;
 mod rows;
+mod ruling;
 mod seen;
 mod stepping;
 mod steps;
@@ -68,6 +73,10 @@ pub use index::Ready;
 pub use stepping::step;
 pub use steps::Steps;
 
+#[cfg(test)]
+mod correlation_tests;
+#[cfg(test)]
+mod dependent_tests;
 #[cfg(test)]
 mod event_tests;
 #[cfg(test)]

@@ -2,11 +2,16 @@
 
 ghost use Rattle.std.specs.Prelude.{◌≡◌, true, All, Contains, IfOk, OnOk};
 ghost use Rattle.event_text.specs.Titles.{HasPatterns};
+ghost use Rattle.preprocess.specs.Ways.{HasPattern, HavePatterns};
+ghost use Rattle.preprocess.specs.Visits.{ArePatternsOf};
+ghost use Rattle.zbx_types.specs.declared.items.Item.{Item};
 ghost use Rattle.entry_step.specs.Seen.{HasTexts, ArePatterned};
 
 use event_text::patterns_in;
+use prep_steps::parameter;
 use std::alloc::Global;
-use zbx_types::{Conf, OutOfMemory, Tag, Text, Trigger};
+use std::convert::AsStr;
+use zbx_types::{Conf, Item, OutOfMemory, StepSpec, Tag, Text, Trigger};
 
 /// Whether a text is among some.
 fn is_among(texts: &[Text], text: &Text) -> bool
@@ -77,6 +82,58 @@ pub(crate) fn patterned(alloc: Global, conf: &Conf) -> Result<(), OutOfMemory>
 {
     let have = all_have(alloc, conf.patterns.as_slice(), conf.triggers.as_slice())?;
     if !have {
+        return Err(OutOfMemory);
+    }
+    Ok(())
+}
+
+/// Whether the pattern of a step, if it has one, is among these.
+fn step_has(texts: &[Text], step: &StepSpec) -> bool
+    ensures { result ≡ true → HasPattern texts.now step.now }
+{
+    if !step.kind.has_pattern() {
+        return true;
+    }
+    let pattern = parameter(&step.params, 0);
+    for text in texts {
+        if text.as_str() == pattern {
+            return true;
+        }
+    }
+    false
+}
+
+/// Whether the patterns of steps are among these.
+fn steps_have(texts: &[Text], steps: &[StepSpec]) -> bool
+    ensures { result ≡ true → HavePatterns texts.now steps.now }
+{
+    for step in steps {
+        if !step_has(texts, step) {
+            return false;
+        }
+    }
+    true
+}
+
+/// Whether the patterns of the steps of all items are among these.
+fn items_have(texts: &[Text], items: &[Item]) -> bool
+    ensures { result ≡ true → All (λ (item : Item). HavePatterns texts.now item.steps) items.now }
+{
+    for item in items {
+        if !steps_have(texts, item.steps.as_slice()) {
+            return false;
+        }
+    }
+    true
+}
+
+/// Checks that the patterns of the steps of all items are among those of the configuration: else there is no room for
+/// others.
+#[tactic(auto, using(crate::proofs::Sight::step_patterns))]
+pub(crate) fn stepped(conf: &Conf) -> Result<(), OutOfMemory>
+    ensures { OnOk result (ArePatternsOf conf.now conf.now.patterns) }
+{
+    if !items_have(conf.patterns.as_slice(), conf.items.as_slice()) {
         return Err(OutOfMemory);
     }
     Ok(())

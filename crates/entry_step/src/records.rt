@@ -1,15 +1,15 @@
 //! The records that an entry makes.
 
-ghost use Rattle.std.specs.Prelude.{◌≡◌, ◌++◌, ℕ, List, filter, flat_map, Some, IfOk, OnOk};
+ghost use Rattle.std.specs.Prelude.{◌≡◌, ◌++◌, ℕ, List, filter, flat_map, length, Some, IfOk, OnOk};
 ghost use Rattle.escalations.specs.Escalations.{recovered_records};
 ghost use Rattle.zbx_types.specs.declared.conf.Conf.{Conf};
 ghost use Rattle.zbx_types.specs.Ids.{at_id};
 ghost use Rattle.zbx_types.specs.Records.{same_event};
-ghost use Rattle.trigger_state.specs.Problems.{home, event_in, absorbed_all};
-ghost use Rattle.entry_step.specs.Records.{host_name, problem_of, begun_records, closed_records, failure_of, verdict_records};
+ghost use Rattle.trigger_state.specs.Problems.{home, event_in};
+ghost use Rattle.entry_step.specs.Records.{host_name, problem_of, recovery_of, begun_with, begun_records, closed_records, ruled_records, last_records, verdict_records};
 ghost use Rattle.entry_step.specs.Each.{Each};
-ghost use Rattle.entry_step.specs.Represents.{AllAtHome};
-ghost use Rattle.entry_step.specs.Changes.{outcome_records, outcome_opens, changed, Closes, judged, Serve};
+ghost use Rattle.entry_step.specs.Represents.{problems_at};
+ghost use Rattle.entry_step.specs.Changes.{outcome_records, outcome_rows, EachClosed, judged, Serve, AreTidy, Absorbed};
 ghost use Rattle.event_text.specs.Titles.{event_tags};
 ghost use Rattle.zbx_types.specs.declared.entries.Stored.{Stored};
 ghost use Rattle.entry_step.specs.Calls.{Shown, sight_of};
@@ -20,10 +20,12 @@ use crate::calls::Calls;
 use crate::changes::{Change, Outcome};
 use crate::evaluation::{plan_value, recovery_value};
 use crate::index::Ready;
-use crate::opens::absorbed_row;
+use crate::opens::{absorbed_row, problems_at};
 use crate::plans::Node;
+use crate::ruling::{others_of, ruled};
 use crate::seen::shown_values;
 use escalations::{first_of, recovered};
+use event_correlation::Closes;
 use maintenance::suppressed;
 use std::alloc::Global;
 use trigger_state::{Open, Verdict, verdict_over};
@@ -39,28 +41,6 @@ fn host_name(alloc: Global, conf: &Conf, id: u32) -> Result<Text, OutOfMemory>
         None => Ok(Text::new(alloc)),
         Some(host) => host.name.copy(alloc),
     }
-}
-
-/// The Failure record of a value that its item can't keep.
-#[tactic(auto, unfolding(crate::specs::Records::failure_of))]
-pub(crate) fn failure_of(
-    alloc: Global,
-    conf: &Conf,
-    number: u64,
-    item: u32,
-) -> Result<Many<Rec>, OutOfMemory>
-    ensures { IfOk result (λ made. made ≡ failure_of conf.now number item) }
-{
-    let mut made = Many::new(alloc);
-    if let Some(found) = by_id(conf.items.as_slice(), item) {
-        made.push(Rec::Failure {
-            number,
-            host: host_name(alloc, conf, found.host)?,
-            key: found.key.copy(alloc)?,
-            why: Text::of(alloc, "value: not a number")?,
-        })?;
-    }
-    Ok(made)
 }
 
 /// The Problem record of a trigger at an entry.
@@ -122,28 +102,36 @@ fn push_sent(
     Ok(())
 }
 
+/// The Recovery record of an event at an entry.
+fn recovery_of(number: u64, now: Moment, cause: Cause2, event: EventId) -> Rec
+    ensures { result ≡ recovery_of number now cause event }
+{
+    Rec::Recovery {
+        event,
+        by: number,
+        now,
+        cause,
+    }
+}
+
 /// Adds what the end of a problem makes: its Recovery, then the recovery messages.
 fn push_closed(
     alloc: Global,
     conf: &Conf,
     number: u64,
     now: Moment,
+    cause: Cause2,
     opens: &[Open],
     event: EventId,
     out: &mut Many<Rec>,
 ) -> Result<(), OutOfMemory>
-    ensures { OnOk result (out.new ≡ out.old ++ closed_records conf.now number now opens.now event) }
+    ensures { OnOk result (out.new ≡ out.old ++ closed_records conf.now number now cause opens.now event) }
 {
-    out.push(Rec::Recovery {
-        event,
-        by: number,
-        now,
-        cause: Cause2::Expression,
-    })?;
+    out.push(recovery_of(number, now, cause, event))?;
     push_sent(alloc, conf, now, opens, event, out)
 }
 
-/// What the ends of the problems with these events make.
+/// What the ends of the problems of a trigger with these events make.
 fn closings(
     alloc: Global,
     conf: &Conf,
@@ -152,34 +140,83 @@ fn closings(
     opens: &[Open],
     events: &[EventId],
 ) -> Result<Many<Rec>, OutOfMemory>
-    ensures { IfOk result (λ made. made ≡ flat_map (closed_records conf.now number now opens.now) events.now) }
+    ensures { IfOk result (λ made. made ≡ flat_map (closed_records conf.now number now Cause2.Expression opens.now) events.now) }
 {
+    let cause = Cause2::Expression;
     let mut made = Many::new(alloc);
     for event in events {
-        push_closed(alloc, conf, number, now, opens, *event, &mut made)?;
+        push_closed(alloc, conf, number, now, cause, opens, *event, &mut made)?;
     }
     Ok(made)
 }
 
-/// What a new problem of the trigger with an id makes: its record, then step 1 of each action.
+/// Adds what the ends of the problems that rules close make, each of its own trigger.
+fn push_ruled(
+    alloc: Global,
+    conf: &Conf,
+    number: u64,
+    now: Moment,
+    problems: &[Many<Open>],
+    events: &[EventId],
+    out: &mut Many<Rec>,
+) -> Result<(), OutOfMemory>
+    ensures { OnOk result (out.new ≡ out.old ++ ruled_records conf.now number now (problems_at problems.now) events.now) }
+{
+    let cause = Cause2::Correlation;
+    for event in events {
+        let opens = problems_at(problems, event.trigger);
+        push_closed(alloc, conf, number, now, cause, opens, *event, out)?;
+    }
+    Ok(())
+}
+
+/// Adds what comes last as a problem of the trigger with an id begins: its own Recovery where a rule closes it, else step 1
+/// of each action.
+fn push_last(
+    alloc: Global,
+    conf: &Conf,
+    number: u64,
+    now: Moment,
+    id: u32,
+    problem: &Rec,
+    is_closed: bool,
+    out: &mut Many<Rec>,
+) -> Result<(), OutOfMemory>
+    ensures { OnOk result (out.new ≡ out.old ++ last_records conf.now number now id problem.now is_closed) }
+{
+    if is_closed {
+        out.push(recovery_of(number, now, Cause2::Correlation, problem.event()))?;
+        return Ok(());
+    }
+    let first = first_of(alloc, conf, id, problem, now)?;
+    out.append(first)?;
+    Ok(())
+}
+
+/// What a new problem of the trigger with an id makes, as rules close these: its record, the ends of the old ones, and what
+/// comes last.
 fn begun(
     alloc: Global,
     conf: &Conf,
+    number: u64,
+    now: Moment,
+    problems: &[Many<Open>],
     id: u32,
     problem: &Rec,
-    now: Moment,
+    closes: &Closes,
 ) -> Result<Many<Rec>, OutOfMemory>
-    ensures { IfOk result (λ made. made ≡ begun_records conf.now id problem.now now) }
+    ensures { IfOk result (λ made. made ≡ begun_with conf.now number now (problems_at problems.now) id problem.now closes.now) }
 {
+    let old = closes.old.as_slice();
     let mut made = Many::new(alloc);
     made.push(problem.copy(alloc)?)?;
-    let first = first_of(alloc, conf, id, problem, now)?;
-    made.append(first)?;
+    push_ruled(alloc, conf, number, now, problems, old, &mut made)?;
+    push_last(alloc, conf, number, now, id, problem, closes.new, &mut made)?;
     Ok(made)
 }
 
-/// A new problem of a trigger, behind those that are open. Where no action does anything about it, they stay where they are.
-#[tactic(auto, using(crate::proofs::Problems::one_begun))]
+/// A new problem of a trigger, behind those that are open. Where no rule and no action does anything about it, they stay
+/// where they are.
 fn begin(
     alloc: Global,
     ready: &Ready,
@@ -188,14 +225,16 @@ fn begin(
     values: &[Option<Held>],
     id: u32,
     trigger: &Trigger,
-    opens: &[Open],
+    problems: &[Many<Open>],
 ) -> Result<Outcome, OutOfMemory>
-    ensures records { IfOk result (λ made. made.records ≡ begun_records ready.now id (problem_of ready.now number now values.now id trigger.now) now) }
-    ensures opens { IfOk result (λ made. at_id ready.now.triggers id ≡ Some trigger.now → changed opens.now made.change ≡ absorbed_all ready.now id opens.now made.records) }
+    requires { at_id ready.now.triggers id ≡ Some trigger.now }
+    ensures records { IfOk result (λ made. made.records ≡ begun_records ready.now number now (problems_at problems.now) id (problem_of ready.now number now values.now id trigger.now)) }
+    ensures rows { IfOk result (λ made. length problems.now ≡ length ready.now.triggers → Absorbed ready.now problems.now made.records (outcome_rows problems.now id (Some made))) }
 {
     let conf = ready.conf();
     let problem = problem_of(alloc, ready, number, now, values, id, trigger)?;
-    let records = begun(alloc, conf, id, &problem, now)?;
+    let closes = ruled(alloc, ready, id, &problem, problems)?;
+    let records = begun(alloc, conf, number, now, problems, id, &problem, &closes)?;
     if records.len() == 1 {
         return Ok(Outcome {
             records,
@@ -204,33 +243,45 @@ fn begin(
                 steps: Many::new(alloc),
                 depth: trigger.depth,
             }),
+            others: Many::new(alloc),
         });
     }
-    let all = absorbed_row(alloc, conf, id, opens, records.as_slice())?;
+    let old = closes.old.as_slice();
+    let all = absorbed_row(
+        alloc,
+        conf,
+        id,
+        problems_at(problems, id),
+        records.as_slice(),
+    )?;
+    let others = others_of(alloc, conf, id, problems, old, records.as_slice())?;
     Ok(Outcome {
         records,
         change: Change::Leave(all),
+        others,
     })
 }
 
-/// The end of the open problems with these events.
+/// The end of the open problems of a trigger with these events.
 fn end(
     alloc: Global,
     conf: &Conf,
     number: u64,
     now: Moment,
     id: u32,
-    opens: &[Open],
+    problems: &[Many<Open>],
     events: &[EventId],
 ) -> Result<Outcome, OutOfMemory>
-    ensures records { IfOk result (λ made. made.records ≡ flat_map (closed_records conf.now number now opens.now) events.now) }
-    ensures opens { IfOk result (λ made. changed opens.now made.change ≡ absorbed_all conf.now id opens.now made.records) }
+    ensures records { IfOk result (λ made. made.records ≡ flat_map (closed_records conf.now number now Cause2.Expression (problems_at problems.now id)) events.now) }
+    ensures rows { IfOk result (λ made. Each (λ e. home conf.now e ≡ id) events.now → length problems.now ≡ length conf.now.triggers → Absorbed conf.now problems.now made.records (outcome_rows problems.now id (Some made))) }
 {
+    let opens = problems_at(problems, id);
     let records = closings(alloc, conf, number, now, opens, events)?;
     let all = absorbed_row(alloc, conf, id, opens, records.as_slice())?;
     Ok(Outcome {
         records,
         change: Change::Leave(all),
+        others: Many::new(alloc),
     })
 }
 
@@ -239,12 +290,12 @@ fn end(
 fn settled(
     alloc: Global,
     calls: &Calls,
-    opens: &[Open],
+    problems: &[Many<Open>],
     verdict: &Verdict,
 ) -> Result<Option<Outcome>, OutOfMemory>
     requires { at_id calls.now.ready.now.triggers calls.now.id ≡ Some calls.now.trigger.now }
-    ensures records { IfOk result (λ made. (items : ℕ → List Stored) → Shown calls.now items → outcome_records made ≡ verdict_records calls.now.ready.now calls.now.occasion.number calls.now.occasion.now (shown_values items calls.now.occasion.now calls.now.trigger.now) calls.now.id calls.now.trigger.now opens.now verdict.now) }
-    ensures opens { IfOk result (λ made. Closes (λ e. home calls.now.ready.now e ≡ calls.now.id) verdict.now → outcome_opens opens.now made ≡ absorbed_all calls.now.ready.now calls.now.id opens.now (outcome_records made)) }
+    ensures records { IfOk result (λ made. (items : ℕ → List Stored) → Shown calls.now items → outcome_records made ≡ verdict_records calls.now.ready.now calls.now.occasion.number calls.now.occasion.now (shown_values items calls.now.occasion.now calls.now.trigger.now) calls.now.id calls.now.trigger.now (problems_at problems.now) verdict.now) }
+    ensures rows { IfOk result (λ made. EachClosed (λ e. home calls.now.ready.now e ≡ calls.now.id) verdict.now → length problems.now ≡ length calls.now.ready.now.triggers → Absorbed calls.now.ready.now problems.now (outcome_records made) (outcome_rows problems.now calls.now.id made)) }
 {
     let ready = calls.ready;
     let id = calls.id;
@@ -262,12 +313,13 @@ fn settled(
                 values.as_slice(),
                 id,
                 calls.trigger,
-                opens,
+                problems,
             )?))
         }
         Verdict::Close(events) => {
             let conf = ready.conf();
-            Ok(Some(end(alloc, conf, number, now, id, opens, events.as_slice())?))
+            let events = events.as_slice();
+            Ok(Some(end(alloc, conf, number, now, id, problems, events)?))
         }
     }
 }
@@ -296,19 +348,20 @@ pub(crate) fn judge(
     plan: &[Node],
     recovery: &[Node],
     held: bool,
-    opens: &[Open],
+    problems: &[Many<Open>],
 ) -> Result<Option<Outcome>, OutOfMemory>
     requires there { at_id calls.now.ready.now.triggers calls.now.id ≡ Some calls.now.trigger.now }
     requires plan { plan.now ≡ plan_of calls.now.trigger.now }
     requires recovery { recovery.now ≡ recovery_plan_of calls.now.trigger.now }
-    ensures records { IfOk result (λ made. (items : ℕ → List Stored) → Shown calls.now items → outcome_records made ≡ judged calls.now.ready.now calls.now.occasion (sight_of calls.now values.now items) calls.now.id calls.now.trigger.now held opens.now) }
-    ensures opens { IfOk result (λ made. AllAtHome calls.now.ready.now calls.now.id opens.now → outcome_opens opens.now made ≡ absorbed_all calls.now.ready.now calls.now.id opens.now (outcome_records made)) }
+    ensures records { IfOk result (λ made. (items : ℕ → List Stored) → Shown calls.now items → outcome_records made ≡ judged calls.now.ready.now calls.now.occasion (sight_of calls.now values.now items) calls.now.id calls.now.trigger.now held (problems_at problems.now)) }
+    ensures rows { IfOk result (λ made. AreTidy calls.now.ready.now problems.now → Absorbed calls.now.ready.now problems.now (outcome_records made) (outcome_rows problems.now calls.now.id made)) }
 {
     let trigger = calls.trigger;
+    let opens = problems_at(problems, calls.id);
     let tags = closing_tags(alloc, calls, opens)?;
     let p = plan_value(values, trigger, plan);
     let r = recovery_value(values, trigger, recovery);
     let is_value = calls.occasion.is_value;
     let verdict = verdict_over(alloc, trigger, held, opens, p, r, tags.as_slice(), is_value)?;
-    settled(alloc, calls, opens, &verdict)
+    settled(alloc, calls, problems, &verdict)
 }

@@ -1,34 +1,65 @@
-//! One step: the triggers over the entry's item are evaluated one after another, each over what those before it left in
-//! the cells. Where memory is refused, what was changed is put back.
+//! One step: what an entry's value leaves at its item and at those below it is prepared, the triggers over them are evaluated
+//! one after another, each over what those before it left in the cells, and then what was prepared is put in place. Where
+//! memory is refused, what was changed is put back, also what rules closed of other triggers.
 
-ghost use Rattle.std.specs.Prelude.{◌≡◌, ◌≤◌, ◌+◌, ◌∷◌, [], ℕ, List, length, Some, IfOk, OnOk, OnErr};
+ghost use Rattle.std.specs.Prelude.{◌≡◌, ◌≤◌, ◌+◌, ◌∷◌, ◌++◌, [], ℕ, List, length, filter, Some, is_some, IfSome, IfOk, OnOk, OnErr, if◌then◌else◌};
+ghost use Rattle.std.specs.List.{list_any};
 ghost use Rattle.zbx_types.specs.declared.entries.Entry.TheVariants.{Value};
 ghost use Rattle.zbx_types.specs.declared.entries.Numbered.{Numbered};
 ghost use Rattle.zbx_types.specs.declared.entries.Stored.{Stored};
 ghost use Rattle.entry_step.specs.Log.{Suits};
-ghost use Rattle.entry_step.specs.History.{stored_of};
-ghost use Rattle.trigger_state.specs.Problems.{absorbed_all};
-ghost use Rattle.entry_step.specs.Records.{evaluated, triggers_over, timed_triggers, triggers_at, out_of, replay};
+ghost use Rattle.preprocess.specs.Visits.{memory_in};
+ghost use Rattle.preprocess.specs.Draft.{stored_at, AreApart, HaveRoom};
+ghost use Rattle.preprocess.specs.Cells.{Becomes};
+ghost use Rattle.entry_step.specs.History.{visits_at};
+ghost use Rattle.entry_step.specs.Records.{evaluated, timed_triggers, triggers_at, out_of, replay};
 ghost use Rattle.entry_step.specs.Kept.{still_to_come, SeesFor};
-ghost use Rattle.entry_step.specs.Represents.{Holds, StepsTo, AllAtHome, problems_at};
-ghost use Rattle.entry_step.specs.Changes.{outcome_records, outcome_opens, put_back, RunsOver, TakesIn, Takes, TakesTick};
+ghost use Rattle.entry_step.specs.Represents.{Holds, StepsTo, problems_at};
+ghost use Rattle.entry_step.specs.Changes.{is_asked, outcome_records, outcome_rows, put_back, AreTidy, RunsOver, RunsOn, Absorbed, Drafted, TakesIn, TakesTick};
+ghost use Rattle.entry_step.specs.Index.{triggers_under};
 
 use crate::call_values::values_of;
 use crate::calls::Calls;
 use crate::cells::Cells;
 use crate::changes::{Draft, Outcome, put_back};
 use crate::due::run_due;
-use crate::history::{put, store};
 use crate::index::Ready;
 use crate::occasions::{Occasion, occasion_of};
-use crate::opens::{Looked, problems_at};
-use crate::records::{failure_of, judge};
+use crate::opens::Looked;
+use crate::records::judge;
 use crate::steps::Steps;
+use preprocess::{Prepared, commit};
 use std::alloc::Global;
 use std::sync::ledger::Ledger;
 use trigger_state::{Open, held_by};
 use value_cache::ItemCell;
-use zbx_types::{Entry, Many, Moment, Numbered, OutOfMemory, Rec, Stored, Text, by_id};
+use zbx_types::{Conf, Entry, Many, Moment, Numbered, OutOfMemory, Rec, Text, by_id};
+
+/// Whether the trigger with an id is evaluated: where values are to be stored, it has a call over an item that is to store
+/// one.
+fn is_asked(conf: &Conf, coming: &Option<preprocess::Draft>, id: u32) -> bool
+    ensures { result ≡ is_asked conf.now coming.now id }
+{
+    let Some(draft) = coming else {
+        return true;
+    };
+    match by_id(conf.triggers.as_slice(), id) {
+        None => false,
+        Some(trigger) => trigger.enabled && stores_one(draft, trigger.call_items.as_slice()),
+    }
+}
+
+/// Whether one of these items is to store a value.
+fn stores_one(draft: &preprocess::Draft, items: &[u32]) -> bool
+    ensures { result ≡ list_any (λ item. is_some (stored_at draft.now.visits item)) items.now }
+{
+    for item in items {
+        if draft.stored(*item).is_some() {
+            return true;
+        }
+    }
+    false
+}
 
 /// What the trigger with an id adds on an occasion. None: nothing changes.
 #[tactic(auto, using(crate::proofs::Landing::evaluated_none))]
@@ -38,12 +69,11 @@ fn outcome_of(
     items: &[ItemCell],
     problems: &[Many<Open>],
     occasion: &Occasion,
-    item: u32,
-    stored: &Option<Stored>,
+    coming: &Option<preprocess::Draft>,
     id: u32,
 ) -> Result<Option<Outcome>, OutOfMemory>
-    ensures records { IfOk result (λ made. (histories : ℕ → List Stored) → SeesFor ready.now items.now (still_to_come item stored.now) occasion.entry.now.now histories id → outcome_records made ≡ evaluated ready.now occasion.entry.now histories (problems_at problems.now) id) }
-    ensures opens { IfOk result (λ made. AllAtHome ready.now id (problems_at problems.now id) → outcome_opens (problems_at problems.now id) made ≡ absorbed_all ready.now id (problems_at problems.now id) (outcome_records made)) }
+    ensures records { IfOk result (λ made. (histories : ℕ → List Stored) → SeesFor ready.now items.now (still_to_come coming.now) occasion.entry.now.now histories id → outcome_records made ≡ evaluated ready.now occasion.entry.now histories (problems_at problems.now) id) }
+    ensures rows { IfOk result (λ made. AreTidy ready.now problems.now → Absorbed ready.now problems.now (outcome_records made) (outcome_rows problems.now id made)) }
 {
     let conf = ready.conf();
     let Some(trigger) = by_id(conf.triggers.as_slice(), id) else {
@@ -52,15 +82,13 @@ fn outcome_of(
     let calls = Calls {
         ready,
         items,
-        item,
-        stored,
+        coming,
         occasion: *occasion,
         id,
         trigger,
     };
     let values = values_of(alloc, &calls)?;
     let held = held_by(ready.masters(id), &Looked { problems });
-    let opens = problems_at(problems, id);
     judge(
         alloc,
         &calls,
@@ -68,8 +96,36 @@ fn outcome_of(
         ready.plan(id),
         ready.recovery_plan(id),
         held,
-        opens,
+        problems,
     )
+}
+
+/// Evaluates the trigger with an id on an occasion, if it is to be evaluated. What it had before is kept in the draft, also
+/// at `Err`.
+fn evaluate_one<L: Ledger>(
+    alloc: Global,
+    ready: &Ready,
+    items: &[ItemCell],
+    problems: &mut Vec<Many<Open>>,
+    occasion: &Occasion,
+    coming: &Option<preprocess::Draft>,
+    id: u32,
+    draft: &mut Draft,
+    steps: &mut Steps<L>,
+) -> Result<(), OutOfMemory>
+    ensures same { put_back problems.new.items draft.new.taken ≡ put_back problems.old.items draft.old.taken }
+    ensures runs { OnOk result (RunsOn ready.now occasion.entry.now items.now (still_to_come coming.now) (is_asked ready.now coming.now id) id draft.old.records problems.old.items draft.new.records problems.new.items) }
+    ensures counted { OnOk result (steps.new ≡ steps.old + (if is_asked ready.now coming.now id then 1 else 0)) }
+    ensures most { steps.new ≤ steps.old + (if is_asked ready.now coming.now id then 1 else 0) }
+{
+    if !is_asked(ready.conf(), coming, id) {
+        return Ok(());
+    }
+    let rows = problems.as_slice();
+    let outcome = outcome_of(alloc, ready, items, rows, occasion, coming, id)?;
+    draft.take(alloc, problems, id, outcome)?;
+    steps.tick();
+    Ok(())
 }
 
 /// Evaluates triggers on an occasion, one after another. What they had before is kept in the draft, also at `Err`.
@@ -79,23 +135,21 @@ fn evaluate_all<L: Ledger>(
     items: &[ItemCell],
     problems: &mut Vec<Many<Open>>,
     occasion: &Occasion,
-    item: u32,
-    stored: &Option<Stored>,
+    coming: &Option<preprocess::Draft>,
     ids: &[u32],
     draft: &mut Draft,
     steps: &mut Steps<L>,
 ) -> Result<(), OutOfMemory>
     requires { draft.old.records ≡ [] }
     ensures same { put_back problems.new.items draft.new.taken ≡ put_back problems.old.items draft.old.taken }
-    ensures runs { OnOk result (RunsOver ready.now occasion.entry.now items.now (still_to_come item stored.now) problems.old.items ids.now draft.new.records problems.new.items) }
-    ensures counted { OnOk result (steps.new ≡ steps.old + length ids.now) }
-    ensures most { steps.new ≤ steps.old + length ids.now }
+    ensures runs { OnOk result (RunsOver ready.now occasion.entry.now items.now (still_to_come coming.now) problems.old.items (filter (is_asked ready.now coming.now) ids.now) draft.new.records problems.new.items) }
+    ensures counted { OnOk result (steps.new ≡ steps.old + length (filter (is_asked ready.now coming.now) ids.now)) }
+    ensures most { steps.new ≤ steps.old + length (filter (is_asked ready.now coming.now) ids.now) }
 {
     for id in ids {
-        let rows = problems.as_slice();
-        let outcome = outcome_of(alloc, ready, items, rows, occasion, item, stored, *id)?;
-        draft.take(alloc, problems, *id, outcome)?;
-        steps.tick();
+        evaluate_one(
+            alloc, ready, items, problems, occasion, coming, *id, draft, steps,
+        )?;
     }
     Ok(())
 }
@@ -107,14 +161,13 @@ fn evaluated<L: Ledger>(
     items: &[ItemCell],
     problems: &mut Vec<Many<Open>>,
     occasion: &Occasion,
-    item: u32,
-    stored: &Option<Stored>,
+    coming: &Option<preprocess::Draft>,
     ids: &[u32],
     steps: &mut Steps<L>,
 ) -> Result<Draft, OutOfMemory>
     ensures same { IfOk result (λ draft. put_back problems.new.items draft.taken ≡ problems.old.items) }
-    ensures runs { IfOk result (λ draft. RunsOver ready.now occasion.entry.now items.now (still_to_come item stored.now) problems.old.items ids.now draft.records problems.new.items) }
-    ensures counted { OnOk result (steps.new ≡ steps.old + length ids.now) }
+    ensures runs { IfOk result (λ draft. RunsOver ready.now occasion.entry.now items.now (still_to_come coming.now) problems.old.items (filter (is_asked ready.now coming.now) ids.now) draft.records problems.new.items) }
+    ensures counted { OnOk result (steps.new ≡ steps.old + length (filter (is_asked ready.now coming.now) ids.now)) }
     ensures err { OnErr result (problems.new.items ≡ problems.old.items) }
 {
     let mut draft = Draft {
@@ -122,7 +175,7 @@ fn evaluated<L: Ledger>(
         taken: Many::new(alloc),
     };
     match evaluate_all(
-        alloc, ready, items, problems, occasion, item, stored, ids, &mut draft, steps,
+        alloc, ready, items, problems, occasion, coming, ids, &mut draft, steps,
     ) {
         Ok(()) => Ok(draft),
         Err(OutOfMemory) => {
@@ -132,7 +185,8 @@ fn evaluated<L: Ledger>(
     }
 }
 
-/// Takes a value of an item: what it stores goes into the cells, and the triggers over the item are evaluated.
+/// Takes a value of an item: it goes through its item and those that depend on it, and what they store goes into the cells;
+/// the triggers over what is stored are evaluated, as if it were there already.
 fn take_value<L: Ledger>(
     alloc: Global,
     ready: &Ready,
@@ -143,52 +197,94 @@ fn take_value<L: Ledger>(
     value: &Text,
     steps: &mut Steps<L>,
 ) -> Result<Many<Rec>, OutOfMemory>
-    ensures ok { IfOk result (λ made. Takes ready.now occasion.entry.now item (stored_of ready.now occasion.entry.now.number (Value occasion.entry.now.now item time value.now) item) cells.old made cells.new) }
+    ensures ok { IfOk result (λ made. TakesIn ready.now occasion.entry.now (visits_at ready.now (memory_in cells.old.memories) occasion.entry.now.number (Value occasion.entry.now.now item time value.now)) (triggers_at ready.now (memory_in cells.old.memories) occasion.entry.now.number (Value occasion.entry.now.now item time value.now)) cells.old made cells.new) }
     ensures err { OnErr result (cells.new ≡ cells.old) }
-    ensures counted { OnOk result (steps.new ≡ steps.old + length (triggers_at ready.now occasion.entry.now.number (Value occasion.entry.now.now item time value.now))) }
+    ensures counted { OnOk result (steps.new ≡ steps.old + length (triggers_at ready.now (memory_in cells.old.memories) occasion.entry.now.number (Value occasion.entry.now.now item time value.now))) }
 {
-    let stored = store(alloc, ready.conf(), occasion.number, item, time, value)?;
-    match stored {
-        None => failure_of(alloc, ready.conf(), occasion.number, item),
-        Some(stored) => take_stored(alloc, ready, cells, occasion, item, Some(stored), steps),
-    }
+    let Prepared { draft, failures } = ready.prepare(
+        alloc,
+        &mut cells.items,
+        item,
+        value,
+        time,
+        occasion.number,
+    )?;
+    take_draft(
+        alloc,
+        ready,
+        &mut cells.items,
+        &mut cells.problems,
+        occasion,
+        item,
+        Some(draft),
+        failures,
+        steps,
+    )
 }
 
-/// Takes a value that an item stored.
-fn take_stored<L: Ledger>(
+/// Takes what was prepared of a value: the triggers over what it is to store are evaluated, and then it is put in place.
+fn take_draft<L: Ledger>(
     alloc: Global,
     ready: &Ready,
-    cells: &mut Cells,
+    items: &mut preprocess::Cells,
+    problems: &mut Vec<Many<Open>>,
     occasion: &Occasion,
     item: u32,
-    stored: Option<Stored>,
+    coming: Option<preprocess::Draft>,
+    failures: Many<Rec>,
     steps: &mut Steps<L>,
 ) -> Result<Many<Rec>, OutOfMemory>
-    ensures ok { IfOk result (λ made. (s : Stored) → stored ≡ Some s → TakesIn ready.now occasion.entry.now item s cells.old made cells.new) }
-    ensures err { OnErr result (cells.new ≡ cells.old) }
-    ensures counted { OnOk result (steps.new ≡ steps.old + length (triggers_over ready.now item)) }
+    requires apart { IfSome coming (λ draft. AreApart draft.visits) }
+    requires room { IfSome coming (λ draft. HaveRoom items.old.cells.items draft.visits) }
+    ensures made { IfOk result (λ made. Drafted ready.now occasion.entry.now coming (filter (is_asked ready.now coming) (triggers_under ready.now item)) failures items.old.cells.items problems.old.items made problems.new.items) }
+    ensures came { OnOk result (IfSome coming (λ draft. Becomes occasion.entry.now.now draft.visits items.old items.new)) }
+    ensures counted { OnOk result (steps.new ≡ steps.old + length (filter (is_asked ready.now coming) (triggers_under ready.now item))) }
+    ensures items { OnErr result (items.new ≡ items.old) }
+    ensures problems { OnErr result (problems.new.items ≡ problems.old.items) }
 {
     let draft = evaluated(
         alloc,
         ready,
-        cells.items.as_slice(),
-        &mut cells.problems,
+        items.cells(),
+        problems,
         occasion,
-        item,
-        &stored,
+        &coming,
         ready.over(item),
         steps,
     )?;
-    let Some(stored) = stored else {
-        return Ok(draft.records);
-    };
-    match put(&mut cells.items, item, stored, occasion.now) {
-        Ok(()) => Ok(draft.records),
+    match behind(failures, draft.records) {
+        Ok(records) => {
+            settle(items, coming, occasion.now);
+            Ok(records)
+        }
         Err(OutOfMemory) => {
-            put_back(alloc, &mut cells.problems, draft.taken);
+            put_back(alloc, problems, draft.taken);
             Err(OutOfMemory)
         }
     }
+}
+
+/// Puts in place what was prepared, if something was.
+fn settle(items: &mut preprocess::Cells, coming: Option<preprocess::Draft>, now: Moment)
+    requires apart { IfSome coming (λ draft. AreApart draft.visits) }
+    requires room { IfSome coming (λ draft. HaveRoom items.old.cells.items draft.visits) }
+    ensures { IfSome coming (λ draft. Becomes now draft.visits items.old items.new) }
+{
+    if let Some(draft) = coming {
+        commit(items, draft, now);
+    }
+}
+
+/// Failures, with the records of triggers behind them.
+fn behind(failures: Many<Rec>, records: Many<Rec>) -> Result<Many<Rec>, OutOfMemory>
+    ensures { IfOk result (λ all. all ≡ failures ++ records) }
+{
+    if failures.len() == 0 {
+        return Ok(records);
+    }
+    let mut all = failures;
+    all.append(records)?;
+    Ok(all)
 }
 
 /// Takes a Tick: the triggers whose functions change with time are evaluated, and then the steps that are due run.
@@ -206,10 +302,9 @@ fn take_tick<L: Ledger>(
     let mut draft = evaluated(
         alloc,
         ready,
-        cells.items.as_slice(),
+        cells.items.cells(),
         &mut cells.problems,
         occasion,
-        0,
         &None,
         ready.timed(),
         steps,
@@ -236,7 +331,7 @@ fn advance<L: Ledger>(
     steps: &mut Steps<L>,
 ) -> Result<Many<Rec>, OutOfMemory>
     ensures made { IfOk result (λ made. StepsTo ready.now cells.old entry.now made cells.new) }
-    ensures counted { OnOk result (steps.new ≡ steps.old + length (triggers_at ready.now entry.now.number entry.now.entry)) }
+    ensures counted { OnOk result (steps.new ≡ steps.old + length (triggers_at ready.now (memory_in cells.old.memories) entry.now.number entry.now.entry)) }
     ensures err { OnErr result (cells.new ≡ cells.old) }
 {
     let occasion = occasion_of(cells.tick, entry);
@@ -262,7 +357,8 @@ fn advance<L: Ledger>(
 /// before, and the entry may be taken again.
 ///
 /// Only the triggers over a value's item are looked at, and at a Tick those with a function of time and, where there are
-/// actions, the problems that are open.
+/// actions, the problems that are open. For a new problem of a trigger that a rule of global correlation reaches, all
+/// problems that are open are looked at.
 pub fn step<L: Ledger>(
     alloc: Global,
     ready: &Ready,
@@ -273,7 +369,7 @@ pub fn step<L: Ledger>(
     ensures made { IfOk result (λ made. StepsTo ready.now cells.old entry.now made cells.new) }
     ensures out { IfOk result (λ made. (log : List Numbered) → Holds ready.now cells.old log → Suits ready.now (entry.now ∷ log) → made ≡ out_of ready.now log entry.now entry.now.entry (replay ready.now log)) }
     ensures holds { OnOk result ((log : List Numbered) → Holds ready.now cells.old log → Suits ready.now (entry.now ∷ log) → Holds ready.now cells.new (entry.now ∷ log)) }
-    ensures counted { OnOk result (steps.new ≡ steps.old + length (triggers_at ready.now entry.now.number entry.now.entry)) }
+    ensures counted { OnOk result (steps.new ≡ steps.old + length (triggers_at ready.now (memory_in cells.old.memories) entry.now.number entry.now.entry)) }
     ensures err { OnErr result (cells.new ≡ cells.old) }
 {
     advance(alloc, ready, cells, entry, steps)

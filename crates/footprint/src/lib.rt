@@ -31,6 +31,8 @@ mod rows;
 mod tables;
 
 pub use feet::Feet;
+pub use reach::in_reach;
+pub use tables::chain;
 
 #[cfg(test)]
 mod tests;

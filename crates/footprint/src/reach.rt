@@ -105,8 +105,9 @@ fn reaches(rule: &Rule, tags: &[Tag]) -> bool
     }
 }
 
-/// Whether a rule's reach holds a trigger.
-fn in_reach(rule: &Rule, trigger: &Trigger) -> bool
+/// Whether a rule's reach holds a trigger: a problem of the trigger can be one of the two that the rule is about. Under `or`
+/// it holds each trigger, under `and` those that have all tags that the conditions on one side ask for.
+pub fn in_reach(rule: &Rule, trigger: &Trigger) -> bool
     ensures { result ≡ in_reach rule.now trigger.now }
 {
     reaches(rule, trigger.tags.as_slice())

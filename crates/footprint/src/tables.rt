@@ -30,8 +30,8 @@ fn master_of(conf: &Conf, id: u32) -> u32
     }
 }
 
-/// An item, its master item, that one's, and so on.
-fn chain(alloc: Global, conf: &Conf, item: u32) -> Result<Many<u32>, OutOfMemory>
+/// The ids of an item, of its master item, of that one's, and so on. [`OutOfMemory`] where there is no room for them.
+pub fn chain(alloc: Global, conf: &Conf, item: u32) -> Result<Many<u32>, OutOfMemory>
     ensures { IfOk result (λ row. row ≡ chain conf.now (length conf.now.items) item) }
 {
     let mut row = Many::new(alloc);

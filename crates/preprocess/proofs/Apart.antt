@@ -1,5 +1,5 @@
 -- No item is visited twice at an entry.
-use Rattle.std.proofs.Common.{◌≡◌, ◌≢◌, ◌≤◌, ◌+◌, ◌==◌, ℕ, zero, suc, List, [], ◌∷◌, ◌++◌, length, flat_map, filter_map, Bool, true, false, cond, true≢false, Option, Some, None, option_map, refl, ap, sym, ◌∙◌, subst, arith, eqb-true, is_some}
+use Rattle.std.proofs.Common.{◌≡◌, ◌≢◌, ◌≤◌, ◌+◌, ◌-◌, ◌==◌, ℕ, zero, suc, List, [], ◌∷◌, ◌++◌, length, flat_map, filter_map, Bool, true, false, cond, true≢false, Option, Some, None, option_map, refl, ap, sym, ◌∙◌, subst, arith, eqb-true, is_some}
 use Rattle.std.specs.Prelude.{⊤}
 use Rattle.std.specs.List.{cons_option, AllByRecursion}
 use Rattle.zbx_types.specs.Ids.{at_id}
@@ -13,16 +13,16 @@ use Rattle.preprocess.specs.Walks.{takes, takes_by}
 use Rattle.preprocess.proofs.Visiting.{Memory, found, each_dependent, both, visits_is, first_refused}
 
 -- the master of an item
-abbrev master_by : Option Item → ℕ
+abbrev pub master_by : Option Item → ℕ
 master_by None = 0
 master_by (Some item) = item.master
 
-abbrev depends_by : Option Item → Bool
+abbrev pub depends_by : Option Item → Bool
 depends_by None = false
 depends_by (Some item) = is_dependent item
 
 -- an item stands so many dependences below another one
-abbrev Under : Conf → ℕ → ℕ → ℕ → Type 0
+abbrev pub Under : Conf → ℕ → ℕ → ℕ → Type 0
 Under conf zero top x = x ≡ top
 Under conf (suc r) top x = (depends_by (at_id conf.items x) ≡ true) × Under conf r top (master_by (at_id conf.items x))
 
@@ -38,7 +38,7 @@ one_depth conf root free (suc r) zero x p q = absurd (true≢false (sym p.0 ∙ 
 one_depth conf root free (suc r) (suc s) x p q = ap suc (one_depth conf root free r s (master_by (at_id conf.items x)) p.1 q.1)
 
 -- one dependence more at the top
-under_more : (conf : Conf) (s m c x : ℕ) → Under conf 1 m c → Under conf s c x → Under conf (suc s) m x
+pub under_more : (conf : Conf) (s m c x : ℕ) → Under conf 1 m c → Under conf s c x → Under conf (suc s) m x
 under_more conf zero m c x h p = subst (λ y. Under conf 1 m y) (sym p) h
 under_more conf (suc s) m c x h p = (p.0, under_more conf s m c (master_by (at_id conf.items x)) h p.1)
 
@@ -49,14 +49,14 @@ under_both conf zero d n root m x e h p =
 under_both conf (suc s) d zero root m x e h p = absurd (omega (arith, e))
 under_both conf (suc s) d (suc n) root m x e h p = (p.0, under_both conf s d n root m (master_by (at_id conf.items x)) (omega (arith, e)) h p.1)
 
-dependent_under : (conf : Conf) (id c : ℕ) (item : Item) → at_id conf.items c ≡ Some item → depends_on id item ≡ true → Under conf 1 id c
+pub dependent_under : (conf : Conf) (id c : ℕ) (item : Item) → at_id conf.items c ≡ Some item → depends_on id item ≡ true → Under conf 1 id c
 dependent_under conf id c item at dep =
     let two = both (is_dependent item) (item.master == id) dep in
     (ap depends_by at ∙ two.0, ap master_by at ∙ eqb-true item.master id two.1)
 
 -- ---- lists
 
-all_map : {A : Type 0} (P Q : A → Type 0) → ((x : A) → P x → Q x) → (xs : List A) → AllByRecursion P xs → AllByRecursion Q xs
+pub all_map : {A : Type 0} (P Q : A → Type 0) → ((x : A) → P x → Q x) → (xs : List A) → AllByRecursion P xs → AllByRecursion Q xs
 all_map P Q h [] all = tt
 all_map P Q h (x ∷ xs) all = (h x all.0, all_map P Q h xs all.1)
 
@@ -64,7 +64,7 @@ all_append : {A : Type 0} (P : A → Type 0) (xs ys : List A) → AllByRecursion
 all_append P [] ys a b = b
 all_append P (x ∷ xs) ys a b = (a.0, all_append P xs ys a.1 b)
 
-all_flat : (P : ℕ → Type 0) (V : ℕ → List ℕ) (cs : List ℕ) → AllByRecursion (λ c. AllByRecursion P (V c)) cs → AllByRecursion P (flat_map V cs)
+pub all_flat : (P : ℕ → Type 0) (V : ℕ → List ℕ) (cs : List ℕ) → AllByRecursion (λ c. AllByRecursion P (V c)) cs → AllByRecursion P (flat_map V cs)
 all_flat P V [] all = tt
 all_flat P V (c ∷ cs) all = all_append P (V c) (flat_map V cs) all.0 (all_flat P V cs all.1)
 
@@ -170,12 +170,12 @@ visits_apart_by : (g : ℕ → Option Visit) → ((x : ℕ) (v : Visit) → g x 
 visits_apart_by g h [] a = tt
 visits_apart_by g h (x ∷ ids) a = first_by g h x ids (g x) refl a.0 (visits_apart_by g h ids a.1)
 
-found_at : (conf : Conf) (memory : Memory) (arrival : Arrival) (x : ℕ) (v : Visit) → found conf memory arrival x ≡ Some v → v.item ≡ x
+pub found_at : (conf : Conf) (memory : Memory) (arrival : Arrival) (x : ℕ) (v : Visit) → found conf memory arrival x ≡ Some v → v.item ≡ x
 found_at conf memory arrival x v e = go (result_of conf memory arrival x) e
   where
-    go : (o : Option _) → option_map (visit_of x) o ≡ Some v → v.item ≡ x
+    go : (o : Option _) → option_map (visit_of arrival.time arrival.number x) o ≡ Some v → v.item ≡ x
     go None e = absurd (true≢false (sym (ap is_some e)))
-    go (Some c) e = let s : visit_of x c ≡ v = cc in ap (λ w. w.item) (sym s)
+    go (Some c) e = let s : visit_of arrival.time arrival.number x c ≡ v = cc in ap (λ w. w.item) (sym s)
 
 -- no item is visited twice
 pub visits_apart : (conf : Conf) (memory : Memory) (arrival : Arrival) → AreApart (visits_of conf memory arrival)
@@ -187,5 +187,5 @@ visits_apart conf memory arrival = go (takes conf arrival.item) refl
 
     go : (b : Bool) → takes conf arrival.item ≡ b → AreApart (visits_of conf memory arrival)
     go false t = subst AreApart (first_refused conf memory arrival t) tt
-    go true t = subst AreApart (sym (visits_is conf memory arrival)) (visits_apart_by (found conf memory arrival) (found_at conf memory arrival) (visited conf (length conf.items) arrival.item)
-        (visited_apart conf arrival.item (free_by (at_id conf.items arrival.item) t) (length conf.items) 0 arrival.item refl))
+    go true t = subst AreApart (sym (visits_is conf memory arrival)) (visits_apart_by (found conf memory arrival) (found_at conf memory arrival) (visited conf (length conf.items - 1) arrival.item)
+        (visited_apart conf arrival.item (free_by (at_id conf.items arrival.item) t) (length conf.items - 1) 0 arrival.item refl))

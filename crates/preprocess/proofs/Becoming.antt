@@ -6,8 +6,8 @@ use Rattle.preprocess.specs.Draft.{kept_after, marks_after, visit_at}
 use Rattle.preprocess.specs.declared.cells.Cells.{Cells}
 use Rattle.preprocess.specs.declared.visit.Visit.{Visit}
 
-pub same_becomes : (now time number : ℕ) (visits : List Visit) (before between after : Cells) → AreSame between before → Becomes now time number visits between after → Becomes now time number visits before after
-same_becomes now time number visits before between after same is = record {
-  cells = λ id. is.cells id ∙ ap (λ rows. option_map (kept_after now time number (visit_at visits id)) (at_id rows id)) same.cells;
+pub same_becomes : (now : ℕ) (visits : List Visit) (before between after : Cells) → AreSame between before → Becomes now visits between after → Becomes now visits before after
+same_becomes now visits before between after same is = record {
+  cells = λ id. is.cells id ∙ ap (λ rows. option_map (kept_after now (visit_at visits id)) (at_id rows id)) same.cells;
   memories = λ id. is.memories id ∙ ap (λ rows. option_map (marks_after (visit_at visits id)) (at_id rows id)) same.memories;
 }

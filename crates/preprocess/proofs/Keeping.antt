@@ -197,22 +197,22 @@ put_other now (Some s) id other rows ne = go (at_id rows id)
     go (Some k) = row_other rows id other (kept_with now (Some s) k) ne
 
 -- what is to come after a visit, and before it
-pub kept_on : (now time number : ℕ) (v : Visit) (rest : List Visit) (rows after : List Kept) → after ≡ kept_put now (stored_by time number v.outcome) v.item rows → IsOther v.item rest
-    → (id : ℕ) → option_map (kept_after now time number (visit_at rest id)) (at_id after id) ≡ option_map (kept_after now time number (visit_at (v ∷ rest) id)) (at_id rows id)
-kept_on now time number v rest rows after is others id = go (v.item == id) refl
+pub kept_on : (now : ℕ) (v : Visit) (rest : List Visit) (rows after : List Kept) → after ≡ kept_put now (stored_by v.outcome) v.item rows → IsOther v.item rest
+    → (id : ℕ) → option_map (kept_after now (visit_at rest id)) (at_id after id) ≡ option_map (kept_after now (visit_at (v ∷ rest) id)) (at_id rows id)
+kept_on now v rest rows after is others id = go (v.item == id) refl
   where
-    go : (b : Bool) → (v.item == id) ≡ b → option_map (kept_after now time number (visit_at rest id)) (at_id after id) ≡ option_map (kept_after now time number (visit_at (v ∷ rest) id)) (at_id rows id)
+    go : (b : Bool) → (v.item == id) ≡ b → option_map (kept_after now (visit_at rest id)) (at_id after id) ≡ option_map (kept_after now (visit_at (v ∷ rest) id)) (at_id rows id)
     go true e =
         let s : v.item ≡ id = eqb-true v.item id e in
-        ap (λ o. option_map (kept_after now time number o) (at_id after id)) (no_visit id rest (subst (λ i. IsOther i rest) s others))
-        ∙ same_map (kept_after now time number None) (λ k. refl) (at_id after id)
-        ∙ ap (λ x. at_id x id) (is ∙ ap (λ i. kept_put now (stored_by time number v.outcome) i rows) s)
-        ∙ put_own now (stored_by time number v.outcome) id rows
-        ∙ sym (ap (λ o. option_map (kept_after now time number o) (at_id rows id)) (own_visit id v rest s))
+        ap (λ o. option_map (kept_after now o) (at_id after id)) (no_visit id rest (subst (λ i. IsOther i rest) s others))
+        ∙ same_map (kept_after now None) (λ k. refl) (at_id after id)
+        ∙ ap (λ x. at_id x id) (is ∙ ap (λ i. kept_put now (stored_by v.outcome) i rows) s)
+        ∙ put_own now (stored_by v.outcome) id rows
+        ∙ sym (ap (λ o. option_map (kept_after now o) (at_id rows id)) (own_visit id v rest s))
     go false e =
         let ne : v.item ≢ id = λ s. true≢false (sym (eq-eqb v.item id s) ∙ e) in
-        ap (option_map (kept_after now time number (visit_at rest id))) (ap (λ x. at_id x id) is ∙ put_other now (stored_by time number v.outcome) v.item id rows ne)
-        ∙ sym (ap (λ o. option_map (kept_after now time number o) (at_id rows id)) (other_visit id v rest ne))
+        ap (option_map (kept_after now (visit_at rest id))) (ap (λ x. at_id x id) is ∙ put_other now (stored_by v.outcome) v.item id rows ne)
+        ∙ sym (ap (λ o. option_map (kept_after now o) (at_id rows id)) (other_visit id v rest ne))
 
 pub marks_on : (v : Visit) (rest : List Visit) (rows after : List (List StepMemory)) → after ≡ with_row rows v.item v.marks → IsOther v.item rest
     → (id : ℕ) → option_map (marks_after (visit_at rest id)) (at_id after id) ≡ option_map (marks_after (visit_at (v ∷ rest) id)) (at_id rows id)
@@ -237,8 +237,8 @@ room_on cells after v [] h others all = tt
 room_on cells after v (w ∷ rest) h others all = (h w.item others.0 all.0, room_on cells after v rest h others.1 all.1)
 
 -- at the end nothing is to come
-pub kept_end : (now time number : ℕ) (o : Option Kept) → option_map (kept_after now time number None) o ≡ o
-kept_end now time number o = same_map (kept_after now time number None) (λ k. refl) o
+pub kept_end : (now : ℕ) (o : Option Kept) → option_map (kept_after now None) o ≡ o
+kept_end now o = same_map (kept_after now None) (λ k. refl) o
 
 pub marks_end : (o : Option (List StepMemory)) → option_map (marks_after None) o ≡ o
 marks_end o = same_map (marks_after None) (λ k. refl) o

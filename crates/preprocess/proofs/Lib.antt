@@ -3,8 +3,9 @@ mod Rows
 mod Chaining
 mod Walking
 mod Visiting
-mod Apart
+pub mod Apart
+pub mod Local
 mod Keeping
-mod Becoming
+pub mod Becoming
 mod Plain
-mod Logs
+pub mod Logs

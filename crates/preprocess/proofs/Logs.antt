@@ -10,14 +10,14 @@ use Rattle.value_cache.specs.Laws.{kept_of as trimmed_of}
 use Rattle.preprocess.specs.Ways.{memory_at}
 use Rattle.preprocess.specs.Chains.{listed}
 use Rattle.preprocess.specs.Visits.{memory_in, visits_of}
-use Rattle.preprocess.specs.Draft.{Kept, kept_with, kept_after, marks_after, visit_at}
+use Rattle.preprocess.specs.Draft.{Kept, stored_of, kept_with, kept_after, marks_after, visit_at}
 use Rattle.preprocess.specs.Cells.{kept_in, no_marks, empty, visits_in}
-use Rattle.preprocess.specs.Laws.{Taken, marks_behind, memory_behind, visit_behind, stored_of, insert_of, inserts_behind, kept_behind, HoldNothing, HoldOneMore}
+use Rattle.preprocess.specs.Laws.{Taken, marks_behind, memory_behind, visit_behind, insert_of, inserts_behind, kept_behind, HoldNothing, HoldOneMore}
 use Rattle.preprocess.specs.declared.visit.Visit.{Visit}
 use Rattle.preprocess.proofs.Rows.{at_zero, at_suc}
 use Rattle.preprocess.proofs.Keeping.{map_get}
 
-at_map : {A B : Type 0} (f : A → B) (xs : List A) (id : ℕ) → at_id (map f xs) id ≡ option_map f (at_id xs id)
+pub at_map : {A B : Type 0} (f : A → B) (xs : List A) (id : ℕ) → at_id (map f xs) id ≡ option_map f (at_id xs id)
 at_map f xs zero = rw (at_zero (map f xs), at_zero xs) refl
 at_map f xs (suc k) = rw (at_suc (map f xs) k, at_suc xs k) (map_get f xs k)
 
@@ -69,12 +69,12 @@ with_stored : (conf : Conf) (log : List Taken) (now id : ℕ) (s : Option Stored
 with_stored conf log now id None = refl
 with_stored conf log now id (Some s) = refl
 
-with_visit : (conf : Conf) (log : List Taken) (t : Taken) (id : ℕ) (v : Option Visit) → kept_after t.now t.arrival.time t.number v (kept_behind conf log id)
-    ≡ with_insert conf log t.now id (stored_of t v)
+with_visit : (conf : Conf) (log : List Taken) (t : Taken) (id : ℕ) (v : Option Visit) → kept_after t.now v (kept_behind conf log id)
+    ≡ with_insert conf log t.now id (stored_of v)
 with_visit conf log t id None = refl
-with_visit conf log t id (Some v) = with_stored conf log t.now id (stored_of t (Some v))
+with_visit conf log t id (Some v) = with_stored conf log t.now id (stored_of (Some v))
 
-kept_more : (conf : Conf) (log : List Taken) (t : Taken) (id : ℕ) → kept_after t.now t.arrival.time t.number (visit_behind conf log t id) (kept_behind conf log id) ≡ kept_behind conf (t ∷ log) id
+kept_more : (conf : Conf) (log : List Taken) (t : Taken) (id : ℕ) → kept_after t.now (visit_behind conf log t id) (kept_behind conf log id) ≡ kept_behind conf (t ∷ log) id
 unfolding inserts_behind
 kept_more conf log t id = with_visit conf log t id (visit_behind conf log t id)
 
@@ -96,9 +96,9 @@ hold_one_more conf log t before after holds becomes =
     let memory : memory_in before.memories.items ≡ memory_behind conf log = λ j i k. memory_at (row i j) k in
     let visits : (id : ℕ) → visit_at (visits_in conf before t.arrival) id ≡ visit_behind conf log t id = λ id. ap (λ m. visit_at (visits_of conf m t.arrival) id) memory in
     record {
-      kept = λ id. becomes.cells id ∙ ap (λ v. option_map (kept_after t.now t.arrival.time t.number v) (at_id (kept_in before) id)) (visits id)
-          ∙ ap (option_map (kept_after t.now t.arrival.time t.number (visit_behind conf log t id))) (holds.kept id)
-          ∙ mapped (kept_after t.now t.arrival.time t.number (visit_behind conf log t id)) (kept_behind conf log id) (kept_behind conf (t ∷ log) id) (at_id conf.items id) (kept_more conf log t id);
+      kept = λ id. becomes.cells id ∙ ap (λ v. option_map (kept_after t.now v) (at_id (kept_in before) id)) (visits id)
+          ∙ ap (option_map (kept_after t.now (visit_behind conf log t id))) (holds.kept id)
+          ∙ mapped (kept_after t.now (visit_behind conf log t id)) (kept_behind conf log id) (kept_behind conf (t ∷ log) id) (at_id conf.items id) (kept_more conf log t id);
       memories = λ id. becomes.memories id ∙ ap (λ v. option_map (marks_after v) (at_id before.memories.items id)) (visits id)
           ∙ ap (option_map (marks_after (visit_behind conf log t id))) (holds.memories id)
           ∙ marks_more conf log t id (at_id conf.items id) refl;

@@ -1,5 +1,5 @@
 -- The visits that a walk makes are those that the search up the masters finds.
-use Rattle.std.proofs.Common.{◌≡◌, ◌≤◌, ◌+◌, ◌==◌, ℕ, zero, suc, List, [], ◌∷◌, ◌++◌, length, flat_map, filter_map, slice_get, Bool, true, false, cond, not, ◌&&◌, true≢false, Option, Some, None, option_map, option_to_list, refl, ap, sym, ◌∙◌, subst, arith, add-one, append_assoc, eq-eqb, eqb-true, length-append}
+use Rattle.std.proofs.Common.{◌≡◌, ◌≤◌, ◌+◌, ◌-◌, ◌==◌, ℕ, zero, suc, List, [], ◌∷◌, ◌++◌, length, flat_map, filter_map, slice_get, Bool, true, false, cond, not, ◌&&◌, true≢false, Option, Some, None, option_map, option_to_list, refl, ap, sym, ◌∙◌, subst, arith, add-one, append_assoc, eq-eqb, eqb-true, length-append}
 use Rattle.std.proofs.lemmas.List.Elements.{filter_map-append}
 use Rattle.std.specs.List.{cons_option, AllByRecursion}
 use Rattle.zbx_types.specs.Ids.{at_id}
@@ -18,7 +18,7 @@ Memory = ℕ → ℕ → StepMemory
 
 -- what the search finds at an item
 abbrev pub found : Conf → Memory → Arrival → ℕ → Option Visit
-found conf memory arrival id = option_map (visit_of id) (result_of conf memory arrival id)
+found conf memory arrival id = option_map (visit_of arrival.time arrival.number id) (result_of conf memory arrival id)
 
 -- ---- lists
 
@@ -93,18 +93,18 @@ no_chain memory time (Some item) = refl
 -- ---- the visits
 
 found_by : (conf : Conf) (memory : Memory) (arrival : Arrival) (id : ℕ) (o : Option (List ℕ)) → came conf memory arrival (length conf.items) id ≡ o
-    → found conf memory arrival id ≡ option_map (visit_of id) (chained_by (memory id) arrival.time (at_id conf.items id) o)
+    → found conf memory arrival id ≡ option_map (visit_of arrival.time arrival.number id) (chained_by (memory id) arrival.time (at_id conf.items id) o)
 unfolding result_of
-found_by conf memory arrival id o e = ap (λ x. option_map (visit_of id) (chained_by (memory id) arrival.time (at_id conf.items id) x)) e
+found_by conf memory arrival id o e = ap (λ x. option_map (visit_of arrival.time arrival.number id) (chained_by (memory id) arrival.time (at_id conf.items id) x)) e
 
-none_below : (conf : Conf) (memory : Memory) (arrival : Arrival) (f d : ℕ) → d + f ≡ length conf.items → (id : ℕ)
+none_below : (conf : Conf) (memory : Memory) (arrival : Arrival) (f d : ℕ) → d + f ≤ length conf.items → (id : ℕ)
     → ((k : ℕ) → d ≤ k → came conf memory arrival k id ≡ None) → filter_map (found conf memory arrival) (visited conf f id) ≡ []
 unfolding visited
 none_below conf memory arrival zero d e id h =
-    ap (λ o. cons_option o []) (found_by conf memory arrival id None (h (length conf.items) (omega arith)) ∙ ap (option_map (visit_of id)) (no_chain (memory id) arrival.time (at_id conf.items id)))
+    ap (λ o. cons_option o []) (found_by conf memory arrival id None (h (length conf.items) (omega arith)) ∙ ap (option_map (visit_of arrival.time arrival.number id)) (no_chain (memory id) arrival.time (at_id conf.items id)))
 none_below conf memory arrival (suc f) d e id h =
     ap (λ o. cons_option o (filter_map (found conf memory arrival) (flat_map (visited conf f) (dependents_of conf id))))
-    (found_by conf memory arrival id None (h (length conf.items) (omega arith)) ∙ ap (option_map (visit_of id)) (no_chain (memory id) arrival.time (at_id conf.items id)))
+    (found_by conf memory arrival id None (h (length conf.items) (omega arith)) ∙ ap (option_map (visit_of arrival.time arrival.number id)) (no_chain (memory id) arrival.time (at_id conf.items id)))
     ∙ sym (flat_filter (λ c. []) (visited conf f) (found conf memory arrival) (dependents_of conf id) (each_dependent _ conf id (λ c item at dep.
     sym (none_below conf memory arrival f (suc d) (omega (arith, e)) c (λ k l.
     came_below conf memory arrival d id None h c item at dep k l ∙ ap text_of (no_chain (memory id) arrival.time (at_id conf.items id)))))))
@@ -122,21 +122,21 @@ by_text : (o : Option (List ℕ)) (F : List ℕ → List Visit) (rest : List Vis
 by_text None F rest n s = n refl
 by_text (Some text) F rest n s = s text refl
 
-walks : (conf : Conf) (memory : Memory) (arrival : Arrival) (f d : ℕ) → d + f ≡ length conf.items → (id : ℕ) (value : List ℕ)
-    → ((k : ℕ) → d ≤ k → came conf memory arrival k id ≡ Some value) → walk conf memory arrival.time f id value ≡ filter_map (found conf memory arrival) (visited conf f id)
+walks : (conf : Conf) (memory : Memory) (arrival : Arrival) (f d : ℕ) → d + f ≤ length conf.items → (id : ℕ) (value : List ℕ)
+    → ((k : ℕ) → d ≤ k → came conf memory arrival k id ≡ Some value) → walk conf memory arrival.time arrival.number f id value ≡ filter_map (found conf memory arrival) (visited conf f id)
 unfolding visited walk
 walks conf memory arrival zero d e id value h =
-    list_of (option_map (visit_of id) (chained_by (memory id) arrival.time (at_id conf.items id) (Some value))) ∙ ap (λ o. cons_option o []) (sym (found_by conf memory arrival id (Some value) (h (length conf.items) (omega arith))))
+    list_of (option_map (visit_of arrival.time arrival.number id) (chained_by (memory id) arrival.time (at_id conf.items id) (Some value))) ∙ ap (λ o. cons_option o []) (sym (found_by conf memory arrival id (Some value) (h (length conf.items) (omega arith))))
 walks conf memory arrival (suc f) d e id value h =
-    cons_of (option_map (visit_of id) (chained_by (memory id) arrival.time (at_id conf.items id) (Some value)))
-    (with_text (λ text. flat_map (λ c. walk conf memory arrival.time f c text) (dependents_of conf id)) (given conf memory arrival.time id value))
-    ∙ ap (λ o. cons_option o (with_text (λ text. flat_map (λ c. walk conf memory arrival.time f c text) (dependents_of conf id)) (given conf memory arrival.time id value)))
+    cons_of (option_map (visit_of arrival.time arrival.number id) (chained_by (memory id) arrival.time (at_id conf.items id) (Some value)))
+    (with_text (λ text. flat_map (λ c. walk conf memory arrival.time arrival.number f c text) (dependents_of conf id)) (given conf memory arrival.time id value))
+    ∙ ap (λ o. cons_option o (with_text (λ text. flat_map (λ c. walk conf memory arrival.time arrival.number f c text) (dependents_of conf id)) (given conf memory arrival.time id value)))
     (sym (found_by conf memory arrival id (Some value) (h (length conf.items) (omega arith))))
     ∙ ap (cons_option (found conf memory arrival id)) (by_text (given conf memory arrival.time id value) _ _
     (λ g. sym (flat_none (dependents_of conf id))
     ∙ flat_filter (λ c. []) (visited conf f) (found conf memory arrival) (dependents_of conf id) (each_dependent _ conf id (λ c item at dep.
     sym (none_below conf memory arrival f (suc d) (omega (arith, e)) c (λ k l. came_below conf memory arrival d id (Some value) h c item at dep k l ∙ g)))))
-    (λ text g. flat_filter (λ c. walk conf memory arrival.time f c text) (visited conf f) (found conf memory arrival) (dependents_of conf id) (each_dependent _ conf id (λ c item at dep.
+    (λ text g. flat_filter (λ c. walk conf memory arrival.time arrival.number f c text) (visited conf f) (found conf memory arrival) (dependents_of conf id) (each_dependent _ conf id (λ c item at dep.
     walks conf memory arrival f (suc d) (omega (arith, e)) c text (λ k l. came_below conf memory arrival d id (Some value) h c item at dep k l ∙ g)))))
 
 -- ---- the entry's item
@@ -148,10 +148,10 @@ came_first conf memory arrival item e t zero = rw e (rw t (rw (eq-eqb arrival.it
 came_first conf memory arrival item e t (suc k) = rw e (rw t (rw (eq-eqb arrival.item arrival.item refl) refl))
 
 walk_first : (conf : Conf) (memory : Memory) (arrival : Arrival) (item : Item) → at_id conf.items arrival.item ≡ Some item → is_trapper_kind item.kind ≡ true
-    → walk conf memory arrival.time (length conf.items) arrival.item arrival.value ≡ visits_of conf memory arrival
+    → walk conf memory arrival.time arrival.number (length conf.items - 1) arrival.item arrival.value ≡ visits_of conf memory arrival
 unfolding visits_of
 walk_first conf memory arrival item e t =
-    walks conf memory arrival (length conf.items) 0 (omega arith) arrival.item arrival.value (λ k l. came_first conf memory arrival item e t k)
+    walks conf memory arrival (length conf.items - 1) 0 (omega arith) arrival.item arrival.value (λ k l. came_first conf memory arrival item e t k)
 
 -- an item that takes no values of entries: nothing comes anywhere
 abbrev Takes : Conf → ℕ → Type 0
@@ -177,20 +177,20 @@ came_nowhere conf memory arrival refuted (suc k) id = nowhere_by conf arrival re
 
 no_visits : (conf : Conf) (memory : Memory) (arrival : Arrival) → (Takes conf arrival.item → ⊥) → [] ≡ visits_of conf memory arrival
 unfolding visits_of
-no_visits conf memory arrival refuted = sym (none_below conf memory arrival (length conf.items) 0 (omega arith) arrival.item (λ k l. came_nowhere conf memory arrival refuted k arrival.item))
+no_visits conf memory arrival refuted = sym (none_below conf memory arrival (length conf.items - 1) 0 (omega arith) arrival.item (λ k l. came_nowhere conf memory arrival refuted k arrival.item))
 
 -- the item of an entry takes values, or doesn't
 pub first_taken : (conf : Conf) (memory : Memory) (arrival : Arrival) → takes conf arrival.item ≡ true
-    → walk conf memory arrival.time (length conf.items) arrival.item arrival.value ≡ visits_of conf memory arrival
+    → walk conf memory arrival.time arrival.number (length conf.items - 1) arrival.item arrival.value ≡ visits_of conf memory arrival
 first_taken conf memory arrival h = go (at_id conf.items arrival.item) refl h
   where
-    go : (o : Option Item) → at_id conf.items arrival.item ≡ o → takes_by o ≡ true → walk conf memory arrival.time (length conf.items) arrival.item arrival.value ≡ visits_of conf memory arrival
+    go : (o : Option Item) → at_id conf.items arrival.item ≡ o → takes_by o ≡ true → walk conf memory arrival.time arrival.number (length conf.items - 1) arrival.item arrival.value ≡ visits_of conf memory arrival
     go None e t = absurd (true≢false (sym t))
     go (Some item) e t = walk_first conf memory arrival item e t
 
 pub first_refused : (conf : Conf) (memory : Memory) (arrival : Arrival) → takes conf arrival.item ≡ false → [] ≡ visits_of conf memory arrival
 first_refused conf memory arrival h = no_visits conf memory arrival (λ t. true≢false (sym t.2 ∙ sym (ap takes_by t.1) ∙ h))
 
-pub visits_is : (conf : Conf) (memory : Memory) (arrival : Arrival) → visits_of conf memory arrival ≡ filter_map (found conf memory arrival) (visited conf (length conf.items) arrival.item)
+pub visits_is : (conf : Conf) (memory : Memory) (arrival : Arrival) → visits_of conf memory arrival ≡ filter_map (found conf memory arrival) (visited conf (length conf.items - 1) arrival.item)
 unfolding visits_of
 visits_is conf memory arrival = refl

@@ -5,44 +5,46 @@ use Rattle.zbx_types.specs.Ids.{at_id}
 use Rattle.zbx_types.specs.declared.conf.Conf.{Conf}
 use Rattle.zbx_types.specs.declared.items.Item.{Item}
 use Rattle.prep_steps.specs.declared.memory.StepMemory.{StepMemory}
-use Rattle.preprocess.specs.Chain.{chain_of}
+use Rattle.zbx_types.specs.declared.steps.StepSpec.{StepSpec}
+use Rattle.preprocess.specs.declared.visit.Outcome.{Outcome}
+use Rattle.preprocess.specs.Chain.{chain_of, comes_of, marks_of, ended_as, read_as}
 use Rattle.std.specs.Option.{unwrap_or}
 use Rattle.preprocess.specs.Chains.{dependents_of, listed, AreChainsOf}
 use Rattle.preprocess.specs.Ways.{way_for, ways_for}
 use Rattle.preprocess.specs.declared.chains.Chains.{Chains}
 use Rattle.preprocess.proofs.Rows.{at_zero, at_suc, row_within}
-use Rattle.preprocess.specs.Visits.{visit_of, ended_text}
+use Rattle.preprocess.specs.Visits.{outcome_of, visit_of, ended_text}
 use Rattle.preprocess.specs.Walks.{walk, walk_below, with_text}
 use Rattle.preprocess.specs.declared.visit.Visit.{Visit}
 use Rattle.preprocess.specs.declared.chain.Chained.{Chained}
 
 -- no item: no visit
-pub walk_none : (conf : Conf) (memory : ℕ → ℕ → StepMemory) (time down id : ℕ) (value : List ℕ) → at_id conf.items id ≡ None → walk conf memory time down id value ≡ []
+pub walk_none : (conf : Conf) (memory : ℕ → ℕ → StepMemory) (time number down id : ℕ) (value : List ℕ) → at_id conf.items id ≡ None → walk conf memory time number down id value ≡ []
 unfolding walk
-walk_none conf memory time zero id value e = rw e refl
-walk_none conf memory time (suc down) id value e = rw e refl
+walk_none conf memory time number zero id value e = rw e refl
+walk_none conf memory time number (suc down) id value e = rw e refl
 
 -- a value goes down where it is stored
-pub walk_is : (conf : Conf) (memory : ℕ → ℕ → StepMemory) (time down id : ℕ) (value : List ℕ) (item : Item) → at_id conf.items id ≡ Some item
-    → walk conf memory time down id value
-    ≡ visit_of id (chain_of item (memory id) value time) ∷ with_text (λ text. walk_below conf memory time down (dependents_of conf id) text) (ended_text (chain_of item (memory id) value time).end)
+pub walk_is : (conf : Conf) (memory : ℕ → ℕ → StepMemory) (time number down id : ℕ) (value : List ℕ) (item : Item) → at_id conf.items id ≡ Some item
+    → walk conf memory time number down id value
+    ≡ visit_of time number id (chain_of item (memory id) value time) ∷ with_text (λ text. walk_below conf memory time number down (dependents_of conf id) text) (ended_text (chain_of item (memory id) value time).end)
 unfolding walk walk_below
-walk_is conf memory time zero id value item e = rw e (go (ended_text (chain_of item (memory id) value time).end))
+walk_is conf memory time number zero id value item e = rw e (go (ended_text (chain_of item (memory id) value time).end))
   where
-    go : (o : Option (List ℕ)) → visit_of id (chain_of item (memory id) value time) ∷ [] ≡ visit_of id (chain_of item (memory id) value time) ∷ with_text (λ text. []) o
+    go : (o : Option (List ℕ)) → visit_of time number id (chain_of item (memory id) value time) ∷ [] ≡ visit_of time number id (chain_of item (memory id) value time) ∷ with_text (λ text. []) o
     go None = refl
     go (Some t) = refl
-walk_is conf memory time (suc down) id value item e = rw e refl
+walk_is conf memory time number (suc down) id value item e = rw e refl
 
-pub below_none : (conf : Conf) (memory : ℕ → ℕ → StepMemory) (time down : ℕ) (ids value : List ℕ) → down ≡ 0 → walk_below conf memory time down ids value ≡ []
+pub below_none : (conf : Conf) (memory : ℕ → ℕ → StepMemory) (time number down : ℕ) (ids value : List ℕ) → down ≡ 0 → walk_below conf memory time number down ids value ≡ []
 unfolding walk_below
-below_none conf memory time down ids value e = rw e refl
+below_none conf memory time number down ids value e = rw e refl
 
-pub below_some : (conf : Conf) (memory : ℕ → ℕ → StepMemory) (time down : ℕ) (ids value : List ℕ) → down ≢ 0
-    → walk_below conf memory time down ids value ≡ flat_map (λ d. walk conf memory time (down - 1) d value) ids
+pub below_some : (conf : Conf) (memory : ℕ → ℕ → StepMemory) (time number down : ℕ) (ids value : List ℕ) → down ≢ 0
+    → walk_below conf memory time number down ids value ≡ flat_map (λ d. walk conf memory time number (down - 1) d value) ids
 unfolding walk_below
-below_some conf memory time zero ids value ne = absurd (ne refl)
-below_some conf memory time (suc down) ids value ne = let m : suc down - 1 ≡ down = omega arith in rw m refl
+below_some conf memory time number zero ids value ne = absurd (ne refl)
+below_some conf memory time number (suc down) ids value ne = let m : suc down - 1 ≡ down = omega arith in rw m refl
 
 row_map : {A B : Type 0} (f : A → B) (xs : List A) (i : ℕ) (x : A) → slice_get xs i ≡ Some x → slice_get (map f xs) i ≡ Some (f x)
 row_map f [] i x e = absurd (true≢false (cc))
@@ -64,26 +66,54 @@ below_are conf patterns chains id item are e = let w = row_within conf.items id 
 pub nothing : (before w : List Visit) → w ≡ [] → before ≡ before ++ w
 nothing before w e = sym (ap (λ x. before ++ x) e ∙ append-nil before)
 
-pub stops : (conf : Conf) (memory : ℕ → ℕ → StepMemory) (time down id : ℕ) (value : List ℕ) (item : Item) (chained : Chained) (visit : Visit) (before pushed : List Visit)
-    → at_id conf.items id ≡ Some item → chained ≡ chain_of item (memory id) value time → visit ≡ visit_of id chained → pushed ≡ before ++ visit ∷ []
-    → ended_text chained.end ≡ None → pushed ≡ before ++ walk conf memory time down id value
-stops conf memory time down id value item chained visit before pushed e made is p none =
+pub stops : (conf : Conf) (memory : ℕ → ℕ → StepMemory) (time number down id : ℕ) (value : List ℕ) (item : Item) (chained : Chained) (visit : Visit) (before pushed : List Visit)
+    → at_id conf.items id ≡ Some item → chained ≡ chain_of item (memory id) value time → visit ≡ visit_of time number id chained → pushed ≡ before ++ visit ∷ []
+    → ended_text chained.end ≡ None → pushed ≡ before ++ walk conf memory time number down id value
+stops conf memory time number down id value item chained visit before pushed e made is p none =
     p ∙ ap (λ (v : Visit). before ++ v ∷ []) is
-    ∙ sym (ap (λ w. before ++ w) (walk_is conf memory time down id value item e
-    ∙ ap (λ (c : Chained). visit_of id c ∷ with_text (λ text. walk_below conf memory time down (dependents_of conf id) text) (ended_text c.end)) (sym made)
-    ∙ ap (λ o. visit_of id chained ∷ with_text (λ text. walk_below conf memory time down (dependents_of conf id) text) o) none))
+    ∙ sym (ap (λ w. before ++ w) (walk_is conf memory time number down id value item e
+    ∙ ap (λ (c : Chained). visit_of time number id c ∷ with_text (λ text. walk_below conf memory time number down (dependents_of conf id) text) (ended_text c.end)) (sym made)
+    ∙ ap (λ o. visit_of time number id chained ∷ with_text (λ text. walk_below conf memory time number down (dependents_of conf id) text) o) none))
 
-pub goes : (conf : Conf) (memory : ℕ → ℕ → StepMemory) (time down id : ℕ) (value text : List ℕ) (item : Item) (chained : Chained) (visit : Visit) (below : List ℕ) (before pushed after : List Visit)
-    → at_id conf.items id ≡ Some item → chained ≡ chain_of item (memory id) value time → visit ≡ visit_of id chained → pushed ≡ before ++ visit ∷ []
-    → ended_text chained.end ≡ Some text → below ≡ dependents_of conf id → after ≡ pushed ++ walk_below conf memory time down below text
-    → after ≡ before ++ walk conf memory time down id value
-goes conf memory time down id value text item chained visit below before pushed after e made is p some b a =
-    a ∙ ap (λ x. x ++ walk_below conf memory time down below text) (p ∙ ap (λ (v : Visit). before ++ v ∷ []) is)
-    ∙ append_assoc before (visit_of id chained ∷ []) (walk_below conf memory time down below text)
-    ∙ ap (λ ids. before ++ visit_of id chained ∷ walk_below conf memory time down ids text) b
-    ∙ sym (ap (λ w. before ++ w) (walk_is conf memory time down id value item e
-    ∙ ap (λ (c : Chained). visit_of id c ∷ with_text (λ t. walk_below conf memory time down (dependents_of conf id) t) (ended_text c.end)) (sym made)
-    ∙ ap (λ o. visit_of id chained ∷ with_text (λ t. walk_below conf memory time down (dependents_of conf id) t) o) some))
+pub goes : (conf : Conf) (memory : ℕ → ℕ → StepMemory) (time number down id : ℕ) (value text : List ℕ) (item : Item) (chained : Chained) (visit : Visit) (below : List ℕ) (before pushed after : List Visit)
+    → at_id conf.items id ≡ Some item → chained ≡ chain_of item (memory id) value time → visit ≡ visit_of time number id chained → pushed ≡ before ++ visit ∷ []
+    → ended_text chained.end ≡ Some text → below ≡ dependents_of conf id → after ≡ pushed ++ walk_below conf memory time number down below text
+    → after ≡ before ++ walk conf memory time number down id value
+goes conf memory time number down id value text item chained visit below before pushed after e made is p some b a =
+    a ∙ ap (λ x. x ++ walk_below conf memory time number down below text) (p ∙ ap (λ (v : Visit). before ++ v ∷ []) is)
+    ∙ append_assoc before (visit_of time number id chained ∷ []) (walk_below conf memory time number down below text)
+    ∙ ap (λ ids. before ++ visit_of time number id chained ∷ walk_below conf memory time number down ids text) b
+    ∙ sym (ap (λ w. before ++ w) (walk_is conf memory time number down id value item e
+    ∙ ap (λ (c : Chained). visit_of time number id c ∷ with_text (λ t. walk_below conf memory time number down (dependents_of conf id) t) (ended_text c.end)) (sym made)
+    ∙ ap (λ o. visit_of time number id chained ∷ with_text (λ t. walk_below conf memory time number down (dependents_of conf id) t) o) some))
+
+-- an item without steps reads the value as it stands
+pub plain_visit : (item : Item) (memory : ℕ → StepMemory) (value : List ℕ) (time number id : ℕ) (outcome : Outcome) (visit : Visit) (marks : List StepMemory) → item.steps ≡ [] → outcome ≡ outcome_of time number (read_as item.value_type value) → marks ≡ []
+    → visit ≡ record { item = id; outcome = outcome; marks = marks } → visit ≡ visit_of time number id (chain_of item memory value time)
+unfolding chain_of comes_of marks_of
+plain_visit item memory value time number id outcome visit marks none read empty is =
+    let of : List StepSpec → Visit = λ steps. record { item = id; outcome = outcome_of time number (ended_as item.value_type (comes_of steps 1 memory value time)); marks = marks_of steps 1 memory value time } in
+    is ∙ ap (λ ms. record { item = id; outcome = outcome; marks = ms }) empty ∙ ap (λ o. record { item = id; outcome = o; marks = [] }) read ∙ sym (ap of none)
+
+below_empty : (conf : Conf) (memory : ℕ → ℕ → StepMemory) (time number down : ℕ) (value : List ℕ) → walk_below conf memory time number down [] value ≡ []
+unfolding walk_below
+below_empty conf memory time number zero value = refl
+below_empty conf memory time number (suc down) value = refl
+
+-- where an item gives to none, its own visit is all
+pub alone : (conf : Conf) (memory : ℕ → ℕ → StepMemory) (time number down id : ℕ) (value : List ℕ) (item : Item) (visit : Visit) (before pushed : List Visit)
+    → at_id conf.items id ≡ Some item → visit ≡ visit_of time number id (chain_of item (memory id) value time) → dependents_of conf id ≡ [] → pushed ≡ before ++ visit ∷ []
+    → pushed ≡ before ++ walk conf memory time number down id value
+alone conf memory time number down id value item visit before pushed e is none p =
+    let chained : Chained = chain_of item (memory id) value time in
+    p ∙ ap (λ (v : Visit). before ++ v ∷ []) is
+    ∙ sym (ap (λ w. before ++ w) (walk_is conf memory time number down id value item e
+    ∙ ap (λ ids. visit_of time number id chained ∷ with_text (λ text. walk_below conf memory time number down ids text) (ended_text chained.end)) none
+    ∙ ap (λ vs. visit_of time number id chained ∷ vs) (nowhere (ended_text chained.end))))
+  where
+    nowhere : (o : Option (List ℕ)) → with_text (λ text. walk_below conf memory time number down [] text) o ≡ []
+    nowhere None = refl
+    nowhere (Some text) = below_empty conf memory time number down text
 
 -- the item that a look-up found
 pub at_found : (items list : List Item) (id : ℕ) (found : Option Item) → list ≡ items → found ≡ at_id list id → at_id items id ≡ found

@@ -8,9 +8,9 @@ use Rattle.prep_steps.specs.declared.memory.StepMemory.{StepMemory}
 use Rattle.value_cache.specs.Keeps.{keeps_of}
 use Rattle.value_cache.specs.declared.keeping.Keep.{Keep}
 use Rattle.preprocess.specs.Visits.{Arrival, memory_in, visits_of}
-use Rattle.preprocess.specs.Draft.{Kept, kept_of, visit_at, kept_after, marks_after, stored_ids, failures_of}
+use Rattle.preprocess.specs.Draft.{Kept, kept_of, visit_at, kept_after, marks_after, failures_of}
 use Rattle.preprocess.specs.declared.cells.Cells.{Cells}
-use Rattle.preprocess.specs.declared.draft.Draft.{Draft}
+use Rattle.preprocess.specs.declared.draft.Prepared.{Prepared}
 use Rattle.preprocess.specs.declared.visit.Visit.{Visit}
 
 -- what the cells keep, in the order of ids
@@ -36,10 +36,9 @@ pub record AreNew (conf : Conf) (made : Cells) : Type 0 where
 
 -- what some visits make of the cells at a moment: each item that is visited keeps what it stores, and its steps what
 -- they remember then; nothing else changes
-pub record Becomes (now time number : ℕ) (visits : List Visit) (before after : Cells) : Type 0 where
+pub record Becomes (now : ℕ) (visits : List Visit) (before after : Cells) : Type 0 where
   pub cells : (id : ℕ)
-      → at_id (kept_in after) id ≡ option_map (kept_after now time number (visit_at visits id))
-      (at_id (kept_in before) id)
+      → at_id (kept_in after) id ≡ option_map (kept_after now (visit_at visits id)) (at_id (kept_in before) id)
   pub memories : (id : ℕ)
       → at_id after.memories.items id ≡ option_map (marks_after (visit_at visits id)) (at_id before.memories.items id)
 
@@ -47,13 +46,9 @@ pub record Becomes (now time number : ℕ) (visits : List Visit) (before after :
 abbrev pub visits_in : Conf → Cells → Arrival → List Visit
 visits_in conf cells arrival = visits_of conf (memory_in cells.memories.items) arrival
 
-abbrev pub draft_of : Conf → Cells → Arrival → ℕ → Draft
-draft_of conf cells arrival number = record {
-  visits = visits_in conf cells arrival;
-  time = arrival.time;
-  number = number;
-  prepared = record {
-    stored = stored_ids (visits_in conf cells arrival);
-    failures = failures_of conf number (visits_in conf cells arrival);
-  };
+-- that, and the Failure records
+abbrev pub prepared_of : Conf → Cells → Arrival → Prepared
+prepared_of conf cells arrival = record {
+  draft = record { visits = visits_in conf cells arrival };
+  failures = failures_of conf arrival.number (visits_in conf cells arrival);
 }

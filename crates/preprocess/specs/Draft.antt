@@ -40,33 +40,32 @@ kept_with now None kept = kept
 kept_with now (Some stored) kept = record { keep = kept.keep; values = trim kept.keep now (placed stored kept.values) }
 
 -- the value that a visit stores
-abbrev pub stored_by : ℕ → ℕ → Outcome → Option Stored
-stored_by time number (outcome.Stored held) = Some (record { time = time; number = number; value = held })
-stored_by time number outcome.Discarded = None
-stored_by time number (outcome.Failed why) = None
+abbrev pub stored_by : Outcome → Option Stored
+stored_by (outcome.Stored stored) = Some stored
+stored_by outcome.Discarded = None
+stored_by (outcome.Failed why) = None
 
 -- the visit of an item
 abbrev pub visit_at : List Visit → ℕ → Option Visit
 visit_at [] id = None
 visit_at (v ∷ visits) id = if v.item == id then Some v else visit_at visits id
 
+-- what it stores, if there is one
+abbrev pub stored_of : Option Visit → Option Stored
+stored_of None = None
+stored_of (Some v) = stored_by v.outcome
+
+-- the value that visits store of an item
+abbrev pub stored_at : List Visit → ℕ → Option Stored
+stored_at visits id = stored_of (visit_at visits id)
+
 -- what an item's cell keeps, and what its steps remember, behind a visit, if there is one
-abbrev pub kept_after : ℕ → ℕ → ℕ → Option Visit → Kept → Kept
-kept_after now time number None kept = kept
-kept_after now time number (Some v) kept = kept_with now (stored_by time number v.outcome) kept
+abbrev pub kept_after : ℕ → Option Visit → Kept → Kept
+kept_after now visit kept = kept_with now (stored_of visit) kept
 
 abbrev pub marks_after : Option Visit → List StepMemory → List StepMemory
 marks_after None marks = marks
 marks_after (Some v) marks = v.marks
-
--- the ids of the items that store a value, in the order of visiting
-abbrev pub stored_id : Visit → Outcome → Option ℕ
-stored_id v (outcome.Stored held) = Some v.item
-stored_id v outcome.Discarded = None
-stored_id v (outcome.Failed why) = None
-
-abbrev pub stored_ids : List Visit → List ℕ
-stored_ids visits = filter_map (λ v. stored_id v v.outcome) visits
 
 -- the Failure record of a visit that failed
 abbrev pub name_of : Option Host → List ℕ
@@ -78,7 +77,7 @@ failure_by conf number why None = None
 failure_by conf number why (Some item) = Some (Failure number (name_of (at_id conf.hosts item.host)) item.key why)
 
 abbrev pub failure_of : Conf → ℕ → Visit → Outcome → Option Rec
-failure_of conf number v (outcome.Stored held) = None
+failure_of conf number v (outcome.Stored stored) = None
 failure_of conf number v outcome.Discarded = None
 failure_of conf number v (outcome.Failed why) = failure_by conf number why (at_id conf.items v.item)
 

@@ -9,14 +9,13 @@ use Rattle.value_cache.specs.Keeps.{keep_of}
 use Rattle.value_cache.specs.Laws.{Insert, kept_of as trimmed_of}
 use Rattle.preprocess.specs.Ways.{memory_at}
 use Rattle.preprocess.specs.Visits.{Arrival, visits_of}
-use Rattle.preprocess.specs.Draft.{Kept, stored_by, visit_at, marks_after}
+use Rattle.preprocess.specs.Draft.{Kept, stored_of, visit_at, marks_after}
 use Rattle.preprocess.specs.Cells.{kept_in, no_marks, AreNew, Becomes, visits_in}
 use Rattle.preprocess.specs.declared.cells.Cells.{Cells}
 use Rattle.preprocess.specs.declared.visit.Visit.{Visit}
 
--- the value of the entry with a number, and the moment at which it was taken
+-- the value of an entry, and the moment at which it was taken
 pub record Taken : Type 0 where
-  pub number : ℕ
   pub now : ℕ
   pub arrival : Arrival
 
@@ -37,11 +36,6 @@ memory_behind conf log id k = memory_at (marks_behind conf log id) k
 abbrev pub visit_behind : Conf → List Taken → Taken → ℕ → Option Visit
 visit_behind conf log t id = visit_at (visits_of conf (memory_behind conf log) t.arrival) id
 
--- what a visit stores
-abbrev pub stored_of : Taken → Option Visit → Option Stored
-stored_of t None = None
-stored_of t (Some v) = stored_by t.arrival.time t.number v.outcome
-
 abbrev pub insert_of : ℕ → Option Stored → List Insert
 insert_of now None = []
 insert_of now (Some stored) = record { stored = stored; now = now } ∷ []
@@ -50,7 +44,7 @@ insert_of now (Some stored) = record { stored = stored; now = now } ∷ []
 unfoldable pub inserts_behind : Conf → List Taken → ℕ → List Insert
 inserts_behind conf [] id = []
 inserts_behind conf (t ∷ log) id =
-    insert_of t.now (stored_of t (visit_behind conf log t id)) ++ inserts_behind conf log id
+    insert_of t.now (stored_of (visit_behind conf log t id)) ++ inserts_behind conf log id
 
 -- what an item keeps behind a log: of these values what later windows can ask for
 abbrev pub kept_behind : Conf → List Taken → ℕ → Kept
@@ -70,5 +64,5 @@ HoldNothing = (conf : Conf) (cells : Cells) → AreNew conf cells → HoldLog co
 -- cells that hold a log, behind one more value, hold the log with that value
 abbrev pub HoldOneMore : Type 0
 HoldOneMore = (conf : Conf) (log : List Taken) (t : Taken) (before after : Cells) → HoldLog conf log before
-    → Becomes t.now t.arrival.time t.number (visits_in conf before t.arrival) before after
+    → Becomes t.now (visits_in conf before t.arrival) before after
     → HoldLog conf (t ∷ log) after

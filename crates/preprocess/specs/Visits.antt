@@ -1,6 +1,6 @@
 -- The value of an entry on its way through its item and the items that depend on it: what comes to each item is found
 -- by a search up its masters.
-use Rattle.std.specs.Prelude.{ℕ, zero, suc, ◌==◌, List, [], ◌∷◌, length, flat_map, filter_map, Option, Some, None}
+use Rattle.std.specs.Prelude.{ℕ, zero, suc, ◌-◌, ◌==◌, List, [], ◌∷◌, length, flat_map, filter_map, Option, Some, None}
 use Rattle.std.specs.Prelude.{IfSome, option_map, if◌then◌else◌}
 use Rattle.zbx_types.specs.Ids.{at_id}
 use Rattle.zbx_types.specs.Items.{is_trapper_kind}
@@ -17,10 +17,11 @@ use Rattle.preprocess.specs.declared.visit.Outcome.{Outcome}
 use Rattle.preprocess.specs.declared.visit.Outcome.TheVariants as outcome
 use Rattle.preprocess.specs.declared.visit.Visit.{Visit}
 
--- the value of an entry: the item that it is for, the moment that it is of, and its text
+-- the value of an entry: the item that it is for, the moment that it is of, the entry's number, and its text
 pub record Arrival : Type 0 where
   pub item : ℕ
   pub time : ℕ
+  pub number : ℕ
   pub value : List ℕ
 
 -- the memory of an item's step, in lists of memories by items
@@ -69,20 +70,21 @@ unfoldable pub visited : Conf → ℕ → ℕ → List ℕ
 visited conf zero id = id ∷ []
 visited conf (suc down) id = id ∷ flat_map (visited conf down) (dependents_of conf id)
 
--- what a visit leaves of a chain
-abbrev pub outcome_of : Ended → Outcome
-outcome_of (Stored held text) = outcome.Stored held
-outcome_of Discarded = outcome.Discarded
-outcome_of (Failed why) = outcome.Failed why
+-- what a visit leaves of a chain: what the item stores is of the value's moment, and has the entry's number
+abbrev pub outcome_of : ℕ → ℕ → Ended → Outcome
+outcome_of time number (Stored held text) = outcome.Stored (record { time = time; number = number; value = held })
+outcome_of time number Discarded = outcome.Discarded
+outcome_of time number (Failed why) = outcome.Failed why
 
-abbrev pub visit_of : ℕ → Chained → Visit
-visit_of id chained = record { item = id; outcome = outcome_of chained.end; marks = chained.marks }
+abbrev pub visit_of : ℕ → ℕ → ℕ → Chained → Visit
+visit_of time number id chained = record { item = id; outcome = outcome_of time number chained.end; marks = chained.marks }
 
--- the visits of an entry's value, in their order: those of the items to which it comes
+-- the visits of an entry's value, in their order: those of the items to which it comes. Below an item there are at most as
+-- many levels as there are other items.
 unfoldable pub visits_of : Conf → (ℕ → ℕ → StepMemory) → Arrival → List Visit
 visits_of conf memory arrival =
-    filter_map (λ id. option_map (visit_of id) (result_of conf memory arrival id))
-    (visited conf (length conf.items) arrival.item)
+    filter_map (λ id. option_map (visit_of arrival.time arrival.number id) (result_of conf memory arrival id))
+    (visited conf (length conf.items - 1) arrival.item)
 
 -- the pattern of each step of each item is among these
 abbrev pub ArePatternsOf : Conf → List (List ℕ) → Type 0

@@ -11,9 +11,9 @@ use Rattle.preprocess.specs.Visits.{chained_by, text_of, visit_of}
 use Rattle.preprocess.specs.declared.visit.Visit.{Visit}
 
 -- the visit of one item
-abbrev pub own_visit : Conf → (ℕ → ℕ → StepMemory) → ℕ → ℕ → List ℕ → List Visit
-own_visit conf memory time id value =
-    option_to_list (option_map (visit_of id) (chained_by (memory id) time (at_id conf.items id) (Some value)))
+abbrev pub own_visit : Conf → (ℕ → ℕ → StepMemory) → ℕ → ℕ → ℕ → List ℕ → List Visit
+own_visit conf memory time number id value =
+    option_to_list (option_map (visit_of time number id) (chained_by (memory id) time (at_id conf.items id) (Some value)))
 
 -- what an item gives to its dependents
 abbrev pub given : Conf → (ℕ → ℕ → StepMemory) → ℕ → ℕ → List ℕ → Option (List ℕ)
@@ -24,17 +24,17 @@ with_text f None = []
 with_text f (Some text) = f text
 
 -- a value at an item, and at those below it
-unfoldable pub walk : Conf → (ℕ → ℕ → StepMemory) → ℕ → ℕ → ℕ → List ℕ → List Visit
-walk conf memory time zero id value = own_visit conf memory time id value
-walk conf memory time (suc down) id value =
-    own_visit conf memory time id value
-    ++ with_text (λ text. flat_map (λ d. walk conf memory time down d text) (dependents_of conf id))
+unfoldable pub walk : Conf → (ℕ → ℕ → StepMemory) → ℕ → ℕ → ℕ → ℕ → List ℕ → List Visit
+walk conf memory time number zero id value = own_visit conf memory time number id value
+walk conf memory time number (suc down) id value =
+    own_visit conf memory time number id value
+    ++ with_text (λ text. flat_map (λ d. walk conf memory time number down d text) (dependents_of conf id))
     (given conf memory time id value)
 
 -- a value at some items, one level down
-unfoldable pub walk_below : Conf → (ℕ → ℕ → StepMemory) → ℕ → ℕ → List ℕ → List ℕ → List Visit
-walk_below conf memory time zero ids value = []
-walk_below conf memory time (suc down) ids value = flat_map (λ d. walk conf memory time down d value) ids
+unfoldable pub walk_below : Conf → (ℕ → ℕ → StepMemory) → ℕ → ℕ → ℕ → List ℕ → List ℕ → List Visit
+walk_below conf memory time number zero ids value = []
+walk_below conf memory time number (suc down) ids value = flat_map (λ d. walk conf memory time number down d value) ids
 
 -- an item takes the values of entries
 abbrev pub takes_by : Option Item → Bool

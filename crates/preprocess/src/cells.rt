@@ -65,6 +65,13 @@ impl Cells {
         })
     }
 
+    /// The cells of the items, in the order of ids. Takes no memory.
+    pub fn cells(&self) -> &[ItemCell]
+        ensures { result.now ≡ self.now.cells.items }
+    {
+        self.cells.as_slice()
+    }
+
     /// The cell of the item with an id. Takes no memory.
     pub fn cell(&self, id: u32) -> Option<&ItemCell>
         ensures { option_copied result ≡ at_id self.now.cells.items id }

@@ -1,10 +1,9 @@
 //! What an entry's value is to leave: prepared, and then put in place.
 
-ghost use Rattle.std.specs.Prelude.{◌≡◌, IfOk, OnOk, map};
-ghost use Rattle.preprocess.specs.Cells.{AreSame, Becomes, draft_of};
+ghost use Rattle.std.specs.Prelude.{◌≡◌, IfOk, OnOk, map, option_copied};
+ghost use Rattle.preprocess.specs.Cells.{AreSame, Becomes, prepared_of};
 ghost use Rattle.preprocess.specs.Chains.{AreChainsOf};
-ghost use Rattle.preprocess.specs.Draft.{AreApart, HaveRoom, kept_of, name_of, failure_of, failures_of};
-ghost use Rattle.preprocess.specs.Draft.{stored_id, stored_ids};
+ghost use Rattle.preprocess.specs.Draft.{AreApart, HaveRoom, kept_of, name_of, failure_of, failures_of, stored_at};
 ghost use Rattle.preprocess.specs.Visits.{ArePatternsOf};
 ghost use Rattle.zbx_types.specs.Ids.{at_id};
 
@@ -16,46 +15,35 @@ use pattern_set::Patterns;
 use std::alloc::Global;
 use std::convert::AsStr;
 use value_cache::ItemCell;
-use zbx_types::{Conf, Many, Moment, OutOfMemory, Rec, Text, by_id};
-
-/// What an entry's value did.
-#[derive(Drop)]
-pub struct Prepared {
-    /// The ids of the items that stored a value, in the order of visiting.
-    pub stored: Many<u32>,
-    /// The Failure records, in that order.
-    pub failures: Many<Rec>,
-}
+use zbx_types::{Conf, Many, Moment, OutOfMemory, Rec, Stored, Text, by_id};
 
 /// What an entry's value is to leave in the cells: it has all memory that it takes to put it in place.
 #[derive(Drop)]
 pub struct Draft {
-    visits: Many<Visit>,
-    time: Moment,
-    number: u64,
-    prepared: Prepared,
+    pub(crate) visits: Many<Visit>,
 }
 
-fn stored_id(visit: &Visit) -> Option<u32>
-    ensures { result ≡ stored_id visit.now visit.now.outcome }
-{
-    match &visit.outcome {
-        Outcome::Stored(_) => Some(visit.item),
-        Outcome::Discarded | Outcome::Failed(_) => None,
-    }
+/// What an entry's value is to leave.
+#[derive(Drop)]
+pub struct Prepared {
+    /// What it is to leave in the cells.
+    pub draft: Draft,
+    /// The Failure records, in the order of visiting.
+    pub failures: Many<Rec>,
 }
 
-/// The items that store a value.
-fn stored_ids(alloc: Global, visits: &[Visit]) -> Result<Many<u32>, OutOfMemory>
-    ensures { IfOk result (λ ids. ids ≡ stored_ids visits.now) }
-{
-    let mut ids = Many::new(alloc);
-    for visit in visits {
-        if let Some(id) = stored_id(visit) {
-            ids.push(id)?;
+impl Draft {
+    /// The value that the item with an id is to store, if it is to store one. Takes no memory.
+    pub fn stored(&self, id: u32) -> Option<&Stored>
+        ensures { option_copied result ≡ stored_at self.now.visits id }
+    {
+        for visit in self.visits.as_slice() {
+            if visit.item == id {
+                return visit.stored();
+            }
         }
+        None
     }
-    Ok(ids)
 }
 
 /// The name of a host by its id.
@@ -137,43 +125,34 @@ pub fn prepare(
     value: &Text,
     time: Moment,
     number: u64,
-) -> Result<Draft, OutOfMemory>
+) -> Result<Prepared, OutOfMemory>
     requires chains { AreChainsOf conf.now patterns.now chains.now }
     requires patterns { ArePatternsOf conf.now patterns.now }
-    ensures draft { IfOk result (λ draft. draft ≡ draft_of conf.now cells.old (record { item = item; time = time; value = value.now }) number) }
-    ensures apart { IfOk result (λ draft. AreApart draft.visits) }
-    ensures room { IfOk result (λ draft. HaveRoom cells.new.cells.items draft.visits) }
+    ensures prepared { IfOk result (λ prepared. prepared ≡ prepared_of conf.now cells.old (record { item = item; time = time; number = number; value = value.now })) }
+    ensures apart { IfOk result (λ prepared. AreApart prepared.draft.visits) }
+    ensures room { IfOk result (λ prepared. HaveRoom cells.new.cells.items prepared.draft.visits) }
     ensures same { AreSame cells.new cells.old }
 {
     let memories = cells.memories.as_slice();
-    let visits = visits(alloc, conf, patterns, chains, memories, item, value, time)?;
-    let stored = stored_ids(alloc, visits.as_slice())?;
+    let visits = visits(
+        alloc, conf, patterns, chains, memories, item, value, time, number,
+    )?;
     let failures = failures_of(alloc, conf, number, visits.as_slice())?;
     reserve_all(&mut cells.cells, visits.as_slice())?;
-    Ok(Draft {
-        visits,
-        time,
-        number,
-        prepared: Prepared { stored, failures },
+    Ok(Prepared {
+        draft: Draft { visits },
+        failures,
     })
 }
 
 /// Puts in place what was prepared last, over cells that have its room and still keep the same, at a moment that isn't
 /// before that of an earlier value. Takes no memory.
-pub fn commit(cells: &mut Cells, draft: Draft, now: Moment) -> Prepared
+pub fn commit(cells: &mut Cells, draft: Draft, now: Moment)
     requires apart { AreApart draft.visits }
     requires room { HaveRoom cells.old.cells.items draft.visits }
-    ensures prepared { result ≡ draft.prepared }
-    ensures cells { Becomes now draft.time draft.number draft.visits cells.old cells.new }
+    ensures { Becomes now draft.visits cells.old cells.new }
 {
-    let Draft {
-        visits,
-        time,
-        number,
-        prepared,
-    } = draft;
-    for visit in visits.into_vec() {
-        put(cells, visit, time, number, now);
+    for visit in draft.visits.into_vec() {
+        put(cells, visit, now);
     }
-    prepared
 }

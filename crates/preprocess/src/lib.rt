@@ -26,8 +26,8 @@
 //! ```text
 //! let chains = Chains::build(alloc, &conf, &patterns)?;
 //! let mut cells = Cells::new(alloc, &conf)?;
-//! let draft = prepare(alloc, &conf, &patterns, &chains, &mut cells, item, &value, time, number)?;
-//! let done = commit(&mut cells, draft, now);      // done.stored: ids of items; done.failures: records
+//! let made = prepare(alloc, &conf, &patterns, &chains, &mut cells, item, &value, time, number)?;
+//! commit(&mut cells, made.draft, now);            // made.failures: records
 //! ```
 #![tactic(auto)]
 

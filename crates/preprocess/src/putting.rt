@@ -43,23 +43,19 @@ fn put_value(cells: &mut Vec<ItemCell>, item: u32, stored: Stored, now: Moment)
 }
 
 /// The value that a visit stores, if it stores one.
-fn stored_by(outcome: Outcome, time: Moment, number: u64) -> Option<Stored>
-    ensures { result ≡ stored_by time number outcome }
+fn stored_by(outcome: Outcome) -> Option<Stored>
+    ensures { result ≡ stored_by outcome }
 {
     match outcome {
-        Outcome::Stored(value) => Some(Stored {
-            time,
-            number,
-            value,
-        }),
+        Outcome::Stored(stored) => Some(stored),
         Outcome::Discarded | Outcome::Failed(_) => None,
     }
 }
 
 /// What a visit leaves at a moment: the value that its item stores, and what the steps of the item remember.
-pub(crate) fn put(cells: &mut Cells, visit: Visit, time: Moment, number: u64, now: Moment)
+pub(crate) fn put(cells: &mut Cells, visit: Visit, now: Moment)
     requires { HasRoom cells.old.cells.items visit.item }
-    ensures kept { map kept_of cells.new.cells.items ≡ kept_put now (stored_by time number visit.outcome) visit.item (map kept_of cells.old.cells.items) }
+    ensures kept { map kept_of cells.new.cells.items ≡ kept_put now (stored_by visit.outcome) visit.item (map kept_of cells.old.cells.items) }
     ensures memories { cells.new.memories.items ≡ with_row cells.old.memories.items visit.item visit.marks }
     ensures others { (other : ℕ) → other ≢ visit.item → HasRoom cells.old.cells.items other → HasRoom cells.new.cells.items other }
 {
@@ -69,7 +65,7 @@ pub(crate) fn put(cells: &mut Cells, visit: Visit, time: Moment, number: u64, no
         marks,
     } = visit;
     put_marks(&mut cells.memories, item, marks);
-    match stored_by(outcome, time, number) {
+    match stored_by(outcome) {
         Some(stored) => put_value(&mut cells.cells, item, stored, now),
         None => {}
     }

@@ -1,7 +1,8 @@
 //! An entry's value, from its coming to the cells.
 
 ghost use Rattle.std.specs.Prelude.{◌≡◌, IfOk, OnOk, OnErr};
-ghost use Rattle.preprocess.specs.Cells.{AreSame, Becomes, draft_of, visits_in};
+ghost use Rattle.preprocess.specs.Cells.{AreSame, Becomes, visits_in};
+ghost use Rattle.preprocess.specs.Draft.{failures_of};
 ghost use Rattle.preprocess.specs.Visits.{ArePatternsOf};
 
 use crate::cells::Cells;
@@ -9,9 +10,10 @@ use crate::chains::Chains;
 use crate::draft::{Prepared, commit, prepare};
 use pattern_set::Patterns;
 use std::alloc::Global;
-use zbx_types::{Conf, Moment, OutOfMemory, Text};
+use zbx_types::{Conf, Many, Moment, OutOfMemory, Rec, Text};
 
-/// Takes the value of the entry with a number, of a time, at a moment that isn't before that of an earlier value: what
+/// Takes the value of the entry with a number, of a time, at a moment that isn't before that of an earlier value, and
+/// answers the Failure records: what
 /// [`prepare`](crate::prepare) finds is put in place by [`commit`](crate::commit). It finds anew what
 /// [`Chains`](crate::Chains) keeps, so that a caller of many values calls these two.
 ///
@@ -27,15 +29,16 @@ pub fn run(
     time: Moment,
     now: Moment,
     number: u64,
-) -> Result<Prepared, OutOfMemory>
+) -> Result<Many<Rec>, OutOfMemory>
     requires { ArePatternsOf conf.now patterns.now }
-    ensures prepared { IfOk result (λ prepared. prepared ≡ (draft_of conf.now cells.old (record { item = item; time = time; value = value.now }) number).prepared) }
-    ensures cells { OnOk result (Becomes now time number (visits_in conf.now cells.old (record { item = item; time = time; value = value.now })) cells.old cells.new) }
+    ensures failures { IfOk result (λ failures. failures ≡ failures_of conf.now number (visits_in conf.now cells.old (record { item = item; time = time; number = number; value = value.now }))) }
+    ensures cells { OnOk result (Becomes now (visits_in conf.now cells.old (record { item = item; time = time; number = number; value = value.now })) cells.old cells.new) }
     ensures err { OnErr result (AreSame cells.new cells.old) }
 {
     let chains = Chains::build(alloc, conf, patterns)?;
-    let draft = prepare(
+    let Prepared { draft, failures } = prepare(
         alloc, conf, patterns, &chains, cells, item, value, time, number,
     )?;
-    Ok(commit(cells, draft, now))
+    commit(cells, draft, now);
+    Ok(failures)
 }

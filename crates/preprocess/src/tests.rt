@@ -164,10 +164,13 @@ fn has_no_patterns(conf: &Conf, patterns: &Patterns) -> bool
     are_all_plain(conf.items.as_slice())
 }
 
-fn show_items(out: &mut Text, ids: &[u32]) -> Result<(), OutOfMemory> {
-    for id in ids {
-        out.push_str(" ")?;
-        out.push_decimal(u64::from(*id))?;
+/// The items that store a value, in the order of visiting.
+fn show_items(out: &mut Text, draft: &Draft) -> Result<(), OutOfMemory> {
+    for visit in draft.visits.as_slice() {
+        if draft.stored(visit.item).is_some() {
+            out.push_str(" ")?;
+            out.push_decimal(u64::from(visit.item))?;
+        }
     }
     Ok(())
 }
@@ -210,17 +213,19 @@ fn tell(
     requires { ArePatternsOf conf.now patterns.now }
 {
     let mut out = Text::new(alloc);
+    let chains = Chains::build(alloc, conf, patterns)?;
     let mut cells = Cells::new(alloc, conf)?;
     let now = Moment { sec: 900, ns: 0 };
     for (place, (item, value, sec)) in values.iter().enumerate() {
         let value = Text::of(alloc, value)?;
         let time = Moment { sec: *sec, ns: 0 };
         let number = place as u64 + 3;
-        let prepared = run(
-            alloc, conf, patterns, &mut cells, *item, &value, time, now, number,
+        let Prepared { draft, failures } = prepare(
+            alloc, conf, patterns, &chains, &mut cells, *item, &value, time, number,
         )?;
-        show_items(&mut out, prepared.stored.as_slice())?;
-        show_failures(&mut out, prepared.failures.as_slice())?;
+        show_items(&mut out, &draft)?;
+        show_failures(&mut out, failures.as_slice())?;
+        commit(&mut cells, draft, now);
         out.push_str(";")?;
     }
     for (place, _item) in conf.items.as_slice().iter().enumerate() {

@@ -1,8 +1,11 @@
 //! The way of a value through an item and the items that depend on it.
 
-ghost use Rattle.std.specs.Prelude.{◌≡◌, ◌++◌, OnOk, IfOk};
+ghost use Rattle.std.specs.Prelude.{◌≡◌, ◌++◌, [], ℕ, true, OnOk, IfOk, option_copied};
+ghost use Rattle.preprocess.specs.Chain.{chain_of, read_as};
+ghost use Rattle.prep_steps.specs.declared.memory.StepMemory.{StepMemory};
 ghost use Rattle.preprocess.specs.Chains.{AreChainsOf, listed};
-ghost use Rattle.preprocess.specs.Visits.{ended_text, visit_of, memory_in, visits_of, ArePatternsOf};
+ghost use Rattle.preprocess.specs.Draft.{stored_by};
+ghost use Rattle.preprocess.specs.Visits.{ended_text, outcome_of, visit_of, memory_in, visits_of, ArePatternsOf};
 ghost use Rattle.preprocess.specs.Walks.{walk, walk_below, takes};
 
 use crate::chain::{Chained, run_chain};
@@ -11,13 +14,15 @@ use crate::ended::Ended;
 use pattern_set::Patterns;
 use prep_steps::StepMemory;
 use std::alloc::Global;
-use zbx_types::{Conf, Held, Many, Moment, OutOfMemory, Text, by_id};
+use zbx_types::{
+    Conf, Fix, Held, Item, Many, Moment, OutOfMemory, Stored, Text, ValueType, by_id, unpadded,
+};
 
 /// What an entry's value left at an item.
 #[derive(Drop)]
 pub(crate) enum Outcome {
     /// The item stores this.
-    Stored(Held),
+    Stored(Stored),
     /// Nothing is stored, without an error.
     Discarded,
     /// It failed with this text.
@@ -33,6 +38,18 @@ pub(crate) struct Visit {
     pub(crate) marks: Many<StepMemory>,
 }
 
+impl Visit {
+    /// The value that it stores, if it stores one.
+    pub(crate) fn stored(&self) -> Option<&Stored>
+        ensures { option_copied result ≡ stored_by self.now.outcome }
+    {
+        match &self.outcome {
+            Outcome::Stored(stored) => Some(stored),
+            Outcome::Discarded | Outcome::Failed(_) => None,
+        }
+    }
+}
+
 /// A visit, and the text that goes to the dependents.
 #[derive(Drop)]
 struct Visited {
@@ -40,9 +57,9 @@ struct Visited {
     text: Option<Text>,
 }
 
-/// What a chain leaves at an item.
-fn left_by(id: u32, chained: Chained) -> Visited
-    ensures visit { result.visit ≡ visit_of id chained }
+/// What a chain leaves at an item, of a value of a time and of the entry with a number.
+fn left_by(time: Moment, number: u64, id: u32, chained: Chained) -> Visited
+    ensures visit { result.visit ≡ visit_of time number id chained }
     ensures text { result.text ≡ ended_text chained.end }
 {
     let Chained { end, marks } = chained;
@@ -50,7 +67,11 @@ fn left_by(id: u32, chained: Chained) -> Visited
         Ended::Stored { held, text } => Visited {
             visit: Visit {
                 item: id,
-                outcome: Outcome::Stored(held),
+                outcome: Outcome::Stored(Stored {
+                    time,
+                    number,
+                    value: held,
+                }),
                 marks,
             },
             text: Some(text),
@@ -74,6 +95,62 @@ fn left_by(id: u32, chained: Chained) -> Visited
     }
 }
 
+/// What a value leaves at an item of a type, read as it stands.
+#[tactic(auto, unfolding(prep_steps::specs::Numbering::number_of))]
+fn read_plainly(
+    alloc: Global,
+    time: Moment,
+    number: u64,
+    value_type: ValueType,
+    value: &Text,
+) -> Result<Outcome, OutOfMemory>
+    ensures { IfOk result (λ outcome. outcome ≡ outcome_of time number (read_as value_type value.now)) }
+{
+    let held = match value_type {
+        ValueType::Number => match Fix::read(unpadded(value.as_bytes())) {
+            Some(read) => Held::Number(read),
+            None => return Ok(Outcome::Failed(Text::of(alloc, "value: not a number")?)),
+        },
+        ValueType::Words => Held::Words(value.copy(alloc)?),
+    };
+    Ok(Outcome::Stored(Stored {
+        time,
+        number,
+        value: held,
+    }))
+}
+
+/// What a value leaves at an item without steps: nothing is copied but what is stored.
+fn left_plainly(
+    alloc: Global,
+    time: Moment,
+    number: u64,
+    id: u32,
+    item: &Item,
+    value: &Text,
+) -> Result<Visit, OutOfMemory>
+    requires { item.now.steps ≡ [] }
+    ensures { IfOk result (λ visit. (memory : ℕ → StepMemory) → visit ≡ visit_of time number id (chain_of item.now memory value.now time)) }
+{
+    let outcome = read_plainly(alloc, time, number, item.value_type, value)?;
+    Ok(Visit {
+        item: id,
+        outcome,
+        marks: Many::new(alloc),
+    })
+}
+
+/// Whether an item has no steps, and gives its values to none of these.
+fn is_alone(item: &Item, below: &[u32]) -> bool
+    ensures steps { result ≡ true → item.now.steps ≡ [] }
+    ensures below { result ≡ true → below.now ≡ [] }
+{
+    match (item.steps.as_slice(), below) {
+        ([], []) => true,
+        _ => false,
+    }
+}
+
 /// The memories of an item's steps.
 fn memories_of(memories: &[Many<StepMemory>], id: u32) -> &[StepMemory]
     ensures { result.now ≡ listed memories.now id }
@@ -94,6 +171,7 @@ pub(crate) fn go_through(
     chains: &Chains,
     memories: &[Many<StepMemory>],
     time: Moment,
+    number: u64,
     visits: &mut Many<Visit>,
     id: u32,
     value: &Text,
@@ -101,21 +179,25 @@ pub(crate) fn go_through(
 ) -> Result<(), OutOfMemory>
     requires chains { AreChainsOf conf.now patterns.now chains.now }
     requires patterns { ArePatternsOf conf.now patterns.now }
-    ensures { OnOk result (visits.new ≡ visits.old ++ walk conf.now (memory_in memories.now) time down id value.now) }
+    ensures { OnOk result (visits.new ≡ visits.old ++ walk conf.now (memory_in memories.now) time number down id value.now) }
 {
     let Some(item) = by_id(conf.items.as_slice(), id) else {
         return Ok(());
     };
+    if is_alone(item, chains.below(id)) {
+        visits.push(left_plainly(alloc, time, number, id, item, value)?)?;
+        return Ok(());
+    }
     let own = memories_of(memories, id);
     let chained = run_chain(alloc, item, chains.ways(id), patterns, own, value, time)?;
-    let Visited { visit, text } = left_by(id, chained);
+    let Visited { visit, text } = left_by(time, number, id, chained);
     visits.push(visit)?;
     match text {
         None => Ok(()),
         Some(text) => {
             let below = chains.below(id);
             visit_below(
-                alloc, conf, patterns, chains, memories, time, visits, below, &text, down,
+                alloc, conf, patterns, chains, memories, time, number, visits, below, &text, down,
             )
         }
     }
@@ -131,6 +213,7 @@ fn visit_below(
     chains: &Chains,
     memories: &[Many<StepMemory>],
     time: Moment,
+    number: u64,
     visits: &mut Many<Visit>,
     ids: &[u32],
     value: &Text,
@@ -138,7 +221,7 @@ fn visit_below(
 ) -> Result<(), OutOfMemory>
     requires chains { AreChainsOf conf.now patterns.now chains.now }
     requires patterns { ArePatternsOf conf.now patterns.now }
-    ensures { OnOk result (visits.new ≡ visits.old ++ walk_below conf.now (memory_in memories.now) time down ids.now value.now) }
+    ensures { OnOk result (visits.new ≡ visits.old ++ walk_below conf.now (memory_in memories.now) time number down ids.now value.now) }
 {
     if down == 0 {
         return Ok(());
@@ -151,6 +234,7 @@ fn visit_below(
             chains,
             memories,
             time,
+            number,
             visits,
             *id,
             value,
@@ -181,10 +265,11 @@ pub(crate) fn visits(
     item: u32,
     value: &Text,
     time: Moment,
+    number: u64,
 ) -> Result<Many<Visit>, OutOfMemory>
     requires chains { AreChainsOf conf.now patterns.now chains.now }
     requires patterns { ArePatternsOf conf.now patterns.now }
-    ensures { IfOk result (λ visits. visits ≡ visits_of conf.now (memory_in memories.now) (record { item = item; time = time; value = value.now })) }
+    ensures { IfOk result (λ visits. visits ≡ visits_of conf.now (memory_in memories.now) (record { item = item; time = time; number = number; value = value.now })) }
 {
     let mut visits = Many::new(alloc);
     if !takes(conf, item) {
@@ -197,10 +282,11 @@ pub(crate) fn visits(
         chains,
         memories,
         time,
+        number,
         &mut visits,
         item,
         value,
-        conf.items.len(),
+        conf.items.len().saturating_sub(1),
     )?;
     Ok(visits)
 }

@@ -40,7 +40,7 @@ returns-in-None c =
     e ∙ ap (λ xs. value_of c.in-Some.call.now xs c.args.calls.now.occasion.now c.args.calls.now.occasion.tick c.args.calls.now.ready.now.utc_offset)
     (window_none c.in-Some.call.now.range c.in-Some.call.now.shift c.args.calls.now.occasion.now
     ∙ ap (window_of c.in-Some.call.now.range c.in-Some.call.now.shift c.args.calls.now.occasion.now)
-    (sym (empty_of c.args.calls.now.ready.now c.args.calls.now.items.now (still_to_come c.args.calls.now.item c.args.calls.now.stored.now) c.args.calls.now.occasion.now items c.args.calls.now.id c.in-Some-item_at.item none sees called)))
+    (sym (empty_of c.args.calls.now.ready.now c.args.calls.now.items.now (still_to_come c.args.calls.now.coming.now) c.args.calls.now.occasion.now items c.args.calls.now.id c.in-Some-item_at.item none sees called)))
     ∙ call_is items c.args.calls.now.occasion c.args.calls.now.ready.now.utc_offset c.args.calls.now.trigger.now c.args.place c.in-Some.call.now c.in-Some-item_at.item there item) c.value_over.ensures
 
 pub returns-in-Some-by_id : goal.returns-in-Some-by_id
@@ -54,6 +54,6 @@ returns-in-Some-by_id c =
     ok_sub c.value_in.result _ _
     (λ v h items sees.
     h c.in-Some-item_at.item (items c.in-Some-item_at.item)
-    (seen_of_cell c.args.calls.now.ready.now c.args.calls.now.items.now (still_to_come c.args.calls.now.item c.args.calls.now.stored.now) c.args.calls.now.occasion.now items c.args.calls.now.id c.in-Some-item_at.item c.in-Some-by_id.cell.now _ cell
+    (seen_of_cell c.args.calls.now.ready.now c.args.calls.now.items.now (still_to_come c.args.calls.now.coming.now) c.args.calls.now.occasion.now items c.args.calls.now.id c.in-Some-item_at.item c.in-Some-by_id.cell.now _ cell
     c.still_to_come-stored.ensures sees called) (asks period)
     ∙ call_is items c.args.calls.now.occasion c.args.calls.now.ready.now.utc_offset c.args.calls.now.trigger.now c.args.place c.in-Some.call.now c.in-Some-item_at.item there item) c.value_in.ensures

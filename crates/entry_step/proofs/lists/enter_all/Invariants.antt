@@ -4,4 +4,4 @@ use Rattle.entry_step.specs.Index.{listed, has_id}
 use Rattle.entry_step.proofs.lists.enter_all.Given as goal
 
 abbrev pub invariant-loop-place : goal.invariant-loop-place
-invariant-loop-place l = (q : ℕ) → listed l.over.items q ≡ listed l.fn.over.items q ++ (if has_id q (take l.place l.trigger.call_items) then l.id ∷ [] else [])
+invariant-loop-place l = (q : ℕ) → listed l.over.items q ≡ listed l.fn.over.items q ++ (if has_id q (take l.place l.items) then l.id ∷ [] else [])

@@ -1,15 +1,15 @@
-use Rattle.std.proofs.Common.{◌≡◌, ◌+◌, ℕ, List, take}
+use Rattle.std.proofs.Common.{◌≡◌, ◌+◌, ℕ, List, length, filter, take}
 use Rattle.zbx_types.specs.declared.entries.Stored.{Stored}
 use Rattle.entry_step.specs.Each.{Each}
 use Rattle.entry_step.specs.Kept.{still_to_come, SeesFor}
 use Rattle.entry_step.specs.Records.{evaluated}
-use Rattle.entry_step.specs.Changes.{put_back, AreTidy, Runs}
+use Rattle.entry_step.specs.Changes.{is_asked, put_back, AreTidy, Runs}
 use Rattle.entry_step.proofs.stepping.evaluate_all.Given as goal
 
 abbrev pub invariant-loop-id : goal.invariant-loop-id
 invariant-loop-id g l = record {
   same : put_back l.problems.items l.draft.taken ≡ put_back l.fn.problems.items l.fn.draft.taken;
-  runs : (items : ℕ → List Stored) → Each (SeesFor l.ready l.items (still_to_come l.item l.stored) l.occasion.now items) l.ids → AreTidy l.ready l.fn.problems.items
-      → Runs l.ready (evaluated l.ready l.occasion items) l.fn.problems.items (take l.id-index l.ids) l.draft.records l.problems.items;
-  counted : l.steps ≡ l.fn.steps + l.id-index;
+  runs : (items : ℕ → List Stored) → Each (SeesFor l.ready l.items (still_to_come l.coming) l.occasion.now items) (filter (is_asked l.ready l.coming) l.ids) → AreTidy l.ready l.fn.problems.items
+      → Runs l.ready (evaluated l.ready l.occasion items) l.fn.problems.items (filter (is_asked l.ready l.coming) (take l.id-index l.ids)) l.draft.records l.problems.items;
+  counted : l.steps ≡ l.fn.steps + length (filter (is_asked l.ready l.coming) (take l.id-index l.ids));
 }

@@ -12,5 +12,5 @@ returns-clause-records c =
     ok_sub c.judge.result _ _
     (λ made e histories sees.
     e histories sees ∙ outcome_is c.args.ready.now c.args.ready.now c.args.occasion.now (value_in c.as_slice-2.result.now) histories (problems_at c.args.problems.now) c.args.id c.in-Some.trigger.now
-    c.held_by-held.result c.problems_at-opens.result.now c.masters.result.now refl (λ place. ap (λ (vs : List (Option ℤ)). value_in vs place) c.as_slice-2.ensures ∙ c.in_ok-values.ensures histories sees place) there c.masters.ensures c.held_by-held.ensures c.problems_at-opens.ensures)
+    c.held_by-held.result c.masters.result.now refl (λ place. ap (λ (vs : List (Option ℤ)). value_in vs place) c.as_slice-2.ensures ∙ c.in_ok-values.ensures histories sees place) there c.masters.ensures c.held_by-held.ensures)
     c.judge.ensures.records

@@ -1,27 +1,57 @@
-use Rattle.std.proofs.Common.{length, refl, sym, ◌∙◌, ap, subst, ◌+◌}
+use Rattle.std.proofs.Common.{◌≡◌, ◌+◌, ◌∙◌, length, List, ℕ, Some, ap, sym, filter}
+use Rattle.zbx_types.specs.declared.entries.Entry.{Entry}
 use Rattle.zbx_types.specs.declared.entries.Entry.TheVariants.{Value}
-use Rattle.entry_step.specs.History.{stored_of}
-use Rattle.entry_step.specs.Changes.{Takes}
+use Rattle.preprocess.specs.Visits.{memory_in}
+use Rattle.preprocess.specs.Draft.{failures_of}
+use Rattle.preprocess.specs.declared.draft.Draft.{Draft}
+use Rattle.preprocess.specs.declared.draft.Prepared.{Prepared}
+use Rattle.preprocess.specs.declared.visit.Visit.{Visit}
+use Rattle.entry_step.specs.History.{visits_at}
+use Rattle.entry_step.specs.Index.{triggers_under}
+use Rattle.entry_step.specs.Records.{triggers_at}
+use Rattle.entry_step.specs.Represents.{CellsView}
+use Rattle.entry_step.specs.Changes.{is_asked}
 use Rattle.entry_step.proofs.Loops.{on_on}
-use Rattle.entry_step.proofs.Represented.{ok_sub, ok_const, none_counted, stores_none, triggers_stored}
+use Rattle.entry_step.proofs.Taking.{takes_in, same_view, same_parts, ok_both, err_both, err_const}
+use Rattle.entry_step.proofs.Visited.{triggers_listed}
 use Rattle.entry_step.proofs.stepping.take_value.Goals as goal
 
-pub returns-in-None-clause-counted : goal.returns-in-None-clause-counted
-returns-in-None-clause-counted g c =
-    ok_const c.failure_of.result _
-    (none_counted c.args.ready.now c.args.occasion.now.number c.args.occasion.now.now c.args.item c.args.time c.args.steps.now c.args.value.now
-    (stores_none c.args.ready.now c.args.occasion.now.number c.args.occasion.now.now c.args.item c.args.time c.args.value.now
-    (sym (sym c.in-None.is ∙ c.in_ok-stored.ensures c.args.occasion.now.now ∙ ap (λ conf. stored_of conf c.args.occasion.now.number (Value c.args.occasion.now.now c.args.item c.args.time c.args.value.now) c.args.item) c.conf.ensures))))
+pub returns-clause-ok : goal.returns-clause-ok
+returns-clause-ok g c =
+    let conf = c.args.ready.now in
+    let number : ℕ = c.args.occasion.now.number in
+    let entry : Entry = Value c.args.occasion.now.now c.args.item c.args.time c.args.value.now in
+    let of : CellsView → List Visit = λ view. visits_at conf (memory_in view.memories) number entry in
+    let draft : Draft = c.in_ok-draft.field-0.draft in
+    let visits : draft.visits ≡ of c.args.cells.now = ap (λ (p : Prepared). p.draft.visits) c.in_ok-draft.ensures.prepared ∙ ap of c.cells.view_is in
+    let failures : c.in_ok-draft.field-0.failures ≡ failures_of conf number (of c.args.cells.now) =
+    ap (λ (p : Prepared). p.failures) c.in_ok-draft.ensures.prepared ∙ ap (λ view. failures_of conf number (of view)) c.cells.view_is in
+    let listed : filter (is_asked conf (Some draft)) (triggers_under conf c.args.item) ≡ triggers_at conf (memory_in c.args.cells.now.memories) number entry =
+    ap (λ (vs : List Visit). filter (is_asked conf (Some (record { visits = vs }))) (triggers_under conf c.args.item)) visits ∙ triggers_listed conf (memory_in c.args.cells.now.memories) number c.args.occasion.now.now c.args.item c.args.time c.args.value.now in
+    ok_both c.take_draft.result _ _ _
+    (λ made drafted becomes.
+    takes_in conf c.args.occasion.now draft (of c.args.cells.now) c.in_ok-draft.field-0.failures (filter (is_asked conf (Some draft)) (triggers_under conf c.args.item)) (triggers_at conf (memory_in c.args.cells.now.memories) number entry)
+    c.cells.inside.items c.prepare.new.cells c.take_draft.new.items c.cells.inside.problems.items c.take_draft.new.problems.items c.cells.inside.tick c.args.cells.now made (sym c.cells.view_is) visits failures listed c.in_ok-draft.ensures.same drafted becomes)
+    c.take_draft.ensures.made c.take_draft.ensures.came
 
-pub returns-in-Some-clause-ok : goal.returns-in-Some-clause-ok
-returns-in-Some-clause-ok g c =
-    ok_sub c.take_stored.result _ _
-    (λ made t. subst (λ o. Takes c.args.ready.now c.args.occasion.now c.args.item o c.args.cells.now made c.take_stored.new.cells)
-    (sym c.in-Some.is ∙ c.in_ok-stored.ensures c.args.occasion.now.now ∙ ap (λ conf. stored_of conf c.args.occasion.now.number (Value c.args.occasion.now.now c.args.item c.args.time c.args.value.now) c.args.item) c.conf.ensures)
-    (t c.in-Some.stored refl)) c.take_stored.ensures.ok
+pub returns-clause-counted : goal.returns-clause-counted
+returns-clause-counted g c =
+    let conf = c.args.ready.now in
+    let number : ℕ = c.args.occasion.now.number in
+    let entry : Entry = Value c.args.occasion.now.now c.args.item c.args.time c.args.value.now in
+    let of : CellsView → List Visit = λ view. visits_at conf (memory_in view.memories) number entry in
+    let draft : Draft = c.in_ok-draft.field-0.draft in
+    let visits : draft.visits ≡ of c.args.cells.now = ap (λ (p : Prepared). p.draft.visits) c.in_ok-draft.ensures.prepared ∙ ap of c.cells.view_is in
+    let listed : filter (is_asked conf (Some draft)) (triggers_under conf c.args.item) ≡ triggers_at conf (memory_in c.args.cells.now.memories) number entry =
+    ap (λ (vs : List Visit). filter (is_asked conf (Some (record { visits = vs }))) (triggers_under conf c.args.item)) visits ∙ triggers_listed conf (memory_in c.args.cells.now.memories) number c.args.occasion.now.now c.args.item c.args.time c.args.value.now in
+    on_on c.take_draft.result _ _ (λ p. p ∙ ap (λ (ids : List ℕ). c.args.steps.now + length ids) listed) c.take_draft.ensures.counted
 
-pub returns-in-Some-clause-counted : goal.returns-in-Some-clause-counted
-returns-in-Some-clause-counted g c =
-    let stored = sym (sym c.in-Some.is ∙ c.in_ok-stored.ensures c.args.occasion.now.now ∙ ap (λ conf. stored_of conf c.args.occasion.now.number (Value c.args.occasion.now.now c.args.item c.args.time c.args.value.now) c.args.item) c.conf.ensures) in
-    on_on c.take_stored.result _ _
-    (λ p. p ∙ ap (λ n. c.args.steps.now + n) (sym (ap length (triggers_stored c.args.ready.now c.args.occasion.now.number c.args.occasion.now.now c.args.item c.args.time c.args.value.now c.in-Some.stored stored)))) c.take_stored.ensures.counted
+pub returns-clause-err : goal.returns-clause-err
+returns-clause-err g c =
+    err_both c.take_draft.result _ _ _
+    (λ items problems. same_parts c.prepare.new.cells c.take_draft.new.items c.cells.inside.problems.items c.take_draft.new.problems.items c.cells.inside.tick c.args.cells.now items problems
+    (same_view c.cells.inside.items c.prepare.new.cells c.cells.inside.problems.items c.cells.inside.tick c.args.cells.now c.prepare.ensures.same c.cells.view_is))
+    c.take_draft.ensures.items c.take_draft.ensures.problems
+
+pub returns-in_err-draft-clause-err : goal.returns-in_err-draft-clause-err
+returns-in_err-draft-clause-err g c = err_const c.from_residual.result _ (same_view c.cells.inside.items c.prepare.new.cells c.cells.inside.problems.items c.cells.inside.tick c.args.cells.now c.prepare.ensures.same c.cells.view_is)

@@ -22,20 +22,20 @@ loop-visit-preserved c =
       counted = omega (arith, fewer, count, before);
       apart = apart.1;
       room = room_on c.loop-visit.cells.cells.items c.put.new.cells.cells.items v rest c.put.ensures.others apart.0 room.1;
-      kept = λ id. kept_on c.args.now c.args.draft.time c.args.draft.number v rest rows (map kept_of c.put.new.cells.cells.items) c.put.ensures.kept apart.0 id
-          ∙ ap (λ (vs : List Visit). option_map (kept_after c.args.now c.args.draft.time c.args.draft.number (visit_at vs id)) (at_id rows id)) (sym is) ∙ c.loop-visit.invariant.kept id;
+      kept = λ id. kept_on c.args.now v rest rows (map kept_of c.put.new.cells.cells.items) c.put.ensures.kept apart.0 id
+          ∙ ap (λ (vs : List Visit). option_map (kept_after c.args.now (visit_at vs id)) (at_id rows id)) (sym is) ∙ c.loop-visit.invariant.kept id;
       marked = λ id. marks_on v rest marks c.put.new.cells.memories.items c.put.ensures.memories apart.0 id
           ∙ ap (λ (vs : List Visit). option_map (marks_after (visit_at vs id)) (at_id marks id)) (sym is) ∙ c.loop-visit.invariant.marked id;
     }
 
-pub returns-clause-cells : goal.returns-clause-cells
-returns-clause-cells c =
+pub returns : goal.returns
+returns c =
     let rows = map kept_of c.loop-visit.cells.cells.items in
     let marks = c.loop-visit.cells.memories.items in
     let is : into_iter_items c.loop-visit.visit-iterator ≡ [] = empty_list (into_iter_items c.loop-visit.visit-iterator) (sym c.loop-visit.invariant.counted ∙ c.in-None.ensures.steps.0) in
     record {
-      cells = λ id. sym (kept_end c.args.now c.args.draft.time c.args.draft.number (at_id rows id))
-          ∙ ap (λ (vs : List Visit). option_map (kept_after c.args.now c.args.draft.time c.args.draft.number (visit_at vs id)) (at_id rows id)) (sym is) ∙ c.loop-visit.invariant.kept id;
+      cells = λ id. sym (kept_end c.args.now (at_id rows id))
+          ∙ ap (λ (vs : List Visit). option_map (kept_after c.args.now (visit_at vs id)) (at_id rows id)) (sym is) ∙ c.loop-visit.invariant.kept id;
       memories = λ id. sym (marks_end (at_id marks id))
           ∙ ap (λ (vs : List Visit). option_map (marks_after (visit_at vs id)) (at_id marks id)) (sym is) ∙ c.loop-visit.invariant.marked id;
     }

@@ -9,8 +9,8 @@ invariant-loop-visit l = record {
   counted : into_iter_len l.visit-iterator ≡ length (into_iter_items l.visit-iterator);
   apart : AreApart (into_iter_items l.visit-iterator);
   room : HaveRoom l.cells.cells.items (into_iter_items l.visit-iterator);
-  kept : (id : ℕ) → option_map (kept_after l.fn.now l.fn.draft.time l.fn.draft.number (visit_at (into_iter_items l.visit-iterator) id)) (at_id (map kept_of l.cells.cells.items) id)
-      ≡ option_map (kept_after l.fn.now l.fn.draft.time l.fn.draft.number (visit_at l.fn.draft.visits id)) (at_id (map kept_of l.fn.cells.cells.items) id);
+  kept : (id : ℕ) → option_map (kept_after l.fn.now (visit_at (into_iter_items l.visit-iterator) id)) (at_id (map kept_of l.cells.cells.items) id)
+      ≡ option_map (kept_after l.fn.now (visit_at l.fn.draft.visits id)) (at_id (map kept_of l.fn.cells.cells.items) id);
   marked : (id : ℕ) → option_map (marks_after (visit_at (into_iter_items l.visit-iterator) id)) (at_id l.cells.memories.items id)
       ≡ option_map (marks_after (visit_at l.fn.draft.visits id)) (at_id l.fn.cells.memories.items id);
 }

@@ -11,5 +11,5 @@ decreases-visit_below l = 2 * l.down
 
 abbrev pub invariant-visit_below-loop-id : goal.invariant-visit_below-loop-id
 invariant-visit_below-loop-id l =
-    l.visits ++ flat_map (λ d. walk l.conf (memory_in l.memories) l.time (l.down - 1) d l.value) (drop l.id-index l.ids)
-    ≡ l.fn.visits ++ flat_map (λ d. walk l.conf (memory_in l.memories) l.time (l.down - 1) d l.value) l.ids
+    l.visits ++ flat_map (λ d. walk l.conf (memory_in l.memories) l.time l.number (l.down - 1) d l.value) (drop l.id-index l.ids)
+    ≡ l.fn.visits ++ flat_map (λ d. walk l.conf (memory_in l.memories) l.time l.number (l.down - 1) d l.value) l.ids

@@ -1,4 +1,5 @@
-use Rattle.std.proofs.Common.{◌∙◌, [], ap, map, get_or, List}
+use Rattle.std.proofs.Common.{◌∙◌, [], ap, sym, subst, map, get_or, List}
+use Rattle.preprocess.specs.Visits.{ArePatternsOf}
 use Rattle.zbx_types.specs.declared.triggers.Trigger.{Trigger}
 use Rattle.entry_step.specs.Plans.{plan_of, recovery_plan_of}
 use Rattle.entry_step.proofs.index.Ready.build.Goals as goal
@@ -16,6 +17,9 @@ invariant_of-result c = record {
   asked = c.in_ok-places.ensures.asked;
   timed_are = c.in_ok-timed.ensures;
   all_are = c.in_ok-all.ensures;
+  by_step = subst (ArePatternsOf c.args.conf) (sym c.in_ok-patterns.ensures.ok.0) c.in_ok-stepped.ensures;
+  by_chain = c.in_ok-chains.ensures;
   offset = c.in_ok-near.ensures;
   by_dependent = c.in_ok-masters.ensures;
+  by_reach = c.in_ok-reached.ensures;
 }
