@@ -1,0 +1,210 @@
+-- Each step keeps the facts.
+use Rattle.std.proofs.Common.{◌≡◌, ◌<◌, ℕ, ◌==◌, Bool, true, false, cond, not, List, [], ◌∷◌, ◌++◌, reverse, filter, flat_map, refl, sym, ◌∙◌, ap, ap₂, subst, eqb-true, append-nil, append_assoc, arith}
+use mathlib.Core.Path.{fun_ext}
+use mathlib.Core.List.{reverse-cons}
+use Rattle.std.proofs.lemmas.List.Concat.{flat_map-append}
+use Rattle.zbx_types.specs.Masters.{has_id}
+use Rattle.zbx_types.specs.declared.conf.Conf.{Conf}
+use Rattle.zbx_types.specs.declared.entries.Numbered.{Numbered}
+use Rattle.zbx_types.specs.declared.entries.Rec.{Rec}
+use Rattle.footprint.specs.Feet.{feet_of}
+use Rattle.entry_step.specs.Each.{Each, In}
+use Rattle.entry_step.specs.Records.{out_of, replay}
+use Rattle.entry_step.specs.Cells.{Cells, StandFor}
+use Rattle.entry_step.specs.Laws.{Apart}
+use Rattle.entry_step.proofs.Members.{each_from}
+use Rattle.entry_step.proofs.Meeting.{conflict_is_meeting}
+use Rattle.syncer_gate.specs.declared.marks.Mark.{Mark}
+use Rattle.syncer_gate.specs.declared.marks.Mark.TheVariants.{Pending, Applied, Taken}
+use Rattle.syncer_gate.specs.Marks.{is_pending, is_taken, ended}
+use Rattle.syncer_gate.specs.Core.{Core, Step, Offer, Claim, Apply, GiveBack, happens, IsAllowed, AreAllowed, start, passes, Holds}
+use Rattle.syncer_gate.proofs.Order.{each_step}
+use Rattle.book.specs.Schedule.{is_applied, Worked, batch_in, worked, begin_worked, worked_all, has_applied, Facts, EveryScheduleFacts, records_kept, AtFrontier}
+use Rattle.book.proofs.Places.{Rises, is_in, in_of, in_reverse, of_reverse, in_filter, of_filter, pairs_filter, pairs_reverse}
+use Rattle.book.proofs.Working.{Done, also_all, all_in, all_out, all_done}
+
+-- the numbers of the entries that are applied
+abbrev pub applied_by : (ℕ → Mark) → ℕ → Bool
+applied_by status n = is_applied (status n)
+
+-- what holds behind each step
+pub record Stands (conf : Conf) (w : Worked) : Type 0 where
+  pub holds : Holds (feet_of conf) w.core
+  pub rises : Rises w.core.log
+  pub done : Done conf w.core.log (applied_by w.core.status) w.cells w.made
+
+-- marks
+applied_passes : (late early : Mark) → is_applied late ≡ true → is_applied early ≡ false → passes late early ≡ true
+applied_passes Pending early d w = cc
+applied_passes (Taken id) early d w = cc
+applied_passes Applied Pending d w = refl
+applied_passes Applied (Taken id) d w = refl
+applied_passes Applied Applied d w = cc
+
+taken_waits : (id : ℕ) (mark : Mark) → is_taken id mark ≡ true → is_applied mark ≡ false
+taken_waits id Pending e = refl
+taken_waits id Applied e = cc
+taken_waits id (Taken batch) e = refl
+
+taken_passes : (id : ℕ) (late early : Mark) → is_taken id late ≡ true → is_applied early ≡ false → is_taken id early ≡ false → passes late early ≡ true
+taken_passes id Pending early t w o = cc
+taken_passes id Applied early t w o = cc
+taken_passes id (Taken batch) Pending t w o = refl
+taken_passes id (Taken batch) Applied t w o = cc
+taken_passes id (Taken batch) (Taken other) t w o = let q = eqb-true batch id t in ap not (ap (λ b. other == b) q ∙ o)
+
+pending_waits : (mark : Mark) → is_pending mark ≡ true → is_applied mark ≡ false
+pending_waits Pending e = refl
+pending_waits Applied e = cc
+pending_waits (Taken id) e = refl
+
+taken_known : (id : ℕ) (mark : Mark) → is_taken id mark ≡ true → is_pending mark ≡ false
+taken_known id Pending e = cc
+taken_known id Applied e = refl
+taken_known id (Taken batch) e = refl
+
+given_applied : (id : ℕ) (mark : Mark) → is_applied (ended id Pending mark) ≡ is_applied mark
+given_applied id mark = go (is_taken id mark) refl
+  where
+    go : (b : Bool) → is_taken id mark ≡ b → is_applied (cond b Pending mark) ≡ is_applied mark
+    go true e = sym (taken_waits id mark e)
+    go false e = refl
+
+-- no entry that is applied conflicts with an older one that isn't
+order_of : (conf : Conf) (s : Core) → Holds (feet_of conf) s → (y e : Numbered) → In y s.log → In e s.log → y.number < e.number
+    → applied_by s.status e.number ≡ true → applied_by s.status y.number ≡ false → Apart conf y e
+order_of conf s holds y e i j l d w = (conflict_is_meeting conf y e).0 (holds.order y e (is_in s.log y i) (is_in s.log e j) l (applied_passes (s.status e.number) (s.status y.number) d w))
+
+-- where no entry becomes applied, and none is added, cells and records stay as they are
+same_done : (conf : Conf) (log : List Numbered) (status other : ℕ → Mark) (cells : Cells) (made : ℕ → List Rec) → ((n : ℕ) → is_applied (other n) ≡ is_applied (status n))
+    → Done conf log (applied_by status) cells made → Done conf log (applied_by other) cells made
+same_done conf log status other cells made same holds = subst (λ done. Done conf log done cells made) (sym (fun_ext same)) holds
+
+claimed_applied : (s : Core) (id : ℕ) (numbers : List ℕ) → ((n : ℕ) → has_id numbers n ≡ true → s.status n ≡ Pending) → (n : ℕ)
+    → is_applied (cond (has_id numbers n) (Taken id) (s.status n)) ≡ is_applied (s.status n)
+claimed_applied s id numbers pending n = go (has_id numbers n) refl
+  where
+    go : (b : Bool) → has_id numbers n ≡ b → is_applied (cond b (Taken id) (s.status n)) ≡ is_applied (s.status n)
+    go true e = sym (ap is_applied (pending n e))
+    go false e = refl
+
+module _ (conf : Conf) (w : Worked) (stands : Stands conf w) where
+  -- a new entry isn't applied
+  new_waits : (e : Numbered) → IsAllowed (feet_of conf) w.core (Offer e) → is_applied (w.core.status e.number) ≡ false
+  new_waits e above = pending_waits (w.core.status e.number) (go (is_pending (w.core.status e.number)) refl)
+    where
+      go : (b : Bool) → is_pending (w.core.status e.number) ≡ b → b ≡ true
+      go true q = refl
+      go false q = let k = stands.holds.known e.number q in let l = above k.0 k.1 in let z = k.2 in absurd (omega arith)
+
+  offered : (e : Numbered) → IsAllowed (feet_of conf) w.core (Offer e) → Stands conf (worked conf w (Offer e))
+  offered e above = record {
+    holds = next;
+    rises = (each_from (λ y. y.number < e.number) w.core.log (λ y i. above y (is_in w.core.log y i)), stands.rises);
+    done = record {
+      order = order_of conf (happens w.core (Offer e)) next;
+      stand = subst (StandFor conf w.cells) (ap (λ b. cond b (e ∷ part) part) (sym (new_waits e above))) stands.done.stand;
+      kept = kept;
+    };
+  }
+    where
+      part : List Numbered
+      part = filter (λ x. applied_by w.core.status x.number) w.core.log
+
+      next : Holds (feet_of conf) (happens w.core (Offer e))
+      next = each_step (feet_of conf) w.core (Offer e) stands.holds above
+
+      kept : (newer older : List Numbered) (x : Numbered) → e ∷ w.core.log ≡ newer ++ x ∷ older → applied_by w.core.status x.number ≡ true → w.made x.number ≡ out_of conf older x x.entry (replay conf older)
+      kept [] older x split d = let q : e ≡ x = cc in let f = new_waits e above in let g : is_applied (w.core.status e.number) ≡ true = ap (λ z. applied_by w.core.status z.number) q ∙ d in absurd (cc)
+      kept (z ∷ newer) older x split d = let q : w.core.log ≡ newer ++ x ∷ older = cc in stands.done.kept newer older x q d
+
+  -- a batch's entries are in the log, and each of the log with its id is in the batch
+  of_batch : (id : ℕ) (x : Numbered) → In x (batch_in w.core id) → In x w.core.log × (is_taken id (w.core.status x.number) ≡ true)
+  of_batch id x i = let r = of_filter (λ e. is_taken id (w.core.status e.number)) (reverse w.core.log) x i in (of_reverse w.core.log x r.0, r.1)
+
+  in_batch : (id : ℕ) (x : Numbered) → In x w.core.log → is_taken id (w.core.status x.number) ≡ true → In x (batch_in w.core id)
+  in_batch id x i t = in_filter (λ e. is_taken id (w.core.status e.number)) (reverse w.core.log) x (in_reverse w.core.log x i) t
+
+  -- the entries that are applied behind its end are those before, and its own
+  applied_all : (id n : ℕ) → also_all (applied_by w.core.status) (batch_in w.core id) n ≡ is_applied (ended id Applied (w.core.status n))
+  applied_all id n = go (is_taken id (w.core.status n)) refl
+    where
+      go : (b : Bool) → is_taken id (w.core.status n) ≡ b → also_all (applied_by w.core.status) (batch_in w.core id) n ≡ is_applied (cond b Applied (w.core.status n))
+      go true t =
+          let k = stands.holds.known n (taken_known id (w.core.status n) t) in
+          ap (also_all (applied_by w.core.status) (batch_in w.core id)) (sym k.2)
+          ∙ all_in (applied_by w.core.status) (batch_in w.core id) k.0 (in_batch id k.0 (in_of w.core.log k.0 k.1) (ap (λ m. is_taken id (w.core.status m)) k.2 ∙ t))
+      go false t =
+          all_out (applied_by w.core.status) (batch_in w.core id) n
+          (λ x i q. let r : is_taken id (w.core.status n) ≡ true = ap (λ m. is_taken id (w.core.status m)) (sym q) ∙ (of_batch id x i).1 in cc)
+
+  applied : (id : ℕ) → Stands conf (worked conf w (Apply id))
+  applied id = record {
+    holds = each_step (feet_of conf) w.core (Apply id) stands.holds tt;
+    rises = stands.rises;
+    done = subst (λ done. Done conf w.core.log done (worked conf w (Apply id)).cells (worked conf w (Apply id)).made) (fun_ext (applied_all id)) (
+        all_done conf w.core.log stands.rises (batch_in w.core id) (applied_by w.core.status) w.cells w.made stands.done
+        (λ x i. (of_batch id x i).0)
+        (λ x i. taken_waits id (w.core.status x.number) (of_batch id x i).1)
+        (pairs_filter (λ x later. x.number < later.number) (λ e. is_taken id (w.core.status e.number)) (reverse w.core.log) (pairs_reverse (λ x later. x.number < later.number) w.core.log stands.rises))
+        free);
+  }
+    where
+      free : (y x : Numbered) → In y w.core.log → In x (batch_in w.core id) → y.number < x.number → applied_by w.core.status y.number ≡ false → (In y (batch_in w.core id) → ⊥) → Apart conf y x
+      free y x i j l waits out =
+          let r = of_batch id x j in
+          (conflict_is_meeting conf y x).0
+          (stands.holds.order y x (is_in w.core.log y i) (is_in w.core.log x r.0) l (taken_passes id (w.core.status x.number) (w.core.status y.number) r.1 waits (go (is_taken id (w.core.status y.number)) refl)))
+        where
+          go : (b : Bool) → is_taken id (w.core.status y.number) ≡ b → b ≡ false
+          go true q = absurd (out (in_batch id y i q))
+          go false q = refl
+
+  stepped : (step : Step) → IsAllowed (feet_of conf) w.core step → Stands conf (worked conf w step)
+  stepped (Offer e) allowed = offered e allowed
+  stepped (Claim id numbers) allowed = record {
+    holds = each_step (feet_of conf) w.core (Claim id numbers) stands.holds allowed;
+    rises = stands.rises;
+    done = same_done conf w.core.log w.core.status (λ n. cond (has_id numbers n) (Taken id) (w.core.status n)) w.cells w.made (claimed_applied w.core id numbers allowed.pending) stands.done;
+  }
+  stepped (Apply id) allowed = applied id
+  stepped (GiveBack id) allowed = record {
+    holds = each_step (feet_of conf) w.core (GiveBack id) stands.holds allowed;
+    rises = stands.rises;
+    done = same_done conf w.core.log w.core.status (λ n. ended id Pending (w.core.status n)) w.cells w.made (λ n. given_applied id (w.core.status n)) stands.done;
+  }
+
+all_stepped : (conf : Conf) (steps : List Step) (w : Worked) → AreAllowed (feet_of conf) w.core steps → Stands conf w → Stands conf (worked_all conf w steps)
+all_stepped conf [] w allowed stands = stands
+all_stepped conf (step ∷ steps) w allowed stands = all_stepped conf steps (worked conf w step) (still step allowed.1) (stepped conf w stands step allowed.0)
+  where
+    still : (step : Step) → AreAllowed (feet_of conf) (happens w.core step) steps → AreAllowed (feet_of conf) (worked conf w step).core steps
+    still (Offer e) a = a
+    still (Claim id numbers) a = a
+    still (Apply id) a = a
+    still (GiveBack id) a = a
+
+begins : (conf : Conf) → Stands conf (begin_worked conf)
+unfolding StandFor
+begins conf = record {
+  holds = record { order = λ y e i. absurd i; known = λ n q. absurd (cc) };
+  rises = tt;
+  done = record { order = λ y e i. absurd i; stand = refl; kept = λ newer older e split d. absurd (cc) };
+}
+
+pub stands_all : (conf : Conf) (steps : List Step) → AreAllowed (feet_of conf) start steps → Stands conf (worked_all conf (begin_worked conf) steps)
+stands_all conf steps allowed = all_stepped conf steps (begin_worked conf) allowed (begins conf)
+
+pub every_schedule_holds : EveryScheduleFacts
+every_schedule_holds conf steps allowed = let s = stands_all conf steps allowed in record { order = s.holds.order; stand = s.done.stand; kept = s.done.kept }
+
+-- the records kept of entries that are all done
+collected : (conf : Conf) (w : Worked) → Facts conf w → (newer older : List Numbered) → w.core.log ≡ newer ++ older → Each (λ e. has_applied w e ≡ true) older → records_kept w older ≡ replay conf older
+collected conf w facts newer [] split done = refl
+collected conf w facts newer (e ∷ older) split done =
+    ap (flat_map (λ x. w.made x.number)) (reverse-cons e older)
+    ∙ flat_map-append (λ x. w.made x.number) (reverse older) (e ∷ [])
+    ∙ ap₂ (λ xs ys. xs ++ ys) (collected conf w facts (newer ++ e ∷ []) older (split ∙ sym (append_assoc newer (e ∷ []) older)) done.1) (append-nil (w.made e.number) ∙ facts.kept newer older e split done.0)
+
+pub at_frontier : AtFrontier
+at_frontier conf steps allowed newer older split done = collected conf (worked_all conf (begin_worked conf) steps) (every_schedule_holds conf steps allowed) newer older split done
