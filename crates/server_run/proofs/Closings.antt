@@ -23,7 +23,6 @@ use Rattle.regex_syntax.specs.Grammar.{read}
 use Rattle.regex.specs.Patterns.{default_config}
 use Rattle.zbx_types.specs.Ids.{at_id}
 use Rattle.pattern_set.specs.Patterns.{IsPattern, IsNoPattern}
-use Rattle.server_run.specs.Built.{is_built, IsUnbuilt}
 use Rattle.server_run.specs.Patterns.{HasFlawAt, HoldsBrace}
 use Rattle.server_run.specs.Opening.{IsAccepted, Bars, opening_lines}
 use Rattle.server_run.specs.Statuses.{Ending, at_limit, at_full, YieldsTo, EndsPrinted}
@@ -78,7 +77,7 @@ found_same (Some f) b groups is found = subst (λ x. groups_of (kept x) ≡ Some
     some_same x y e = cc
 
 module _ (words : List (List ℕ)) (source file : Option (List ℕ)) (faults faults' disk_faults disk_faults' held : ℕ) (plan : Plan) (text : List ℕ) (conf : Conf) (b : List ℕ) (t : Status)
-    (plan_is : plan_of words ≡ Some plan) (some : 0 < plan.max_entries) (source_is : source ≡ Some text) (conf_is : flat_of text ≡ Ok conf) (built : is_built conf ≡ true) (file_is : file ≡ Some b)
+    (plan_is : plan_of words ≡ Some plan) (some : 0 < plan.max_entries) (source_is : source ≡ Some text) (conf_is : flat_of text ≡ Ok conf) (file_is : file ≡ Some b)
     (bars : Bars conf plan.max_entries (Some b) held t) where
   -- two things that bar a run are one
   same_bar : (s : Status) → IsBarred words source file held s → s ≡ t
@@ -97,14 +96,6 @@ module _ (words : List (List ℕ)) (source file : Option (List ℕ)) (faults fau
   bars_unbegun (status.PatternRefused path) why = inr (inr (inr (inr tt)))
   bars_unbegun (status.PatternTooLarge path) why = inr (inr (inr (inr tt)))
   bars_unbegun status.DiskFault why = inr (inr (inl refl))
-  bars_unbegun status.Unbuilt why = absurd (not_unbuilt source source_is why.1)
-    where
-      here : IsUnbuilt text → ⊥
-      here u = true≢false (sym built ∙ ap is_built (conf_same text conf u.conf conf_is u.conf_is) ∙ u.unbuilt)
-
-      not_unbuilt : (o : Option (List ℕ)) → o ≡ Some text → IfSome o IsUnbuilt → ⊥
-      not_unbuilt None is u = absurd (cc)
-      not_unbuilt (Some x) is u = here (subst IsUnbuilt (some_text x text is) u)
   bars_unbegun (status.ConfigRefused path cause) why = absurd (not_refused source source_is why.1)
     where
       here : flat_of text ≡ refuse path cause → ⊥
@@ -171,7 +162,7 @@ no_pattern : (pattern : List ℕ) → IsPattern pattern → IsNoPattern pattern 
 no_pattern pattern is flaw = deep_or_not (read default_config (chars pattern)) (λ p. p.0.depth) default_config.nest_limit is flaw
 
 module _ (words : List (List ℕ)) (source file : Option (List ℕ)) (faults faults' disk_faults disk_faults' held : ℕ) (plan : Plan) (text : List ℕ) (conf : Conf) (b : List ℕ) (groups : List Group)
-    (plan_is : plan_of words ≡ Some plan) (some : 0 < plan.max_entries) (source_is : source ≡ Some text) (conf_is : flat_of text ≡ Ok conf) (built : is_built conf ≡ true) (file_is : file ≡ Some b)
+    (plan_is : plan_of words ≡ Some plan) (some : 0 < plan.max_entries) (source_is : source ≡ Some text) (conf_is : flat_of text ≡ Ok conf) (file_is : file ≡ Some b)
     (found : groups_of (kept b) ≡ Some groups) (accepted : IsAccepted conf groups) (enough : held ≤ length (opening_lines conf groups))
     (source_well : Rose faults faults' → ⊥) (disk_well : Rose disk_faults disk_faults' → ⊥) (patterns : All IsPattern conf.patterns) where
   -- what is accepted isn't barred
@@ -200,14 +191,6 @@ module _ (words : List (List ℕ)) (source file : Option (List ℕ)) (faults fau
       not_flawed None is u = absurd (cc)
       not_flawed (Some x) is u = here (subst (HasFlawAt IsNoPattern path) (some_text x text is) u)
   begins_well status.DiskFault why = absurd (disk_well why.3)
-  begins_well status.Unbuilt why = absurd (not_unbuilt source source_is why.1)
-    where
-      here : IsUnbuilt text → ⊥
-      here u = true≢false (sym built ∙ ap is_built (conf_same text conf u.conf conf_is u.conf_is) ∙ u.unbuilt)
-
-      not_unbuilt : (o : Option (List ℕ)) → o ≡ Some text → IfSome o IsUnbuilt → ⊥
-      not_unbuilt None is u = absurd (cc)
-      not_unbuilt (Some x) is u = here (subst IsUnbuilt (some_text x text is) u)
   begins_well (status.ConfigRefused path cause) why = absurd (not_refused source source_is why.1)
     where
       here : flat_of text ≡ refuse path cause → ⊥
@@ -329,7 +312,6 @@ module _ (words : List (List ℕ)) (source file : Option (List ℕ)) (faults fau
   no_plan none status.Usage why = inl refl
   no_plan none status.OutOfMemory why = inr refl
   no_plan none status.SourceFault why = absurd (true≢false (sym why.0 ∙ ap is_some none))
-  no_plan none status.Unbuilt why = absurd (true≢false (sym why.0 ∙ ap is_some none))
   no_plan none (status.PatternRefused path) why = absurd (true≢false (sym why.0 ∙ ap is_some none))
   no_plan none (status.PatternTooLarge path) why = absurd (true≢false (sym why.0 ∙ ap is_some none))
   no_plan none (status.ConfigRefused path cause) why = absurd (true≢false (sym why.0 ∙ ap is_some none))
@@ -349,34 +331,6 @@ module _ (words : List (List ℕ)) (source file : Option (List ℕ)) (faults fau
         by None is p = absurd (cc)
         by (Some x) is p = subst P (some_text x text is) p
 
-    -- where the configuration has a form that isn't built
-    not_configured : (conf : Conf) → flat_of text ≡ Ok conf → is_built conf ≡ false → (plan' : Plan) (conf' : Conf) → Configured words source plan' conf' → ⊥
-    not_configured conf conf_is unbuilt plan' conf' c =
-        let same = config_same words source plan' conf' conf text c source_is conf_is in
-        true≢false (sym c.built ∙ ap is_built same ∙ unbuilt)
-
-    pub not_built : (conf : Conf) → flat_of text ≡ Ok conf → is_built conf ≡ false → (s : Status) → Refused_as s
-        → (s ≡ status.Unbuilt) ⊎ ((s ≡ status.SourceFault) ⊎ ((s ≡ status.Usage) ⊎ (s ≡ status.OutOfMemory)))
-    not_built conf conf_is unbuilt status.Usage why = inr (inr (inl refl))
-    not_built conf conf_is unbuilt status.OutOfMemory why = inr (inr (inr refl))
-    not_built conf conf_is unbuilt status.SourceFault why = inr (inl refl)
-    not_built conf conf_is unbuilt status.Unbuilt why = inl refl
-    not_built conf conf_is unbuilt (status.ConfigRefused path cause) why = let refused = of_source (λ x. flat_of x ≡ refuse path cause) why.1 in absurd (cc)
-    not_built conf conf_is unbuilt (status.PatternRefused path) why =
-        let u = of_source (HasFlawAt IsNoPattern path) why.1 in absurd (true≢false (sym u.built ∙ ap is_built (conf_same text u.conf conf u.conf_is conf_is) ∙ unbuilt))
-    not_built conf conf_is unbuilt (status.PatternTooLarge path) why =
-        let u = of_source (HasFlawAt HoldsBrace path) why.1 in absurd (true≢false (sym u.built ∙ ap is_built (conf_same text u.conf conf u.conf_is conf_is) ∙ unbuilt))
-    not_built conf conf_is unbuilt status.DiskFault why = absurd (not_configured conf conf_is unbuilt why.0 why.1 why.2)
-    not_built conf conf_is unbuilt status.NotOurs why = absurd (not_configured conf conf_is unbuilt why.0 why.1 why.2)
-    not_built conf conf_is unbuilt (status.Damaged at) why = absurd (not_configured conf conf_is unbuilt why.0 why.1 why.2)
-    not_built conf conf_is unbuilt (status.ConfigDiffers at) why = absurd (not_configured conf conf_is unbuilt why.0 why.1 why.2)
-    not_built conf conf_is unbuilt (status.OutboxAhead told lines) why = absurd (not_configured conf conf_is unbuilt why.0 why.1 why.2)
-    not_built conf conf_is unbuilt (status.Full entries bytes) why = absurd (not_configured conf conf_is unbuilt why.0 why.1 why.2)
-    not_built conf conf_is unbuilt _ why = absurd why.3
-
-    pub not_begun_unbuilt : (conf : Conf) → flat_of text ≡ Ok conf → is_built conf ≡ false → (did : Doing) (wire wire' : WireTells) (s : Status) (entries : List Numbered) → Followed words source file held did wire wire' s entries → ⊥
-    not_begun_unbuilt conf conf_is unbuilt did wire wire' s entries f = not_configured conf conf_is unbuilt f.plan f.conf f.configured
-
     -- where it is refused
     not_flat : (path : List ℕ) (cause : Cause) → flat_of text ≡ refuse path cause → (plan' : Plan) (conf' : Conf) → Configured words source plan' conf' → ⊥
     not_flat path cause refused plan' conf' c =
@@ -389,7 +343,6 @@ module _ (words : List (List ℕ)) (source file : Option (List ℕ)) (faults fau
     refused_text path cause refused status.Usage why = inr (inr (inl refl))
     refused_text path cause refused status.OutOfMemory why = inr (inr (inr refl))
     refused_text path cause refused status.SourceFault why = inr (inl refl)
-    refused_text path cause refused status.Unbuilt why = let u = of_source IsUnbuilt why.1 in let found = u.conf_is in absurd (cc)
     refused_text path cause refused (status.PatternRefused path') why = let u = of_source (HasFlawAt IsNoPattern path') why.1 in let found = u.conf_is in absurd (cc)
     refused_text path cause refused (status.PatternTooLarge path') why = let u = of_source (HasFlawAt HoldsBrace path') why.1 in let found = u.conf_is in absurd (cc)
     refused_text path cause refused (status.ConfigRefused path' cause') why =

@@ -34,7 +34,6 @@ use Rattle.server_words.specs.Printed.{printed_text}
 use Rattle.server_run.specs.declared.book.Ledger.{Ledger}
 use Rattle.server_run.specs.Ports.{IsTextUpTo, ReadsUpTo, Grew, GrewByFront}
 use Rattle.pattern_set.specs.Patterns.{IsNoPattern}
-use Rattle.server_run.specs.Built.{is_built, IsUnbuilt}
 use Rattle.server_run.specs.Patterns.{HasFlawAt, HoldsBrace}
 use Rattle.server_run.specs.Standing.{log_lines}
 use Rattle.server_run.specs.Replayed.{conf_in, conf_of_run}
@@ -51,11 +50,6 @@ use Rattle.server_run.proofs.Texts.{text_told, text_kept, flaw_told, at_end_of}
 some_plan : (o : Option Plan) (plan : Plan) → o ≡ Some plan → IsSome o
 some_plan o plan is = ap is_some is
 
--- where a text that was read isn't built, neither is the source's
-unbuilt_told : (source : Option (List ℕ)) (bytes : List ℕ) → IfSome source (λ all. IsTextUpTo 16777216 all bytes) → IsUnbuilt bytes → IfSome source IsUnbuilt
-unbuilt_told None bytes read u = tt
-unbuilt_told (Some all) bytes read u = subst IsUnbuilt (text_told (Some all) bytes u.conf read u.conf_is) u
-
 -- where a pattern of a text that was read has a flaw, one of the source's has it
 flawed_told : (Flaw : List ℕ → Type 0) (path : List ℕ) (source : Option (List ℕ)) (bytes : List ℕ) → IfSome source (λ all. IsTextUpTo 16777216 all bytes) → HasFlawAt Flaw path bytes → IfSome source (HasFlawAt Flaw path)
 flawed_told Flaw path None bytes read u = tt
@@ -65,7 +59,6 @@ flawed_told Flaw path (Some all) bytes read u = subst (HasFlawAt Flaw path) (tex
 pub unconfigured : (words : List (List ℕ)) (plan : Plan) (source : Option (List ℕ)) (faults faults' : ℕ) (bytes : List ℕ) (s : Status)
     → plan_of words ≡ Some plan → IfSome source (λ all. IsTextUpTo 16777216 all bytes) → IsUntaken bytes s → Unconfigured words source faults faults' s
 unconfigured words plan source faults faults' bytes status.OutOfMemory is read spent = tt
-unconfigured words plan source faults faults' bytes status.Unbuilt is read flaw = (some_plan (plan_of words) plan is, unbuilt_told source bytes read flaw)
 unconfigured words plan source faults faults' bytes (status.ConfigRefused path cause) is read flaw =
     (some_plan (plan_of words) plan is, flaw_told source bytes (refused (record { path = path; cause = cause })) read flaw)
 unconfigured words plan source faults faults' bytes (status.PatternRefused path) is read flaw = (some_plan (plan_of words) plan is, flawed_told IsNoPattern path source bytes read flaw)
@@ -75,8 +68,8 @@ unconfigured words plan source faults faults' bytes _ is read none = absurd none
 -- one that was taken
 pub is_configured : (words : List (List ℕ)) (plan : Plan) (source source' : Option (List ℕ)) (bytes : List ℕ) (conf : Conf)
     → plan_of words ≡ Some plan → IfSome source (λ all. IsTextUpTo 16777216 all bytes) → (length bytes ≤ 16777216 → IsAtEnd source')
-    → flat_of bytes ≡ Ok conf → is_built conf ≡ true → IsConfigured words source source' plan.turns plan.max_entries conf
-is_configured words plan source source' bytes conf is read end found built =
+    → flat_of bytes ≡ Ok conf → IsConfigured words source source' plan.turns plan.max_entries conf
+is_configured words plan source source' bytes conf is read end found =
     let same = text_kept bytes conf found in
     record {
       plan = plan;
@@ -84,7 +77,6 @@ is_configured words plan source source' bytes conf is read end found built =
         plan_is = is;
         text_is = subst (λ t. IfSome source (λ all. t ≡ all)) (sym same) (text_told source bytes conf read found);
         conf_is = ap flat_of same ∙ found;
-        built = built;
       };
       turns_are = refl;
       most_is = refl;
@@ -97,7 +89,6 @@ pub not_configured : (words : List (List ℕ)) (source : Option (List ℕ)) (fau
 not_configured words source faults faults' file disk_faults disk_faults' held status.Usage why = why
 not_configured words source faults faults' file disk_faults disk_faults' held status.SourceFault why = why
 not_configured words source faults faults' file disk_faults disk_faults' held status.OutOfMemory why = why
-not_configured words source faults faults' file disk_faults disk_faults' held status.Unbuilt why = why
 not_configured words source faults faults' file disk_faults disk_faults' held (status.ConfigRefused path cause) why = why
 not_configured words source faults faults' file disk_faults disk_faults' held (status.PatternRefused path) why = why
 not_configured words source faults faults' file disk_faults disk_faults' held (status.PatternTooLarge path) why = why
@@ -370,7 +361,6 @@ module _ (words : List (List ℕ)) (source : Option (List ℕ)) (faults faults' 
   is_refusal status.Usage why = refl
   is_refusal status.SourceFault why = refl
   is_refusal (status.ConfigRefused path cause) why = refl
-  is_refusal status.Unbuilt why = refl
   is_refusal (status.PatternRefused path) why = refl
   is_refusal (status.PatternTooLarge path) why = refl
   is_refusal status.OutOfMemory why = refl

@@ -1,5 +1,4 @@
 pub mod Ports
-pub mod Built
 pub mod Patterns
 pub mod Replayed
 pub mod Tally

@@ -1,12 +1,11 @@
 -- Configurations with a pattern that a run can't take.
-use Rattle.std.specs.Prelude.{◌≡◌, ℕ, ◌-◌, List, take, Some, Ok, true, All, Contains, ⊤}
+use Rattle.std.specs.Prelude.{◌≡◌, ℕ, ◌-◌, List, take, Some, Ok, All, Contains, ⊤}
 use Rattle.zbx_types.specs.Ids.{at_id}
 use Rattle.zbx_types.specs.declared.conf.Conf.{Conf}
 use Rattle.config_templates.specs.Flat.{flat_of}
 use Rattle.pattern_set.specs.Patterns.{IsPattern, IsNoPattern}
 use Rattle.server_words.specs.declared.status.Status.{Status}
 use Rattle.server_words.specs.declared.status.Status.TheVariants as status
-use Rattle.server_run.specs.Built.{is_built}
 
 -- a pattern that is one, and holds a brace
 abbrev pub HoldsBrace : List ℕ → Type 0
@@ -21,11 +20,10 @@ pub record IsFlawedAt (Flaw : List ℕ → Type 0) (conf : Conf) (path : List �
   pub flaw : Flaw pattern
   pub before : All IsPattern (take (place - 1) conf.patterns)
 
--- the text has a flat configuration, of a form that is built, with such a pattern at this path
+-- the text has a flat configuration with such a pattern at this path
 pub record HasFlawAt (Flaw : List ℕ → Type 0) (path text : List ℕ) : Type 0 where
   pub conf : Conf
   pub conf_is : flat_of text ≡ Ok conf
-  pub built : is_built conf ≡ true
   pub flawed : IsFlawedAt Flaw conf path
 
 -- why a configuration wasn't made ready: memory was refused, or the first pattern that isn't one, or is too large

@@ -20,7 +20,6 @@ use Rattle.server_words.specs.declared.words.Plan.{Plan}
 use Rattle.server_words.specs.declared.status.Status.{Status}
 use Rattle.server_words.specs.declared.status.Status.TheVariants as status
 use Rattle.pattern_set.specs.Patterns.{IsPattern, IsNoPattern}
-use Rattle.server_run.specs.Built.{is_built, IsUnbuilt}
 use Rattle.server_run.specs.Patterns.{HasFlawAt, HoldsBrace}
 use Rattle.server_run.specs.Statuses.{course_of, IsRefusal, IsBarring, YieldsTo, IsCourse}
 use Rattle.server_run.specs.Opening.{IsAccepted, Bars, opening_lines}
@@ -54,14 +53,12 @@ pub record IsRun (words : List (List ℕ)) (before after : Objects) (began : Boo
   pub not_command : plan_of words ≡ None → (s ≡ status.Usage) ⊎ (s ≡ status.OutOfMemory)
   pub taken : ReadsUpTo 16777216 before.source after.source
   pub to_the_end : began ≡ true → IsAtEnd after.source
-  pub unbuilt : s ≡ status.Unbuilt → IfSome before.source IsUnbuilt
-  pub not_built : (text : List ℕ) (conf : Conf) → before.source ≡ Some text → flat_of text ≡ Ok conf → is_built conf ≡ false → (s ≡ status.Unbuilt) ⊎ ((s ≡ status.SourceFault) ⊎ ((s ≡ status.Usage) ⊎ (s ≡ status.OutOfMemory)))
   pub config_refused : (path : List ℕ) (cause : Cause) → s ≡ status.ConfigRefused path cause → IfSome before.source (λ text. flat_of text ≡ refuse path cause)
   pub refused_text : (text path : List ℕ) (cause : Cause) → before.source ≡ Some text → flat_of text ≡ refuse path cause → (s ≡ status.ConfigRefused path cause) ⊎ ((s ≡ status.SourceFault) ⊎ ((s ≡ status.Usage) ⊎ (s ≡ status.OutOfMemory)))
   pub pattern_refused : (path : List ℕ) → s ≡ status.PatternRefused path → IfSome before.source (HasFlawAt IsNoPattern path)
   pub pattern_too_large : (path : List ℕ) → s ≡ status.PatternTooLarge path → IfSome before.source (HasFlawAt HoldsBrace path)
   pub barred : began ≡ false → IsBarring s → IsBarred words before.source before.file before.outbox.held s
-  pub bars : (plan : Plan) (text : List ℕ) (conf : Conf) (file : List ℕ) (t : Status) → plan_of words ≡ Some plan → 0 < plan.max_entries → before.source ≡ Some text → flat_of text ≡ Ok conf → is_built conf ≡ true
+  pub bars : (plan : Plan) (text : List ℕ) (conf : Conf) (file : List ℕ) (t : Status) → plan_of words ≡ Some plan → 0 < plan.max_entries → before.source ≡ Some text → flat_of text ≡ Ok conf
       → before.file ≡ Some file → Bars conf plan.max_entries (Some file) before.outbox.held t → (s ≡ t) ⊎ YieldsTo s
   pub source : s ≡ status.SourceFault → Rose before.source_faults after.source_faults
   pub wire : s ≡ status.WireFault → Rose before.wire.faults after.wire.faults
@@ -77,7 +74,7 @@ pub record IsRun (words : List (List ℕ)) (before after : Objects) (began : Boo
   pub lines : began ≡ true → LinesAre (course_of s).out before.outbox after.outbox (drop before.outbox.held (run_lines entries))
   pub size : began ≡ true → SizeIs (course_of s).out before.outbox after.outbox (drop before.outbox.held (run_lines entries))
   pub printed : Prints s (run_counts entries) before.printer after.printer
-  pub complete : (plan : Plan) (text : List ℕ) (conf : Conf) (file : List ℕ) (groups : List Group) (all : List WireEvent) → plan_of words ≡ Some plan → 0 < plan.max_entries → before.source ≡ Some text → flat_of text ≡ Ok conf → is_built conf ≡ true
+  pub complete : (plan : Plan) (text : List ℕ) (conf : Conf) (file : List ℕ) (groups : List Group) (all : List WireEvent) → plan_of words ≡ Some plan → 0 < plan.max_entries → before.source ≡ Some text → flat_of text ≡ Ok conf
       → before.file ≡ Some file → groups_of (kept file) ≡ Some groups → IsAccepted conf groups → before.outbox.held ≤ length (opening_lines conf groups)
       → before.wire.left ≡ Some all → (served (limits_by plan) conf (opening_intake conf groups) (take plan.turns all)).stop ≡ Some stop.Closed → NoneRose before after → All IsPattern conf.patterns
       → (s ≡ status.Ok) ⊎ ((s ≡ status.OutOfMemory) ⊎ ((path : List ℕ) × (s ≡ status.PatternTooLarge path)))

@@ -26,7 +26,6 @@ use Rattle.config_templates.specs.Places.{refuse}
 use Rattle.server_run.specs.declared.book.Ledger.{Ledger}
 use Rattle.pattern_set.specs.Patterns.{IsNoPattern}
 use Rattle.server_run.specs.Patterns.{HasFlawAt, HoldsBrace}
-use Rattle.server_run.specs.Built.{is_built, IsUnbuilt}
 use Rattle.server_run.specs.Recovered.{journal_bytes}
 use Rattle.server_run.specs.Opening.{FoundGroups, IsAccepted, Bars, FoundEntries, IsResumed, opening_lines}
 use Rattle.server_run.specs.Stops.{refusing, IsReached, KeepsSome}
@@ -35,22 +34,20 @@ use Rattle.server_run.specs.Ports.{Grew, GrewByFront}
 use Rattle.server_run.specs.Sending.{Shows}
 use Rattle.server_run.specs.Statuses.{Ending, Printing, whole_line, own_line, front_of_line, front_of_ok, course_of, EndsAs, LeftIs}
 
--- why a configuration couldn't be taken: memory was refused, it has a form that isn't built, it is refused for its first
--- fault, or a pattern of it isn't one, or holds a brace and is too large
+-- why a configuration couldn't be taken: memory was refused, it is refused for its first fault, or a pattern of it isn't one,
+-- or holds a brace and is too large
 abbrev pub IsUntaken : List ℕ → Status → Type 0
 IsUntaken text status.OutOfMemory = ⊤
-IsUntaken text status.Unbuilt = IsUnbuilt text
 IsUntaken text (status.ConfigRefused path cause) = flat_of text ≡ refuse path cause
 IsUntaken text (status.PatternRefused path) = HasFlawAt IsNoPattern path text
 IsUntaken text (status.PatternTooLarge path) = HasFlawAt HoldsBrace path text
 IsUntaken text _ = ⊥
 
--- a run whose words had a plan and whose configuration is flat, of a form that is built
+-- a run whose words had a plan and whose configuration is flat
 pub record Configured (words : List (List ℕ)) (source : Option (List ℕ)) (plan : Plan) (conf : Conf) : Type 0 where
   pub plan_is : plan_of words ≡ Some plan
   pub text_is : IfSome source (λ all. conf.text ≡ all)
   pub conf_is : flat_of conf.text ≡ Ok conf
-  pub built : is_built conf ≡ true
 
 -- what was read of a run's words and configuration: its turns, its most entries, and the whole text of its source
 pub record IsConfigured (words : List (List ℕ)) (source source' : Option (List ℕ)) (turns most : ℕ) (conf : Conf) : Type 0 where
@@ -66,7 +63,6 @@ abbrev pub Unconfigured : List (List ℕ) → Option (List ℕ) → ℕ → ℕ 
 Unconfigured words source faults faults' status.Usage = plan_of words ≡ None
 Unconfigured words source faults faults' status.SourceFault = IsSome (plan_of words) × Rose faults faults'
 Unconfigured words source faults faults' status.OutOfMemory = ⊤
-Unconfigured words source faults faults' status.Unbuilt = IsSome (plan_of words) × IfSome source IsUnbuilt
 Unconfigured words source faults faults' (status.ConfigRefused path cause) =
     IsSome (plan_of words) × IfSome source (λ text. flat_of text ≡ refuse path cause)
 Unconfigured words source faults faults' (status.PatternRefused path) = IsSome (plan_of words) × IfSome source (HasFlawAt IsNoPattern path)
@@ -82,7 +78,6 @@ abbrev pub Refuses : List (List ℕ) → Option (List ℕ) → ℕ → ℕ → O
 Refuses words source faults faults' file disk_faults disk_faults' held status.Usage = plan_of words ≡ None
 Refuses words source faults faults' file disk_faults disk_faults' held status.SourceFault = IsSome (plan_of words) × Rose faults faults'
 Refuses words source faults faults' file disk_faults disk_faults' held status.OutOfMemory = ⊤
-Refuses words source faults faults' file disk_faults disk_faults' held status.Unbuilt = IsSome (plan_of words) × IfSome source IsUnbuilt
 Refuses words source faults faults' file disk_faults disk_faults' held (status.ConfigRefused path cause) =
     IsSome (plan_of words) × IfSome source (λ text. flat_of text ≡ refuse path cause)
 Refuses words source faults faults' file disk_faults disk_faults' held (status.PatternRefused path) =

@@ -92,7 +92,6 @@ course_of status.OutOfMemory = either at_refusal front_lines front_of_line
 course_of status.Usage = refusal
 course_of status.SourceFault = refusal
 course_of (status.ConfigRefused path cause) = refusal
-course_of status.Unbuilt = refusal
 course_of (status.PatternRefused path) = refusal
 course_of (status.PatternTooLarge path) = refusal
 course_of status.NotOurs = refusal

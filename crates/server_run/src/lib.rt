@@ -23,7 +23,6 @@
 #![tactic(auto)]
 
 mod book;
-mod built;
 mod delivery;
 mod numbering;
 mod opening;
@@ -38,5 +37,7 @@ mod writing;
 
 pub use run::{Ended, run_single};
 
+#[cfg(test)]
+mod crash_tests;
 #[cfg(test)]
 mod tests;

@@ -1,17 +1,15 @@
 //! The opening of a run: its words, its configuration, its journal, and what its outbox lacks.
 
-ghost use Rattle.std.specs.Prelude.{◌≡◌, ◌≤◌, true, false, Ok, Some, None, All, IfOk, IfErr};
+ghost use Rattle.std.specs.Prelude.{◌≡◌, ◌≤◌, Ok, Some, None, All, IfOk, IfErr};
 ghost use Rattle.zbx_types.specs.Ids.{at_id};
 ghost use Rattle.pattern_set.specs.Patterns.{IsPattern};
 ghost use Rattle.config_templates.specs.Flat.{flat_of};
 ghost use Rattle.server_words.specs.Words.{plan_of};
-ghost use Rattle.server_run.specs.Built.{is_built};
 ghost use Rattle.server_run.specs.Ports.{ReadsUpTo};
 ghost use Rattle.server_run.specs.Opening.{IsResumed, TurnedAway};
 ghost use Rattle.server_run.specs.Patterns.{IsUnready};
 ghost use Rattle.server_run.specs.Runs.{IsUntaken, IsConfigured, Unconfigured, Opened, Unbegun};
 
-use crate::built::is_built;
 use crate::reading::{ReadError, read_all};
 use crate::resuming::{Refused, Resumed, resume};
 use config_templates::{FlatError, flat};
@@ -37,25 +35,13 @@ struct Setup {
     ready: Ready,
 }
 
-/// A configuration, where a run can do what it says.
-fn only_built(conf: Conf) -> Result<Conf, Status>
-    ensures ok { IfOk result (λ made. (made ≡ conf) × (is_built conf ≡ true)) }
-    ensures err { IfErr result (λ status. (status ≡ Status.Unbuilt) × (is_built conf ≡ false)) }
-{
-    if is_built(&conf) {
-        Ok(conf)
-    } else {
-        Err(Status::Unbuilt)
-    }
-}
-
 /// The flat configuration of these bytes.
 fn configure(alloc: Global, bytes: &[u8]) -> Result<Conf, Status>
-    ensures ok { IfOk result (λ conf. (flat_of bytes.now ≡ Ok conf) × (is_built conf ≡ true)) }
+    ensures ok { IfOk result (λ conf. flat_of bytes.now ≡ Ok conf) }
     ensures err { IfErr result (IsUntaken bytes.now) }
 {
     match flat(alloc, bytes) {
-        Ok(conf) => only_built(conf),
+        Ok(conf) => Ok(conf),
         Err(FlatError::Refused { path, cause }) => Err(Status::ConfigRefused { path, cause }),
         Err(FlatError::OutOfMemory) => Err(Status::OutOfMemory),
     }
@@ -96,7 +82,7 @@ fn ready_of(alloc: Global, conf: Conf) -> Result<Ready, Status>
 
 /// Makes the configuration of these bytes ready.
 fn prepare(alloc: Global, bytes: &[u8]) -> Result<Ready, Status>
-    ensures ok { IfOk result (λ ready. (flat_of bytes.now ≡ Ok ready) × (is_built ready ≡ true)) }
+    ensures ok { IfOk result (λ ready. flat_of bytes.now ≡ Ok ready) }
     ensures err { IfErr result (IsUntaken bytes.now) }
 {
     match configure(alloc, bytes) {

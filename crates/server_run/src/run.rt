@@ -19,7 +19,6 @@ ghost use Rattle.config_templates.specs.Flat.{flat_of};
 ghost use Rattle.config_templates.specs.Places.{refuse};
 ghost use Rattle.zbx_types.specs.declared.causes.Cause.{Cause};
 ghost use Rattle.zbx_types.specs.declared.conf.Conf.{Conf};
-ghost use Rattle.server_run.specs.Built.{is_built, IsUnbuilt};
 ghost use Rattle.pattern_set.specs.Patterns.{IsPattern, IsNoPattern};
 ghost use Rattle.server_run.specs.Patterns.{HasFlawAt, HoldsBrace};
 ghost use Rattle.server_run.specs.Opening.{IsAccepted, Bars, opening_lines};
@@ -40,6 +39,7 @@ use outside::{Disk, Failed, Sink, Source, Wire};
 use server_words::{Counts, Status, printed};
 use std::alloc::Global;
 use std::convert::AsStr;
+use std::mem::forget;
 use zbx_types::{Many, Numbered, Text};
 
 /// What a run answers.
@@ -161,6 +161,8 @@ fn go<S: Source, W: Wire, D: Disk, O: Sink>(
     };
     let mut resumed = resumed;
     let status = serve_behind(alloc, turns, &ready, wire, &mut resumed, outbox);
+    // It holds nothing but memory, and most of what the process holds, which the system takes back whole where that ends.
+    forget(ready);
     let Resumed { front, ledger, .. } = resumed;
     let (disk, entries) = front.end();
     let count = entries.as_slice().len() as u64;
@@ -209,7 +211,7 @@ fn cut_short(status: Status) -> Status
 ///
 /// # Statuses
 ///
-/// `Usage`, `SourceFault`, `ConfigRefused` and `Unbuilt`, and then `NotOurs`, `Damaged`, `ConfigDiffers` and `OutboxAhead`, end
+/// `Usage`, `SourceFault`, `ConfigRefused`, `PatternRefused` and `PatternTooLarge`, and then `NotOurs`, `Damaged`, `ConfigDiffers` and `OutboxAhead`, end
 /// the opening: no event was taken, and wire and outbox are as they were. `Ok` comes where the wire was read to its end.
 /// `TurnLimit` comes where as many events as the plan allows were taken and none closed the wire. `Full` comes where the next
 /// group would have made the journal larger than the plan allows, or than 1,073,741,824 bytes. `DiskFault`, `WireFault`,
@@ -232,12 +234,6 @@ pub fn run_single<S: Source, W: Wire, D: Disk, O: Sink, P: Sink>(
     ensures taken { ReadsUpTo 16777216 (S.left config.old) (S.left config.new) }
     ensures to_the_end { result.began ≡ true → IsAtEnd (S.left config.new) }
 
-    // Unbuilt comes exactly where the configuration has a form that isn't built.
-    ensures unbuilt { result.status ≡ Status.Unbuilt → IfSome (S.left config.old) IsUnbuilt }
-    ensures not_built { (text : List ℕ) (conf : Conf) → S.left config.old ≡ Some text → flat_of text ≡ Ok conf → is_built conf ≡ false
-        → (result.status ≡ Status.Unbuilt) ⊎ ((result.status ≡ Status.SourceFault)
-        ⊎ ((result.status ≡ Status.Usage) ⊎ (result.status ≡ Status.OutOfMemory))) }
-
     // ConfigRefused comes exactly where the configuration is refused, with its path and cause.
     ensures config_refused { (path : List ℕ) (cause : Cause) → result.status ≡ Status.ConfigRefused path cause
         → IfSome (S.left config.old) (λ text. flat_of text ≡ refuse path cause) }
@@ -254,7 +250,7 @@ pub fn run_single<S: Source, W: Wire, D: Disk, O: Sink, P: Sink>(
     // so, with the place or the numbers.
     ensures barred { result.began ≡ false → IsBarring result.status → IsBarred words.now (S.left config.old) (D.bytes disk) (O.tells outbox).held result.status }
     ensures bars { (plan : Plan) (text : List ℕ) (conf : Conf) (file : List ℕ) (status : Status) → plan_of words.now ≡ Some plan → 0 < plan.max_entries → S.left config.old ≡ Some text → flat_of text ≡ Ok conf
-        → is_built conf ≡ true → D.bytes disk ≡ Some file → Bars conf plan.max_entries (Some file) (O.tells outbox).held status → (result.status ≡ status) ⊎ YieldsTo result.status }
+        → D.bytes disk ≡ Some file → Bars conf plan.max_entries (Some file) (O.tells outbox).held status → (result.status ≡ status) ⊎ YieldsTo result.status }
 
     // A fault comes only where the count of its object rose.
     ensures source { result.status ≡ Status.SourceFault → Rose (S.faults config.old) (S.faults config.new) }
@@ -292,7 +288,7 @@ pub fn run_single<S: Source, W: Wire, D: Disk, O: Sink, P: Sink>(
 
     // What is accepted and doesn't fail ends well, if memory is there.
     ensures complete { (plan : Plan) (text : List ℕ) (conf : Conf) (file : List ℕ) (groups : List Group) (all : List WireEvent)
-        → plan_of words.now ≡ Some plan → 0 < plan.max_entries → S.left config.old ≡ Some text → flat_of text ≡ Ok conf → is_built conf ≡ true
+        → plan_of words.now ≡ Some plan → 0 < plan.max_entries → S.left config.old ≡ Some text → flat_of text ≡ Ok conf
         → D.bytes disk ≡ Some file → groups_of (kept file) ≡ Some groups → IsAccepted conf groups → (O.tells outbox).held ≤ length (opening_lines conf groups)
         → (W.tells wire.old).left ≡ Some all → (served (limits_by plan) conf (opening_intake conf groups) (take plan.turns all)).stop ≡ Some stop.Closed
         → (Rose (S.faults config.old) (S.faults config.new) → ⊥)

@@ -1,5 +1,5 @@
 use super::*;
-use outside::{Failed, MemDisk, MemSink, MemSource, ScriptWire, Trouble, Wire, WireEvent};
+use outside::{Disk, Failed, MemDisk, MemSink, MemSource, ScriptWire, Trouble, Wire, WireEvent};
 use server_words::Status;
 use std::alloc::Global;
 use std::convert::AsStr;
@@ -9,7 +9,7 @@ use zbx_types::{Bytes, Entry, Many, Numbered, OutOfMemory, Text, frame_header};
 // Scripts and expected reports are functions, so that a test's proof doesn't carry their bytes.
 
 /// The host `h` with the item `k`, whose trigger `hot` has a problem while the last value is above 5.
-fn plain_config() -> &'static str {
+pub(crate) fn plain_config() -> &'static str {
     "{\"hosts\":[{\"name\":\"h\",\"groups\":[\"g\"],\"items\":[{\"key\":\"k\"}],\"triggers\":[{\"name\":\"hot\",\"expression\":\"last(/h/k)>5\",\"severity\":3}]}]}"
 }
 
@@ -18,14 +18,9 @@ fn item_twice() -> &'static str {
     "{\"hosts\":[{\"name\":\"h\",\"groups\":[\"g\"],\"items\":[{\"key\":\"k\"},{\"key\":\"k\"}],\"triggers\":[{\"name\":\"hot\",\"expression\":\"last(/h/k)>5\",\"severity\":3}]}]}"
 }
 
-/// The plain configuration with a macro in its trigger's name that isn't built.
-fn with_a_step() -> &'static str {
-    "{\"hosts\":[{\"name\":\"h\",\"groups\":[\"g\"],\"items\":[{\"key\":\"k\",\"steps\":[{\"kind\":\"trim\",\"params\":[\" \"]}]}],\"triggers\":[{\"name\":\"hot\",\"expression\":\"last(/h/k)>5\",\"severity\":3}]}]}"
-}
-
 /// The numbers of the calls that fail, counted from 1. At 0 none fails.
 #[derive(Clone, Copy)]
-struct Fails {
+pub(crate) struct Fails {
     source: u64,
     wire: u64,
     disk: u64,
@@ -33,7 +28,7 @@ struct Fails {
     print: u64,
 }
 
-fn none_fails() -> Fails {
+pub(crate) fn none_fails() -> Fails {
     Fails {
         source: 0,
         wire: 0,
@@ -45,8 +40,8 @@ fn none_fails() -> Fails {
 
 /// A wire of a script that says of each event that it stands ready, or of none.
 #[derive(Drop)]
-struct TestWire {
-    wire: ScriptWire<MemSource>,
+pub(crate) struct TestWire {
+    pub(crate) wire: ScriptWire<MemSource>,
     ready: bool,
 }
 
@@ -80,13 +75,13 @@ impl Wire for TestWire {
 
 /// A run that has ended, with the wire and the printer that it had.
 #[derive(Drop)]
-struct Over {
-    ended: Ended<MemDisk, MemSink>,
-    wire: TestWire,
+pub(crate) struct Over<D> {
+    pub(crate) ended: Ended<D, MemSink>,
+    pub(crate) wire: TestWire,
     print: MemSink,
 }
 
-fn only(alloc: Global, number: u64) -> Result<Many<u64>, OutOfMemory> {
+pub(crate) fn only(alloc: Global, number: u64) -> Result<Many<u64>, OutOfMemory> {
     let mut numbers = Many::new(alloc);
     numbers.push(number)?;
     Ok(numbers)
@@ -96,15 +91,15 @@ fn source(alloc: Global, text: &str, fails: u64) -> Result<MemSource, OutOfMemor
     Ok(MemSource::new(Bytes::of(alloc, text.as_bytes())?, only(alloc, fails)?))
 }
 
-fn sink(alloc: Global, held: &[u8], fails: u64) -> Result<MemSink, OutOfMemory> {
+pub(crate) fn sink(alloc: Global, held: &[u8], fails: u64) -> Result<MemSink, OutOfMemory> {
     Ok(MemSink::new(Bytes::of(alloc, held)?, only(alloc, fails)?))
 }
 
 /// What a run finds of an earlier one: the bytes of its journal and of its outbox.
 #[derive(Clone, Copy)]
-struct Found<'a> {
-    journal: &'a [u8],
-    outbox: &'a [u8],
+pub(crate) struct Found<'a> {
+    pub(crate) journal: &'a [u8],
+    pub(crate) outbox: &'a [u8],
 }
 
 fn nothing_found() -> Found<'static> {
@@ -129,19 +124,19 @@ fn run(
     config: &str,
     script: &str,
     fails: Fails,
-) -> Result<Over, OutOfMemory> {
+) -> Result<Over<MemDisk>, OutOfMemory> {
     run_behind(alloc, words, config, script, nothing_found(), fails)
 }
 
 /// Runs over what an earlier run left.
-fn run_behind(
+pub(crate) fn run_behind(
     alloc: Global,
     words: &str,
     config: &str,
     script: &str,
     found: Found<'_>,
     fails: Fails,
-) -> Result<Over, OutOfMemory> {
+) -> Result<Over<MemDisk>, OutOfMemory> {
     run_over(alloc, words, config, script, found, fails, false)
 }
 
@@ -154,31 +149,45 @@ fn run_over(
     found: Found<'_>,
     fails: Fails,
     ready: bool,
-) -> Result<Over, OutOfMemory> {
+) -> Result<Over<MemDisk>, OutOfMemory> {
+    let journal = Bytes::of(alloc, found.journal)?;
+    let disk_fails = only(alloc, fails.disk)?;
+    let outbox = sink(alloc, found.outbox, fails.outbox)?;
+    let disk = MemDisk::new(alloc, journal, disk_fails);
+    run_on(alloc, words, config, script, disk, outbox, fails, ready)
+}
+
+/// Runs over a disk and an outbox.
+pub(crate) fn run_on<D: Disk + Drop>(
+    alloc: Global,
+    words: &str,
+    config: &str,
+    script: &str,
+    disk: D,
+    outbox: MemSink,
+    fails: Fails,
+    ready: bool,
+) -> Result<Over<D>, OutOfMemory> {
     let words = words_of(alloc, words)?;
     let config = source(alloc, config, fails.source)?;
     let script = source(alloc, script, 0)?;
     let wire_fails = only(alloc, fails.wire)?;
-    let journal = Bytes::of(alloc, found.journal)?;
-    let disk_fails = only(alloc, fails.disk)?;
-    let outbox = sink(alloc, found.outbox, fails.outbox)?;
     let print = sink(alloc, &[], fails.print)?;
     let wire = ScriptWire::new(alloc, script, wire_fails);
-    let disk = MemDisk::new(alloc, journal, disk_fails);
     let wire = TestWire { wire, ready };
     Ok(run_with(alloc, words, config, wire, disk, outbox, print))
 }
 
 /// Runs over these objects, none of which is looked at before the end.
-fn run_with(
+fn run_with<D: Disk>(
     alloc: Global,
     words: Many<Text>,
     config: MemSource,
     wire: TestWire,
-    disk: MemDisk,
+    disk: D,
     outbox: MemSink,
     print: MemSink,
-) -> Over {
+) -> Over<D> {
     let mut config = config;
     let mut wire = wire;
     let mut print = print;
@@ -239,7 +248,6 @@ fn status_name(status: &Status) -> &'static str {
         Status::Usage => "Usage",
         Status::SourceFault => "SourceFault",
         Status::ConfigRefused { .. } => "ConfigRefused",
-        Status::Unbuilt => "Unbuilt",
         Status::WireFault => "WireFault",
         Status::OutboxFault => "OutboxFault",
         Status::PrintFault => "PrintFault",
@@ -256,7 +264,7 @@ fn status_name(status: &Status) -> &'static str {
 }
 
 /// Status, whether the run began, entries, closed connections; replies; the outbox; the printed line.
-fn report(alloc: Global, over: &Over) -> Result<Bytes, Fail> {
+fn report(alloc: Global, over: &Over<MemDisk>) -> Result<Bytes, Fail> {
     let mut report = Bytes::of(alloc, status_name(&over.ended.status).as_bytes())?;
     report.extend(if over.ended.began {
         b" begun "
@@ -526,7 +534,7 @@ fn a_wire_or_a_printer_may_fail(rt: HostRuntime) -> Result<(), Fail> {
 }
 
 #[test]
-fn other_words_or_another_configuration_begin_no_run(rt: HostRuntime) -> Result<(), Fail> {
+fn words_without_a_plan_begin_no_run(rt: HostRuntime) -> Result<(), Fail> {
     let alloc = rt.alloc();
     let usage = reported(
         alloc,
@@ -536,14 +544,6 @@ fn other_words_or_another_configuration_begin_no_run(rt: HostRuntime) -> Result<
         none_fails(),
     )?;
     assert!(rt; is(&usage, "Usage not.. \nstatus: Usage\n"));
-    let unbuilt = reported(
-        alloc,
-        "--mode feed --config c --script s",
-        with_a_step(),
-        one_frame(),
-        none_fails(),
-    )?;
-    assert!(rt; is(&unbuilt, "Unbuilt not.. \nstatus: Unbuilt\n"));
     Ok(())
 }
 

@@ -25,7 +25,6 @@ exit_of status.WireFault = 13
 exit_of (status.Full entries bytes) = 14
 exit_of status.TurnLimit = 15
 exit_of status.OutOfMemory = 16
-exit_of status.Unbuilt = 17
 exit_of (status.PatternTooLarge path) = 26
 
 -- a count behind its name
@@ -86,7 +85,6 @@ printed_text (status.OutboxAhead held lines) c = count_text (codes "status: Outb
 printed_text status.DiskFault c = codes "status: DiskFault\n"
 printed_text (status.Full entries bytes) c = count_text (codes "status: Full; entries: ") entries ++ count_text (codes "; bytes: ") bytes ++ codes "\n"
 printed_text (status.ConfigRefused path cause) c = refused_text path cause
-printed_text status.Unbuilt c = codes "status: Unbuilt\n"
 printed_text status.WireFault c = codes "status: WireFault\n"
 printed_text status.OutboxFault c = codes "status: OutboxFault\n"
 printed_text status.PrintFault c = []

@@ -52,8 +52,6 @@ pub enum Status {
     },
     /// The journal's disk failed.
     DiskFault,
-    /// The configuration has a form that isn't built yet.
-    Unbuilt,
     /// The wire failed.
     WireFault,
     /// The outbox failed.
@@ -95,7 +93,6 @@ impl Status {
             Status::Full { .. } => 14,
             Status::TurnLimit => 15,
             Status::OutOfMemory => 16,
-            Status::Unbuilt => 17,
             Status::PatternTooLarge { .. } => 26,
         }
     }

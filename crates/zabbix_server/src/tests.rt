@@ -71,11 +71,6 @@ fn plain_config() -> &'static str {
     "{\"hosts\":[{\"name\":\"h\",\"groups\":[\"g\"],\"items\":[{\"key\":\"k\"}],\"triggers\":[{\"name\":\"hot\",\"expression\":\"last(/h/k)>5\"}]}]}"
 }
 
-/// The plain configuration with a rule of correlation, which isn't built.
-fn unbuilt_config() -> &'static str {
-    "{\"hosts\":[{\"name\":\"h\",\"groups\":[\"g\"],\"items\":[{\"key\":\"k\"}],\"triggers\":[{\"name\":\"hot\",\"expression\":\"last(/h/k)>5\"}]}],\"correlations\":[{\"name\":\"pair\",\"conditions\":[{\"kind\":\"tag_pair\",\"old\":\"svc\",\"new\":\"svc\"}],\"close\":[\"old\"]}]}"
-}
-
 /// One connection brings the value 10.
 fn one_frame() -> &'static str {
     "100.000000000 open 1\n100.000000000 frame 1 {\"request\":\"sender data\",\"data\":[{\"host\":\"h\",\"key\":\"k\",\"value\":\"10\"}]}\n100.000000000 closed\n"
@@ -156,7 +151,6 @@ fn each_status_has_its_number(rt: HostRuntime) -> Result<(), Fail> {
         (good, plain_config(), one_frame(), outbox, 11),
         (good, plain_config(), one_frame(), printer, 12),
         (good, plain_config(), "open 1\n", none, 13),
-        (good, unbuilt_config(), one_frame(), none, 17),
     ] {
         assert_eq!(rt; exit_in_memory(alloc, words, config, script, fails)?, exit);
     }
@@ -195,7 +189,6 @@ fn exit_over_files(rt: &HostRuntime, config: &Text, script: &Text) -> Result<u8,
 fn a_run_over_files_ends_with_its_status(rt: HostRuntime) -> Result<(), Fail> {
     let plain = file_of(&rt, "plain", plain_config())?;
     let refused = file_of(&rt, "refused", "{")?;
-    let unbuilt = file_of(&rt, "unbuilt", unbuilt_config())?;
     let script = file_of(&rt, "script", one_frame())?;
     let broken = file_of(&rt, "broken", "open 1\n")?;
     let nowhere = path_of(&rt, "nowhere")?;
@@ -205,11 +198,10 @@ fn a_run_over_files_ends_with_its_status(rt: HostRuntime) -> Result<(), Fail> {
         (&nowhere, &script, 5),
         (&plain, &broken, 13),
         (&plain, &nowhere, 13),
-        (&unbuilt, &script, 17),
     ] {
         assert_eq!(rt; exit_over_files(&rt, config, script)?, exit);
     }
-    for path in [&plain, &refused, &unbuilt, &script, &broken] {
+    for path in [&plain, &refused, &script, &broken] {
         fs::remove_file(&rt, path.as_str())?;
     }
     Ok(())

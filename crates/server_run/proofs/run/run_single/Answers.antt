@@ -1,5 +1,5 @@
 use Rattle.std.proofs.Common.{subst, inl, inr, ⊎_elim}
-use Rattle.server_run.proofs.Closings.{either_way, disk_fault, keeps_at_end, bars_unbegun, bars_begun, begins_well, ends_well, fault_before, no_plan, not_built, refused_text, not_begun_unplanned, not_begun_unbuilt, not_begun_refused}
+use Rattle.server_run.proofs.Closings.{either_way, disk_fault, keeps_at_end, bars_unbegun, bars_begun, begins_well, ends_well, fault_before, no_plan, refused_text, not_begun_unplanned, not_begun_refused}
 use Rattle.server_words.specs.declared.status.Status.TheVariants as status
 use Rattle.server_run.specs.Runs.{Refuses}
 use Rattle.server_run.proofs.Outbox.{lines_printed, size_left}
@@ -42,14 +42,14 @@ returns-clause-disk g c = λ is. either_way c.go-course.result.began
     (refuses_printed _ _ _ _ _ _ _ _ _ _ c.report-status.ensures.ends (c.go-course.ensures.not_begun refused).0.why)).3)
 
 pub returns-clause-bars : goal.returns-clause-bars
-returns-clause-bars g c = λ plan text conf file t plan_is some source_is conf_is built file_is bars. either_way c.go-course.result.began
+returns-clause-bars g c = λ plan text conf file t plan_is some source_is conf_is file_is bars. either_way c.go-course.result.began
     (λ began. absurd (bars_begun _ _ _ (g.S.Source.faults c.args.config.now) (g.S.Source.faults c.args.config.now) (g.D.Disk.faults c.args.disk) (g.D.Disk.faults c.args.disk) _ plan text conf file t
-    plan_is some source_is conf_is built file_is bars _ _ _ _ _ (c.go-course.ensures.followed began)))
-    (λ refused. bars_unbegun _ _ _ _ _ _ _ _ plan text conf file t plan_is some source_is conf_is built file_is bars _
+    plan_is some source_is conf_is file_is bars _ _ _ _ _ (c.go-course.ensures.followed began)))
+    (λ refused. bars_unbegun _ _ _ _ _ _ _ _ plan text conf file t plan_is some source_is conf_is file_is bars _
     (refuses_printed _ _ _ _ _ _ _ _ _ _ c.report-status.ensures.ends (c.go-course.ensures.not_begun refused).0.why))
 
 pub returns-clause-complete : goal.returns-clause-complete
-returns-clause-complete g c = λ plan text conf file groups all plan_is some source_is conf_is built file_is found accepted enough left closes source_well wire_well disk_well outbox_well print_well patterns.
+returns-clause-complete g c = λ plan text conf file groups all plan_is some source_is conf_is file_is found accepted enough left closes source_well wire_well disk_well outbox_well print_well patterns.
     either_way c.go-course.result.began
     (λ began.
     let ends = c.report-status.ensures.ends in
@@ -60,7 +60,7 @@ returns-clause-complete g c = λ plan text conf file groups all plan_is some sou
     (λ is. outbox_well (go.outbox (fault_before _ _ status.OutboxFault ends is (λ e. cc) (λ e. cc))))
     (λ is. print_well (c.report-status.ensures.print is))
     (followed_printed _ _ _ _ _ _ _ _ _ _ ends (go.followed began))))
-    (λ refused. inr (begins_well c.args.words.now _ (g.D.Disk.bytes c.args.disk) _ _ _ _ _ plan text conf file groups plan_is some source_is conf_is built file_is found accepted enough source_well disk_well patterns _
+    (λ refused. inr (begins_well c.args.words.now _ (g.D.Disk.bytes c.args.disk) _ _ _ _ _ plan text conf file groups plan_is some source_is conf_is file_is found accepted enough source_well disk_well patterns _
     (refuses_printed _ _ _ _ _ _ _ _ _ _ c.report-status.ensures.ends (c.go-course.ensures.not_begun refused).0.why)))
 
 pub returns-clause-lines : goal.returns-clause-lines
@@ -76,11 +76,6 @@ pub returns-clause-not_command : goal.returns-clause-not_command
 returns-clause-not_command g c = λ none. either_way c.go-course.result.began
     (λ began. absurd (not_begun_unplanned c.args.words.now _ _ 0 0 0 0 _ none _ _ _ _ _ (c.go-course.ensures.followed began)))
     (λ refused. no_plan _ _ _ _ _ _ _ _ none _ (refuses_printed _ _ _ _ _ _ _ _ _ _ c.report-status.ensures.ends (c.go-course.ensures.not_begun refused).0.why))
-
-pub returns-clause-not_built : goal.returns-clause-not_built
-returns-clause-not_built g c = λ text conf source_is conf_is unbuilt. either_way c.go-course.result.began
-    (λ began. absurd (not_begun_unbuilt c.args.words.now _ _ 0 0 0 0 _ text source_is conf conf_is unbuilt _ _ _ _ _ (c.go-course.ensures.followed began)))
-    (λ refused. not_built _ _ _ _ _ _ _ _ text source_is conf conf_is unbuilt _ (refuses_printed _ _ _ _ _ _ _ _ _ _ c.report-status.ensures.ends (c.go-course.ensures.not_begun refused).0.why))
 
 pub returns-clause-refused_text : goal.returns-clause-refused_text
 returns-clause-refused_text g c = λ text path cause source_is flaw. either_way c.go-course.result.began

@@ -23,8 +23,6 @@ returns g c =
         not_command = r.ensures.not_command;
         taken = r.ensures.taken;
         to_the_end = r.ensures.to_the_end;
-        unbuilt = r.ensures.unbuilt;
-        not_built = r.ensures.not_built;
         config_refused = r.ensures.config_refused;
         refused_text = r.ensures.refused_text;
         pattern_refused = r.ensures.pattern_refused;
@@ -66,6 +64,6 @@ returns g c =
         lines = r.ensures.lines;
         size = r.ensures.size;
         printed = r.ensures.printed;
-        complete = λ plan text conf file groups all a b d e f h i j k l m none patterns. r.ensures.complete plan text conf file groups all a b d e f h i j k l m none.source none.wire none.disk none.outbox none.printer patterns;
+        complete = λ plan text conf file groups all a b d e h i j k l m none patterns. r.ensures.complete plan text conf file groups all a b d e h i j k l m none.source none.wire none.disk none.outbox none.printer patterns;
       },
     )
