@@ -174,9 +174,17 @@ fn are_told(records: &[Rec], told: &str) -> bool {
             .all(|(word, rec)| is_told(rec, word))
 }
 
+fn made_of(
+    alloc: Global,
+    rulings: &[Ruling],
+    values: &[(u32, &str)],
+) -> Result<Many<Rec>, OutOfMemory> {
+    made_over::<Brand>(alloc, rulings, values, Blank::new(1))
+}
+
 fn is_made(alloc: Global, case: Case) -> Result<bool, OutOfMemory> {
     let (rulings, values, told) = case;
-    let made = made_over::<Brand>(alloc, rulings, values, Blank::new(1))?;
+    let made = made_of(alloc, rulings, values)?;
     Ok(are_told(made.as_slice(), told))
 }
 
