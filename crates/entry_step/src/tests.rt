@@ -2,13 +2,12 @@ ghost use Rattle.std.specs.Prelude.{◌≡◌, ◌<◌};
 
 use super::*;
 use std::alloc::Global;
-use std::convert::AsStr;
 use std::marker::Brand;
 use std::sync::ledger::{Blank, Ledger};
 use std::test::Fail;
 use zbx_types::{
-    Call, Cause2, Conf, Entry, Expr, Fix, Fun, Host, Item, ItemKind, Many, Moment, Numbered, Op,
-    Operand, OutOfMemory, Range, Rec, RecoveryMode, Text, Trigger, ValueType,
+    Call, Conf, Entry, Expr, Fix, Fun, Host, Item, ItemKind, Many, Moment, Numbered, Op, Operand,
+    OutOfMemory, Range, RecoveryMode, Text, Trigger, ValueType,
 };
 
 /// A list of one.
@@ -118,168 +117,6 @@ fn call(alloc: Global) -> Result<Call, OutOfMemory> {
     })
 }
 
-/// A value of the item whose time is so many seconds, taken at 100 seconds.
-fn value(alloc: Global, number: u64, sec: u32, text: &str) -> Result<Numbered, OutOfMemory> {
-    Ok(Numbered {
-        number,
-        entry: Entry::Value {
-            now: Moment { sec: 100, ns: 0 },
-            item: 1,
-            time: Moment { sec, ns: 0 },
-            value: Text::of(alloc, text)?,
-        },
-    })
-}
-
-/// The records of the last of some values, numbered from 3 on, each with the seconds of its time.
-fn records(alloc: Global, values: &[(u32, &str)]) -> Result<Many<Rec>, OutOfMemory> {
-    records_counted::<Brand>(alloc, values, Blank::new(1))
-}
-
-fn records_counted<L: Ledger>(
-    alloc: Global,
-    values: &[(u32, &str)],
-    blank: Blank,
-) -> Result<Many<Rec>, OutOfMemory>
-    requires name { blank.name ≡ L.name }
-    requires parts { blank.parts ≡ L.parts }
-    requires some { 0 < L.parts }
-{
-    let ready = ready_of(alloc, configuration(alloc)?)?;
-    let mut cells = Cells::new(alloc, ready.conf())?;
-    let mut steps = Steps::<L>::new(blank);
-    last_records(alloc, &ready, &mut cells, values, &mut steps)
-}
-
-fn last_records<L: Ledger>(
-    alloc: Global,
-    ready: &Ready,
-    cells: &mut Cells,
-    values: &[(u32, &str)],
-    steps: &mut Steps<L>,
-) -> Result<Many<Rec>, OutOfMemory> {
-    let mut made = Many::new(alloc);
-    let mut number: u64 = 3;
-    for (sec, text) in values {
-        made = records_of(alloc, ready, cells, number, *sec, text, steps)?;
-        number = number.saturating_add(1);
-    }
-    Ok(made)
-}
-
-fn records_of<L: Ledger>(
-    alloc: Global,
-    ready: &Ready,
-    cells: &mut Cells,
-    number: u64,
-    sec: u32,
-    text: &str,
-    steps: &mut Steps<L>,
-) -> Result<Many<Rec>, OutOfMemory> {
-    let entry = value(alloc, number, sec, text)?;
-    step(alloc, ready, cells, &entry, steps)
-}
-
-#[test]
-fn a_problem_begins(rt: HostRuntime) -> Result<(), Fail> {
-    let made = records(rt.alloc(), &[(100, "10")])?;
-    match made.as_slice() {
-        [
-            Rec::Problem {
-                event,
-                now,
-                severity,
-                suppressed,
-                host,
-                trigger,
-                name,
-                tags,
-            },
-        ] => {
-            assert_eq!(rt; (event.number, event.trigger), (3, 1));
-            assert_eq!(rt; now.sec, 100);
-            assert_eq!(rt; (*severity, *suppressed), (3, false));
-            assert_eq!(rt; host.as_str(), "h");
-            assert_eq!(rt; trigger.as_str(), "hot");
-            assert_eq!(rt; name.as_str(), "hot");
-            assert_eq!(rt; tags.len(), 0);
-        }
-        _ => assert!(rt; false),
-    }
-    Ok(())
-}
-
-#[test]
-fn a_problem_ends_once_and_begins_once(rt: HostRuntime) -> Result<(), Fail> {
-    assert_eq!(rt; records(rt.alloc(), &[(100, "10"), (100, "10")])?.len(), 0);
-    let made = records(rt.alloc(), &[(100, "10"), (100, "10"), (100, "1")])?;
-    match made.as_slice() {
-        [
-            Rec::Recovery {
-                event,
-                by,
-                now,
-                cause,
-            },
-        ] => {
-            assert_eq!(rt; (event.number, event.trigger), (3, 1));
-            assert_eq!(rt; now.sec, 100);
-            assert_eq!(rt; (*by, *cause), (5, Cause2::Expression));
-        }
-        _ => assert!(rt; false),
-    }
-    Ok(())
-}
-
-#[test]
-fn a_value_that_is_no_number_fails(rt: HostRuntime) -> Result<(), Fail> {
-    let made = records(rt.alloc(), &[(100, "x")])?;
-    match made.as_slice() {
-        [
-            Rec::Failure {
-                number,
-                host,
-                key,
-                why,
-            },
-        ] => {
-            assert_eq!(rt; *number, 3);
-            assert_eq!(rt; host.as_str(), "h");
-            assert_eq!(rt; key.as_str(), "k");
-            assert_eq!(rt; why.as_str(), "value: not a number");
-        }
-        _ => assert!(rt; false),
-    }
-    Ok(())
-}
-
-fn is_problem(made: &[Rec]) -> bool {
-    match made {
-        [Rec::Problem { .. }] => true,
-        _ => false,
-    }
-}
-
-fn is_failure(made: &[Rec]) -> bool {
-    match made {
-        [Rec::Failure { .. }] => true,
-        _ => false,
-    }
-}
-
-#[test]
-fn blanks_around_a_number_are_dropped(rt: HostRuntime) -> Result<(), Fail> {
-    assert!(rt; is_problem(records(rt.alloc(), &[(100, "\t 6 \r\n")])?.as_slice()));
-    assert!(rt; is_failure(records(rt.alloc(), &[(100, " ")])?.as_slice()));
-    Ok(())
-}
-
-#[test]
-fn a_late_value_is_not_the_latest(rt: HostRuntime) -> Result<(), Fail> {
-    assert_eq!(rt; records(rt.alloc(), &[(100, "1"), (99, "9")])?.len(), 0);
-    Ok(())
-}
-
 /// The id of the item with a key of the host with a name.
 fn found(alloc: Global, name: &str, key: &str) -> Result<Option<u32>, OutOfMemory> {
     let ready = ready_of(alloc, configuration(alloc)?)?;
@@ -371,103 +208,97 @@ impl<L: Ledger> Run<L> {
         })
     }
 
-    /// Takes a value of an item, numbered by what was made so far.
-    fn take(&mut self, alloc: Global, item: u32, text: &str) -> Result<(), OutOfMemory> {
-        let entry = value_for(alloc, self.made as u64, item, text)?;
+    /// Takes an entry at so many seconds: a value of an item, or of item 0 a Tick.
+    fn take(
+        &mut self,
+        alloc: Global,
+        number: u64,
+        sec: u32,
+        item: u32,
+        text: &str,
+    ) -> Result<(), OutOfMemory> {
+        let entry = entry_at(alloc, number, sec, item, text)?;
         let made = step(alloc, &self.ready, &mut self.cells, &entry, &mut self.steps)?;
         self.made = self.made.saturating_add(made.len());
         Ok(())
     }
 
-    /// Takes a value of each of so many items.
-    fn take_all(&mut self, alloc: Global, items: u32, text: &str) -> Result<(), OutOfMemory> {
-        for item in 0..items {
-            self.take(alloc, item.saturating_add(1), text)?;
+    /// Takes a high and a low value of each of so many items, so many times.
+    fn take_turns(&mut self, alloc: Global, items: u32, times: u32) -> Result<(), OutOfMemory> {
+        for _time in 0..times {
+            for item in 0..items {
+                let item = item.saturating_add(1);
+                self.take(alloc, self.made as u64, 100, item, "10")?;
+                self.take(alloc, self.made as u64, 100, item, "1")?;
+            }
         }
         Ok(())
     }
 
-    /// Takes values of items, and tells how many records there are behind each.
-    fn counts(
+    /// Takes entries, and tells how many records there are behind each.
+    fn behind(
         &mut self,
         alloc: Global,
-        values: &[(u32, &str)],
+        entries: &[(u32, u32, &str)],
     ) -> Result<Many<usize>, OutOfMemory> {
         let mut counts = Many::new(alloc);
-        for (item, text) in values {
-            self.take(alloc, *item, text)?;
+        for (place, (sec, item, text)) in entries.iter().enumerate() {
+            self.take(alloc, place as u64 + 1, *sec, *item, text)?;
             counts.push(self.made)?;
         }
         Ok(counts)
     }
-
-    /// Takes so many values of item 1 twice, first a high one and then a low one.
-    fn take_turns(&mut self, alloc: Global, times: u32) -> Result<(), OutOfMemory> {
-        for _time in 0..times {
-            self.take(alloc, 1, "10")?;
-            self.take(alloc, 1, "1")?;
-        }
-        Ok(())
-    }
 }
 
-fn value_for(alloc: Global, number: u64, item: u32, text: &str) -> Result<Numbered, OutOfMemory> {
-    Ok(Numbered {
-        number,
-        entry: Entry::Value {
-            now: Moment { sec: 100, ns: 0 },
-            item,
-            time: Moment { sec: 100, ns: 0 },
-            value: Text::of(alloc, text)?,
-        },
-    })
-}
-
-/// How many records a value of each of so many items makes.
-fn problems_of(alloc: Global, count: u32) -> Result<usize, OutOfMemory> {
-    problems_counted::<Brand>(alloc, count, Blank::new(1))
-}
-
-fn problems_counted<L: Ledger>(
+/// An entry at so many seconds: a value of an item, or of item 0 a Tick.
+pub(crate) fn entry_at(
     alloc: Global,
-    count: u32,
+    number: u64,
+    sec: u32,
+    item: u32,
+    text: &str,
+) -> Result<Numbered, OutOfMemory> {
+    let now = Moment { sec, ns: 0 };
+    let entry = if item == 0 {
+        Entry::Tick { now }
+    } else {
+        Entry::Value {
+            now,
+            item,
+            time: now,
+            value: Text::of(alloc, text)?,
+        }
+    };
+    Ok(Numbered { number, entry })
+}
+
+/// How many records so many high and low values of each of so many items make.
+fn turns_of(alloc: Global, items: u32, times: u32) -> Result<usize, OutOfMemory> {
+    turns_counted::<Brand>(alloc, items, times, Blank::new(1))
+}
+
+fn turns_counted<L: Ledger>(
+    alloc: Global,
+    items: u32,
+    times: u32,
     blank: Blank,
 ) -> Result<usize, OutOfMemory>
     requires name { blank.name ≡ L.name }
     requires parts { blank.parts ≡ L.parts }
     requires some { 0 < L.parts }
 {
-    let conf = many_items(alloc, count)?;
+    let conf = many_items(alloc, items)?;
     let mut run = Run::<L>::over(alloc, conf, blank)?;
-    run.take_all(alloc, count, "10")?;
-    Ok(run.made)
-}
-
-/// How many records so many high and low values of one item make.
-fn turns_of(alloc: Global, times: u32) -> Result<usize, OutOfMemory> {
-    turns_counted::<Brand>(alloc, times, Blank::new(1))
-}
-
-fn turns_counted<L: Ledger>(alloc: Global, times: u32, blank: Blank) -> Result<usize, OutOfMemory>
-    requires name { blank.name ≡ L.name }
-    requires parts { blank.parts ≡ L.parts }
-    requires some { 0 < L.parts }
-{
-    let conf = configuration(alloc)?;
-    let mut run = Run::<L>::over(alloc, conf, blank)?;
-    run.take_turns(alloc, times)?;
+    run.take_turns(alloc, items, times)?;
     Ok(run.made)
 }
 
 #[test]
-fn a_thousand_items_make_a_problem_each(rt: HostRuntime) -> Result<(), Fail> {
-    assert_eq!(rt; problems_of(rt.alloc(), 1_000)?, 1_000);
-    Ok(())
-}
-
-#[test]
-fn an_item_takes_a_thousand_values(rt: HostRuntime) -> Result<(), Fail> {
-    assert_eq!(rt; turns_of(rt.alloc(), 500)?, 1_000);
+fn a_problem_begins_and_ends_for_each_of_a_thousand_items_and_values(
+    rt: HostRuntime,
+) -> Result<(), Fail> {
+    assert_eq!(rt; turns_of(rt.alloc(), 1_000, 1)?, 2_000);
+    assert_eq!(rt; turns_of(rt.alloc(), 1, 500)?, 1_000);
     Ok(())
 }
 
@@ -507,42 +338,6 @@ fn recovering(alloc: Global) -> Result<Trigger, OutOfMemory> {
     Ok(made)
 }
 
-/// How many records there are behind each of these values of items.
-fn counts_of(alloc: Global, values: &[(u32, &str)]) -> Result<Many<usize>, OutOfMemory> {
-    counts_counted::<Brand>(alloc, values, Blank::new(1))
-}
-
-fn counts_counted<L: Ledger>(
-    alloc: Global,
-    values: &[(u32, &str)],
-    blank: Blank,
-) -> Result<Many<usize>, OutOfMemory>
-    requires name { blank.name ≡ L.name }
-    requires parts { blank.parts ≡ L.parts }
-    requires some { 0 < L.parts }
-{
-    let mut run = Run::<L>::over(alloc, of_all_kinds(alloc)?, blank)?;
-    run.counts(alloc, values)
-}
-
-#[test]
-fn verdicts_hang_on_masters_and_on_the_way_to_recover(rt: HostRuntime) -> Result<(), Fail> {
-    let made = counts_of(
-        rt.alloc(),
-        &[
-            (1, "10"),
-            (2, "10"),
-            (2, "10"),
-            (2, "1"),
-            (3, "10"),
-            (3, "4"),
-            (3, "1"),
-        ],
-    )?;
-    assert_eq!(rt; made.as_slice(), [1, 2, 3, 5, 6, 6, 7].as_slice());
-    Ok(())
-}
-
 /// `avg(#3) > 5` over item 1, `nodata` of a minute over item 2, and the same, disabled.
 fn of_windows(alloc: Global) -> Result<Conf, OutOfMemory> {
     let hosts = one(alloc, host(alloc, "h")?)?;
@@ -571,53 +366,18 @@ fn absent(alloc: Global, enabled: bool) -> Result<Trigger, OutOfMemory> {
     Ok(made)
 }
 
-/// An entry at so many seconds: a value of an item, or of item 0 a Tick.
-pub(crate) fn entry_at(
-    alloc: Global,
-    number: u64,
-    sec: u32,
-    item: u32,
-    text: &str,
-) -> Result<Numbered, OutOfMemory> {
-    let now = Moment { sec, ns: 0 };
-    let entry = if item == 0 {
-        Entry::Tick { now }
-    } else {
-        Entry::Value {
-            now,
-            item,
-            time: now,
-            value: Text::of(alloc, text)?,
-        }
-    };
-    Ok(Numbered { number, entry })
-}
-
-impl<L: Ledger> Run<L> {
-    /// Takes entries, and tells how many records there are behind each.
-    fn behind(
-        &mut self,
-        alloc: Global,
-        entries: &[(u32, u32, &str)],
-    ) -> Result<Many<usize>, OutOfMemory> {
-        let mut counts = Many::new(alloc);
-        for (place, (sec, item, text)) in entries.iter().enumerate() {
-            let entry = entry_at(alloc, place as u64 + 1, *sec, *item, text)?;
-            let made = step(alloc, &self.ready, &mut self.cells, &entry, &mut self.steps)?;
-            self.made = self.made.saturating_add(made.len());
-            counts.push(self.made)?;
-        }
-        Ok(counts)
-    }
-}
-
 /// How many records there are behind each of these entries.
-fn behind_each(alloc: Global, entries: &[(u32, u32, &str)]) -> Result<Many<usize>, OutOfMemory> {
-    behind_counted::<Brand>(alloc, entries, Blank::new(1))
+fn behind_each(
+    alloc: Global,
+    conf: Conf,
+    entries: &[(u32, u32, &str)],
+) -> Result<Many<usize>, OutOfMemory> {
+    behind_counted::<Brand>(alloc, conf, entries, Blank::new(1))
 }
 
 fn behind_counted<L: Ledger>(
     alloc: Global,
+    conf: Conf,
     entries: &[(u32, u32, &str)],
     blank: Blank,
 ) -> Result<Many<usize>, OutOfMemory>
@@ -625,14 +385,34 @@ fn behind_counted<L: Ledger>(
     requires parts { blank.parts ≡ L.parts }
     requires some { 0 < L.parts }
 {
-    let mut run = Run::<L>::over(alloc, of_windows(alloc)?, blank)?;
+    let mut run = Run::<L>::over(alloc, conf, blank)?;
     run.behind(alloc, entries)
+}
+
+#[test]
+fn verdicts_hang_on_masters_and_on_the_way_to_recover(rt: HostRuntime) -> Result<(), Fail> {
+    let made = behind_each(
+        rt.alloc(),
+        of_all_kinds(rt.alloc())?,
+        &[
+            (100, 1, "10"),
+            (100, 2, "10"),
+            (100, 2, "10"),
+            (100, 2, "1"),
+            (100, 3, "10"),
+            (100, 3, "4"),
+            (100, 3, "1"),
+        ],
+    )?;
+    assert_eq!(rt; made.as_slice(), [1, 2, 3, 5, 6, 6, 7].as_slice());
+    Ok(())
 }
 
 #[test]
 fn functions_look_at_windows_and_ticks_at_absence(rt: HostRuntime) -> Result<(), Fail> {
     let made = behind_each(
         rt.alloc(),
+        of_windows(rt.alloc())?,
         &[
             (90, 1, "4"),
             (91, 1, "9"),

@@ -4,18 +4,13 @@ use server_words::Status;
 use std::alloc::Global;
 use std::convert::AsStr;
 use std::test::Fail;
-use zbx_types::{Bytes, Entry, Many, Numbered, OutOfMemory, Text, frame_header};
+use zbx_types::{Bytes, Entry, Many, Numbered, OutOfMemory, Text};
 
 // Scripts and expected reports are functions, so that a test's proof doesn't carry their bytes.
 
 /// The host `h` with the item `k`, whose trigger `hot` has a problem while the last value is above 5.
 pub(crate) fn plain_config() -> &'static str {
     "{\"hosts\":[{\"name\":\"h\",\"groups\":[\"g\"],\"items\":[{\"key\":\"k\"}],\"triggers\":[{\"name\":\"hot\",\"expression\":\"last(/h/k)>5\",\"severity\":3}]}]}"
-}
-
-/// The plain configuration with its item twice.
-fn item_twice() -> &'static str {
-    "{\"hosts\":[{\"name\":\"h\",\"groups\":[\"g\"],\"items\":[{\"key\":\"k\"},{\"key\":\"k\"}],\"triggers\":[{\"name\":\"hot\",\"expression\":\"last(/h/k)>5\",\"severity\":3}]}]}"
 }
 
 /// The numbers of the calls that fail, counted from 1. At 0 none fails.
@@ -321,13 +316,6 @@ fn one_frame_report() -> &'static str {
     "Ok begun C1T2V3 1:1\n1 {\"response\":\"success\",\"info\":\"processed: 1; failed: 0; total: 1; seconds spent: 0.000000\"}\nP|3-1|100.000000000|3|0|h|hot|hot\nstatus: Ok; entries: 3; problems: 1; recoveries: 0; messages: 0; outbox bytes: 34\n"
 }
 
-#[test]
-fn one_frame_gives_one_problem_line(rt: HostRuntime) -> Result<(), Fail> {
-    let report = told(rt.alloc(), one_frame(), none_fails())?;
-    assert!(rt; is(&report, one_frame_report()));
-    Ok(())
-}
-
 /// Connections take turns and bring no value, 10, 1, `x`, and last a value of an earlier time beside one that fails.
 fn many_frames() -> &'static str {
     "100.000000000 open 1\n100.000000000 open 2\n100.000000000 frame 2 {\"request\":\"sender data\",\"data\":[]}\n100.000000000 frame 1 {\"request\":\"sender data\",\"data\":[{\"host\":\"h\",\"key\":\"k\",\"value\":\"10\"}]}\n100.000000000 open 3\n100.000000000 open 4\n100.000000000 frame 4 {\"request\":\"sender data\",\"data\":[{\"host\":\"h\",\"key\":\"k\",\"value\":\"1\"}]}\n100.000000000 frame 3 {\"request\":\"sender data\",\"data\":[{\"host\":\"h\",\"key\":\"k\",\"value\":\"x\"}]}\n100.000000000 open 5\n100.000000000 frame 5 {\"request\":\"sender data\",\"data\":[{\"host\":\"h\",\"key\":\"k\",\"value\":10,\"clock\":\"50\",\"ns\":\"7\"},{\"host\":\"h\",\"key\":\"k\",\"value\":1.5}]}\n100.000000000 closed\n"
@@ -337,13 +325,6 @@ fn many_frames_report() -> &'static str {
     "Ok begun C1T2V3V4V5V6 2:1 1:2 4:3 3:4 5:5\n2 {\"response\":\"success\",\"info\":\"processed: 0; failed: 0; total: 0; seconds spent: 0.000000\"}\n1 {\"response\":\"success\",\"info\":\"processed: 1; failed: 0; total: 1; seconds spent: 0.000000\"}\n4 {\"response\":\"success\",\"info\":\"processed: 1; failed: 0; total: 1; seconds spent: 0.000000\"}\n3 {\"response\":\"success\",\"info\":\"processed: 1; failed: 0; total: 1; seconds spent: 0.000000\"}\n5 {\"response\":\"success\",\"info\":\"processed: 1; failed: 1; total: 2; seconds spent: 0.000000\"}\nP|3-1|100.000000000|3|0|h|hot|hot\nR|3-1|4|100.000000000|e\nF|5|h|k|value: not a number\nstatus: Ok; entries: 6; problems: 1; recoveries: 1; messages: 0; outbox bytes: 86\n"
 }
 
-#[test]
-fn values_are_counted_and_dated(rt: HostRuntime) -> Result<(), Fail> {
-    let report = told(rt.alloc(), many_frames(), none_fails())?;
-    assert!(rt; is(&report, many_frames_report()));
-    Ok(())
-}
-
 /// A header with the flag of compression, a body that isn't JSON, one that asks for nothing, and a value.
 fn bad_frames() -> &'static str {
     "100.000000000 open 1\n100.000000000 open 2\n100.000000000 open 3\n100.000000000 open 4\n100.000000000 piece 1 5a42584403\n100.000000000 frame 2 [1\n100.000000000 frame 3 {}\n100.000000000 frame 4 {\"request\":\"sender data\",\"data\":[{\"host\":\"h\",\"key\":\"k\",\"value\":\"1\"}]}\n100.000000000 closed\n"
@@ -351,109 +332,6 @@ fn bad_frames() -> &'static str {
 
 fn bad_frames_report() -> &'static str {
     "Ok begun C1T2V3 1:0 2:1 3:2 4:3\n2 {\"response\":\"failed\",\"info\":\"not JSON\"}\n3 {\"response\":\"failed\",\"info\":\"unsupported request\"}\n4 {\"response\":\"success\",\"info\":\"processed: 1; failed: 0; total: 1; seconds spent: 0.000000\"}\nstatus: Ok; entries: 3; problems: 0; recoveries: 0; messages: 0; outbox bytes: 0\n"
-}
-
-#[test]
-fn bad_bytes_get_a_clear_answer(rt: HostRuntime) -> Result<(), Fail> {
-    let report = told(rt.alloc(), bad_frames(), none_fails())?;
-    assert!(rt; is(&report, bad_frames_report()));
-    Ok(())
-}
-
-/// A request for so many values of 3, and then one of 6.
-fn threes_and_a_six(alloc: Global, threes: u32) -> Result<Bytes, OutOfMemory> {
-    let mut body = Bytes::of(alloc, b"{\"request\":\"sender data\",\"data\":[")?;
-    for _ in 0..threes {
-        body.extend(b"{\"host\":\"h\",\"key\":\"k\",\"value\":\"3\"},")?;
-    }
-    body.extend(b"{\"host\":\"h\",\"key\":\"k\",\"value\":\"6\"}]}")?;
-    Ok(body)
-}
-
-fn framed(alloc: Global, body: &[u8], length: u32) -> Result<Bytes, OutOfMemory> {
-    let mut frame = Bytes::new(alloc);
-    frame.extend_both(&frame_header(length), body)?;
-    Ok(frame)
-}
-
-/// A line in which connection 1 brings a byte.
-fn byte_line(alloc: Global, is_last: bool, byte: u8) -> Result<String, Fail> {
-    let at = if is_last {
-        "100.002500000"
-    } else {
-        "100.000000000"
-    };
-    Ok(format!(in alloc; "{at} piece 1 {byte:02x}\n")?)
-}
-
-/// A script in which connection 1 brings these bytes one by one, the last one 2.5 milliseconds later.
-fn one_by_one(alloc: Global, bytes: &[u8]) -> Result<String, Fail> {
-    let mut script = String::from_str(alloc, "100.000000000 open 1\n")?;
-    let mut left = bytes.len();
-    for byte in bytes {
-        left = left.saturating_sub(1);
-        script.push_str(byte_line(alloc, left == 0, *byte)?.as_str())?;
-    }
-    Ok(script)
-}
-
-fn many_values_report() -> &'static str {
-    "processed: 250; failed: 0; total: 250; seconds spent: 0.002500\"}\nP|252-1|100.002500000|3|0|h|hot|hot\nstatus: Ok; entries: 252; problems: 1; recoveries: 0; messages: 0; outbox bytes: 36\n"
-}
-
-#[test]
-fn many_values_come_in_pieces_of_one_byte(rt: HostRuntime) -> Result<(), Fail> {
-    let alloc = rt.alloc();
-    let body = threes_and_a_six(alloc, 249)?;
-    let frame = framed(alloc, body.as_slice(), 8784)?;
-    let script = one_by_one(alloc, frame.as_slice())?;
-    let report = told(alloc, script.as_str(), none_fails())?;
-    assert!(rt; ends(&report, many_values_report()));
-    Ok(())
-}
-
-/// The beginning of a frame with an unknown host, an unknown key, an element that is no object, and a clock past its range.
-fn mixed_begin() -> &'static str {
-    "100.000000000 open 1\n100.000000000 frame 1 {\"request\":\"sender data\",\"data\":[{\"host\":\"x\",\"key\":\"k\",\"value\":\"9\"},{\"host\":\"h\",\"key\":\"x\",\"value\":\"9\"},null,{\"host\":\"h\",\"key\":\"k\",\"value\":\"9\",\"clock\":4294967296},{\"host\":\"h\",\"key\":\"k\",\"value\":\""
-}
-
-/// And then a value of 65,536 bytes, and one that is taken.
-fn mixed(alloc: Global) -> Result<String, Fail> {
-    let mut script = String::from_str(alloc, mixed_begin())?;
-    for _ in 0..4096 {
-        script.push_str("9999999999999999")?;
-    }
-    script.push_str("\"},{\"host\":\"h\",\"key\":\"k\",\"value\":\"1\"}]}\n")?;
-    Ok(script)
-}
-
-fn mixed_report() -> &'static str {
-    "Ok begun C1T2V3 1:1\n1 {\"response\":\"success\",\"info\":\"processed: 1; failed: 5; total: 6; seconds spent: 0.000000\"}\nstatus: Ok; entries: 3; problems: 0; recoveries: 0; messages: 0; outbox bytes: 0\n"
-}
-
-#[test]
-fn each_bad_value_fails_alone(rt: HostRuntime) -> Result<(), Fail> {
-    let alloc = rt.alloc();
-    let script = mixed(alloc)?;
-    let report = told(alloc, script.as_str(), none_fails())?;
-    assert!(rt; is(&report, mixed_report()));
-    Ok(())
-}
-
-/// As `zabbix_sender -T` writes its frames.
-fn from_the_sender() -> &'static str {
-    "1700000030.000000000 open 1\n1700000030.000000000 frame 1 {\"request\":\"sender data\",\"data\":[{\"host\":\"h\",\"key\":\"k\",\"value\":\"7\",\"clock\":1700000001,\"ns\":123456789},{\"host\":\"h\",\"key\":\"k\",\"value\":\"4.5\",\"clock\":1700000002,\"ns\":5}],\"clock\":1700000029,\"ns\":998877665}\n"
-}
-
-fn from_the_sender_report() -> &'static str {
-    "processed: 2; failed: 0; total: 2; seconds spent: 0.000000\"}\nP|3-1|1700000030.000000000|3|0|h|hot|hot\nR|3-1|4|1700000030.000000000|e\nstatus: Ok; entries: 4; problems: 1; recoveries: 1; messages: 0; outbox bytes: 72\n"
-}
-
-#[test]
-fn what_the_real_sender_writes_is_taken(rt: HostRuntime) -> Result<(), Fail> {
-    let report = told(rt.alloc(), from_the_sender(), none_fails())?;
-    assert!(rt; ends(&report, from_the_sender_report()));
-    Ok(())
 }
 
 /// How the report of a run ends whose n-th read of the configuration fails.
@@ -530,67 +408,6 @@ fn a_wire_or_a_printer_may_fail(rt: HostRuntime) -> Result<(), Fail> {
         ..none_fails()
     };
     assert!(rt; ends(&told(alloc, one_frame(), printing)?, unprinted_report()));
-    Ok(())
-}
-
-#[test]
-fn words_without_a_plan_begin_no_run(rt: HostRuntime) -> Result<(), Fail> {
-    let alloc = rt.alloc();
-    let usage = reported(
-        alloc,
-        "--mode feed",
-        plain_config(),
-        one_frame(),
-        none_fails(),
-    )?;
-    assert!(rt; is(&usage, "Usage not.. \nstatus: Usage\n"));
-    Ok(())
-}
-
-#[test]
-fn a_refused_configuration_begins_no_run_and_names_its_fault(rt: HostRuntime) -> Result<(), Fail> {
-    let alloc = rt.alloc();
-    let refused = reported(
-        alloc,
-        "--mode feed --config c --script s",
-        item_twice(),
-        one_frame(),
-        none_fails(),
-    )?;
-    assert!(rt;
-        is(
-            &refused,
-            "ConfigRefused not.. \nstatus: ConfigRefused; path: /hosts/0/items/1/key; cause: Duplicate\n"
-        )
-    );
-    Ok(())
-}
-
-/// A template that two hosts have, of which the first sets the template's macro anew.
-fn two_hosts() -> &'static str {
-    "{\"templates\":[{\"name\":\"T\",\"macros\":[{\"name\":\"{$MAX}\",\"value\":\"4\"}],\"items\":[{\"key\":\"k\"}],\"triggers\":[{\"name\":\"up\",\"expression\":\"last(/T/k)>{$MAX}\"}]}],\"hosts\":[{\"name\":\"web01\",\"templates\":[\"T\"],\"macros\":[{\"name\":\"{$MAX}\",\"value\":\"2\"}]},{\"name\":\"db01\",\"templates\":[\"T\"]}]}"
-}
-
-/// One connection brings 3 for the first host, and 3 and 5 for the second.
-fn three_values() -> &'static str {
-    "100.000000000 open 1\n100.000000000 frame 1 {\"request\":\"sender data\",\"data\":[{\"host\":\"web01\",\"key\":\"k\",\"value\":\"3\"},{\"host\":\"db01\",\"key\":\"k\",\"value\":\"3\"},{\"host\":\"db01\",\"key\":\"k\",\"value\":\"5\"}]}\n100.000000000 closed\n"
-}
-
-fn two_hosts_report() -> &'static str {
-    "P|3-1|100.000000000|0|0|web01|up|up\nP|5-2|100.000000000|0|0|db01|up|up\nstatus: Ok; entries: 5; problems: 2; recoveries: 0; messages: 0; outbox bytes: 71\n"
-}
-
-#[test]
-fn each_host_of_a_template_has_its_own_limit(rt: HostRuntime) -> Result<(), Fail> {
-    let alloc = rt.alloc();
-    let report = reported(
-        alloc,
-        "--mode feed --config c --script s",
-        two_hosts(),
-        three_values(),
-        none_fails(),
-    )?;
-    assert!(rt; ends(&report, two_hosts_report()));
     Ok(())
 }
 
@@ -795,14 +612,18 @@ fn refused(alloc: Global, ready: bool) -> Result<(u32, u32), Fail> {
 }
 
 #[test]
-fn events_that_stand_ready_are_committed_together(rt: HostRuntime) -> Result<(), Fail> {
+fn events_are_answered_alike_one_by_one_and_committed_together(
+    rt: HostRuntime,
+) -> Result<(), Fail> {
     let alloc = rt.alloc();
-    let one = told_ready(alloc, one_frame(), none_fails(), true)?;
-    assert!(rt; is(&one, one_frame_report()));
-    let many = told_ready(alloc, many_frames(), none_fails(), true)?;
-    assert!(rt; is(&many, many_frames_report()));
-    let bad = told_ready(alloc, bad_frames(), none_fails(), true)?;
-    assert!(rt; is(&bad, bad_frames_report()));
+    for ready in [false, true] {
+        let one = told_ready(alloc, one_frame(), none_fails(), ready)?;
+        assert!(rt; is(&one, one_frame_report()));
+        let many = told_ready(alloc, many_frames(), none_fails(), ready)?;
+        assert!(rt; is(&many, many_frames_report()));
+        let bad = told_ready(alloc, bad_frames(), none_fails(), ready)?;
+        assert!(rt; is(&bad, bad_frames_report()));
+    }
     // One append has four calls: that of the Tick, and that of all values, or one for each value.
     assert!(rt; refused(alloc, true)? == (8, 4));
     assert!(rt; refused(alloc, false)? == (20, 4));
