@@ -1,5 +1,5 @@
 -- The words of the command line, as `clap` reads a simple command, and their plan.
-use Rattle.std.specs.Prelude.{ℕ, Bool, true, ◌&&◌, ◌<◌, List, [], ◌∷◌, Option, Some, None, is_some, option_and_then, unwrap_or, if◌then◌else◌, codes, nat_lt, ◌^◌}
+use Rattle.std.specs.Prelude.{ℕ, Bool, true, ◌&&◌, ◌<◌, List, [], ◌∷◌, Option, Some, None, is_some, option_and_then, option_map, unwrap_or, if◌then◌else◌, codes, nat_lt, ◌^◌, ◌-◌}
 use Rattle.std.specs.Str.{bytes_eq}
 use Rattle.std.specs.Str.Parse.{digits_value, without_leading_plus}
 use Rattle.clap.specs.Words.{App, Row, Rule, new_app, new_rule, with_rule, matches_of, fault_of, first_of, one_of}
@@ -7,8 +7,9 @@ use Rattle.clap.specs.Walk.{is_empty}
 use Rattle.clap.specs.ValueTests.{is_numeral}
 use Rattle.clap.specs.declared.builder.value_parser.ValueParser.TheVariants as vp
 use Rattle.server_words.specs.declared.words.Plan.{Plan}
+use Rattle.server_words.specs.declared.planning.Numbers.{Numbers}
 use Rattle.server_words.specs.declared.words.Mode.{Mode}
-use Rattle.server_words.specs.declared.words.Mode.TheVariants.{Feed, Serve}
+use Rattle.server_words.specs.declared.words.Mode.TheVariants.{Feed, Serve, Workload}
 
 -- an option with a value, by its name
 abbrev pub option : List ℕ → Rule
@@ -38,13 +39,16 @@ text_app = with_rule (with_rule (with_rule (with_rule (with_rule (with_rule bare
 
 -- the command: its texts and its numbers
 abbrev pub server_app : App
-server_app = with_rule (with_rule (with_rule text_app
+server_app = with_rule (with_rule (with_rule (with_rule (with_rule text_app
     (number (codes "syncers") (codes "0") 0 0)) (number (codes "turns") (codes "1000000000") 1 1000000000))
-    (number (codes "max-entries") (codes "4000000") 1 4000000)
+    (number (codes "max-entries") (codes "4000000") 1 4000000)) (number (codes "number") (codes "1") 0 (2 ^ 64 - 1)))
+    (number (codes "values") (codes "1000") 1 1000000)
 
 -- the mode of this name
 abbrev pub mode_of : List ℕ → Option Mode
-mode_of name = if bytes_eq name (codes "feed") then Some Feed else if bytes_eq name (codes "serve") then Some Serve else None
+mode_of name = if bytes_eq name (codes "feed") then Some Feed
+    else if bytes_eq name (codes "serve") then Some Serve
+    else if bytes_eq name (codes "workload") then Some Workload else None
 
 -- the number that a text writes, where an unsigned type of so many bits holds it
 abbrev pub number_of : ℕ → List ℕ → Option ℕ
@@ -60,31 +64,42 @@ number_in bits name rows = option_and_then (number_of bits) (one_of name rows)
 abbrev pub has_needed : Mode → List Row → Bool
 has_needed Feed rows = is_some (first_of (codes "config") rows) && is_some (first_of (codes "script") rows)
 has_needed Serve rows = is_some (first_of (codes "config") rows) && is_some (first_of (codes "listen") rows)
+has_needed Workload rows = true
+
+-- the numbers of the options
+abbrev pub numbers_in : List Row → Option Numbers
+numbers_in rows =
+    option_and_then (λ syncers.
+    option_and_then (λ turns.
+    option_and_then (λ max_entries.
+    option_and_then (λ number.
+    option_map (λ values. record { syncers = syncers; turns = turns; max_entries = max_entries; number = number; values = values })
+    (number_in 64 (codes "values") rows))
+    (number_in 64 (codes "number") rows))
+    (number_in 64 (codes "max-entries") rows))
+    (number_in 64 (codes "turns") rows))
+    (number_in 32 (codes "syncers") rows)
 
 -- the plan with this mode and these numbers, and with the texts of the options
-abbrev pub plan_with : List Row → Mode → ℕ → ℕ → ℕ → Plan
-plan_with rows mode syncers turns max_entries = record {
+abbrev pub plan_with : List Row → Mode → Numbers → Plan
+plan_with rows mode numbers = record {
   mode = mode;
   config = first_of (codes "config") rows;
   script = first_of (codes "script") rows;
   listen = first_of (codes "listen") rows;
   journal = first_of (codes "journal") rows;
   outbox = unwrap_or (first_of (codes "outbox") rows) [];
-  syncers = syncers;
-  turns = turns;
-  max_entries = max_entries;
+  syncers = numbers.syncers;
+  turns = numbers.turns;
+  max_entries = numbers.max_entries;
+  number = numbers.number;
+  values = numbers.values;
 }
 
 -- the plan that the options ask for, or none where one is missing that the mode needs
 abbrev pub plan_in : List Row → Option Plan
 plan_in rows =
-    option_and_then (λ mode. if has_needed mode rows then
-    option_and_then (λ syncers.
-    option_and_then (λ turns.
-    option_and_then (λ max_entries. Some (plan_with rows mode syncers turns max_entries))
-    (number_in 64 (codes "max-entries") rows))
-    (number_in 64 (codes "turns") rows))
-    (number_in 32 (codes "syncers") rows) else None)
+    option_and_then (λ mode. if has_needed mode rows then option_map (plan_with rows mode) (numbers_in rows) else None)
     (option_and_then mode_of (first_of (codes "mode") rows))
 
 -- the words are those of the command, as `clap` takes them

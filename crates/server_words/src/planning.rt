@@ -2,7 +2,7 @@
 
 ghost use Rattle.std.specs.Prelude.{◌≡◌, IfOk, IsErrOf, Some, None, option_and_then, codes};
 ghost use Rattle.clap.specs.Words.{found_of, first_of, rows_of};
-ghost use Rattle.server_words.specs.Words.{plan_of, plan_in, plan_with, mode_of, number_in, has_needed};
+ghost use Rattle.server_words.specs.Words.{plan_of, plan_in, plan_with, mode_of, number_in, numbers_in, has_needed};
 
 use crate::command::command;
 use crate::words::{Mode, Plan, PlanError};
@@ -13,10 +13,11 @@ use zbx_types::{OutOfMemory, Text};
 
 /// The plan of a list of words, which stand behind the program's name.
 ///
-/// The words are `--name value` or `--name=value`, each option at most once, in any order. `--mode` is `feed` or `serve`.
-/// Both need `--config`, a path; feed needs `--script`, a path, and serve needs `--listen`, an address and port.
-/// `--journal` is a path, `--outbox` a path or `-`, `--syncers` is 0, `--turns` is 1 to 1,000,000,000, and `--max-entries`
-/// 1 to 4,000,000. What a mode doesn't need it may have.
+/// The words are `--name value` or `--name=value`, each option at most once, in any order. `--mode` is `feed`, `serve` or
+/// `workload`. The first two need `--config`, a path; feed needs `--script`, a path, and serve needs `--listen`, an
+/// address and port. `--journal` is a path, `--outbox` a path or `-`, `--syncers` is 0, `--turns` is 1 to 1,000,000,000,
+/// `--max-entries` 1 to 4,000,000, `--number` 0 to 2^64 - 1, and `--values` 1 to 1,000,000. What a mode doesn't need it
+/// may have.
 ///
 /// [`PlanError::Usage`] comes exactly where `clap` doesn't take the words as this command's, or the mode is another one
 /// or lacks what it needs. [`PlanError::OutOfMemory`] where there is no room for the command or for the plan.
@@ -47,16 +48,10 @@ fn planned(alloc: Global, matches: &ArgMatches) -> Result<Plan, PlanError>
     if !has_needed(mode, matches) {
         return Err(PlanError::Usage);
     }
-    let Some(syncers) = narrow_number_in(matches, "syncers") else {
+    let Some(numbers) = numbers_in(matches) else {
         return Err(PlanError::Usage);
     };
-    let Some(turns) = number_in(matches, "turns") else {
-        return Err(PlanError::Usage);
-    };
-    let Some(max_entries) = number_in(matches, "max-entries") else {
-        return Err(PlanError::Usage);
-    };
-    match plan_with(alloc, matches, mode, syncers, turns, max_entries) {
+    match plan_with(alloc, matches, mode, numbers) {
         Ok(plan) => Ok(plan),
         Err(OutOfMemory) => Err(PlanError::OutOfMemory),
     }
@@ -69,6 +64,7 @@ fn mode_of(name: &str) -> Option<Mode>
     match name {
         "feed" => Some(Mode::Feed),
         "serve" => Some(Mode::Serve),
+        "workload" => Some(Mode::Workload),
         _ => None,
     }
 }
@@ -89,6 +85,7 @@ fn has_needed(mode: Mode, matches: &ArgMatches) -> bool
     match mode {
         Mode::Feed => matches.get_str("config").is_some() && matches.get_str("script").is_some(),
         Mode::Serve => matches.get_str("config").is_some() && matches.get_str("listen").is_some(),
+        Mode::Workload => true,
     }
 }
 
@@ -104,6 +101,29 @@ fn narrow_number_in(matches: &ArgMatches, name: &str) -> Option<u32>
     ensures { result ≡ number_in 32 name.now (rows_of (found_of matches.now)) }
 {
     matches.get_one::<u32>(name)
+}
+
+/// The numbers of a plan.
+#[derive(Clone, Copy)]
+struct Numbers {
+    syncers: u32,
+    turns: u64,
+    max_entries: u64,
+    number: u64,
+    values: u64,
+}
+
+/// The numbers of the options.
+fn numbers_in(matches: &ArgMatches) -> Option<Numbers>
+    ensures { result ≡ numbers_in (rows_of (found_of matches.now)) }
+{
+    Some(Numbers {
+        syncers: narrow_number_in(matches, "syncers")?,
+        turns: number_in(matches, "turns")?,
+        max_entries: number_in(matches, "max-entries")?,
+        number: number_in(matches, "number")?,
+        values: number_in(matches, "values")?,
+    })
 }
 
 /// A copy of the text of an option.
@@ -122,11 +142,9 @@ fn plan_with(
     alloc: Global,
     matches: &ArgMatches,
     mode: Mode,
-    syncers: u32,
-    turns: u64,
-    max_entries: u64,
+    numbers: Numbers,
 ) -> Result<Plan, OutOfMemory>
-    ensures { IfOk result (λ plan. plan ≡ plan_with (rows_of (found_of matches.now)) mode syncers turns max_entries) }
+    ensures { IfOk result (λ plan. plan ≡ plan_with (rows_of (found_of matches.now)) mode numbers) }
 {
     Ok(Plan {
         mode,
@@ -135,8 +153,10 @@ fn plan_with(
         listen: text_in(alloc, matches, "listen")?,
         journal: text_in(alloc, matches, "journal")?,
         outbox: text_in(alloc, matches, "outbox")?.unwrap_or(Text::new(alloc)),
-        syncers,
-        turns,
-        max_entries,
+        syncers: numbers.syncers,
+        turns: numbers.turns,
+        max_entries: numbers.max_entries,
+        number: numbers.number,
+        values: numbers.values,
     })
 }

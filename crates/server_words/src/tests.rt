@@ -32,10 +32,10 @@ fn put_number(line: &mut Text, number: u64) -> Result<(), OutOfMemory> {
 fn plan_line(alloc: Global, plan: &Plan) -> Result<Text, OutOfMemory> {
     let mut line = Text::of(
         alloc,
-        if plan.mode == Mode::Feed {
-            "feed"
-        } else {
-            "serve"
+        match plan.mode {
+            Mode::Feed => "feed",
+            Mode::Serve => "serve",
+            Mode::Workload => "workload",
         },
     )?;
     put_text(&mut line, " config ", &plan.config)?;
@@ -47,6 +47,8 @@ fn plan_line(alloc: Global, plan: &Plan) -> Result<Text, OutOfMemory> {
     put_number(&mut line, u64::from(plan.syncers))?;
     put_number(&mut line, plan.turns)?;
     put_number(&mut line, plan.max_entries)?;
+    put_number(&mut line, plan.number)?;
+    put_number(&mut line, plan.values)?;
     Ok(line)
 }
 
@@ -60,49 +62,57 @@ fn asked(alloc: Global, line: &str) -> Result<Text, OutOfMemory> {
 }
 
 /// Lines of words that have a plan, and the plan.
-fn plans() -> [(&'static str, &'static str); 9] {
+fn plans() -> [(&'static str, &'static str); 11] {
     [
         (
             "--mode feed --config c --script s",
-            "feed config c script s outbox - 0 1000000000 4000000",
+            "feed config c script s outbox - 0 1000000000 4000000 1 1000",
         ),
         (
             "--script=s --config=c --mode=feed",
-            "feed config c script s outbox - 0 1000000000 4000000",
+            "feed config c script s outbox - 0 1000000000 4000000 1 1000",
         ),
         (
             "--mode serve --config c --listen 127.0.0.1:10051",
-            "serve config c listen 127.0.0.1:10051 outbox - 0 1000000000 4000000",
+            "serve config c listen 127.0.0.1:10051 outbox - 0 1000000000 4000000 1 1000",
         ),
         (
             "--mode serve --config c --listen a:1 --script s --outbox o --syncers 0 --turns 1",
-            "serve config c script s listen a:1 outbox o 0 1 4000000",
+            "serve config c script s listen a:1 outbox o 0 1 4000000 1 1000",
         ),
         (
             "--mode feed --config c --script s --turns 1000000000",
-            "feed config c script s outbox - 0 1000000000 4000000",
+            "feed config c script s outbox - 0 1000000000 4000000 1 1000",
         ),
         (
             "--mode feed --config= --script s --outbox -",
-            "feed config  script s outbox - 0 1000000000 4000000",
+            "feed config  script s outbox - 0 1000000000 4000000 1 1000",
         ),
         (
             "--mode feed --config c --script s --turns +4 --syncers=00",
-            "feed config c script s outbox - 0 4 4000000",
+            "feed config c script s outbox - 0 4 4000000 1 1000",
         ),
         (
             "--mode feed --config c --script s --journal j --max-entries 1",
-            "feed config c script s journal j outbox - 0 1000000000 1",
+            "feed config c script s journal j outbox - 0 1000000000 1 1 1000",
         ),
         (
             "--mode feed --config c --script s --",
-            "feed config c script s outbox - 0 1000000000 4000000",
+            "feed config c script s outbox - 0 1000000000 4000000 1 1000",
+        ),
+        (
+            "--mode workload",
+            "workload outbox - 0 1000000000 4000000 1 1000",
+        ),
+        (
+            "--mode workload --number 18446744073709551615 --values 1000000 --outbox o --journal j",
+            "workload journal j outbox o 0 1000000000 4000000 18446744073709551615 1000000",
         ),
     ]
 }
 
 /// Lines of words that aren't those of the command.
-fn others() -> [&'static str; 24] {
+fn others() -> [&'static str; 27] {
     [
         "",
         "--mode",
@@ -115,7 +125,7 @@ fn others() -> [&'static str; 24] {
         "--mode serve --listen a:1",
         "--config c --script s",
         "--mode Feed --config c --script s",
-        "--mode workload --config c --script s",
+        "--mode work --config c --script s",
         "--mode feed --mode feed --config c --script s",
         "--mode feed --config c --config d --script s",
         "--mo feed --config c --script s",
@@ -128,6 +138,9 @@ fn others() -> [&'static str; 24] {
         "--mode feed --config c --script s --journal j --journal k",
         "--mode feed --config c --script s --max-entries 0",
         "--mode feed --config c --script s --max-entries 4000001",
+        "--mode workload --number 18446744073709551616",
+        "--mode workload --values 0",
+        "--mode workload --values 1000001",
     ]
 }
 

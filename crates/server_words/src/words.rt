@@ -10,6 +10,8 @@ pub enum Mode {
     Feed,
     /// It takes its events from connections.
     Serve,
+    /// It makes its configuration and its events itself, from a number.
+    Workload,
 }
 
 /// What the words of the command line ask for. Where an option isn't named it has its default.
@@ -33,13 +35,17 @@ pub struct Plan {
     pub turns: u64,
     /// How many entries the journal has at most: 1 to 4,000,000, which is the default.
     pub max_entries: u64,
+    /// The number that a workload is drawn from; 1 is the default.
+    pub number: u64,
+    /// How many values a workload has: 1 to 1,000,000; 1,000 is the default.
+    pub values: u64,
 }
 
 /// Why there is no plan.
 #[derive(Clone, Copy, Debug, PartialEq, Eq, Error)]
 pub enum PlanError {
     /// The words aren't those of the command.
-    #[error("usage: --mode feed --config PATH --script PATH, or --mode serve --config PATH --listen ADDRESS:PORT")]
+    #[error("usage: --mode feed --config PATH --script PATH, --mode serve --config PATH --listen ADDRESS:PORT, or --mode workload")]
     Usage,
     /// No memory was to be had.
     #[error("out of memory")]
