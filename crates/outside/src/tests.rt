@@ -2,6 +2,7 @@ use super::*;
 use crate::script::advance;
 use std::alloc::Global;
 use std::test::Fail;
+use std::thread::join;
 use zbx_types::{Bytes, Many, Moment, OutOfMemory};
 
 fn source(alloc: Global, text: &[u8]) -> Result<MemSource, OutOfMemory> {
@@ -42,10 +43,10 @@ fn a_sink_holds_what_is_written(rt: HostRuntime) -> Result<(), Fail> {
     Ok(())
 }
 
-/// What nine calls of a wire's `next` answer, a line each.
-fn answers_of(alloc: Global, wire: &mut ScriptWire<MemSource>) -> Result<String, Fail> {
+/// What so many calls of a wire's `next` answer, a line each.
+fn answers_of<W: Wire>(alloc: Global, wire: &mut W, calls: u32) -> Result<String, Fail> {
     let mut answers = String::new(alloc);
-    for _ in 0..9 {
+    for _ in 0..calls {
         match wire.next(alloc) {
             Ok(event) => answers.push_str(format!(in alloc; "{event:?}\n")?.as_str())?,
             Err(trouble) => answers.push_str(format!(in alloc; "{trouble:?}\n")?.as_str())?,
@@ -55,9 +56,18 @@ fn answers_of(alloc: Global, wire: &mut ScriptWire<MemSource>) -> Result<String,
 }
 
 /// The same for the wire of a script.
-fn answers_to(alloc: Global, script: &str) -> Result<String, Fail> {
+fn answers_to(alloc: Global, script: &str, calls: u32) -> Result<String, Fail> {
     let mut wire = ScriptWire::new(alloc, source(alloc, script.as_bytes())?, Many::new(alloc));
-    answers_of(alloc, &mut wire)
+    answers_of(alloc, &mut wire, calls)
+}
+
+/// The same for the wire of a workload of the number 7 and so many values.
+fn work_answers(alloc: Global, values: u64, calls: u32) -> Result<String, Fail> {
+    answers_of(
+        alloc,
+        &mut WorkWire::new(alloc, 7, values.clamp(1, 1_000)),
+        calls,
+    )
 }
 
 const SCRIPT: &str =
@@ -77,7 +87,32 @@ const EVENTS: &str = "Opened { conn: 7, at: Moment { sec: 100, ns: 0 } }\n\
 
 #[test]
 fn a_script_gives_its_events(rt: HostRuntime) -> Result<(), Fail> {
-    assert_eq!(rt; answers_to(rt.alloc(), SCRIPT)?.as_str(), EVENTS);
+    assert_eq!(rt; answers_to(rt.alloc(), SCRIPT, 9)?.as_str(), EVENTS);
+    Ok(())
+}
+
+/// A script with the events of the workload of two values.
+const TWO_VALUES: &str = "1000000.000000000 open 1\n\
+    1000000.000000000 frame 1 {\"request\":\"sender data\",\"data\":[{\"host\":\"h28\",\"key\":\"k1\",\"value\":\"53\"},\
+    {\"host\":\"h23\",\"key\":\"k5\",\"value\":\"19\"}]}\n";
+
+/// A script with the last events of the workload of 251 values.
+const VALUE_251: &str = "1000001.000000000 open 2\n\
+    1000001.000000000 frame 2 {\"request\":\"sender data\",\"data\":[{\"host\":\"h15\",\"key\":\"k7\",\"value\":\"33\"}]}\n";
+
+#[test]
+fn a_workload_gives_its_frames(rt: HostRuntime) -> Result<(), Fail> {
+    let alloc = rt.alloc();
+    assert_eq!(rt;
+        work_answers(alloc, 2, 4)?.as_str(),
+        answers_to(alloc, TWO_VALUES, 4)?.as_str()
+    );
+    let last = answers_to(alloc, VALUE_251, 4)?;
+    assert!(rt;
+        work_answers(alloc, 251, 6)?
+            .as_str()
+            .ends_with(last.as_str())
+    );
     Ok(())
 }
 
@@ -267,5 +302,27 @@ fn a_bare_disk_holds_what_is_written(rt: HostRuntime) -> Result<(), Fail> {
 #[test]
 fn disks_grow_as_large_as_a_journal(rt: HostRuntime) -> Result<(), Fail> {
     assert_eq!(rt; grown(rt.alloc(), 256)?, (16_777_216, 16_777_216));
+    Ok(())
+}
+
+#[test]
+fn a_gate_holds_the_first_later_caller_for_its_turns(rt: HostRuntime) -> Result<(), Fail> {
+    let gate = HoldGate::new(5, 3);
+    OpenGate.reached(0, 6);
+    gate.reached(0, 5);
+    gate.reached(1, 6);
+    gate.reached(0, 7);
+    gate.reached(1, 8);
+    assert_eq!(rt; gate.calls(), 4);
+    assert!(rt; !gate.ended_by_other());
+    Ok(())
+}
+
+#[test]
+fn another_syncer_ends_the_hold(rt: HostRuntime) -> Result<(), Fail> {
+    let gate = HoldGate::new(5, 100_000_000);
+    join(&rt, || gate.reached(0, 6), || gate.reached(1, 7));
+    assert_eq!(rt; gate.calls(), 2);
+    assert!(rt; gate.ended_by_other());
     Ok(())
 }

@@ -78,7 +78,8 @@ impl Wire for WorkWire {
 
     /// 0.
     fn unsent(&self) -> u64 {
-        let _faults = self.faults;
+        // a read of a field opens the view of the wire to the proof
+        let _read = self.faults;
         0
     }
 
@@ -122,6 +123,7 @@ impl Wire for WorkWire {
     fn send(&mut self, _conn: u64, _bytes: &[u8]) -> Result<(), Failed>
         ensures ok { IsOk result }
         ensures refused { self.new.refused ≡ self.old.refused }
+        ensures untold { self.old.tells.sent ≡ None }
         ensures tells { self.new.tells ≡ record self.old.tells { sends = self.old.tells.sends + 1 } }
     {
         self.sends.rise();
@@ -129,6 +131,9 @@ impl Wire for WorkWire {
     }
 
     fn close(&mut self, _conn: u64)
-        ensures { self.new ≡ self.old }
-    {}
+        ensures untold { self.old.tells.closed ≡ None }
+        ensures same { self.new ≡ self.old }
+    {
+        let _read = self.faults;
+    }
 }

@@ -1,4 +1,4 @@
-use Rattle.std.proofs.Common.{◌-◌, ◌+◌, ◌∙◌, arith}
+use Rattle.std.proofs.Common.{◌-◌, ◌+◌, arith}
 use Rattle.outside.proofs.WorkLemmas.{listed_step, behind_step}
 use Rattle.outside.proofs.work_frames.put_values.Goals as goal
 
