@@ -7,7 +7,9 @@ usage: bench/workload.py PROGRAM.. [--values N] [--number N] [--without-actions]
 template with the items k0 to k9 and a trigger over each, `avg(/w/kj,#5)>80` with the recovery expression
 `avg(/w/kj,#5)<60`, of which the second depends on the first; 50 hosts; an action for the triggers of severity 4 and 5.
 Each frame has 250 values and a connection of its own, a second after the one before. Printed are the values a second and
-the processor time a value, the opening and the reading of the script with them, and the program's line.
+the processor time a value, the opening and the reading of the script with them, and the program's line. Last the last
+program runs in mode workload, which has the same configuration and values without a file, and must print the same line;
+that mode has at most 1,000,000 values.
 """
 
 import json
@@ -103,6 +105,12 @@ def main():
             for name in ("journal", "outbox"):
                 if os.path.exists(f"{folder}/{name}"):
                     os.unlink(f"{folder}/{name}")
+        if with_actions and values <= 1_000_000:
+            options = ["--mode", "workload", "--number", named["--number"], "--values", named["--values"]]
+            again = run(os.path.realpath(words[-1]), [*options, "--outbox", f"{folder}/outbox"])[3]
+            if again != said:
+                print(f"mode workload: {again}", file=sys.stderr)
+                return 1
     return 0
 
 

@@ -7,7 +7,8 @@
 //! reads the configuration document in the file CONFIG, takes the events of the script in the file SCRIPT, keeps what it took
 //! in the file JOURNAL, adds a line for each problem and recovery to the file OUTBOX, and writes one line with the status of
 //! the run and its counts to standard output. Started again it goes on behind what the journal kept. Without a journal that
-//! is gone with the run, and without an outbox the lines go to standard output.
+//! is gone with the run, and without an outbox the lines go to standard output. With `--mode serve --listen ADDRESS` the
+//! events come over sockets, and `--mode workload --number N --values V` makes configuration and events from a number.
 //!
 //! It exits with the number of the status: 0 for Ok, 2 for Usage, 3 for ConfigRefused, 5 for SourceFault, 6 for NotOurs, 7 for
 //! Damaged, 8 for ConfigDiffers, 9 for OutboxAhead, 10 for DiskFault, 11 for OutboxFault, 12 for PrintFault, 13 for WireFault,

@@ -5,7 +5,9 @@ ghost use Rattle.server_words.specs.Words.{plan_of};
 ghost use Rattle.server_words.specs.declared.status.Status.TheVariants as Status;
 ghost use Rattle.server_run.specs.Ran.{IsStatusOf, IsRunStatus};
 
-use outside::{Disk, MemSink, MemSource, RamDisk, ScriptWire, Sink, Source, Wire};
+use outside::{
+    Disk, MemSink, MemSource, RamDisk, ScriptWire, Sink, Source, Wire, WorkWire, work_source,
+};
 use server_run::run_single;
 use server_words::{Mode, Plan, PlanError, Status, plan};
 use std::alloc::Global;
@@ -39,6 +41,7 @@ fn run_planned(
     match plan.mode {
         Mode::Feed => run_feed(rt, alloc, words, plan),
         Mode::Serve => run_serve(rt, alloc, words, plan),
+        Mode::Workload => run_workload(rt, alloc, words, plan),
     }
 }
 
@@ -52,9 +55,10 @@ fn run_feed(
     ensures ran { IfOk result (IsRunStatus words.now) }
 {
     let nowhere = Text::new(alloc);
+    let config = FileSource::at(rt, alloc, plan.config.as_ref().unwrap_or(&nowhere))?;
     let script = FileSource::at(rt, alloc, plan.script.as_ref().unwrap_or(&nowhere))?;
     let wire = ScriptWire::new(alloc, script, Many::new(alloc));
-    run_over(rt, alloc, words, plan, wire)
+    Ok(run_over(rt, alloc, words, plan, config, wire))
 }
 
 /// Runs the server over sockets, at the address that a plan names. At an address that it doesn't name no socket is.
@@ -67,46 +71,63 @@ fn run_serve(
     ensures ran { IfOk result (IsRunStatus words.now) }
 {
     let nowhere = Text::new(alloc);
+    let config = FileSource::at(rt, alloc, plan.config.as_ref().unwrap_or(&nowhere))?;
     let wire = MioWire::listen(rt, alloc, plan.listen.as_ref().unwrap_or(&nowhere))?;
-    run_over(rt, alloc, words, plan, wire)
+    Ok(run_over(rt, alloc, words, plan, config, wire))
 }
 
-/// Runs the server over a wire, and over the journal that a plan names, or one in memory that is gone with the run.
-fn run_over<W: Wire + Drop>(
+/// Runs the server over the workload that a plan names. A plan of the command has from 1 to 1,000,000 values.
+fn run_workload(
     rt: &HostRuntime,
     alloc: Global,
     words: &[Text],
     plan: &Plan,
-    wire: W,
 ) -> Result<Status, OutOfMemory>
     ensures ran { IfOk result (IsRunStatus words.now) }
 {
+    let values = plan.values.clamp(1, 1_000_000);
+    let config = work_source(alloc, plan.number, values)?;
+    let wire = WorkWire::new(alloc, plan.number, values);
+    Ok(run_over(rt, alloc, words, plan, config, wire))
+}
+
+/// Runs the server over a configuration and a wire, and over the journal that a plan names, or one in memory that is
+/// gone with the run.
+fn run_over<S: Source + Drop, W: Wire + Drop>(
+    rt: &HostRuntime,
+    alloc: Global,
+    words: &[Text],
+    plan: &Plan,
+    config: S,
+    wire: W,
+) -> Status
+    ensures ran { IsRunStatus words.now result }
+{
     match &plan.journal {
-        Some(path) => run_on(rt, alloc, words, plan, wire, FileDisk::at(rt, path)),
-        None => run_on(rt, alloc, words, plan, wire, RamDisk::new(alloc)),
+        Some(path) => run_on(rt, alloc, words, plan, config, wire, FileDisk::at(rt, path)),
+        None => run_on(rt, alloc, words, plan, config, wire, RamDisk::new(alloc)),
     }
 }
 
-/// Runs the server over a wire and a disk, and over the files that a plan names.
-fn run_on<W: Wire + Drop, D: Disk + Drop>(
+/// Runs the server over a configuration, a wire and a disk, and over the outbox that a plan names.
+fn run_on<S: Source + Drop, W: Wire + Drop, D: Disk + Drop>(
     rt: &HostRuntime,
     alloc: Global,
     words: &[Text],
     plan: &Plan,
+    config: S,
     wire: W,
     disk: D,
-) -> Result<Status, OutOfMemory>
-    ensures ran { IfOk result (IsRunStatus words.now) }
+) -> Status
+    ensures ran { IsRunStatus words.now result }
 {
-    let nowhere = Text::new(alloc);
-    let config = FileSource::at(rt, alloc, plan.config.as_ref().unwrap_or(&nowhere))?;
     let printer = StdSink::new(rt.stdout());
     if plan.outbox.as_str() == "-" {
         let outbox = StdSink::new(rt.stdout());
-        Ok(status_of(alloc, words, config, wire, disk, outbox, printer))
+        status_of(alloc, words, config, wire, disk, outbox, printer)
     } else {
         let outbox = FileSink::at(rt, &plan.outbox);
-        Ok(status_of(alloc, words, config, wire, disk, outbox, printer))
+        status_of(alloc, words, config, wire, disk, outbox, printer)
     }
 }
 
