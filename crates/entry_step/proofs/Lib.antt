@@ -29,3 +29,8 @@ pub mod Taking
 pub mod Turns
 pub mod Sorting
 pub mod Dues
+pub mod Reaches
+pub mod Exchanging
+pub mod Parting
+pub mod Stepped
+pub mod Touching

@@ -82,7 +82,7 @@ all_tidy : (conf : Conf) (c : Cells) → IsTidy conf c → AllTidy conf (opens_i
 all_tidy conf c tidy = record { homes = tidy.homes; tagged = tidy.tagged }
 
 -- an entry has the same visits over cells that agree on its foot
-visits_agree : (conf : Conf) (e : Numbered) (c d : Cells) → Agree conf e c d → visits_at conf (memory_in c) e.number e.entry ≡ visits_at conf (memory_in d) e.number e.entry
+pub visits_agree : (conf : Conf) (e : Numbered) (c d : Cells) → Agree conf e c d → visits_at conf (memory_in c) e.number e.entry ≡ visits_at conf (memory_in d) e.number e.entry
 visits_agree conf e c d agree =
     let remembered : ItemCell → ℕ → StepMemory = λ cell k. memory_at cell.marks k in
     visits_local conf (memory_in c) (memory_in d) e.number e.entry (λ i t. ap remembered (agree.at (ItemKey i) t))
@@ -95,7 +95,7 @@ item_is : (conf : Conf) (memory : Memory) (number : ℕ) (entry : Entry) (i : �
 unfolding item_after stored_of
 item_is conf memory number entry i cell = refl
 
-triggers_by : (conf : Conf) (a b : Memory) (number : ℕ) (entry : Entry) → visits_at conf a number entry ≡ visits_at conf b number entry → triggers_at conf a number entry ≡ triggers_at conf b number entry
+pub triggers_by : (conf : Conf) (a b : Memory) (number : ℕ) (entry : Entry) → visits_at conf a number entry ≡ visits_at conf b number entry → triggers_at conf a number entry ≡ triggers_at conf b number entry
 unfolding triggers_at stored_of
 triggers_by conf a b number (Config now text) e = refl
 triggers_by conf a b number (Tick now) e = refl
@@ -330,7 +330,7 @@ insertion conf newer e older apart =
 
 -- A batch on a copy
 module _ (conf : Conf) (K : Key → Type 0) (ticks : K TickKey) where
-  step_agrees : (e : Numbered) (c d : Cells) → IsTidy conf c → IsTidy conf d → ((k : Key) → touches conf e.entry k ≡ true → K k) → ((k : Key) → K k → c k ≡ d k) → (k : Key) → K k → after conf c e k ≡ after conf d e k
+  pub step_agrees : (e : Numbered) (c d : Cells) → IsTidy conf c → IsTidy conf d → ((k : Key) → touches conf e.entry k ≡ true → K k) → ((k : Key) → K k → c k ≡ d k) → (k : Key) → K k → after conf c e k ≡ after conf d e k
   step_agrees e c d tidy_c tidy_d inside same k m = go (true_or_false (touches conf e.entry k))
     where
       law : IsLocal conf e c d
@@ -348,7 +348,7 @@ module _ (conf : Conf) (K : Key → Type 0) (ticks : K TickKey) where
       let r = batch_agrees es (after conf c e) (after conf d e) (stays_tidy conf c e tidy_c) (stays_tidy conf d e tidy_d) (λ x i. inside x (inr i)) (step_agrees e c d tidy_c tidy_d (inside e (inl refl)) same) in
       (ap₂ (λ rs rss. rs ∷ rss) (sym law.same_records) r.0, r.1)
 
-batch_off : (conf : Conf) (es : List Numbered) (c : Cells) → IsTidy conf c → (k : Key) → any_touches conf es k ≡ false → cells_done conf c es k ≡ c k
+pub batch_off : (conf : Conf) (es : List Numbered) (c : Cells) → IsTidy conf c → (k : Key) → any_touches conf es k ≡ false → cells_done conf c es k ≡ c k
 batch_off conf [] c tidy k f = refl
 batch_off conf (e ∷ es) c tidy k f =
     batch_off conf es (after conf c e) (stays_tidy conf c e tidy) k (or_false_right (touches conf e.entry k) (any_touches conf es k) f) ∙ confined conf e c tidy k (or_false_left (touches conf e.entry k) (any_touches conf es k) f)

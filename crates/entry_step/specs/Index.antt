@@ -1,10 +1,10 @@
 -- The indexes by which hosts, items and triggers are found.
-use Rattle.std.specs.Prelude.{◌≡◌, ℕ, ◌==◌, Bool, false, ◌&&◌, List, [], map, filter, flat_map, length, String, Option, Some, None, if◌then◌else◌, option_and_then, slice_get, slice_index_or}
+use Rattle.std.specs.Prelude.{◌≡◌, ℕ, ◌==◌, ◌+◌, Bool, false, ◌&&◌, List, [], ◌∷◌, map, filter, flat_map, length, String, Option, Some, None, if◌then◌else◌, option_and_then, slice_get, slice_index_or}
 use Rattle.std.specs.HashMap.{HashMap, get_by_text}
 use Rattle.std.specs.List.{list_any}
 use Rattle.std.specs.Option.{option_or}
 use Rattle.zbx_types.specs.Ids.{at_id}
-use Rattle.zbx_types.specs.Masters.{masters_of}
+use Rattle.zbx_types.specs.Masters.{masters_of, has_id as holds_id}
 use Rattle.zbx_types.specs.Reach.{in_reach}
 use Rattle.zbx_types.specs.declared.conf.Conf.{Conf}
 use Rattle.zbx_types.specs.declared.rules.Rule.{Rule}
@@ -13,7 +13,7 @@ use Rattle.entry_step.specs.Names.{host_named, item_keyed}
 use Rattle.jiff_core.specs.Calendar.{IsWithin}
 use Rattle.entry_step.specs.Asked.{places_of, ArePlaced}
 use Rattle.entry_step.specs.Order.{order}
-use Rattle.footprint.specs.Feet.{chain}
+use Rattle.footprint.specs.Feet.{chain, FootTables, feet_of, is_reached, told_by}
 use Rattle.preprocess.specs.Chains.{AreChainsOf}
 use Rattle.preprocess.specs.Visits.{ArePatternsOf}
 use Rattle.preprocess.specs.declared.chains.Chains.{Chains}
@@ -36,6 +36,12 @@ listed rows number = slice_index_or rows number []
 abbrev pub some_reaches : List Rule → Trigger → Bool
 some_reaches rules trigger = list_any (λ rule. in_reach rule trigger) rules
 
+-- the ids of the triggers that a rule's reach holds, where the first of these triggers has this one
+abbrev pub reach_from : Rule → ℕ → List Trigger → List ℕ
+reach_from rule id [] = []
+reach_from rule id (trigger ∷ triggers) =
+    if in_reach rule trigger then id ∷ reach_from rule (id + 1) triggers else reach_from rule (id + 1) triggers
+
 -- an id is among these
 abbrev pub has_id : ℕ → List ℕ → Bool
 has_id id ids = list_any (λ i. i == id) ids
@@ -54,7 +60,7 @@ unfoldable pub triggers_under : Conf → ℕ → List ℕ
 triggers_under conf item = filter (λ id. is_over_below conf item (at_id conf.triggers id)) (order conf)
 
 -- the indexes are those of the configuration
-pub record IsIndex {A S T : Type 0} (conf : Conf) (hosts : HashMap (String A) ℕ S) (keys : List (HashMap (String A) ℕ T)) (over : Packed ℕ) (plans recoveries : Packed Node) (masters : Packed ℕ) (patterns : List (List ℕ)) (places : Packed ℕ) (timed all : List ℕ) (reached : List Bool) (chains : Chains) : Type 0 where
+pub record IsIndex {A S T : Type 0} (conf : Conf) (hosts : HashMap (String A) ℕ S) (keys : List (HashMap (String A) ℕ T)) (over : Packed ℕ) (plans recoveries : Packed Node) (masters : Packed ℕ) (patterns : List (List ℕ)) (places : Packed ℕ) (timed all : List ℕ) (reached : List Bool) (chains : Chains) (feet : FootTables) (reaches : Packed ℕ) : Type 0 where
   pub by_name : (name : List ℕ) → get_by_text hosts name ≡ host_named conf name
   pub by_key : (host : ℕ) (key : List ℕ) → id_at keys host key ≡ item_keyed conf host key
   pub by_item : (item : ℕ) → row_at over.starts over.items item ≡ triggers_under conf item
@@ -71,6 +77,8 @@ pub record IsIndex {A S T : Type 0} (conf : Conf) (hosts : HashMap (String A) �
   pub offset : IsWithin 50400 conf.utc_offset
   pub by_dependent : (id : ℕ) → row_at masters.starts masters.items id ≡ masters_of conf id
   pub by_reach : reached ≡ map (some_reaches conf.correlations) conf.triggers
+  pub by_foot : told_by feet ≡ feet_of conf
+  pub by_rule : (rule id : ℕ) → holds_id (row_at reaches.starts reaches.items rule) id ≡ is_reached conf rule id
 
 -- the id of a name with one more item, which may have the name: the first one counts
 abbrev pub noted : Option ℕ → Bool → ℕ → Option ℕ

@@ -1,9 +1,12 @@
 pub mod Each
+pub mod Exchange
 pub mod Log
 pub mod Occasions
 pub mod History
 pub mod Evaluation
 pub mod Seen
+pub mod Stepping
+pub mod Touched
 pub mod Order
 pub mod Due
 pub mod Records
@@ -18,4 +21,5 @@ pub mod Plans
 pub mod Packed
 pub mod Changes
 pub mod Names
+pub mod Parts
 pub mod Index

@@ -14,6 +14,8 @@ ghost use Rattle.zbx_types.specs.declared.calls.Call.{Call};
 ghost use Rattle.jiff_core.specs.Calendar.{IsWithin};
 ghost use Rattle.value_cache.specs.Keeps.{seconds_in, most_seconds};
 ghost use Rattle.entry_step.specs.Order.{order};
+ghost use Rattle.footprint.specs.Feet.{feet_of, is_reached, told_by};
+ghost use Rattle.zbx_types.specs.Masters.{has_id};
 ghost use Rattle.preprocess.specs.Cells.{AreSame, prepared_of};
 ghost use Rattle.preprocess.specs.Draft.{AreApart, HaveRoom};
 ghost use Rattle.entry_step.specs.Index.{triggers_under};
@@ -28,9 +30,10 @@ use crate::order::order;
 use crate::packed::{Packed, row};
 use crate::patterned::{patterned, stepped};
 use crate::plans::{Node, plans_of, recovery_plans_of};
-use crate::reached::reached;
+use crate::reached::{feet_of_all, reached, reaches_of_all};
 use crate::timed::timed_triggers;
 use event_text::{name, tags};
+use footprint::Feet;
 use pattern_set::Patterns;
 use preprocess::{Chains, Prepared, prepare};
 use std::alloc::Global;
@@ -76,6 +79,8 @@ pub struct Ready {
     all: Many<u32>,
     reached: Many<bool>,
     chains: Chains,
+    feet: Feet,
+    reaches: Packed<u32>,
 }
 
 impl Model for Ready {
@@ -90,7 +95,7 @@ impl Model for Ready {
 
     ghost view = { λ r. r.conf };
 
-    ghost invariant = { λ r. IsIndex r.conf r.hosts r.keys.items r.over r.plans r.recoveries r.masters r.patterns r.places r.timed r.all r.reached r.chains };
+    ghost invariant = { λ r. IsIndex r.conf r.hosts r.keys.items r.over r.plans r.recoveries r.masters r.patterns r.places r.timed r.all r.reached r.chains r.feet r.reaches };
 }
 
 impl Ready {
@@ -130,6 +135,8 @@ impl Ready {
         let masters = masters_of_all(alloc, &conf)?;
         let reached = reached(alloc, &conf)?;
         let chains = Chains::build(alloc, &conf, &patterns)?;
+        let feet = feet_of_all(alloc, &conf)?;
+        let reaches = reaches_of_all(alloc, &conf)?;
         Ok(Ready {
             conf,
             hosts,
@@ -144,6 +151,8 @@ impl Ready {
             all,
             reached,
             chains,
+            feet,
+            reaches,
         })
     }
 
@@ -296,5 +305,19 @@ impl Ready {
         ensures { result.now ≡ masters_of self.now id }
     {
         row(&self.masters, id)
+    }
+
+    /// The feet of the items: what the work on one of their values may read or change.
+    pub fn feet(&self) -> &Feet
+        ensures { told_by result.now ≡ feet_of self.now }
+    {
+        &self.feet
+    }
+
+    /// The ids of the triggers that the reach of the rule with an id holds.
+    pub(crate) fn reach(&self, rule: u32) -> &[u32]
+        ensures { (id : ℕ) → has_id result.now id ≡ is_reached self.now rule id }
+    {
+        row(&self.reaches, rule)
     }
 }

@@ -56,7 +56,7 @@ fn copied(alloc: Global, one: &Open) -> Result<Open, OutOfMemory>
 }
 
 /// Copies of open problems.
-fn copies(alloc: Global, opens: &[Open]) -> Result<Many<Open>, OutOfMemory>
+pub(crate) fn copies(alloc: Global, opens: &[Open]) -> Result<Many<Open>, OutOfMemory>
     ensures { IfOk result (λ made. made ≡ opens.now) }
 {
     let mut made = Many::new(alloc);

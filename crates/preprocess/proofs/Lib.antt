@@ -1,5 +1,5 @@
 mod Reading
-mod Rows
+pub mod Rows
 mod Chaining
 mod Walking
 mod Visiting
@@ -9,3 +9,4 @@ mod Keeping
 pub mod Becoming
 mod Plain
 pub mod Logs
+pub mod Exchanging

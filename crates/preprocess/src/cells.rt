@@ -1,10 +1,13 @@
 //! What a run keeps of the items.
 
 ghost use Rattle.std.specs.Prelude.{◌≡◌, IfOk, OnOk, map, option_copied, ℕ};
+ghost use Rattle.std.specs.Option.{unwrap_or};
 ghost use Rattle.zbx_types.specs.Ids.{at_id};
+ghost use Rattle.preprocess.specs.Rows.{with_row};
 ghost use Rattle.preprocess.specs.Cells.{AreNew, empty, no_marks};
 ghost use Rattle.preprocess.specs.Draft.{kept_of, HasRoom};
 
+use crate::exchange::exchange_at;
 use prep_steps::StepMemory;
 use std::alloc::Global;
 use value_cache::{ItemCell, Keep, keeps};
@@ -77,6 +80,24 @@ impl Cells {
         ensures { option_copied result ≡ at_id self.now.cells.items id }
     {
         by_id(self.cells.as_slice(), id)
+    }
+
+    /// What the steps of the items remember, in the order of ids. Takes no memory.
+    pub fn memories(&self) -> &[Many<StepMemory>]
+        ensures { result.now ≡ self.now.memories.items }
+    {
+        self.memories.as_slice()
+    }
+
+    /// Exchanges a cell, and what steps remember, for those of the item with an id. Takes no memory.
+    pub fn exchange(&mut self, id: u32, cell: &mut ItemCell, marks: &mut Many<StepMemory>)
+        ensures cells { self.new.cells.items ≡ with_row self.old.cells.items id cell.old }
+        ensures cell { cell.new ≡ unwrap_or (at_id self.old.cells.items id) cell.old }
+        ensures memories { self.new.memories.items ≡ with_row self.old.memories.items id marks.old }
+        ensures marks { marks.new ≡ unwrap_or (at_id self.old.memories.items id) marks.old }
+    {
+        exchange_at(&mut self.cells, id, cell);
+        exchange_at(&mut self.memories, id, marks);
     }
 }
 

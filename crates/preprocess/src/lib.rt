@@ -36,6 +36,7 @@ mod chain;
 mod chains;
 mod draft;
 mod ended;
+mod exchange;
 mod json;
 pub mod laws;
 mod putting;
@@ -49,6 +50,7 @@ pub use chain::{Chained, run_chain};
 pub use chains::Chains;
 pub use draft::{Draft, Prepared, commit, prepare};
 pub use ended::Ended;
+pub use exchange::exchange_at;
 pub use running::run;
 pub use ways::{Way, ways_of};
 

@@ -22,4 +22,6 @@ invariant_of-result c = record {
   offset = c.in_ok-near.ensures;
   by_dependent = c.in_ok-masters.ensures;
   by_reach = c.in_ok-reached.ensures;
+  by_foot = c.in_ok-feet.ensures;
+  by_rule = c.in_ok-reaches.ensures;
 }
