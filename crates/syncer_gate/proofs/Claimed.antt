@@ -21,14 +21,14 @@ use Rattle.syncer_gate.specs.Window.{AreBelow, AreKept}
 use Rattle.syncer_gate.specs.Core.{Core, Claim, happens, In, IsNumber, MayClaim, IsStep, core_of}
 use Rattle.syncer_gate.proofs.Picked.{in_from, IsPicked, picked_right}
 
-ids_alike : {A B : Type 0} (k : ℕ) (xs : List A) (ys : List B) → length xs ≡ length ys → ids_from k xs ≡ ids_from k ys
+pub ids_alike : {A B : Type 0} (k : ℕ) (xs : List A) (ys : List B) → length xs ≡ length ys → ids_from k xs ≡ ids_from k ys
 ids_alike k [] [] size = refl
 ids_alike k [] (y ∷ ys) size = absurd (omega arith)
 ids_alike k (x ∷ xs) [] size = absurd (omega arith)
 ids_alike k (x ∷ xs) (y ∷ ys) size = ap (λ ids. k ∷ ids) (ids_alike (k + 1) xs ys (omega arith))
 
 -- the numbers of the entries are those of the marks
-by_marks : (gate : Gate) (entries : List Numbered) → AreOffered gate entries → map (λ e. e.number) entries ≡ ids_from gate.first gate.marks
+pub by_marks : (gate : Gate) (entries : List Numbered) → AreOffered gate entries → map (λ e. e.number) entries ≡ ids_from gate.first gate.marks
 by_marks gate entries off = off.numbers ∙ ids_alike gate.first entries gate.marks off.size
 
 -- a list turned round has the same entries

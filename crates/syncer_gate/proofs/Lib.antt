@@ -7,3 +7,4 @@ pub mod Ended
 pub mod Picked
 pub mod Claimed
 pub mod Offered
+pub mod Opened

@@ -4,7 +4,7 @@ use Rattle.std.proofs.Math.Seq.{drop-cons}
 use Rattle.zbx_types.specs.Masters.{has_id}
 use Rattle.syncer_gate.specs.declared.marks.Mark.{Mark}
 use Rattle.syncer_gate.specs.declared.marks.Mark.TheVariants.{Pending, Applied, Taken}
-use Rattle.syncer_gate.specs.Marks.{is_taken, ended}
+use Rattle.syncer_gate.specs.Marks.{is_taken, ended, reopened}
 use Rattle.syncer_gate.specs.Window.{AreDone, AreWaiting}
 use Rattle.syncer_gate.specs.Gate.{with_taken, held_by, same_numbers}
 
@@ -13,7 +13,7 @@ pub taken_none : (id n : ℕ) (marks : List Mark) → with_taken id [] n marks �
 taken_none id n [] = refl
 taken_none id n (m ∷ marks) = ap (λ ms. m ∷ ms) (taken_none id (n + 1) marks)
 
-taken_before : (id x n : ℕ) (numbers : List ℕ) (marks : List Mark) → x < n → with_taken id (x ∷ numbers) n marks ≡ with_taken id numbers n marks
+pub taken_before : (id x n : ℕ) (numbers : List ℕ) (marks : List Mark) → x < n → with_taken id (x ∷ numbers) n marks ≡ with_taken id numbers n marks
 taken_before id x n numbers [] l = refl
 taken_before id x n numbers (m ∷ marks) l =
     let o : (x == n) ≡ false = ne_eqb x n (λ q. absurd (omega arith)) in
@@ -118,3 +118,22 @@ ended_other id to m other = go (is_taken id m) refl
     go : (b : Bool) → is_taken id m ≡ b → is_taken id (cond b to m) ≡ false
     go true e = other
     go false e = e
+
+-- marks that stay where all batches end
+abbrev pub AreReopened : ℕ → List Mark → Type 0
+AreReopened low marks = (i : ℕ) → i < low → reopened (get_or marks i Pending) ≡ get_or marks i Pending
+
+pub reopened_none : (marks : List Mark) → AreReopened (length marks) marks → map reopened marks ≡ marks
+reopened_none [] none = refl
+reopened_none (m ∷ marks) none =
+    let e : reopened m ≡ m = none 0 (omega arith) in
+    let r = reopened_none marks (λ i l. none (suc i) (omega arith)) in
+    cc
+
+pub reopened_twice : (m : Mark) → reopened (reopened m) ≡ reopened m
+reopened_twice Pending = refl
+reopened_twice Applied = refl
+reopened_twice (Taken batch) = refl
+
+pub done_reopened : (low : ℕ) (marks : List Mark) → AreDone low marks → AreReopened low marks
+done_reopened low marks done i l = let d = done i l in ap reopened d ∙ sym d

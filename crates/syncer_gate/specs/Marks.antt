@@ -24,3 +24,9 @@ is_taken id (Taken batch) = batch == id
 -- a mark once the batch with this id has ended, so that its entries' marks became another
 abbrev pub ended : ℕ → Mark → Mark → Mark
 ended id to mark = if is_taken id mark then to else mark
+
+-- a mark once all open batches have ended, so that their entries are pending
+abbrev pub reopened : Mark → Mark
+reopened Pending = Pending
+reopened Applied = Applied
+reopened (Taken batch) = Pending

@@ -1,20 +1,20 @@
 //! Claims: which entries are pending, in work, or applied.
 
-ghost use Rattle.std.specs.Prelude.{◌≡◌, ◌<◌, ◌≤◌, ◌+◌, ◌++◌, ◌^◌, ℕ, true, List, [], false, length, replicate, is_some, IfOk, IfSome, OnOk, OnErr};
+ghost use Rattle.std.specs.Prelude.{◌≡◌, ◌≢◌, ◌<◌, ◌≤◌, ◌+◌, ◌++◌, ◌^◌, ◌↔◌, ℕ, true, List, [], false, length, map, get_or, replicate, is_some, IfOk, IfSome, OnOk, OnErr};
 ghost use Rattle.std.specs.List.{list_any};
 ghost use Rattle.zbx_types.specs.Masters.{has_id};
 ghost use Rattle.zbx_types.specs.declared.entries.Numbered.{Numbered};
 ghost use Rattle.footprint.specs.Feet.{told_by};
 ghost use Rattle.syncer_gate.specs.Gate.{AreOffered, AreAlike, mark_of, batch_of, claimed};
-ghost use Rattle.syncer_gate.specs.Gate.{held_by, same_numbers, IsOpenBatch, with_ended};
-ghost use Rattle.syncer_gate.specs.Marks.{is_pending, is_open};
+ghost use Rattle.syncer_gate.specs.Gate.{IsOpenBatch, with_ended};
+ghost use Rattle.syncer_gate.specs.Marks.{is_pending, is_open, reopened};
 ghost use Rattle.syncer_gate.specs.Chosen.{chosen};
-ghost use Rattle.syncer_gate.specs.Window.{AreBelow};
+ghost use Rattle.syncer_gate.specs.Window.{AreBelow, AreDone};
 ghost use Rattle.syncer_gate.specs.Core.{Claim, Apply, GiveBack, core_of, happens, offered, IsStep};
 
 use crate::batch::Batch;
 use crate::choice::{note_open, pick};
-use crate::marking::{end, first_left, is_held, take};
+use crate::marking::{end, first_left, is_held, reopen, take};
 use crate::marks::Mark;
 use crate::touched::Touched;
 use footprint::Feet;
@@ -178,7 +178,7 @@ impl Claims {
         ensures alike { AreAlike self.old self.new }
         ensures step { IsOpenBatch self.old batch → (entries : List Numbered) → core_of entries self.new ≡ happens (core_of entries self.old) (Apply batch.id) }
     {
-        if self.holds(&batch) {
+        if self.is_open(&batch) {
             end(
                 &mut self.marks,
                 batch.id,
@@ -198,7 +198,7 @@ impl Claims {
         ensures alike { AreAlike self.old self.new }
         ensures step { IsOpenBatch self.old batch → (entries : List Numbered) → core_of entries self.new ≡ happens (core_of entries self.old) (GiveBack batch.id) }
     {
-        if self.holds(&batch) {
+        if self.is_open(&batch) {
             end(
                 &mut self.marks,
                 batch.id,
@@ -209,9 +209,26 @@ impl Claims {
         }
     }
 
+    /// Ends all open batches: their entries are pending again. Takes no memory.
+    pub fn give_back_all(&mut self)
+        ensures { self.new ≡ record self.old { marks = map reopened self.old.marks } }
+    {
+        reopen(&mut self.marks, self.low, self.high);
+    }
+
+    /// How many entries are applied with all before them. Takes no memory.
+    pub fn applied(&self) -> usize
+        ensures within { result ≤ length self.now.marks }
+        ensures applied { AreDone result self.now.marks }
+        ensures next { result < length self.now.marks → get_or self.now.marks result Mark.Pending ≢ Mark.Applied }
+    {
+        first_left(self.marks.as_slice(), self.low)
+    }
+
     /// Whether a batch is open: its id has taken the entries with its numbers, and no others.
-    fn holds(&self, batch: &Batch) -> bool
-        ensures { result ≡ same_numbers batch.now.numbers (held_by batch.now.id self.now.first self.now.marks) }
+    #[tactic(auto, using(crate::proofs::Ended::same_tells))]
+    pub fn is_open(&self, batch: &Batch) -> bool
+        ensures { (result ≡ true) ↔ IsOpenBatch self.now batch.now }
     {
         is_held(
             self.marks.as_slice(),

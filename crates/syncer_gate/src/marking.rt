@@ -1,10 +1,10 @@
 //! Marks that are set, and marks that are compared with a batch.
 
-ghost use Rattle.std.specs.Prelude.{◌≡◌, ◌<◌, ◌≤◌, ◌+◌, ◌^◌, ℕ, length, map, true, false};
+ghost use Rattle.std.specs.Prelude.{◌≡◌, ◌≢◌, ◌<◌, ◌≤◌, ◌+◌, ◌^◌, ℕ, length, map, get_or, true, false};
 ghost use Rattle.footprint.specs.Rows.{begins};
 ghost use Rattle.zbx_types.specs.Masters.{has_id};
 ghost use Rattle.syncer_gate.specs.Gate.{with_taken, held_by, same_numbers};
-ghost use Rattle.syncer_gate.specs.Marks.{is_taken, ended};
+ghost use Rattle.syncer_gate.specs.Marks.{is_taken, ended, reopened};
 ghost use Rattle.syncer_gate.specs.Window.{AreDone, AreWaiting};
 
 use crate::marks::Mark;
@@ -82,10 +82,24 @@ pub(crate) fn end(marks: &mut Vec<Mark>, id: u64, to: Mark, low: usize, high: us
     }
 }
 
-/// The first place from one on whose entry isn't applied.
+/// Ends all batches: their entries are pending.
+pub(crate) fn reopen(marks: &mut Vec<Mark>, low: usize, high: usize)
+    requires inside { high ≤ length marks.old.items }
+    requires done { AreDone low marks.old.items }
+    requires waiting { AreWaiting high marks.old.items }
+    ensures { marks.new.items ≡ map reopened marks.old.items }
+{
+    for place in low..high {
+        marks[place] = marks[place].reopened();
+    }
+}
+
+/// The first place whose entry isn't applied, where all before this one are.
 pub(crate) fn first_left(marks: &[Mark], low: usize) -> usize
     requires { AreDone low marks.now }
-    ensures { AreDone result marks.now }
+    ensures within { result ≤ length marks.now }
+    ensures done { AreDone result marks.now }
+    ensures next { result < length marks.now → get_or marks.now result Mark.Pending ≢ Mark.Applied }
 {
     for place in low..marks.len() {
         match marks[place] {

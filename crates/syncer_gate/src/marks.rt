@@ -1,7 +1,7 @@
 //! Marks of entries.
 
 ghost use Rattle.std.specs.Prelude.{◌≡◌};
-ghost use Rattle.syncer_gate.specs.Marks.{is_pending, is_taken, ended};
+ghost use Rattle.syncer_gate.specs.Marks.{is_pending, is_taken, ended, reopened};
 
 /// Where an entry stands.
 #[derive(Clone, Copy, Drop)]
@@ -40,5 +40,15 @@ impl Mark {
         ensures { result ≡ ended id to self }
     {
         if self.is_taken(id) { to } else { self }
+    }
+
+    /// The mark once all batches have ended, so that their entries are pending.
+    pub(crate) fn reopened(self) -> Mark
+        ensures { result ≡ reopened self }
+    {
+        match self {
+            Mark::Pending | Mark::Taken(_) => Mark::Pending,
+            Mark::Applied => Mark::Applied,
+        }
     }
 }

@@ -259,6 +259,14 @@ fn again(alloc: Global, batch: &Option<Batch>) -> Result<Option<Batch>, OutOfMem
     }
 }
 
+/// 1 where a batch is open, else 0.
+fn open_ones(claims: &Claims, batch: &Option<Batch>) -> u64 {
+    match batch {
+        None => 0,
+        Some(batch) => { if claims.is_open(batch) { 1 } else { 0 } }
+    }
+}
+
 /// Four entries of three items, of which the second's trigger depends on the first's.
 fn four(alloc: Global, feet: &Feet) -> Result<Many<u64>, OutOfMemory> {
     let entries = entries(alloc, 3, &[1, 2, 3, 1])?;
@@ -273,6 +281,7 @@ fn four(alloc: Global, feet: &Feet) -> Result<Many<u64>, OutOfMemory> {
     note(&mut made, claims.claim(alloc, feet, all, 64)?)?;
     let late = again(alloc, &first)?;
     settle(&mut claims, first);
+    made.push(open_ones(&claims, &late))?;
     let third = claims.claim(alloc, feet, all, 64)?;
     note(&mut made, again(alloc, &third)?)?;
     give_back(&mut claims, late);
@@ -280,6 +289,8 @@ fn four(alloc: Global, feet: &Feet) -> Result<Many<u64>, OutOfMemory> {
     note(&mut made, claims.claim(alloc, feet, all, 1)?)?;
     settle(&mut claims, second);
     note(&mut made, claims.claim(alloc, feet, all, 64)?)?;
+    claims.give_back_all();
+    made.push(claims.applied() as u64)?;
     Ok(made)
 }
 
@@ -291,7 +302,7 @@ fn an_entry_waits_until_what_it_depends_on_is_settled(rt: HostRuntime) -> Result
     let made = four(alloc, &feet)?;
     assert_eq!(rt;
         made.as_slice(),
-        [1, 3, 1, 5, 0, 0, 2, 6, 1, 4, 0, 0].as_slice()
+        [1, 3, 1, 5, 0, 0, 0, 2, 6, 1, 4, 0, 0, 1].as_slice()
     );
     Ok(())
 }
