@@ -1,4 +1,13 @@
+pub mod Growing
+pub mod Counting
 pub mod Numbers
 pub mod Places
 pub mod Working
+pub mod Coming
 pub mod Scheduled
+pub mod Marked
+pub mod Books
+pub mod Going
+pub mod Batches
+pub mod Claiming
+pub mod Finishing

@@ -8,7 +8,9 @@ use Rattle.zbx_types.specs.declared.conf.Conf.{Conf}
 use Rattle.zbx_types.specs.declared.entries.Numbered.{Numbered}
 use Rattle.zbx_types.specs.declared.entries.Rec.{Rec}
 use Rattle.footprint.specs.Feet.{feet_of}
-use Rattle.entry_step.specs.Each.{Each, In}
+use Rattle.entry_step.specs.Each.{Each, In, EachPair}
+use Rattle.entry_step.specs.Log.{Suits}
+use Rattle.entry_step.specs.Parts.{AllCome}
 use Rattle.entry_step.specs.Records.{out_of, replay}
 use Rattle.entry_step.specs.Cells.{Cells, StandFor}
 use Rattle.entry_step.specs.Laws.{Apart}
@@ -22,6 +24,7 @@ use Rattle.syncer_gate.proofs.Order.{each_step}
 use Rattle.book.specs.Schedule.{is_applied, Worked, batch_in, worked, begin_worked, worked_all, has_applied, Facts, EveryScheduleFacts, records_kept, AtFrontier}
 use Rattle.book.proofs.Places.{Rises, is_in, in_of, in_reverse, of_reverse, in_filter, of_filter, pairs_filter, pairs_reverse}
 use Rattle.book.proofs.Working.{Done, also_all, all_in, all_out, all_done}
+use Rattle.book.proofs.Coming.{all_come}
 
 -- the numbers of the entries that are applied
 abbrev pub applied_by : (ℕ → Mark) → ℕ → Bool
@@ -71,12 +74,12 @@ given_applied id mark = go (is_taken id mark) refl
     go false e = refl
 
 -- no entry that is applied conflicts with an older one that isn't
-order_of : (conf : Conf) (s : Core) → Holds (feet_of conf) s → (y e : Numbered) → In y s.log → In e s.log → y.number < e.number
+pub order_of : (conf : Conf) (s : Core) → Holds (feet_of conf) s → (y e : Numbered) → In y s.log → In e s.log → y.number < e.number
     → applied_by s.status e.number ≡ true → applied_by s.status y.number ≡ false → Apart conf y e
 order_of conf s holds y e i j l d w = (conflict_is_meeting conf y e).0 (holds.order y e (is_in s.log y i) (is_in s.log e j) l (applied_passes (s.status e.number) (s.status y.number) d w))
 
 -- where no entry becomes applied, and none is added, cells and records stay as they are
-same_done : (conf : Conf) (log : List Numbered) (status other : ℕ → Mark) (cells : Cells) (made : ℕ → List Rec) → ((n : ℕ) → is_applied (other n) ≡ is_applied (status n))
+pub same_done : (conf : Conf) (log : List Numbered) (status other : ℕ → Mark) (cells : Cells) (made : ℕ → List Rec) → ((n : ℕ) → is_applied (other n) ≡ is_applied (status n))
     → Done conf log (applied_by status) cells made → Done conf log (applied_by other) cells made
 same_done conf log status other cells made same holds = subst (λ done. Done conf log done cells made) (sym (fun_ext same)) holds
 
@@ -138,6 +141,24 @@ module _ (conf : Conf) (w : Worked) (stands : Stands conf w) where
           all_out (applied_by w.core.status) (batch_in w.core id) n
           (λ x i q. let r : is_taken id (w.core.status n) ≡ true = ap (λ m. is_taken id (w.core.status m)) (sym q) ∙ (of_batch id x i).1 in cc)
 
+  -- what isn't applied and isn't in a batch conflicts with no later entry of it
+  batch_free : (id : ℕ) (y x : Numbered) → In y w.core.log → In x (batch_in w.core id) → y.number < x.number → applied_by w.core.status y.number ≡ false → (In y (batch_in w.core id) → ⊥) → Apart conf y x
+  batch_free id y x i j l waits out =
+      let r = of_batch id x j in
+      (conflict_is_meeting conf y x).0
+      (stands.holds.order y x (is_in w.core.log y i) (is_in w.core.log x r.0) l (taken_passes id (w.core.status x.number) (w.core.status y.number) r.1 waits (go (is_taken id (w.core.status y.number)) refl)))
+    where
+      go : (b : Bool) → is_taken id (w.core.status y.number) ≡ b → b ≡ false
+      go true q = absurd (out (in_batch id y i q))
+      go false q = refl
+
+  -- its numbers rise, and none is applied
+  batch_rises : (id : ℕ) → EachPair (λ x later. x.number < later.number) (batch_in w.core id)
+  batch_rises id = pairs_filter (λ x later. x.number < later.number) (λ e. is_taken id (w.core.status e.number)) (reverse w.core.log) (pairs_reverse (λ x later. x.number < later.number) w.core.log stands.rises)
+
+  batch_waits : (id : ℕ) (x : Numbered) → In x (batch_in w.core id) → applied_by w.core.status x.number ≡ false
+  batch_waits id x i = taken_waits id (w.core.status x.number) (of_batch id x i).1
+
   applied : (id : ℕ) → Stands conf (worked conf w (Apply id))
   applied id = record {
     holds = each_step (feet_of conf) w.core (Apply id) stands.holds tt;
@@ -145,22 +166,21 @@ module _ (conf : Conf) (w : Worked) (stands : Stands conf w) where
     done = subst (λ done. Done conf w.core.log done (worked conf w (Apply id)).cells (worked conf w (Apply id)).made) (fun_ext (applied_all id)) (
         all_done conf w.core.log stands.rises (batch_in w.core id) (applied_by w.core.status) w.cells w.made stands.done
         (λ x i. (of_batch id x i).0)
-        (λ x i. taken_waits id (w.core.status x.number) (of_batch id x i).1)
-        (pairs_filter (λ x later. x.number < later.number) (λ e. is_taken id (w.core.status e.number)) (reverse w.core.log) (pairs_reverse (λ x later. x.number < later.number) w.core.log stands.rises))
-        free);
+        (batch_waits id)
+        (batch_rises id)
+        (batch_free id));
   }
-    where
-      free : (y x : Numbered) → In y w.core.log → In x (batch_in w.core id) → y.number < x.number → applied_by w.core.status y.number ≡ false → (In y (batch_in w.core id) → ⊥) → Apart conf y x
-      free y x i j l waits out =
-          let r = of_batch id x j in
-          (conflict_is_meeting conf y x).0
-          (stands.holds.order y x (is_in w.core.log y i) (is_in w.core.log x r.0) l (taken_passes id (w.core.status x.number) (w.core.status y.number) r.1 waits (go (is_taken id (w.core.status y.number)) refl)))
-        where
-          go : (b : Bool) → is_taken id (w.core.status y.number) ≡ b → b ≡ false
-          go true q = absurd (out (in_batch id y i q))
-          go false q = refl
 
-  stepped : (step : Step) → IsAllowed (feet_of conf) w.core step → Stands conf (worked conf w step)
+  -- each of a batch's entries, as those before it are worked out, comes after what the cells have seen
+  pub batch_comes : Suits conf w.core.log → (id : ℕ) → AllCome conf w.cells (batch_in w.core id)
+  batch_comes suits id =
+      all_come conf w.core.log stands.rises suits (batch_in w.core id) (applied_by w.core.status) w.cells w.made stands.done
+      (λ x i. (of_batch id x i).0)
+      (batch_waits id)
+      (batch_rises id)
+      (batch_free id)
+
+  pub stepped : (step : Step) → IsAllowed (feet_of conf) w.core step → Stands conf (worked conf w step)
   stepped (Offer e) allowed = offered e allowed
   stepped (Claim id numbers) allowed = record {
     holds = each_step (feet_of conf) w.core (Claim id numbers) stands.holds allowed;
@@ -184,7 +204,7 @@ all_stepped conf (step ∷ steps) w allowed stands = all_stepped conf steps (wor
     still (Apply id) a = a
     still (GiveBack id) a = a
 
-begins : (conf : Conf) → Stands conf (begin_worked conf)
+pub begins : (conf : Conf) → Stands conf (begin_worked conf)
 unfolding StandFor
 begins conf = record {
   holds = record { order = λ y e i. absurd i; known = λ n q. absurd (cc) };

@@ -34,7 +34,7 @@ also_cases done k n e = go (n == k) refl e
     go true q e = inl (eqb-true n k q)
     go false q e = inr e
 
-not_also : (done : ℕ → Bool) (k n : ℕ) → also done k n ≡ false → done n ≡ false
+pub not_also : (done : ℕ → Bool) (k n : ℕ) → also done k n ≡ false → done n ≡ false
 not_also done k n e = go (n == k) e
   where
     go : (b : Bool) → cond b true (done n) ≡ false → done n ≡ false
@@ -75,6 +75,18 @@ kept_also made k rs n = cond (n == k) rs (made n)
 look_stands : (conf : Conf) (log : List Numbered) → StandFor conf (look conf log (replay conf log)) log
 unfolding StandFor
 look_stands conf log = refl
+
+-- what isn't done behind the first of some entries isn't that one, nor one of lower number than all of them
+pub not_among : (x : Numbered) (es : List Numbered) (y : Numbered) → Each (λ later. x.number < later.number) es → y.number < x.number → In y (x ∷ es) → ⊥
+not_among x es y rising l (inl q) = let s = ap (λ w. w.number) q in omega arith
+not_among x es y rising l (inr i) = let m = each_at (λ w. x.number < w.number) es rising y i in omega arith
+
+pub still_out : (done : ℕ → Bool) (x : Numbered) (es : List Numbered) (y : Numbered) → also done x.number y.number ≡ false → (In y es → ⊥) → In y (x ∷ es) → ⊥
+still_out done x es y w out (inl q) = let t : also done x.number y.number ≡ true = ap (λ z. also done x.number z.number) q ∙ also_itself done x.number in cc
+still_out done x es y w out (inr i) = out i
+
+pub later_waits : (done : ℕ → Bool) (x : Numbered) (es : List Numbered) → Each (λ later. x.number < later.number) es → ((z : Numbered) → In z (x ∷ es) → done z.number ≡ false) → (z : Numbered) → In z es → also done x.number z.number ≡ false
+later_waits done x es rising waits z i = also_other done x.number z.number (λ q. let l = each_at (λ w. x.number < w.number) es rising z i in omega arith) ∙ waits z (inr i)
 
 module _ (conf : Conf) (log : List Numbered) (rises : Rises log) where
   -- one entry that isn't done, and conflicts with no older one that isn't
@@ -178,16 +190,8 @@ module _ (conf : Conf) (log : List Numbered) (rises : Rises log) where
   all_done [] done cells made holds inside waits rising free = holds
   all_done (x ∷ es) done cells made holds inside waits rising free =
       all_done es (also done x.number) (after conf cells x) (kept_also made x.number (records conf cells x))
-      (one_done done cells made holds x (inside x (inl refl)) (waits x (inl refl)) (λ y i l w. free y x i (inl refl) l w (not_in y l)))
+      (one_done done cells made holds x (inside x (inl refl)) (waits x (inl refl)) (λ y i l w. free y x i (inl refl) l w (not_among x es y rising.0 l)))
       (λ z i. inside z (inr i))
-      (λ z i. also_other done x.number z.number (λ q. let l = each_at (λ w. x.number < w.number) es rising.0 z i in omega arith) ∙ waits z (inr i))
+      (later_waits done x es rising.0 waits)
       rising.1
-      (λ y z i j l w out. free y z i (inr j) l (not_also done x.number y.number w) (still y w out))
-    where
-      not_in : (y : Numbered) → y.number < x.number → In y (x ∷ es) → ⊥
-      not_in y l (inl q) = let s = ap (λ w. w.number) q in omega arith
-      not_in y l (inr i) = let m = each_at (λ w. x.number < w.number) es rising.0 y i in omega arith
-
-      still : (y : Numbered) → also done x.number y.number ≡ false → (In y es → ⊥) → In y (x ∷ es) → ⊥
-      still y w out (inl q) = let t : also done x.number y.number ≡ true = ap (λ z. also done x.number z.number) q ∙ also_itself done x.number in cc
-      still y w out (inr i) = out i
+      (λ y z i j l w out. free y z i (inr j) l (not_also done x.number y.number w) (still_out done x es y w out))

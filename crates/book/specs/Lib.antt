@@ -1,3 +1,7 @@
+pub mod Tally
+pub mod Outgoing
 pub mod Entries
 pub mod Ends
 pub mod Schedule
+pub mod Progress
+pub mod Book

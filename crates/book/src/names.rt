@@ -7,21 +7,28 @@ pub trait StartName {
     ghost use Rattle.std.specs.Prelude.{List};
     ghost use Rattle.zbx_types.specs.declared.conf.Conf.{Conf};
     ghost use Rattle.zbx_types.specs.declared.entries.Numbered.{Numbered};
+    ghost use Rattle.outside.specs.Tells.{SinkTells};
 
     /// The configuration.
     ghost conf: { Conf };
 
     /// The entries that its journal kept, in the order of their numbers. They don't go through the ring.
     ghost kept: { List Numbered };
+
+    /// What its outbox told at the opening.
+    ghost outbox: { SinkTells };
 }
 
 impl StartName for Brand {
     ghost use Rattle.std.specs.Prelude.{[]};
     ghost use Rattle.book.specs.Entries.{no_conf};
+    ghost use Rattle.book.specs.Outgoing.{no_outbox};
 
     ghost conf = { no_conf };
 
     ghost kept = { [] };
+
+    ghost outbox = { no_outbox };
 }
 
 /// Which run it is. Each call of a program picks it, once the ring is made.

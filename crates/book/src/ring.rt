@@ -160,6 +160,15 @@ impl<S: StartName, N: RunName> RingEnd<S, N> {
         self.consumer.pop().ok()
     }
 
+    /// Looks at the ring, and answers how many entries it shows. Some that the head sends meanwhile may show or not.
+    pub fn look(&mut self) -> usize
+        ensures value { result ≡ length self.new.known }
+        ensures more { IsPrefix self.old.known self.new.known }
+        ensures same { (self.new.received ≡ self.old.received) × (self.new.capacity ≡ self.old.capacity) }
+    {
+        self.consumer.slots()
+    }
+
     /// Takes the oldest entry, which is known to be there. With it, what was received behind the entries that the run began
     /// with is a whole log.
     #[tactic(auto, using(crate::proofs::Numbers::number_behind))]

@@ -26,8 +26,9 @@ use Rattle.server_words.specs.declared.status.Status.{Status}
 use Rattle.server_words.specs.declared.status.Status.TheVariants as status
 use Rattle.server_run.specs.Recovered.{journal_bytes, IsNumbered, HasGroups, IsRecovered, IsUnread, GoesOn}
 use Rattle.server_run.specs.declared.numbering.Numbering.{Numbering}
-use Rattle.server_run.specs.declared.book.Ledger.{Ledger}
-use Rattle.server_run.specs.Standing.{onto, Applied, log_lines}
+use Rattle.server_run.specs.declared.applying.Ledger.{Ledger}
+use Rattle.book.specs.Outgoing.{log_lines}
+use Rattle.server_run.specs.Standing.{onto, Applied}
 use Rattle.server_run.specs.Opening.{FoundGroups, first_text, kept_text, IsRejectedFor, IsRejected, IsAccepted, IsFullAtFirst, Unopened, status_for, FoundEntries, TurnedAway, IsTakenUp, HasBegun, IsResumed, opening_entries, opening_lines}
 use Rattle.server_run.specs.Stops.{KeepsSome, IsEither}
 use Rattle.server_run.proofs.Logs.{onto_reverse}

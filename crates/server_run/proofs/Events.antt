@@ -18,7 +18,7 @@ use Rattle.intake_front.specs.declared.answer.Stop.TheVariants as stop
 use Rattle.server_words.specs.declared.status.Status.{Status}
 use Rattle.server_words.specs.declared.status.Status.TheVariants as status
 use Rattle.server_run.specs.Events.{Doing, Gave, ending_of, Ran, Took, Ends}
-use Rattle.server_run.specs.declared.book.Ledger.{Ledger}
+use Rattle.server_run.specs.declared.applying.Ledger.{Ledger}
 use Rattle.server_run.specs.Outbox.{UpToDate, SettlesUnless, Leaves}
 use Rattle.server_run.specs.Sending.{Shows}
 use Rattle.server_run.specs.Statuses.{Ending, never, at_closed, at_limit, at_wire_fault, at_disk_fault, at_full, anywhere, at_refusal, behind_disk, ended_with, course_of, status_of, EndsAs, LeftIs}

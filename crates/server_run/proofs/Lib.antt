@@ -1,6 +1,5 @@
 pub mod Sending
 pub mod Logs
-pub mod Counting
 pub mod Standing
 pub mod Outbox
 pub mod JournalReads

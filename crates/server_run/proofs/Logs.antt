@@ -9,8 +9,10 @@ use Rattle.zbx_types.specs.declared.entries.Rec.{Rec}
 use Rattle.event_text.specs.Lines.{lines_of, line_of}
 use Rattle.entry_step.specs.Log.{log_of, Fits}
 use Rattle.entry_step.specs.Records.{replay, out_of}
-use Rattle.server_run.specs.Standing.{onto, log_lines}
+use Rattle.book.specs.Outgoing.{log_lines}
+use Rattle.server_run.specs.Standing.{onto}
 use Rattle.server_run.specs.Replayed.{conf_of_run}
+use Rattle.book.proofs.Growing.{lines_newer}
 
 -- a log with entries behind it has them in front, turned round
 pub onto_reverse : (log es : List Numbered) → onto log es ≡ reverse es ++ log
@@ -26,25 +28,13 @@ pub fits_front : (conf : Conf) (log es : List Numbered) → Fits conf (onto log 
 fits_front conf log [] fits = fits
 fits_front conf log (e ∷ es) fits = let longer : Fits conf (e ∷ log) = fits_front conf (e ∷ log) es fits in (longer.0.0, longer.1.0)
 
-pub lines_of-append : (a b : List Rec) → lines_of (a ++ b) ≡ lines_of a ++ lines_of b
-lines_of-append a b = flat_map-append line_of a b
-
--- the lines of a log with one more entry
-pub lines_next : (conf : Conf) (log : List Numbered) (e : Numbered) → log_lines conf (e ∷ log) ≡ log_lines conf log ++ lines_of (out_of conf log e e.entry (replay conf log))
-lines_next conf log e = lines_of-append (replay conf log) (out_of conf log e e.entry (replay conf log))
-
 -- entries behind a log add lines behind its own
 pub lines_grow : (conf : Conf) (log es : List Numbered) → (more : List ℕ) × (log_lines conf (onto log es) ≡ log_lines conf log ++ more)
-lines_grow conf log [] = ([], sym (append-nil (log_lines conf log)))
-lines_grow conf log (e ∷ es) =
-    let rest = lines_grow conf (e ∷ log) es in
-    let here = lines_of (out_of conf log e e.entry (replay conf log)) in
-    (here ++ rest.0, rest.1 ∙ ap (λ l. l ++ rest.0) (lines_next conf log e) ∙ append_assoc (log_lines conf log) here rest.0)
+lines_grow conf log es =
+    let grown = lines_newer conf (reverse es) log in
+    (grown.0, ap (log_lines conf) (onto_reverse log es) ∙ grown.1)
 
 -- the configuration of entries is that of the first
 pub conf_front : (es more : List Numbered) (conf : Conf) → conf_of_run es ≡ Some conf → conf_of_run (es ++ more) ≡ Some conf
 conf_front [] more conf is = absurd (cc)
 conf_front (e ∷ es) more conf is = is
-
-pub length_append : (a b : List ℕ) → length (a ++ b) ≡ length a + length b
-length_append a b = length-append a b

@@ -19,42 +19,18 @@ use Rattle.intake_front.specs.declared.answer.Stop.{Stop}
 use Rattle.intake_front.specs.declared.answer.Stop.TheVariants as stop
 use Rattle.server_words.specs.declared.status.Status.{Status}
 use Rattle.server_words.specs.declared.status.Status.TheVariants as status
-use Rattle.server_run.specs.declared.tally.Tally.{Tally}
-use Rattle.server_run.specs.declared.book.Ledger.{Ledger}
-use Rattle.server_run.specs.Ports.{Grew, GrewByFront}
-use Rattle.server_run.specs.Tally.{tally_of, counts_with, run_counts}
-use Rattle.server_run.specs.Standing.{onto, Applied, log_lines}
+use Rattle.book.specs.declared.tally.Tally.{Tally}
+use Rattle.server_run.specs.declared.applying.Ledger.{Ledger}
+use Rattle.book.specs.Outgoing.{Grew, GrewByFront}
+use Rattle.book.specs.Tally.{tally_of}
+use Rattle.server_run.specs.Tally.{counts_with, run_counts}
+use Rattle.book.specs.Outgoing.{log_lines}
+use Rattle.server_run.specs.Standing.{onto, Applied}
 use Rattle.server_run.specs.Replayed.{conf_of_run, replay_under, replayed, run_lines}
 use Rattle.server_run.specs.Statuses.{Extent, no_lines, all_lines, front_lines, behind_disk, ended_with, status_of, course_of, EndsPrinted}
 use Rattle.server_run.specs.Outbox.{UpToDate, AllOut, FrontOut, Leaves, Settles, SettlesUnless, LinesAre, SizeIs}
+use Rattle.book.proofs.Growing.{grew_more, all_front, none_front, front_more, lacking}
 use Rattle.server_run.proofs.Logs.{log_of-append, lines_grow, conf_front}
-
--- ---- sinks that grow
-
-pub grew_none : (sink : SinkTells) → Grew sink sink []
-grew_none sink = record { bytes = Appends-nil sink.bytes; size = omega arith }
-
--- a sink that failed grew no more
-pub grew_kept : (a b c : SinkTells) (bs : List ℕ) → Grew a b bs → Keeps b.bytes c.bytes → c.held ≡ b.held → Grew a c bs
-grew_kept a b c bs p kept same = record { bytes = Appends-kept a.bytes b.bytes c.bytes bs p.bytes kept; size = same ∙ p.size }
-
--- bytes, and more after them
-pub grew_more : (a b c : SinkTells) (bs cs : List ℕ) → Grew a b bs → Grew b c cs → Grew a c (bs ++ cs)
-grew_more a b c bs cs p q = record { bytes = Appends-trans a.bytes b.bytes c.bytes bs cs p.bytes q.bytes; size = omega (arith, q.size, p.size, length-append bs cs) }
-
--- all of a text is some of it from the front
-pub all_front : (sink sink' : SinkTells) (lines : List ℕ) → Grew sink sink' lines → GrewByFront sink sink' lines
-all_front sink sink' lines all = (length lines, subst (Grew sink sink') (sym (ap (take (length lines)) (sym (append-nil lines)) ∙ take-append_seam lines [])) all)
-
--- nothing is some of a text from the front
-pub none_front : (sink : SinkTells) (lines : List ℕ) → GrewByFront sink sink lines
-none_front sink lines = (0, grew_none sink)
-
--- a text, and some of another from its front
-front_more : (a b c : SinkTells) (before more all : List ℕ) → before ++ more ≡ all → Grew a b before → GrewByFront b c more → GrewByFront a c all
-front_more a b c before more all is p q =
-    let part : before ++ take q.0 more ≡ take (length before + q.0) all = sym (take-append-add before more q.0) ∙ ap (take (length before + q.0)) is in
-    (length before + q.0, subst (Grew a c) part (grew_more a b c before (take q.0 more) p q.1))
 
 some_same : {A : Type 0} (a b : A) → Some a ≡ Some b → a ≡ b
 some_same a b is = cc
@@ -72,10 +48,6 @@ group_after old new group is = rw is (ap (λ g. old ++ g) (sym (drop_seam old gr
 -- entries that grew stand after those that were there
 pub took_group : (old new : List Numbered) → (more : List Numbered) × (new ≡ old ++ more) → new ≡ old ++ drop (length old) new
 took_group old new grown = group_after old new grown.0 grown.1
-
--- what is lacking of lines, with more lines
-lacking : (held : ℕ) (before more all : List ℕ) → held ≤ length before → before ++ more ≡ all → drop held before ++ more ≡ drop held all
-lacking held before more all enough is = sym (drop-append-le held before more enough) ∙ ap (drop held) is
 
 module _ (conf : Conf) (old new : Intake) (ledger ledger' : Ledger) (sink now later : SinkTells) (group : List Numbered) (is : new.entries ≡ old.entries ++ group) (sound : IsSound conf new) (u : UpToDate conf old ledger sink now) where
   abbrev before : List ℕ

@@ -31,11 +31,12 @@ use Rattle.server_words.specs.declared.status.Status.{Status}
 use Rattle.server_words.specs.declared.status.Status.TheVariants as status
 use Rattle.server_words.specs.Words.{plan_of}
 use Rattle.server_words.specs.Printed.{printed_text}
-use Rattle.server_run.specs.declared.book.Ledger.{Ledger}
-use Rattle.server_run.specs.Ports.{IsTextUpTo, ReadsUpTo, Grew, GrewByFront}
+use Rattle.server_run.specs.declared.applying.Ledger.{Ledger}
+use Rattle.book.specs.Outgoing.{Grew, GrewByFront}
+use Rattle.server_run.specs.Ports.{IsTextUpTo, ReadsUpTo}
 use Rattle.pattern_set.specs.Patterns.{IsNoPattern}
 use Rattle.server_run.specs.Patterns.{HasFlawAt, HoldsBrace}
-use Rattle.server_run.specs.Standing.{log_lines}
+use Rattle.book.specs.Outgoing.{log_lines}
 use Rattle.server_run.specs.Replayed.{conf_in, conf_of_run}
 use Rattle.server_run.specs.Opening.{config_text, first_text, IsAccepted, Unopened, FoundEntries, TurnedAway, IsResumed, opening_entries}
 use Rattle.server_run.specs.Outbox.{IsBehind}
@@ -43,7 +44,7 @@ use Rattle.server_run.specs.Statuses.{Ending, never, at_closed, at_limit, at_wir
 use Rattle.server_run.specs.Stops.{refusing, KeepsSome, IsEither, IsReached, Journals}
 use Rattle.server_run.specs.Events.{Doing}
 use Rattle.server_run.specs.Runs.{IsUntaken, Configured, IsConfigured, Unconfigured, Refuses, IsBarred, FoundBy, Unbegun, Opened, Finished, Followed, Prints, limits_by, opening_intake}
-use Rattle.server_run.proofs.Outbox.{all_front, none_front}
+use Rattle.book.proofs.Growing.{all_front, none_front}
 use Rattle.server_run.proofs.Stopping.{journals_on, leaves_more}
 use Rattle.server_run.proofs.Texts.{text_told, text_kept, flaw_told, at_end_of}
 

@@ -21,9 +21,10 @@ use Rattle.intake_front.specs.declared.answer.FrontError.{FrontError}
 use Rattle.intake_front.specs.declared.answer.FrontError.TheVariants as front
 use Rattle.server_words.specs.declared.status.Status.{Status}
 use Rattle.server_words.specs.declared.status.Status.TheVariants as status
-use Rattle.server_run.specs.declared.book.Ledger.{Ledger}
+use Rattle.server_run.specs.declared.applying.Ledger.{Ledger}
 use Rattle.server_run.specs.Recovered.{journal_bytes, HasGroups, GoesOn}
-use Rattle.server_run.specs.Standing.{Applied, log_lines}
+use Rattle.book.specs.Outgoing.{log_lines}
+use Rattle.server_run.specs.Standing.{Applied}
 use Rattle.server_run.specs.Stops.{KeepsSome, IsEither, Journals}
 
 -- a file keeps these groups, where it is told

@@ -11,12 +11,13 @@ use Rattle.intake_front.specs.Intake.{Intake, IsSound}
 use Rattle.intake_front.specs.declared.answer.Stop.{Stop}
 use Rattle.intake_front.specs.declared.answer.Stop.TheVariants as stop
 use Rattle.server_words.specs.declared.status.Status.{Status}
-use Rattle.server_run.specs.declared.tally.Tally.{Tally}
-use Rattle.server_run.specs.declared.book.Ledger.{Ledger}
-use Rattle.server_run.specs.Tally.{tally_of}
+use Rattle.book.specs.declared.tally.Tally.{Tally}
+use Rattle.server_run.specs.declared.applying.Ledger.{Ledger}
+use Rattle.book.specs.Tally.{tally_of}
 use Rattle.server_run.specs.Replayed.{conf_of_run}
-use Rattle.server_run.specs.Standing.{onto, Applied, log_lines}
-use Rattle.server_run.specs.Ports.{Grew, GrewByFront}
+use Rattle.book.specs.Outgoing.{log_lines}
+use Rattle.server_run.specs.Standing.{onto, Applied}
+use Rattle.book.specs.Outgoing.{Grew, GrewByFront}
 use Rattle.server_run.specs.Statuses.{Extent, no_lines, all_lines, front_lines, course_of}
 
 -- The intake is sound, cells and tally stand for its entries, and the outbox has all their lines. What it held is taken for

@@ -1,9 +1,7 @@
--- What whole reads and writes do.
-use Rattle.std.specs.Prelude.{◌≡◌, ◌⊎◌, ◌≤◌, ◌<◌, ◌+◌, ℕ, List, length, take, Option, IsErrOf, Result, MatchResult}
-use Rattle.std.specs.Io.KnownBytes.{Appends, Consumes}
+-- What whole reads do.
+use Rattle.std.specs.Prelude.{◌≡◌, ◌⊎◌, ◌≤◌, ◌<◌, ◌+◌, ℕ, List, length, Option, IsErrOf, Result}
+use Rattle.std.specs.Io.KnownBytes.{Consumes}
 use Rattle.outside.specs.Causes.{Rose}
-use Rattle.outside.specs.Tells.{SinkTells}
-use Rattle.outside.specs.declared.event.Failed.{Failed}
 use Rattle.server_run.specs.declared.reading.ReadError.{ReadError}
 use Rattle.server_run.specs.declared.reading.ReadError.TheVariants as errors
 
@@ -23,16 +21,3 @@ ReadsUpTo most left left' = (text : List ℕ) × ReadsText most left left' text
 pub record HasReadCause {T : Type 0} (before now : ℕ) (result : Result T ReadError) : Type 0 where
   pub later : before ≤ now
   pub failed : IsErrOf result errors.Failed → Rose before now
-
--- a sink has these bytes more: in what it tells of them, and in their number
-pub record Grew (sink sink' : SinkTells) (more : List ℕ) : Type 0 where
-  pub bytes : Appends sink.bytes sink'.bytes more
-  pub size : sink'.held ≡ sink.held + length more
-
--- a sink has some of these bytes more, from the front
-abbrev pub GrewByFront : SinkTells → SinkTells → List ℕ → Type 0
-GrewByFront sink sink' more = (n : ℕ) × Grew sink sink' (take n more)
-
--- a sink grew by these bytes, or at an error by some from the front
-abbrev pub Writes : SinkTells → SinkTells → List ℕ → Result (Unit {0}) Failed → Type 0
-Writes sink sink' more result = MatchResult result (λ _. Grew sink sink' more) (λ _. GrewByFront sink sink' more)

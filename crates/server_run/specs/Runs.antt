@@ -23,14 +23,14 @@ use Rattle.server_words.specs.Words.{plan_of}
 use Rattle.server_words.specs.Printed.{ok_text, printed_text}
 use Rattle.config_templates.specs.Flat.{flat_of}
 use Rattle.config_templates.specs.Places.{refuse}
-use Rattle.server_run.specs.declared.book.Ledger.{Ledger}
+use Rattle.server_run.specs.declared.applying.Ledger.{Ledger}
 use Rattle.pattern_set.specs.Patterns.{IsNoPattern}
 use Rattle.server_run.specs.Patterns.{HasFlawAt, HoldsBrace}
 use Rattle.server_run.specs.Recovered.{journal_bytes}
 use Rattle.server_run.specs.Opening.{FoundGroups, IsAccepted, Bars, FoundEntries, IsResumed, opening_lines}
 use Rattle.server_run.specs.Stops.{refusing, IsReached, KeepsSome}
 use Rattle.server_run.specs.Events.{Doing}
-use Rattle.server_run.specs.Ports.{Grew, GrewByFront}
+use Rattle.book.specs.Outgoing.{Grew, GrewByFront}
 use Rattle.server_run.specs.Sending.{Shows}
 use Rattle.server_run.specs.Statuses.{Ending, Printing, whole_line, own_line, front_of_line, front_of_ok, course_of, EndsAs, LeftIs}
 

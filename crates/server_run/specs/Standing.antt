@@ -2,11 +2,10 @@
 use Rattle.std.specs.Prelude.{◌≡◌, ℕ, List, [], ◌∷◌}
 use Rattle.zbx_types.specs.declared.conf.Conf.{Conf}
 use Rattle.zbx_types.specs.declared.entries.Numbered.{Numbered}
-use Rattle.event_text.specs.Lines.{lines_of}
 use Rattle.entry_step.specs.Records.{replay}
 use Rattle.entry_step.specs.Represents.{CellsView, Holds}
-use Rattle.server_run.specs.declared.tally.Tally.{Tally}
-use Rattle.server_run.specs.Tally.{tally_of}
+use Rattle.book.specs.declared.tally.Tally.{Tally}
+use Rattle.book.specs.Tally.{tally_of}
 
 -- a log with entries behind it, in the order of their numbers
 abbrev pub onto : List Numbered → List Numbered → List Numbered
@@ -17,7 +16,3 @@ onto log (e ∷ es) = onto (e ∷ log) es
 pub record Applied (conf : Conf) (cells : CellsView) (tally : Tally) (log : List Numbered) : Type 0 where
   pub cells_hold : Holds conf cells log
   pub tally_is : tally ≡ tally_of (replay conf log)
-
--- the lines of a log
-abbrev pub log_lines : Conf → List Numbered → List ℕ
-log_lines conf log = lines_of (replay conf log)

@@ -22,7 +22,7 @@
 //! ```
 #![tactic(auto)]
 
-mod book;
+mod applying;
 mod delivery;
 mod numbering;
 mod opening;
@@ -32,8 +32,6 @@ mod resuming;
 mod run;
 mod serving;
 mod taking;
-mod tally;
-mod writing;
 
 pub use run::{Ended, run_single};
 

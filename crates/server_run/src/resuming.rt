@@ -8,7 +8,7 @@ ghost use Rattle.intake_journal.specs.declared.format.Group.{Group};
 ghost use Rattle.server_run.specs.Recovered.{IsNumbered};
 ghost use Rattle.server_run.specs.Opening.{differ_at, config_text, status_for, IsTextJudged, IsJudged, IsTakenUp, HasBegun, IsResumed, TurnedAway};
 
-use crate::book::{Ledger, replay};
+use crate::applying::{Ledger, replay};
 use crate::numbering::Numbering;
 use crate::recovering::recover;
 use entry_step::Ready;

@@ -24,7 +24,7 @@ ghost use Rattle.server_run.specs.Patterns.{HasFlawAt, HoldsBrace};
 ghost use Rattle.server_run.specs.Opening.{IsAccepted, Bars, opening_lines};
 ghost use Rattle.server_run.specs.Ports.{ReadsUpTo};
 ghost use Rattle.server_run.specs.Replayed.{run_lines};
-ghost use Rattle.server_run.specs.Tally.{run_counts};
+ghost use Rattle.server_run.specs.Tally.{counts_with, run_counts};
 ghost use Rattle.server_run.specs.Outbox.{IsBehind, Leaves, LinesAre, SizeIs};
 ghost use Rattle.server_run.specs.Runs.{IsBarred, Unbegun, FoundBy, Finished, Followed, Prints, limits_by, opening_intake};
 ghost use Rattle.server_run.specs.Statuses.{course_of, cut_short, IsRefusal, IsBarring, YieldsTo, IsCourse, IsUnprinted, EndsPrinted};
@@ -33,7 +33,7 @@ ghost use Rattle.server_run.specs.Stops.{KeepsSome, Journals};
 use crate::opening::{Begun, open};
 use crate::resuming::{Refused, Resumed};
 use crate::serving::serve;
-use crate::writing::write_all;
+use book::{Tally, write_all};
 use entry_step::Ready;
 use outside::{Disk, Failed, Sink, Source, Wire};
 use server_words::{Counts, Status, printed};
@@ -169,9 +169,22 @@ fn go<S: Source, W: Wire, D: Disk, O: Sink>(
     Course {
         status,
         began: true,
-        counts: ledger.tally.counts(count),
+        counts: counts_of(ledger.tally, count),
         disk,
         entries,
+    }
+}
+
+/// The counts that are printed.
+fn counts_of(tally: Tally, entries: u64) -> Counts
+    ensures { result ≡ counts_with entries tally }
+{
+    Counts {
+        entries,
+        problems: tally.problems,
+        recoveries: tally.recoveries,
+        messages: tally.messages,
+        bytes: tally.bytes,
     }
 }
 

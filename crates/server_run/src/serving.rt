@@ -13,7 +13,7 @@ ghost use Rattle.server_run.specs.Runs.{Finished};
 ghost use Rattle.server_run.specs.Statuses.{course_of, status_of, behind_disk, ended_with, IsUnprinted};
 ghost use Rattle.server_run.specs.Stops.{Journals};
 
-use crate::book::{Ledger, settle};
+use crate::applying::{Ledger, settle};
 use crate::taking::{Batch, take_batch};
 use entry_step::Ready;
 use intake_front::{Collection, Front, Stop};

@@ -1,8 +1,9 @@
 use Rattle.std.proofs.Common.{◌≡◌, rules, subst, drop}
 use Rattle.entry_step.specs.Log.{log_of, Fits}
-use Rattle.server_run.specs.Standing.{Applied, log_lines}
+use Rattle.book.specs.Outgoing.{log_lines}
+use Rattle.server_run.specs.Standing.{Applied}
 use Rattle.server_run.proofs.Beginning.{turned_ahead, resumed}
-use Rattle.server_run.proofs.Standing.{tally_bytes}
+use Rattle.book.proofs.Growing.{tally_bytes}
 use Rattle.server_run.proofs.resuming.go_on.Goals as goal
 
 pub returns-then-lines-held-clause-err : goal.returns-then-lines-held-clause-err

@@ -21,5 +21,5 @@ pub returns-clause-counts : goal.returns-clause-counts
 returns-clause-counts g c = λ well.
     let left = c.serve_behind-status.ensures.leaves (behind _ _ _ _ _ _ _ _ _ _ _ _ _ _ _ (g.O.Sink.tells c.args.outbox.now) c.held.ensures.size c.in-Ok.ensures.ok) in
     let entries = (c.end-disk.ensures.entries ∙ c.serve_behind-status.ensures.idle.kept_is) in
-    c.counts.ensures ∙ ap (λ (l : List Numbered). counts_with (length l) c.serve_behind-status.new.resumed.ledger.tally) (c.as_slice.ensures ∙ entries)
+    c.counts_of.ensures ∙ ap (λ (l : List Numbered). counts_with (length l) c.serve_behind-status.new.resumed.ledger.tally) (c.as_slice.ensures ∙ entries)
     ∙ counts_left _ _ _ _ _ c.serve_behind-status.result left well ∙ ap run_counts (sym entries)

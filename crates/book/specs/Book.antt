@@ -1,0 +1,65 @@
+-- The book: the work on the entries of a ring, and the lines that go out of it.
+use Rattle.std.specs.Prelude.{◌≡◌, ◌≢◌, ◌≤◌, ◌<◌, ℕ, List, ◌++◌, length, take, drop, get_or}
+use Rattle.zbx_types.specs.declared.conf.Conf.{Conf}
+use Rattle.zbx_types.specs.declared.entries.Numbered.{Numbered}
+use Rattle.zbx_types.specs.declared.entries.Rec.{Rec}
+use Rattle.outside.specs.Tells.{SinkTells}
+use Rattle.entry_step.specs.Log.{log_of}
+use Rattle.entry_step.specs.Records.{replay}
+use Rattle.entry_step.specs.Represents.{CellsView}
+use Rattle.syncer_gate.specs.Gate.{Gate}
+use Rattle.syncer_gate.specs.declared.marks.Mark.{Mark}
+use Rattle.syncer_gate.specs.declared.marks.Mark.TheVariants.{Pending, Applied}
+use Rattle.book.specs.declared.tally.Tally.{Tally}
+use Rattle.book.specs.Tally.{tally_of}
+use Rattle.book.specs.Outgoing.{Grew, log_lines}
+use Rattle.book.specs.Progress.{ProgressView}
+
+-- The entries in the order of their numbers, where each stands, the cells, and the records kept of each entry; of how many
+-- entries from the first on the lines were made, and what their records count; what the outbox tells, and the lines that it
+-- doesn't have yet.
+pub record BookView : Type 0 where
+  pub entries : List Numbered
+  pub gate : Gate
+  pub cells : CellsView
+  pub made : List (List Rec)
+  pub frontier : ℕ
+  pub tally : Tally
+  pub sink : SinkTells
+  pub unwritten : List ℕ
+
+-- what a book shows of the work on its entries
+abbrev pub work_of : BookView → ProgressView
+work_of b = record { entries = b.entries; gate = b.gate; cells = b.cells; made = b.made }
+
+-- the first entries, as many as this, are applied
+abbrev pub AreApplied : List Mark → ℕ → Type 0
+AreApplied marks n = (i : ℕ) → i < n → get_or marks i Pending ≡ Applied
+
+-- each mark that says applied in the first list says so in the other too
+abbrev pub StayApplied : List Mark → List Mark → Type 0
+StayApplied marks marks' = (i : ℕ) → get_or marks i Pending ≡ Applied → get_or marks' i Pending ≡ Applied
+
+-- as many of the first entries are applied, and no more
+abbrev pub IsFrontier : List Mark → List Numbered → ℕ → Type 0
+IsFrontier marks entries n = (n ≤ length entries) × AreApplied marks n × (n < length entries → get_or marks n Pending ≢ Applied)
+
+-- the lines of the first entries
+abbrev pub lines_upto : Conf → List Numbered → ℕ → List ℕ
+lines_upto conf entries n = log_lines conf (log_of (take n entries))
+
+-- these lines are what an outbox has grown by since its opening, and what isn't written yet
+abbrev pub AreOut : SinkTells → SinkTells → List ℕ → List ℕ → Type 0
+AreOut start sink unwritten lines = (sent : List ℕ) × Grew start sink sent × (lines ≡ sent ++ unwritten)
+
+-- What holds of a book at all times. Its entries are those with which the run began, and those that came out of the ring. Its
+-- lines and counts are those of the entries before its frontier, which are applied. Of the lines the outbox held some at the
+-- opening; the others it has got since, or they aren't written yet.
+pub record IsBook (conf : Conf) (kept : List Numbered) (start : SinkTells) (received entries : List Numbered) (marks : List Mark) (frontier : ℕ) (tally : Tally) (sink : SinkTells) (unwritten : List ℕ) : Type 0 where
+  pub received_is : entries ≡ kept ++ received
+  pub within : frontier ≤ length entries
+  pub applied : AreApplied marks frontier
+  pub tally_is : tally ≡ tally_of (replay conf (log_of (take frontier entries)))
+  pub enough : start.held ≤ length (lines_upto conf entries frontier)
+  pub out : AreOut start sink unwritten (drop start.held (lines_upto conf entries frontier))
+  pub later : start.faults ≤ sink.faults

@@ -1,0 +1,30 @@
+-- The lines of a log, and how they go to a sink.
+use Rattle.std.specs.Prelude.{◌≡◌, ◌+◌, ℕ, List, length, take, None, Result, MatchResult}
+use Rattle.std.specs.Io.KnownBytes.{Appends}
+use Rattle.outside.specs.Tells.{SinkTells}
+use Rattle.outside.specs.declared.event.Failed.{Failed}
+use Rattle.zbx_types.specs.declared.conf.Conf.{Conf}
+use Rattle.zbx_types.specs.declared.entries.Numbered.{Numbered}
+use Rattle.event_text.specs.Lines.{lines_of}
+use Rattle.entry_step.specs.Records.{replay}
+
+-- the lines of a log
+abbrev pub log_lines : Conf → List Numbered → List ℕ
+log_lines conf log = lines_of (replay conf log)
+
+-- a sink has these bytes more: in what it tells of them, and in their number
+pub record Grew (sink sink' : SinkTells) (more : List ℕ) : Type 0 where
+  pub bytes : Appends sink.bytes sink'.bytes more
+  pub size : sink'.held ≡ sink.held + length more
+
+-- a sink has some of these bytes more, from the front
+abbrev pub GrewByFront : SinkTells → SinkTells → List ℕ → Type 0
+GrewByFront sink sink' more = (n : ℕ) × Grew sink sink' (take n more)
+
+-- a sink grew by these bytes, or at an error by some from the front
+abbrev pub Writes : SinkTells → SinkTells → List ℕ → Result (Unit {0}) Failed → Type 0
+Writes sink sink' more result = MatchResult result (λ _. Grew sink sink' more) (λ _. GrewByFront sink sink' more)
+
+-- an outbox that holds nothing, and doesn't tell of it
+abbrev pub no_outbox : SinkTells
+no_outbox = record { bytes = None; held = 0; faults = 0 }
