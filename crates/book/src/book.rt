@@ -9,12 +9,14 @@ ghost use Rattle.entry_step.specs.Log.{log_of};
 ghost use Rattle.entry_step.specs.Records.{replay};
 ghost use Rattle.syncer_gate.specs.Gate.{IsOpenBatch, batch_of, claimed, with_ended};
 ghost use Rattle.syncer_gate.specs.Chosen.{chosen};
+ghost use Rattle.syncer_gate.specs.Marks.{is_open, is_pending};
+ghost use Rattle.std.specs.List.{list_any};
 ghost use Rattle.syncer_gate.specs.declared.marks.Mark.{Mark};
 ghost use Rattle.syncer_gate.specs.declared.marks.Mark.TheVariants as Mark;
 ghost use Rattle.book.specs.Entries.{IsWholeLog};
 ghost use Rattle.book.specs.Tally.{tally_of};
 ghost use Rattle.book.specs.Outgoing.{Grew, GrewByFront, log_lines};
-ghost use Rattle.book.specs.Progress.{HasInputs};
+ghost use Rattle.book.specs.Progress.{HasInputs, IsOneMore};
 ghost use Rattle.book.specs.Book.{work_of, AreApplied, IsFrontier, lines_upto};
 
 use crate::alone::work_all;
@@ -236,6 +238,8 @@ impl<S: StartName, N: RunName, O: Sink> Book<S, N, O> {
         ensures entries { self.new.entries ≡ self.old.entries }
         ensures one { IfOk result (λ some. some ≡ true → (id : ℕ) × (self.new.gate.marks ≡ (with_ended id Mark.Applied (claimed self.old.gate (chosen (feet_of S.conf) self.old.gate self.old.entries 1))).marks)) }
         ensures none { IfOk result (λ some. some ≡ false → (chosen (feet_of S.conf) self.old.gate self.old.entries 1 ≡ []) × (self.new ≡ self.old)) }
+        ensures more { IfOk result (λ some. some ≡ true → IsOneMore self.old.gate.marks self.new.gate.marks) }
+        ensures idle { IfOk result (λ some. some ≡ false → list_any is_open self.old.gate.marks ≡ false → list_any is_pending self.old.gate.marks ≡ false) }
         ensures out { (self.new.frontier ≡ self.old.frontier) × (self.new.tally ≡ self.old.tally) × (self.new.sink ≡ self.old.sink) × (self.new.unwritten ≡ self.old.unwritten) }
         ensures err { OnErr result ((self.new.gate.marks ≡ self.old.gate.marks) × (self.new.cells ≡ self.old.cells) × (self.new.made ≡ self.old.made)) }
     {
