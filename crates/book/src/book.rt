@@ -330,8 +330,9 @@ impl<S: StartName, N: RunName, O: Sink> Book<S, N, O> {
         Ok(())
     }
 
-    /// Works out all entries, one after another.
-    fn work_out(&mut self, alloc: Global, ready: &Ready) -> Result<(), OutOfMemory>
+    /// Ends all open batches, and works out all entries, one after another, in the cells themselves: for one thread. At `Err`
+    /// some of them are worked out.
+    pub fn work_all(&mut self, alloc: Global, ready: &Ready) -> Result<(), OutOfMemory>
         requires conf { ready.now ≡ S.conf }
         ensures entries { self.new.entries ≡ self.old.entries }
         ensures all { OnOk result (AreApplied self.new.gate.marks (length self.new.entries)) }
@@ -356,7 +357,7 @@ impl<S: StartName, N: RunName, O: Sink> Book<S, N, O> {
         ensures cause { IsErrOf result FlushError.OutboxFault → Rose self.old.sink.faults self.new.sink.faults }
     {
         self.pull_beside(alloc, head)?;
-        self.work_out(alloc, ready)?;
+        self.work_all(alloc, ready)?;
         self.flush(alloc)
     }
 

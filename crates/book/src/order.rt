@@ -1,6 +1,6 @@
 //! Orders: batches with all that is needed to work them out, apart from the book.
 
-ghost use Rattle.std.specs.Prelude.{◌≡◌, IfOk, IfErr, OnOk};
+ghost use Rattle.std.specs.Prelude.{◌≡◌, get_or, IfOk, IfErr, OnOk};
 ghost use Rattle.entry_step.specs.Parts.{IsCounted};
 
 use crate::names::StartName;
@@ -51,6 +51,13 @@ impl<S: StartName> Model for Done<S> {
 }
 
 impl<S: StartName> Order<S> {
+    /// The number of its first entry.
+    pub fn first(&self) -> u64
+        ensures { result ≡ get_or self.now.batch.numbers 0 0 }
+    {
+        self.batch.numbers.as_slice().first().copied().unwrap_or(0)
+    }
+
     /// Works the entries out, one after another, on the copies. It needs nothing of the book. One step is counted for each
     /// trigger that is evaluated. Where memory is refused, the order comes back as it was.
     pub fn run<L: Ledger>(

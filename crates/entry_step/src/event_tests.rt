@@ -56,7 +56,7 @@ fn maintenances(alloc: Global) -> Result<Many<Maintenance>, OutOfMemory> {
 }
 
 /// An action that tells `r` of a problem, again a minute later, and of its end.
-pub(crate) fn actions(alloc: Global) -> Result<Many<Action>, OutOfMemory> {
+fn actions(alloc: Global) -> Result<Many<Action>, OutOfMemory> {
     let operation = Operation {
         from: 1,
         to: 2,
@@ -110,7 +110,7 @@ fn tell<L: Ledger>(
 }
 
 /// Adds the lines of entries, which are numbered from 1 on.
-pub(crate) fn tell_all<L: Ledger>(
+fn tell_all<L: Ledger>(
     alloc: Global,
     run: &mut Run<L>,
     entries: &[(u32, u32, &str)],

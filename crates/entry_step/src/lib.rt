@@ -80,10 +80,6 @@ pub use stepping::step;
 pub use steps::Steps;
 
 #[cfg(test)]
-mod correlation_tests;
-#[cfg(test)]
-mod dependent_tests;
-#[cfg(test)]
 mod event_tests;
 #[cfg(test)]
 mod tests;

@@ -26,12 +26,10 @@ use Rattle.server_words.specs.declared.status.Status.{Status}
 use Rattle.server_words.specs.declared.status.Status.TheVariants as status
 use Rattle.server_run.specs.Recovered.{journal_bytes, IsNumbered, HasGroups, IsRecovered, IsUnread, GoesOn}
 use Rattle.server_run.specs.declared.numbering.Numbering.{Numbering}
-use Rattle.server_run.specs.declared.applying.Ledger.{Ledger}
 use Rattle.book.specs.Outgoing.{log_lines}
-use Rattle.server_run.specs.Standing.{onto, Applied}
-use Rattle.server_run.specs.Opening.{FoundGroups, first_text, kept_text, IsRejectedFor, IsRejected, IsAccepted, IsFullAtFirst, Unopened, status_for, FoundEntries, TurnedAway, IsTakenUp, HasBegun, IsResumed, opening_entries, opening_lines}
+use Rattle.server_run.specs.Opening.{FoundGroups, first_text, kept_text, IsRejectedFor, IsRejected, IsAccepted, IsFullAtFirst, Unopened, status_for, FoundEntries, TurnedAway, IsTakenUp, HasBegun, opening_entries}
 use Rattle.server_run.specs.Stops.{KeepsSome, IsEither}
-use Rattle.server_run.proofs.Logs.{onto_reverse}
+use Rattle.server_run.proofs.Logs.{onto, onto_reverse}
 use Rattle.server_run.proofs.Stopping.{leaves_more, rose_since}
 
 -- ---- entries of groups
@@ -189,54 +187,6 @@ module _ {D : Type 0} (bytes : D → Option (List ℕ)) (images : D → List ℕ
       why front.OutOfMemory full fault = tt
 
 -- ---- what the outbox lacks
-
-module _ {D : Type 0} (bytes : D → Option (List ℕ)) (images : D → List ℕ → Type 0) (moment : D → ℕ) (since : D → ℕ → List ℕ → Type 0) (faults : D → ℕ)
-    (conf : Conf) (most held : ℕ) (old : D) (made : Fronted D) (b : HasBegun bytes images moment since faults conf most old made) where
-  abbrev lines : List ℕ
-  lines = log_lines conf (log_of made.intake.entries)
-
-  entries_are : made.intake.entries ≡ opening_entries conf b.groups
-  entries_are = ap (λ (i : Intake). i.entries) b.intake_is
-
-  lines_are : lines ≡ opening_lines conf b.groups
-  lines_are = ap (λ es. log_lines conf (log_of es)) entries_are
-
-  -- a run that is turned away behind its intake
-  pub turned_behind : (new : D) (entries : List Numbered) (s : Status) → new ≡ made.journal.disk → entries ≡ made.intake.entries → Unopened conf most (bytes old) (faults old) (faults made.journal.disk) held s
-      → TurnedAway bytes images moment since faults conf most held old new entries s
-  turned_behind new entries s same is why = subst (λ d. TurnedAway bytes images moment since faults conf most held old d entries s) (sym same) (record {
-    told = b.journaled.told;
-    later = b.journaled.later;
-    why = why;
-    has = inr (b.groups, b.found, inr (is ∙ entries_are));
-    left = more (bytes old) b.journaled.left;
-  })
-    where
-      found : (es : List Numbered) → IsEither (numbered_of b.groups) made.intake.entries es → FoundEntries (bytes old) conf es
-      found es (inl kept) = (b.groups, b.found, inl kept)
-      found es (inr here) = (b.groups, b.found, inr (here ∙ entries_are))
-
-      more : (o : Option (List ℕ)) → IfSome o (λ _. LeavesOnly moment since old made.journal.disk (λ c. KeepsAsOneOf (images old) c ⊎ KeepsSome (IsEither (numbered_of b.groups) made.intake.entries) c))
-          → IfSome o (λ _. LeavesOnly moment since old made.journal.disk (λ c. KeepsAsOneOf (images old) c ⊎ KeepsSome (FoundEntries (bytes old) conf) c))
-      more None l = tt
-      more (Some f) l = leaves_more bytes images moment since faults old made.journal.disk _ _ (λ c. ⊎_elim (λ k. inl k) (λ k. inr (k.0, found k.0 k.1, k.2))) l
-
-  -- the outbox holds more than the lines
-  pub turned_ahead : (new : D) (entries : List Numbered) (counted : ℕ) (s : Status) → s ≡ status.OutboxAhead held counted → new ≡ made.journal.disk → entries ≡ made.intake.entries → held < 2 ^ 64
-      → counted ≡ min (length lines) 18446744073709551615 → counted < held → TurnedAway bytes images moment since faults conf most held old new entries s
-  turned_ahead new entries counted s told same is small tallied ahead =
-      let all : counted ≡ length (opening_lines conf b.groups) = omega (arith, small, tallied, ahead, ap (λ (l : List ℕ). length l) lines_are) in
-      subst (λ t. TurnedAway bytes images moment since faults conf most held old new entries t) (sym told)
-      (turned_behind new entries (status.OutboxAhead held counted) same is (b.groups, b.found, (b.accepted, refl, all, ahead)))
-
-  pub resumed : (ledger : Ledger) (missing : List ℕ) → Applied conf ledger.cells ledger.tally (log_of made.intake.entries) → missing ≡ drop held lines → held < 2 ^ 64
-      → ledger.tally.bytes ≡ min (length lines) 18446744073709551615 → (ledger.tally.bytes < held → ⊥) → IsResumed bytes images moment since faults conf most held old made ledger missing
-  resumed ledger missing applied lack small tallied not_ahead = record {
-    begun = b;
-    applied = applied;
-    enough = omega (arith, small, tallied, not_ahead, ap (λ (l : List ℕ). length l) lines_are);
-    missing_is = lack ∙ ap (drop held) lines_are;
-  }
 
 -- ---- a journal that isn't taken up
 

@@ -5,7 +5,8 @@ use Rattle.std.specs.Option.{option_to_list}
 use Rattle.zbx_types.specs.declared.conf.Conf.{Conf}
 use Rattle.zbx_types.specs.declared.entries.Numbered.{Numbered}
 use Rattle.outside.specs.Causes.{Rose}
-use Rattle.outside.specs.Tells.{SinkTells, WireTells}
+use Rattle.zbx_types.specs.declared.memory.OutOfMemory.{OutOfMemory}
+use Rattle.outside.specs.Tells.{WireTells}
 use Rattle.outside.specs.declared.event.WireEvent.{WireEvent}
 use Rattle.outside.specs.declared.event.Trouble.{Trouble}
 use Rattle.outside.specs.declared.event.Trouble.TheVariants as trouble
@@ -18,15 +19,13 @@ use Rattle.intake_front.specs.declared.answer.Stop.TheVariants as stop
 use Rattle.server_words.specs.declared.status.Status.{Status}
 use Rattle.server_words.specs.declared.status.Status.TheVariants as status
 use Rattle.server_run.specs.Events.{Doing, Gave, ending_of, Ran, Took, Ends}
-use Rattle.server_run.specs.declared.applying.Ledger.{Ledger}
-use Rattle.server_run.specs.Outbox.{UpToDate, SettlesUnless, Leaves}
 use Rattle.server_run.specs.Sending.{Shows}
 use Rattle.server_run.specs.Statuses.{Ending, never, at_closed, at_limit, at_wire_fault, at_disk_fault, at_full, anywhere, at_refusal, behind_disk, ended_with, course_of, status_of, EndsAs, LeftIs}
+use Rattle.server_run.specs.Going.{IsCause}
 use Rattle.server_run.specs.Stops.{refusing, IsReached, Journals}
 use Rattle.server_run.specs.Runs.{Finished}
 use Rattle.server_run.proofs.Handling.{served_grow}
 use Rattle.server_run.proofs.Joining.{gave_none, gave_both, behind, served_then, same_before, same_front, refused_is, reached_before, reached_then}
-use Rattle.server_run.proofs.Outbox.{all_goes_on, leaves_ended}
 use Rattle.server_run.proofs.Sending.{shows_none, shows_both}
 use Rattle.server_run.proofs.Stopping.{journals_none, journals_on}
 
@@ -60,32 +59,59 @@ none_lost : (lost : Option WireEvent) (g other : Result (Unit {0}) Trouble) → 
 none_lost lost g other is isnt (inl none) = none
 none_lost lost g other is isnt (inr refused) = absurd (isnt (sym is ∙ refused))
 
-no_trouble : (lost : Option WireEvent) (g : Result (Unit {0}) Trouble) (enough : Unit {0}) → g ≡ Ok enough → (lost ≡ None) ⊎ (g ≡ Err trouble.OutOfMemory) → lost ≡ None
+pub no_trouble : (lost : Option WireEvent) (g : Result (Unit {0}) Trouble) (enough : Unit {0}) → g ≡ Ok enough → (lost ≡ None) ⊎ (g ≡ Err trouble.OutOfMemory) → lost ≡ None
 no_trouble lost g enough is why = none_lost lost g (Ok enough) is (λ e. cc) why
 
 no_refusal : (lost : Option WireEvent) (g : Result (Unit {0}) Trouble) → g ≡ Err trouble.Failed → (lost ≡ None) ⊎ (g ≡ Err trouble.OutOfMemory) → lost ≡ None
 no_refusal lost g is why = none_lost lost g (Err trouble.Failed) is (λ e. cc) why
 
 -- how the events ended that were committed together, by the status
-ended_as : (turns count : ℕ) (lost : Option WireEvent) (s : Option Stop) (g t : Result (Unit {0}) Trouble) (e : Status) → ended_with s g t ≡ Some e
+ended_as : (turns count : ℕ) (lost : Option WireEvent) (s : Option Stop) (g : Result (Unit {0}) Trouble) (t : Result (Unit {0}) OutOfMemory) (e : Status) → ended_with s g t ≡ Some e
     → ((r : Trouble) → g ≡ Err r → (s ≡ None) ⊎ (s ≡ Some stop.DiskFault)) → (lost ≡ None) ⊎ (g ≡ Err trouble.OutOfMemory) → EndsAs (course_of e).ending turns count s lost
 ended_as turns count lost s (Err trouble.OutOfMemory) t e is running none =
     subst (λ x. EndsAs (course_of x).ending turns count s lost) (some_status status.OutOfMemory e is) (⊎_elim (λ no. inl no) (λ fault. inr (inl fault)) (running trouble.OutOfMemory refl))
-ended_as turns count lost s (Err trouble.Failed) (Err trouble.OutOfMemory) e is running none =
+ended_as turns count lost s (Err trouble.Failed) (Err refused) e is running none =
     subst (λ x. EndsAs (course_of x).ending turns count s lost) (some_status status.OutOfMemory e is) (inr (inr (no_refusal lost (Err trouble.Failed) refl none)))
-ended_as turns count lost s (Err trouble.Failed) (Err trouble.Failed) e is running none =
-    subst (λ x. EndsAs (course_of x).ending turns count s lost) (some_status status.OutboxFault e is) (no_refusal lost (Err trouble.Failed) refl none)
 ended_as turns count lost s (Err trouble.Failed) (Ok done) e is running none =
     subst (λ x. EndsAs (course_of x).ending turns count s lost) (some_status (behind_disk s status.WireFault) e is)
     (subst (λ o. EndsAs (course_of (behind_disk s status.WireFault)).ending turns count s o) (sym (no_refusal lost (Err trouble.Failed) refl none)) (wire_failed turns count s (running trouble.Failed refl)))
-ended_as turns count lost s (Ok enough) (Err trouble.OutOfMemory) e is running none =
+ended_as turns count lost s (Ok enough) (Err refused) e is running none =
     subst (λ x. EndsAs (course_of x).ending turns count s lost) (some_status status.OutOfMemory e is) (inr (inr (no_trouble lost (Ok enough) enough refl none)))
-ended_as turns count lost s (Ok enough) (Err trouble.Failed) e is running none =
-    subst (λ x. EndsAs (course_of x).ending turns count s lost) (some_status status.OutboxFault e is) (no_trouble lost (Ok enough) enough refl none)
 ended_as turns count lost None (Ok enough) (Ok done) e is running none = absurd (cc)
 ended_as turns count lost (Some x) (Ok enough) (Ok done) e is running none =
     subst (λ y. EndsAs (course_of y).ending turns count (Some x) lost) (some_status (status_of x) e is)
     (subst (λ o. EndsAs (course_of (status_of x)).ending turns count (Some x) o) (sym (no_trouble lost (Ok enough) enough refl none)) (stopped turns count x))
+
+cause_stopped : (x : Stop) → IsCause (status_of x)
+cause_stopped stop.Closed = (tt, λ e. cc)
+cause_stopped stop.DiskFault = (tt, λ e. cc)
+cause_stopped (stop.Full entries bytes) = (tt, λ e. cc)
+
+cause_wire : (s : Option Stop) → IsCause (behind_disk s status.WireFault)
+cause_wire None = (tt, λ e. cc)
+cause_wire (Some stop.Closed) = (tt, λ e. cc)
+cause_wire (Some stop.DiskFault) = (tt, λ e. cc)
+cause_wire (Some (stop.Full entries bytes)) = (tt, λ e. cc)
+
+cause_memory : IsCause status.OutOfMemory
+cause_memory = (tt, λ e. cc)
+
+-- no status of theirs comes from the printer or the outbox
+pub ended_cause : (s : Option Stop) (g : Result (Unit {0}) Trouble) (t : Result (Unit {0}) OutOfMemory) (e : Status) → ended_with s g t ≡ Some e → IsCause e
+ended_cause s (Err trouble.OutOfMemory) t e is = subst IsCause (some_status status.OutOfMemory e is) cause_memory
+ended_cause s (Err trouble.Failed) (Err refused) e is = subst IsCause (some_status status.OutOfMemory e is) cause_memory
+ended_cause s (Err trouble.Failed) (Ok done) e is = subst IsCause (some_status (behind_disk s status.WireFault) e is) (cause_wire s)
+ended_cause s (Ok enough) (Err refused) e is = subst IsCause (some_status status.OutOfMemory e is) cause_memory
+ended_cause None (Ok enough) (Ok done) e is = absurd (cc)
+ended_cause (Some x) (Ok enough) (Ok done) e is = subst IsCause (some_status (status_of x) e is) (cause_stopped x)
+
+-- where the status isn't for want of memory, none was refused as the entries were sent
+pub ended_sent : (s : Option Stop) (g : Result (Unit {0}) Trouble) (t : Result (Unit {0}) OutOfMemory) (e : Status) → ended_with s g t ≡ Some e → (e ≡ status.OutOfMemory) ⊎ ((u : Unit {0}) × (t ≡ Ok u))
+ended_sent s (Err trouble.OutOfMemory) t e is = inl (sym (some_status status.OutOfMemory e is))
+ended_sent s (Err trouble.Failed) (Err refused) e is = inl (sym (some_status status.OutOfMemory e is))
+ended_sent s (Err trouble.Failed) (Ok done) e is = inr (done, refl)
+ended_sent s (Ok enough) (Err refused) e is = inl (sym (some_status status.OutOfMemory e is))
+ended_sent s (Ok enough) (Ok done) e is = inr (done, refl)
 
 -- what is left where no call of next failed
 left_is : (e : Ending) (lost : Option WireEvent) (left : Option (List WireEvent)) (rest : List WireEvent) → left ≡ Some rest → LeftIs e lost left rest
@@ -100,14 +126,14 @@ left_is at_refusal None left rest is = tt
 left_is at_refusal (Some e) left rest is = is
 
 -- what is left behind events that were committed together, by the status
-left_by : (w w' : WireTells) (lost : Option WireEvent) (s : Option Stop) (g t : Result (Unit {0}) Trouble) (e : Status) → ended_with s g t ≡ Some e → (g ≡ Err trouble.Failed → Rose w.faults w'.faults)
+left_by : (w w' : WireTells) (lost : Option WireEvent) (s : Option Stop) (g : Result (Unit {0}) Trouble) (t : Result (Unit {0}) OutOfMemory) (e : Status) → ended_with s g t ≡ Some e → (g ≡ Err trouble.Failed → Rose w.faults w'.faults)
     → (left : Option (List WireEvent)) (rest : List WireEvent) → LeftIs (ending_of g) lost left rest → LeftIs (course_of e).ending lost left rest ⊎ Rose w.faults w'.faults
 left_by w w' lost s (Ok enough) t e is fault left rest has = inl (left_is (course_of e).ending lost left rest has)
 left_by w w' lost s (Err trouble.Failed) t e is fault left rest has = inr (fault refl)
 left_by w w' lost s (Err trouble.OutOfMemory) t e is fault left rest has = inl (subst (λ x. LeftIs (course_of x).ending lost left rest) (some_status status.OutOfMemory e is) has)
 
 -- the last events of a run, by the status
-pub took_ends : (limits : Limits) (conf : Conf) (old new : Intake) (did : Doing) (w w' : WireTells) (most count : ℕ) (s : Option Stop) (g t : Result (Unit {0}) Trouble) (e : Status)
+pub took_ends : (limits : Limits) (conf : Conf) (old new : Intake) (did : Doing) (w w' : WireTells) (most count : ℕ) (s : Option Stop) (g : Result (Unit {0}) Trouble) (t : Result (Unit {0}) OutOfMemory) (e : Status)
     → Took limits conf old new did w w' most count s g → ended_with s g t ≡ Some e → (g ≡ Err trouble.Failed → Rose w.faults w'.faults) → Ends limits conf old new did w w' most e
 took_ends limits conf old new did w w' most count s g t e took is fault = record {
   count = count;
@@ -125,18 +151,16 @@ took_ends limits conf old new did w w' most count s g t e took is fault = record
     running (Err x) why r is = why
 
 -- a run that goes on: nothing stopped, and nothing failed
-pub goes_on_is : (s : Option Stop) (g t : Result (Unit {0}) Trouble) → ended_with s g t ≡ None → (s ≡ None) × ((u : Unit {0}) × (g ≡ Ok u)) × ((u : Unit {0}) × (t ≡ Ok u))
+pub goes_on_is : (s : Option Stop) (g : Result (Unit {0}) Trouble) (t : Result (Unit {0}) OutOfMemory) → ended_with s g t ≡ None → (s ≡ None) × ((u : Unit {0}) × (g ≡ Ok u)) × ((u : Unit {0}) × (t ≡ Ok u))
 goes_on_is s (Err trouble.OutOfMemory) t is = absurd (cc)
-goes_on_is s (Err trouble.Failed) (Err trouble.OutOfMemory) is = absurd (cc)
-goes_on_is s (Err trouble.Failed) (Err trouble.Failed) is = absurd (cc)
+goes_on_is s (Err trouble.Failed) (Err refused) is = absurd (cc)
 goes_on_is s (Err trouble.Failed) (Ok done) is = absurd (cc)
-goes_on_is s (Ok enough) (Err trouble.OutOfMemory) is = absurd (cc)
-goes_on_is s (Ok enough) (Err trouble.Failed) is = absurd (cc)
+goes_on_is s (Ok enough) (Err refused) is = absurd (cc)
 goes_on_is None (Ok enough) (Ok done) is = (refl, (enough, refl), (done, refl))
 goes_on_is (Some x) (Ok enough) (Ok done) is = absurd (cc)
 
 -- the events behind which a run goes on
-pub took_on : (limits : Limits) (conf : Conf) (old new : Intake) (did : Doing) (w w' : WireTells) (most count : ℕ) (s : Option Stop) (g t : Result (Unit {0}) Trouble)
+pub took_on : (limits : Limits) (conf : Conf) (old new : Intake) (did : Doing) (w w' : WireTells) (most count : ℕ) (s : Option Stop) (g : Result (Unit {0}) Trouble) (t : Result (Unit {0}) OutOfMemory)
     → Took limits conf old new did w w' most count s g → ended_with s g t ≡ None
     → Ran (refusing limits 0) conf old.entries old new did w w' count None None anywhere × (count ≤ most) × (0 < most → 0 < count)
 took_on limits conf old new did w w' most count s g t took is =
@@ -150,31 +174,6 @@ took_on limits conf old new did w w' most count s g t took is =
         (subst (λ o. Ran (refusing limits 0) conf old.entries old new did w w' count None o anywhere) kept took.ran, omega (arith, took.few), took.some)
     by (Some x) g took none u is = absurd (cc)
     by None (Err r) took none u is = absurd (cc)
-
--- ---- what they leave in the outbox
-
-module _ (limits : Limits) (conf : Conf) (old new : Intake) (did : Doing) (w w' : WireTells) (most count : ℕ) (s : Option Stop) (g t : Result (Unit {0}) Trouble) (ledger ledger' : Ledger) (sink now later : SinkTells) (n : ℕ)
-    (took : Took limits conf old new did w w' most count s g) (set : SettlesUnless conf ledger ledger' (drop n new.entries) now later s t) (all : n ≡ length old.entries) (u : UpToDate conf old ledger sink now) where
-  grown : (more : List Numbered) × (new.entries ≡ old.entries ++ more)
-  grown = ran_grows (refusing limits (refused_group old s)) conf old.entries old new did w w' count s took.lost (ending_of g) took.ran
-
-  -- all is up to date, where the run goes on
-  pub keeps_on : ended_with s g t ≡ None → UpToDate conf new ledger' sink later
-  keeps_on is =
-      let on = goes_on_is s g t is in
-      let kept : took.lost ≡ None = ⊎_elim (λ none. none) (λ refused. absurd (clash on.1.0 on.1.1 refused)) took.lost_is in
-      all_goes_on conf old new ledger ledger' sink now later n s took.lost t all grown took.none_added took.sound set u on.0 kept on.2.0 on.2.1
-    where
-      clash : (u : Unit {0}) → g ≡ Ok u → g ≡ Err trouble.OutOfMemory → ⊥
-      clash u ok err = cc
-
-  -- or as much is out as the status says
-  pub keeps_ended : (e : Status) → ended_with s g t ≡ Some e → Leaves conf new.entries ledger'.tally sink later (course_of e).out
-  keeps_ended e is = leaves_ended conf old new ledger ledger' sink now later n s took.lost t all grown took.none_added took.sound set u g t e refl is
-
--- by an equal configuration the same is settled
-pub settled_of : (a b : Conf) (l l' : Ledger) (es : List Numbered) (k k' : SinkTells) (s : Option Stop) (t : Result (Unit {0}) Trouble) → a ≡ b → SettlesUnless a l l' es k k' s t → SettlesUnless b l l' es k k' s t
-settled_of a b l l' es k k' s t is = subst (λ (x : Conf). SettlesUnless x l l' es k k' s t) is
 
 -- ---- a run, some events at a time
 

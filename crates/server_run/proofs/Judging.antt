@@ -19,11 +19,10 @@ use Rattle.intake_front.proofs.Numbers.{length_numbered, numbered-append}
 use Rattle.server_words.specs.declared.status.Status.{Status}
 use Rattle.server_words.specs.declared.status.Status.TheVariants as status
 use Rattle.server_run.specs.declared.numbering.Numbering.{Numbering}
-use Rattle.server_run.specs.Standing.{onto}
 use Rattle.server_run.specs.Recovered.{IsNumbered}
 use Rattle.server_run.specs.Opening.{config_text, first_text, kept_text, IsTextJudged, IsRejectedFor, IsRejected, IsAccepted}
 use Rattle.server_run.proofs.Barring.{fits_prefix, split_same}
-use Rattle.server_run.proofs.Logs.{onto_reverse, fits_front}
+use Rattle.server_run.proofs.Logs.{onto, onto_reverse, fits_front}
 
 -- ---- the moment that a log has reached is all that matters to what is behind it
 

@@ -1,6 +1,6 @@
 pub mod Sending
 pub mod Logs
-pub mod Standing
+pub mod Results
 pub mod Outbox
 pub mod JournalReads
 pub mod Handling
@@ -14,4 +14,6 @@ pub mod Beginning
 pub mod Barring
 pub mod Judging
 pub mod Runs
+pub mod Going
 pub mod Closings
+pub mod Sharing

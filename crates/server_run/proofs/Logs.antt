@@ -1,18 +1,18 @@
--- Laws of logs with entries behind them.
-use Rattle.std.proofs.Common.{◌≡◌, ℕ, ◌+◌, List, [], ◌∷◌, ◌++◌, length, reverse, refl, sym, ap, ◌∙◌, append_assoc, append-nil, length-append}
+-- Laws of logs with entries behind them, and of entries in the order of their numbers.
+use Rattle.std.proofs.Common.{◌≡◌, List, [], ◌∷◌, ◌++◌, length, drop, reverse, refl, sym, ap, ◌∙◌, subst, append_assoc, ℕ}
 use Rattle.std.specs.Prelude.{Some}
 use Rattle.std.proofs.lemmas.List.{reverse-append}
-use Rattle.std.proofs.lemmas.Grind.{flat_map-append}
+use mathlib.Core.List.{IsPrefix}
 use Rattle.zbx_types.specs.declared.conf.Conf.{Conf}
 use Rattle.zbx_types.specs.declared.entries.Numbered.{Numbered}
-use Rattle.zbx_types.specs.declared.entries.Rec.{Rec}
-use Rattle.event_text.specs.Lines.{lines_of, line_of}
-use Rattle.entry_step.specs.Log.{log_of, Fits}
-use Rattle.entry_step.specs.Records.{replay, out_of}
-use Rattle.book.specs.Outgoing.{log_lines}
-use Rattle.server_run.specs.Standing.{onto}
+use Rattle.entry_step.specs.Log.{log_of, IsFull, Fits}
+use Rattle.book.specs.Entries.{IsWholeLog}
 use Rattle.server_run.specs.Replayed.{conf_of_run}
-use Rattle.book.proofs.Growing.{lines_newer}
+
+-- a log with entries behind it, in the order of their numbers
+abbrev pub onto : List Numbered → List Numbered → List Numbered
+onto log [] = log
+onto log (e ∷ es) = onto (e ∷ log) es
 
 -- a log with entries behind it has them in front, turned round
 pub onto_reverse : (log es : List Numbered) → onto log es ≡ reverse es ++ log
@@ -28,13 +28,46 @@ pub fits_front : (conf : Conf) (log es : List Numbered) → Fits conf (onto log 
 fits_front conf log [] fits = fits
 fits_front conf log (e ∷ es) fits = let longer : Fits conf (e ∷ log) = fits_front conf (e ∷ log) es fits in (longer.0.0, longer.1.0)
 
--- entries behind a log add lines behind its own
-pub lines_grow : (conf : Conf) (log es : List Numbered) → (more : List ℕ) × (log_lines conf (onto log es) ≡ log_lines conf log ++ more)
-lines_grow conf log es =
-    let grown = lines_newer conf (reverse es) log in
-    (grown.0, ap (log_lines conf) (onto_reverse log es) ∙ grown.1)
+full_before : (newer log : List Numbered) → IsFull (newer ++ log) → IsFull log
+full_before [] log full = full
+full_before (e ∷ es) log full = full_before es log full.0
+
+fits_before : (conf : Conf) (newer log : List Numbered) → Fits conf (newer ++ log) → Fits conf log
+fits_before conf [] log fits = fits
+fits_before conf (e ∷ es) log fits = fits_before conf es log (fits.0.0, fits.1.0)
+
+-- the first entries of a whole log are one
+pub whole_front : (conf : Conf) (a b : List Numbered) → IsWholeLog conf (a ++ b) → IsWholeLog conf a
+whole_front conf a b whole = record {
+  full = full_before (reverse b) (reverse a) (subst IsFull (reverse-append a b) whole.full);
+  fits = fits_before conf (reverse b) (reverse a) (subst (Fits conf) (reverse-append a b) whole.fits);
+}
 
 -- the configuration of entries is that of the first
 pub conf_front : (es more : List Numbered) (conf : Conf) → conf_of_run es ≡ Some conf → conf_of_run (es ++ more) ≡ Some conf
 conf_front [] more conf is = absurd (cc)
 conf_front (e ∷ es) more conf is = is
+
+-- the entries behind those that were there
+group_after : (old new group : List Numbered) → new ≡ old ++ group → new ≡ old ++ drop (length old) new
+group_after old new group is = rw is (ap (λ g. old ++ g) (sym (drop_seam old group)))
+  where
+    drop_seam : (a b : List Numbered) → drop (length a) (a ++ b) ≡ b
+    drop_seam [] b = refl
+    drop_seam (x ∷ xs) b = drop_seam xs b
+
+-- entries that are sent behind those that were sent, with these, are all that are there
+pub behind_sent : (kept sent old new : List Numbered) (n : ℕ) → kept ++ sent ≡ old → n ≡ length old → (more : List Numbered) × (new ≡ old ++ more) → kept ++ (sent ++ drop n new) ≡ new
+behind_sent kept sent old new n is count grown =
+    sym (append_assoc kept sent (drop n new)) ∙ ap (λ l. l ++ drop n new) is ∙ ap (λ k. old ++ drop k new) count ∙ sym (group_after old new grown.0 grown.1)
+
+-- a front of what is to be sent leaves a front of all
+pub sent_front : (kept sent all new : List Numbered) → IsPrefix sent all → kept ++ all ≡ new → IsPrefix (kept ++ sent) new
+sent_front kept sent all new (rest, is) whole = (rest, append_assoc kept sent rest ∙ ap (λ l. kept ++ l) is ∙ whole)
+
+-- the next of entries that are to be sent
+pub next_whole : (conf : Conf) (kept sent : List Numbered) (e : Numbered) (rest all : List Numbered) → sent ++ e ∷ rest ≡ all → IsWholeLog conf (kept ++ all) → IsWholeLog conf (kept ++ (sent ++ e ∷ []))
+next_whole conf kept sent e rest all is whole =
+    let one : (sent ++ e ∷ []) ++ rest ≡ all = append_assoc sent (e ∷ []) rest ∙ is in
+    let same : (kept ++ (sent ++ e ∷ [])) ++ rest ≡ kept ++ all = append_assoc kept (sent ++ e ∷ []) rest ∙ ap (λ l. kept ++ l) one in
+    whole_front conf (kept ++ (sent ++ e ∷ [])) rest (subst (IsWholeLog conf) (sym same) whole)

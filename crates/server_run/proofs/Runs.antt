@@ -31,20 +31,21 @@ use Rattle.server_words.specs.declared.status.Status.{Status}
 use Rattle.server_words.specs.declared.status.Status.TheVariants as status
 use Rattle.server_words.specs.Words.{plan_of}
 use Rattle.server_words.specs.Printed.{printed_text}
-use Rattle.server_run.specs.declared.applying.Ledger.{Ledger}
 use Rattle.book.specs.Outgoing.{Grew, GrewByFront}
 use Rattle.server_run.specs.Ports.{IsTextUpTo, ReadsUpTo}
 use Rattle.pattern_set.specs.Patterns.{IsNoPattern}
 use Rattle.server_run.specs.Patterns.{HasFlawAt, HoldsBrace}
 use Rattle.book.specs.Outgoing.{log_lines}
 use Rattle.server_run.specs.Replayed.{conf_in, conf_of_run}
-use Rattle.server_run.specs.Opening.{config_text, first_text, IsAccepted, Unopened, FoundEntries, TurnedAway, IsResumed, opening_entries}
-use Rattle.server_run.specs.Outbox.{IsBehind}
+use Rattle.server_run.specs.Opening.{config_text, first_text, IsAccepted, Unopened, FoundEntries, TurnedAway, HasBegun, opening_lines, opening_entries}
 use Rattle.server_run.specs.Statuses.{Ending, never, at_closed, at_limit, at_wire_fault, at_disk_fault, at_full, anywhere, at_refusal, course_of, cut_short, IsRefusal, IsBarring, IsEnding, IsCourse, IsUnprinted, EndsPrinted, EndsAs, LeftIs}
 use Rattle.server_run.specs.Stops.{refusing, KeepsSome, IsEither, IsReached, Journals}
 use Rattle.server_run.specs.Events.{Doing}
+use Rattle.server_run.specs.Going.{IsOpened, IsHeldBack, IsAheadOf}
 use Rattle.server_run.specs.Runs.{IsUntaken, Configured, IsConfigured, Unconfigured, Refuses, IsBarred, FoundBy, Unbegun, Opened, Finished, Followed, Prints, limits_by, opening_intake}
 use Rattle.book.proofs.Growing.{all_front, none_front}
+use Rattle.server_run.proofs.Handling.{served_grow}
+use Rattle.server_run.proofs.Logs.{conf_front}
 use Rattle.server_run.proofs.Stopping.{journals_on, leaves_more}
 use Rattle.server_run.proofs.Texts.{text_told, text_kept, flaw_told, at_end_of}
 
@@ -146,15 +147,14 @@ module _ {D : Type 0} (bytes : D → Option (List ℕ)) (images : D → List ℕ
       more None l = tt
       more (Some b) l = leaves_more bytes images moment since faults old new _ _ (λ f. ⊎_elim (λ k. inl k) (λ k. inr (k.0, by k.1, k.2))) l
 
-  pub opened : (words : List (List ℕ)) (source source' : Option (List ℕ)) (held turns most : ℕ) (conf : Conf) (old : D) (made : Fronted D) (ledger : Ledger) (missing : List ℕ)
-      → IsConfigured words source source' turns most conf → IsResumed bytes images moment since faults conf most held old made ledger missing
-      → Opened bytes images moment since faults words source source' held old turns conf made ledger missing
-  opened words source source' held turns most conf old made ledger missing c r = record {
+  pub opened : (words : List (List ℕ)) (source source' : Option (List ℕ)) (turns most : ℕ) (conf : Conf) (old : D) (made : Fronted D)
+      → IsConfigured words source source' turns most conf → HasBegun bytes images moment since faults conf most old made → Opened bytes images moment since faults words source source' old turns conf made
+  opened words source source' turns most conf old made c b = record {
     plan = c.plan;
     configured = c.configured;
     turns_are = c.turns_are;
     at_end = c.at_end;
-    resumed = subst (λ n. IsResumed bytes images moment since faults conf n held old made ledger missing) c.most_is r;
+    begun = subst (λ n. HasBegun bytes images moment since faults conf n old made) c.most_is b;
   }
 
 abbrev limits_at : ℕ → ℕ → Limits
@@ -184,73 +184,101 @@ conf_of_groups conf (g ∷ gs) is accepted =
     ap conf_of_run (entries_any conf.text (numbered_of (g ∷ gs)) _ 0 ∙ ap (λ k. (start conf.text k 0).entries) parts) ∙ conf_in_entries conf g.entries _ is accepted.0
 
 module _ {D : Type 0} (bytes : D → Option (List ℕ)) (images : D → List ℕ → Type 0) (moment : D → ℕ) (since : D → ℕ → List ℕ → Type 0) (faults : D → ℕ) (words : List (List ℕ)) (source source' : Option (List ℕ)) where
-  -- a run that was opened is behind with the lines that its outbox lacks
-  pub behind : (held turns : ℕ) (old : D) (conf : Conf) (made : Fronted D) (ledger : Ledger) (missing : List ℕ) (sink : SinkTells) → held ≡ sink.held
-      → Opened bytes images moment since faults words source source' held old turns conf made ledger missing → IsBehind conf made.intake ledger sink missing
-  behind held turns old conf made ledger missing sink same o =
-      let begun = o.resumed.begun in
-      let are : made.intake.entries ≡ opening_entries conf begun.groups = ap (λ (i : Intake). i.entries) begun.intake_is in
-      let lines = ap (λ es. log_lines conf (log_of es)) are in
-      record {
-        sound = begun.sound;
-        conf_is = ap conf_of_run are ∙ conf_of_groups conf begun.groups o.configured.conf_is begun.accepted;
-        applied = o.resumed.applied;
-        enough = omega (arith, o.resumed.enough, same, ap (λ (l : List ℕ). length l) lines);
-        missing_is = o.resumed.missing_is ∙ ap₂ drop same (sym lines);
-      }
+  module _ (turns : ℕ) (old : D) (conf : Conf) (made : Fronted D) (o : Opened bytes images moment since faults words source source' old turns conf made) where
+    are : made.intake.entries ≡ opening_entries conf o.begun.groups
+    are = ap (λ (i : Intake). i.entries) o.begun.intake_is
 
-  -- a run that was opened and took events
-  followed_there : (held turns : ℕ) (old new : D) (conf : Conf) (made : Fronted D) (ledger : Ledger) (missing : List ℕ) (entries out : List Numbered) (wire wire' : WireTells) (s : Status)
-      → out ≡ entries → Opened bytes images moment since faults words source source' held old turns conf made ledger missing
-      → Finished (limits_of made.journal 0) conf made.intake.entries made.intake entries turns (Journals bytes images moment since faults (λ c. ⊥) made.journal.disk new) wire wire' (course_of s).ending
-      → Followed words source (bytes old) held (Journals bytes images moment since faults (KeepsAsOneOf (images old)) old new) wire wire' s out
-  followed_there held turns old new conf made ledger missing entries out wire wire' s same o f =
-      let begun = o.resumed.begun in
-      let limits : limits_of made.journal 0 ≡ limits_by o.plan = ap₂ (λ a b. limits_at a b) begun.limits.0 begun.limits.1 in
-      record {
-        plan = o.plan;
-        conf = conf;
-        configured = o.configured;
-        groups = begun.groups;
-        found = begun.found;
-        accepted = begun.accepted;
-        enough = o.resumed.enough;
-        finished =
-            subst (λ (i : Intake). Finished (limits_by o.plan) conf (numbered_of begun.groups) i out o.plan.turns (Journals bytes images moment since faults (KeepsAsOneOf (images old)) old new) wire wire' (course_of s).ending) begun.intake_is
-            (subst (λ n. Finished (limits_by o.plan) conf (numbered_of begun.groups) made.intake out n (Journals bytes images moment since faults (KeepsAsOneOf (images old)) old new) wire wire' (course_of s).ending) o.turns_are
-            (subst (λ (l : Limits). Finished l conf (numbered_of begun.groups) made.intake out turns (Journals bytes images moment since faults (KeepsAsOneOf (images old)) old new) wire wire' (course_of s).ending) limits
-            (subst (λ es. Finished (limits_of made.journal 0) conf (numbered_of begun.groups) made.intake es turns (Journals bytes images moment since faults (KeepsAsOneOf (images old)) old new) wire wire' (course_of s).ending) (sym same)
-            (over (limits_of made.journal 0) begun.groups begun.journaled f))));
-      }
-    where
-      over : (l : Limits) (groups : List Group) → Journals bytes images moment since faults (KeepsAsOneOf (images old)) old made.journal.disk (IsEither (numbered_of groups) made.intake.entries) None made.intake.entries
-          → Finished l conf made.intake.entries made.intake entries turns (Journals bytes images moment since faults (λ c. ⊥) made.journal.disk new) wire wire' (course_of s).ending
-          → Finished l conf (numbered_of groups) made.intake entries turns (Journals bytes images moment since faults (KeepsAsOneOf (images old)) old new) wire wire' (course_of s).ending
-      over l groups j f = record {
-        handled = f.handled;
-        lost = f.lost;
-        refused = f.refused;
-        few = f.few;
-        given = f.given;
-        told = f.told;
-        entries_are = f.entries_are;
-        ends = f.ends;
-        refused_is = f.refused_is;
-        shows = f.shows;
-        journaled = journals_on bytes images moment since faults (KeepsAsOneOf (images old)) old made.journal.disk new (IsEither (numbered_of groups) made.intake.entries)
-            (IsReached (refusing l f.refused) conf made.intake.entries made.intake f.handled) (IsReached (refusing l f.refused) conf (numbered_of groups) made.intake f.handled)
-            None _ made.intake.entries entries (λ es is. ⊎_elim (λ kept. inl kept) (λ here. inr (inl ([], f.handled, refl, here))) is)
-            (λ es is. ⊎_elim (λ here. inr (inl ([], f.handled, refl, here))) (λ later. inr later) is) j f.journaled;
-      }
+    -- the front with which a run begins that was opened
+    pub is_opened : (kept : List Numbered) → kept ≡ made.intake.entries → IsOpened bytes images conf kept made
+    is_opened kept same = record {
+      going = o.begun.ready;
+      idle = o.begun.idle;
+      sound = o.begun.sound;
+      entries_are = sym same;
+      durable = o.begun.journaled.kept (λ none. cc);
+    }
 
-  pub followed : (held told turns : ℕ) (old new last : D) (conf : Conf) (made : Fronted D) (ledger : Ledger) (missing : List ℕ) (entries out : List Numbered) (wire wire' : WireTells) (s : Status)
-      → held ≡ told → last ≡ new → out ≡ entries → Opened bytes images moment since faults words source source' held old turns conf made ledger missing
-      → Finished (limits_of made.journal 0) conf made.intake.entries made.intake entries turns (Journals bytes images moment since faults (λ c. ⊥) made.journal.disk new) wire wire' (course_of s).ending
-      → Followed words source (bytes old) told (Journals bytes images moment since faults (KeepsAsOneOf (images old)) old last) wire wire' s out
-  followed held told turns old new last conf made ledger missing entries out wire wire' s is_held is_last same o f =
-      subst (λ d. Followed words source (bytes old) told (Journals bytes images moment since faults (KeepsAsOneOf (images old)) old d) wire wire' s out) (sym is_last)
-      (subst (λ n. Followed words source (bytes old) n (Journals bytes images moment since faults (KeepsAsOneOf (images old)) old new) wire wire' s out) is_held
-      (followed_there held turns old new conf made ledger missing entries out wire wire' s same o f))
+    -- the lines of its entries are those of its groups
+    kept_lines : (kept : List Numbered) → kept ≡ made.intake.entries → log_lines conf (log_of kept) ≡ opening_lines conf o.begun.groups
+    kept_lines kept same = ap (λ es. log_lines conf (log_of es)) (same ∙ are)
+
+    -- a run that got no book didn't begin
+    pub unbegun_held : (source_faults source_faults' held : ℕ) (kept : List Numbered) → kept ≡ made.intake.entries → (new : D) (entries : List Numbered) (s : Status) → IsHeldBack conf kept held made new entries s
+        → Unbegun bytes images moment since faults words source source_faults source_faults' held old new entries s
+    unbegun_held source_faults source_faults' held kept same new entries s h =
+        let begun = o.begun in
+        record {
+          why = subst (λ d. Refuses words source source_faults source_faults' (bytes old) (faults old) (faults d) held s) (sym h.disk_is) (why s h.why);
+          told = subst (λ d. is_some (bytes d) ≡ is_some (bytes old)) (sym h.disk_is) begun.journaled.told;
+          later = subst (λ d. faults old ≤ faults d) (sym h.disk_is) begun.journaled.later;
+          has = inr (o.plan, conf, o.configured, subst (FoundEntries (bytes old) conf) (sym h.entries_are) (begun.groups, begun.found, inr are));
+          left = subst (λ d. IfSome (bytes old) (λ _. LeavesOnly moment since old d (λ c. KeepsAsOneOf (images old) c ⊎ KeepsSome (FoundBy words source (bytes old)) c))) (sym h.disk_is) (more (bytes old) begun.journaled.left);
+        }
+      where
+        why : (s : Status) → IsAheadOf conf kept held s → Refuses words source source_faults source_faults' (bytes old) (faults old) (faults made.journal.disk) held s
+        why status.OutOfMemory ahead = tt
+        why (status.OutboxAhead told lines) ahead =
+            let size : lines ≡ length (opening_lines conf o.begun.groups) = ahead.1 ∙ ap (λ (l : List ℕ). length l) (kept_lines kept same) in
+            (o.plan, conf, o.configured, (o.begun.groups, o.begun.found, (o.begun.accepted, ahead.0, size, omega (arith, ahead.2, ahead.0))))
+        why _ none = absurd none
+
+        among : (es : List Numbered) → IsEither (numbered_of o.begun.groups) made.intake.entries es → FoundBy words source (bytes old) es
+        among es is = (o.plan, conf, o.configured, (o.begun.groups, o.begun.found, ⊎_elim (λ kept. inl kept) (λ here. inr (here ∙ are)) is))
+
+        more : (b : Option (List ℕ)) → IfSome b (λ _. LeavesOnly moment since old made.journal.disk (λ c. KeepsAsOneOf (images old) c ⊎ KeepsSome (IsEither (numbered_of o.begun.groups) made.intake.entries) c))
+            → IfSome b (λ _. LeavesOnly moment since old made.journal.disk (λ c. KeepsAsOneOf (images old) c ⊎ KeepsSome (FoundBy words source (bytes old)) c))
+        more None l = tt
+        more (Some b) l = leaves_more bytes images moment since faults old made.journal.disk _ _ (λ c. ⊎_elim (λ p. inl p) (λ k. inr (k.0, among k.0 k.1, k.2))) l
+
+    -- one that got its book took events
+    pub followed : (held : ℕ) (kept : List Numbered) → kept ≡ made.intake.entries → held ≤ length (log_lines conf (log_of kept)) → (new : D) (entries : List Numbered) (wire wire' : WireTells) (s : Status)
+        → Finished (limits_of made.journal 0) conf kept made.intake entries turns (Journals bytes images moment since faults (λ c. ⊥) made.journal.disk new) wire wire' (course_of s).ending
+        → Followed words source (bytes old) held (Journals bytes images moment since faults (KeepsAsOneOf (images old)) old new) wire wire' s entries
+    followed held kept same enough new entries wire wire' s f =
+        let begun = o.begun in
+        let limits : limits_of made.journal 0 ≡ limits_by o.plan = ap₂ (λ a b. limits_at a b) begun.limits.0 begun.limits.1 in
+        record {
+          plan = o.plan;
+          conf = conf;
+          configured = o.configured;
+          groups = begun.groups;
+          found = begun.found;
+          accepted = begun.accepted;
+          enough = omega (arith, enough, ap (λ (l : List ℕ). length l) (kept_lines kept same));
+          finished =
+              subst (λ (i : Intake). Finished (limits_by o.plan) conf (numbered_of begun.groups) i entries o.plan.turns (Journals bytes images moment since faults (KeepsAsOneOf (images old)) old new) wire wire' (course_of s).ending) begun.intake_is
+              (subst (λ n. Finished (limits_by o.plan) conf (numbered_of begun.groups) made.intake entries n (Journals bytes images moment since faults (KeepsAsOneOf (images old)) old new) wire wire' (course_of s).ending) o.turns_are
+              (subst (λ (l : Limits). Finished l conf (numbered_of begun.groups) made.intake entries turns (Journals bytes images moment since faults (KeepsAsOneOf (images old)) old new) wire wire' (course_of s).ending) limits
+              (over (limits_of made.journal 0) begun.groups begun.journaled (subst (λ es. Finished (limits_of made.journal 0) conf es made.intake entries turns (Journals bytes images moment since faults (λ c. ⊥) made.journal.disk new) wire wire' (course_of s).ending) same f))));
+        }
+      where
+        over : (l : Limits) (groups : List Group) → Journals bytes images moment since faults (KeepsAsOneOf (images old)) old made.journal.disk (IsEither (numbered_of groups) made.intake.entries) None made.intake.entries
+            → Finished l conf made.intake.entries made.intake entries turns (Journals bytes images moment since faults (λ c. ⊥) made.journal.disk new) wire wire' (course_of s).ending
+            → Finished l conf (numbered_of groups) made.intake entries turns (Journals bytes images moment since faults (KeepsAsOneOf (images old)) old new) wire wire' (course_of s).ending
+        over l groups j f = record {
+          handled = f.handled;
+          lost = f.lost;
+          refused = f.refused;
+          few = f.few;
+          given = f.given;
+          told = f.told;
+          entries_are = f.entries_are;
+          ends = f.ends;
+          refused_is = f.refused_is;
+          shows = f.shows;
+          journaled = journals_on bytes images moment since faults (KeepsAsOneOf (images old)) old made.journal.disk new (IsEither (numbered_of groups) made.intake.entries)
+              (IsReached (refusing l f.refused) conf made.intake.entries made.intake f.handled) (IsReached (refusing l f.refused) conf (numbered_of groups) made.intake f.handled)
+              None _ made.intake.entries entries (λ es is. ⊎_elim (λ kept. inl kept) (λ here. inr (inl ([], f.handled, refl, here))) is)
+              (λ es is. ⊎_elim (λ here. inr (inl ([], f.handled, refl, here))) (λ later. inr later) is) j f.journaled;
+        }
+
+    -- and its entries' configuration is its own
+    pub conf_kept : (kept : List Numbered) → kept ≡ made.intake.entries → (did : Doing) (entries : List Numbered) (wire wire' : WireTells) (e : Ending)
+        → Finished (limits_of made.journal 0) conf kept made.intake entries turns did wire wire' e → conf_of_run entries ≡ Some conf
+    conf_kept kept same did entries wire wire' e f =
+        let grown = served_grow (refusing (limits_of made.journal 0) f.refused) conf made.intake f.handled in
+        let first : conf_of_run made.intake.entries ≡ Some conf = ap conf_of_run are ∙ conf_of_groups conf o.begun.groups o.configured.conf_is o.begun.accepted in
+        ap conf_of_run (f.entries_are ∙ grown.1) ∙ conf_front made.intake.entries grown.0 conf first
 
 path_in : Result Conf Flaw → List ℕ
 path_in (Ok conf) = []
@@ -270,6 +298,17 @@ pub reads_none : (most : ℕ) (left : Option (List ℕ)) → ReadsUpTo most left
 reads_none most left = ([], (omega arith, Consumes-nil left))
 
 -- ---- what printing leaves of a run
+
+-- events were taken up to an ending as which they ended
+pub is_ending : (e : Ending) (turns count : ℕ) (stop : Option Stop) (lost : Option WireEvent) → EndsAs e turns count stop lost → IsEnding e
+is_ending never turns count stop lost none = none
+is_ending at_closed turns count stop lost ends = tt
+is_ending at_limit turns count stop lost ends = tt
+is_ending at_wire_fault turns count stop lost ends = tt
+is_ending at_disk_fault turns count stop lost ends = tt
+is_ending (at_full entries bytes) turns count stop lost ends = tt
+is_ending anywhere turns count stop lost ends = tt
+is_ending at_refusal turns count stop lost ends = tt
 
 -- an ending of any kind is one of a run to which memory was refused
 ends_refused : (e : Ending) (turns count : ℕ) (stop : Option Stop) (lost : Option WireEvent) → EndsAs e turns count stop lost → EndsAs at_refusal turns count stop lost
@@ -297,7 +336,7 @@ left_refused (at_full entries bytes) turns count stop (Some x) left rest ends is
 left_refused anywhere turns count stop (Some x) left rest ends is = is
 left_refused at_refusal turns count stop (Some x) left rest ends is = is
 
-finished_refused : (limits : Limits) (conf : Conf) (recovered : List Numbered) (begun : Intake) (entries : List Numbered) (turns : ℕ) (did : Doing) (wire wire' : WireTells) (e : Ending)
+pub finished_refused : (limits : Limits) (conf : Conf) (recovered : List Numbered) (begun : Intake) (entries : List Numbered) (turns : ℕ) (did : Doing) (wire wire' : WireTells) (e : Ending)
     → Finished limits conf recovered begun entries turns did wire wire' e → Finished limits conf recovered begun entries turns did wire wire' at_refusal
 finished_refused limits conf recovered begun entries turns did wire wire' e f = record {
   handled = f.handled;
@@ -342,16 +381,6 @@ module _ (words : List (List ℕ)) (source file : Option (List ℕ)) (held : ℕ
   -- a run that took events has a status of one that has begun
   pub is_course : (s : Status) → Follows_at s → IsCourse s
   is_course s f = is_ending (course_of s).ending _ _ _ _ f.finished.ends
-    where
-      is_ending : (e : Ending) (turns count : ℕ) (stop : Option Stop) (lost : Option WireEvent) → EndsAs e turns count stop lost → IsEnding e
-      is_ending never turns count stop lost none = none
-      is_ending at_closed turns count stop lost ends = tt
-      is_ending at_limit turns count stop lost ends = tt
-      is_ending at_wire_fault turns count stop lost ends = tt
-      is_ending at_disk_fault turns count stop lost ends = tt
-      is_ending (at_full entries bytes) turns count stop lost ends = tt
-      is_ending anywhere turns count stop lost ends = tt
-      is_ending at_refusal turns count stop lost ends = tt
 
 module _ (words : List (List ℕ)) (source : Option (List ℕ)) (faults faults' : ℕ) (file : Option (List ℕ)) (disk_faults disk_faults' held : ℕ) where
   abbrev Refused_at : Status → Type 0
@@ -372,6 +401,22 @@ module _ (words : List (List ℕ)) (source : Option (List ℕ)) (faults faults' 
   is_refusal (status.OutboxAhead told lines) why = refl
   is_refusal (status.Full entries bytes) why = refl
   is_refusal _ why = absurd why.3
+
+  -- which comes before anything is printed, and isn't that of one that takes events
+  pub never_begun : (s : Status) → Refused_at s → IsUnprinted s × ((s ≡ status.WireFault → ⊥) × ((s ≡ status.OutboxFault → ⊥) × (s ≡ status.Ok → ⊥)))
+  never_begun status.Usage why = (tt, (λ e. cc, (λ e. cc, λ e. cc)))
+  never_begun status.SourceFault why = (tt, (λ e. cc, (λ e. cc, λ e. cc)))
+  never_begun (status.ConfigRefused path cause) why = (tt, (λ e. cc, (λ e. cc, λ e. cc)))
+  never_begun (status.PatternRefused path) why = (tt, (λ e. cc, (λ e. cc, λ e. cc)))
+  never_begun (status.PatternTooLarge path) why = (tt, (λ e. cc, (λ e. cc, λ e. cc)))
+  never_begun status.OutOfMemory why = (tt, (λ e. cc, (λ e. cc, λ e. cc)))
+  never_begun status.DiskFault why = (tt, (λ e. cc, (λ e. cc, λ e. cc)))
+  never_begun status.NotOurs why = (tt, (λ e. cc, (λ e. cc, λ e. cc)))
+  never_begun (status.Damaged at) why = (tt, (λ e. cc, (λ e. cc, λ e. cc)))
+  never_begun (status.ConfigDiffers at) why = (tt, (λ e. cc, (λ e. cc, λ e. cc)))
+  never_begun (status.OutboxAhead told lines) why = (tt, (λ e. cc, (λ e. cc, λ e. cc)))
+  never_begun (status.Full entries bytes) why = (tt, (λ e. cc, (λ e. cc, λ e. cc)))
+  never_begun _ why = absurd why.3
 
   -- printing changes no reason
   pub refuses_printed : (s ended : Status) → EndsPrinted s ended → Refused_at s → Refused_at ended

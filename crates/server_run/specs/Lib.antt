@@ -2,7 +2,6 @@ pub mod Ports
 pub mod Patterns
 pub mod Replayed
 pub mod Tally
-pub mod Standing
 pub mod Recovered
 pub mod Opening
 pub mod Stops
@@ -11,4 +10,5 @@ pub mod Statuses
 pub mod Events
 pub mod Outbox
 pub mod Runs
+pub mod Going
 pub mod Ran

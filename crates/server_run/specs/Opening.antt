@@ -21,10 +21,8 @@ use Rattle.intake_front.specs.declared.answer.FrontError.{FrontError}
 use Rattle.intake_front.specs.declared.answer.FrontError.TheVariants as front
 use Rattle.server_words.specs.declared.status.Status.{Status}
 use Rattle.server_words.specs.declared.status.Status.TheVariants as status
-use Rattle.server_run.specs.declared.applying.Ledger.{Ledger}
 use Rattle.server_run.specs.Recovered.{journal_bytes, HasGroups, GoesOn}
 use Rattle.book.specs.Outgoing.{log_lines}
-use Rattle.server_run.specs.Standing.{Applied}
 use Rattle.server_run.specs.Stops.{KeepsSome, IsEither, Journals}
 
 -- a file keeps these groups, where it is told
@@ -164,11 +162,3 @@ pub record HasBegun {D : Type 0} (bytes : D → Option (List ℕ)) (images : D �
   pub sound : IsSound conf made.intake
   pub idle : IsIdle made
   pub journaled : Journals bytes images moment since faults (KeepsAsOneOf (images old)) old made.journal.disk (IsEither (numbered_of groups) made.intake.entries) None made.intake.entries
-
--- and cells and counts that stand for its entries, and those of their lines that the outbox of so many bytes lacks
-pub record IsResumed {D : Type 0} (bytes : D → Option (List ℕ)) (images : D → List ℕ → Type 0) (moment : D → ℕ) (since : D → ℕ → List ℕ → Type 0) (faults : D → ℕ) (conf : Conf) (most held : ℕ) (old : D)
-    (made : Fronted D) (ledger : Ledger) (missing : List ℕ) : Type 0 where
-  pub begun : HasBegun bytes images moment since faults conf most old made
-  pub applied : Applied conf ledger.cells ledger.tally (log_of made.intake.entries)
-  pub enough : held ≤ length (opening_lines conf begun.groups)
-  pub missing_is : missing ≡ drop held (opening_lines conf begun.groups)

@@ -22,6 +22,7 @@ use Rattle.server_words.specs.declared.status.Status.TheVariants as status
 use Rattle.pattern_set.specs.Patterns.{IsPattern, IsNoPattern}
 use Rattle.server_run.specs.Patterns.{HasFlawAt, HoldsBrace}
 use Rattle.server_run.specs.Statuses.{course_of, IsRefusal, IsBarring, YieldsTo, IsCourse}
+use Rattle.server_run.specs.Events.{Doing}
 use Rattle.server_run.specs.Opening.{IsAccepted, Bars, opening_lines}
 use Rattle.server_run.specs.Outbox.{LinesAre, SizeIs}
 use Rattle.server_run.specs.Ports.{ReadsUpTo}
@@ -47,8 +48,9 @@ pub record NoneRose (before after : Objects) : Type 0 where
   pub outbox : Rose before.outbox.faults after.outbox.faults → ⊥
   pub printer : Rose before.printer.faults after.printer.faults → ⊥
 
--- a run over objects ended with a status: the clauses of the whole run, over what its objects told before and after
-pub record IsRun (words : List (List ℕ)) (before after : Objects) (began : Bool) (entries : List Numbered) (s : Status) : Type 0 where
+-- A run over objects ended with a status: the clauses of the whole run, over what its objects told before and after, and what its
+-- disk did.
+pub record IsRun (did : Doing) (words : List (List ℕ)) (before after : Objects) (began : Bool) (entries : List Numbered) (s : Status) : Type 0 where
   pub usage : s ≡ status.Usage → plan_of words ≡ None
   pub not_command : plan_of words ≡ None → (s ≡ status.Usage) ⊎ (s ≡ status.OutOfMemory)
   pub taken : ReadsUpTo 16777216 before.source after.source
@@ -68,7 +70,7 @@ pub record IsRun (words : List (List ℕ)) (before after : Objects) (began : Boo
   pub not_begun : began ≡ false → IsRefusal s × (after.wire ≡ before.wire) × (after.outbox ≡ before.outbox)
   pub has_found : began ≡ false → (entries ≡ []) ⊎ FoundBy words before.source before.file entries
   pub begun : began ≡ true → IsCourse s
-  pub followed : began ≡ true → Followed words before.source before.file before.outbox.held (λ among reason kept. ⊤) before.wire after.wire s entries
+  pub followed : began ≡ true → Followed words before.source before.file before.outbox.held did before.wire after.wire s entries
   pub keeps : began ≡ true → (Rose before.disk_faults after.disk_faults → ⊥) → IfSome after.file (Keeps entries)
   pub told : is_some after.file ≡ is_some before.file
   pub lines : began ≡ true → LinesAre (course_of s).out before.outbox after.outbox (drop before.outbox.held (run_lines entries))
@@ -81,7 +83,7 @@ pub record IsRun (words : List (List ℕ)) (before after : Objects) (began : Boo
 
 -- a status is that of a run over these objects
 abbrev pub IsStatusOf : List (List ℕ) → Objects → Status → Type 0
-IsStatusOf words before s = (after : Objects) × (began : Bool) × (entries : List Numbered) × IsRun words before after began entries s
+IsStatusOf words before s = (after : Objects) × (began : Bool) × (entries : List Numbered) × IsRun (λ among reason kept. ⊤) words before after began entries s
 
 -- a status is that of a run over some objects, which the caller made itself
 abbrev pub IsRunStatus : List (List ℕ) → Status → Type 0

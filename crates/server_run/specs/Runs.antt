@@ -23,11 +23,10 @@ use Rattle.server_words.specs.Words.{plan_of}
 use Rattle.server_words.specs.Printed.{ok_text, printed_text}
 use Rattle.config_templates.specs.Flat.{flat_of}
 use Rattle.config_templates.specs.Places.{refuse}
-use Rattle.server_run.specs.declared.applying.Ledger.{Ledger}
 use Rattle.pattern_set.specs.Patterns.{IsNoPattern}
 use Rattle.server_run.specs.Patterns.{HasFlawAt, HoldsBrace}
 use Rattle.server_run.specs.Recovered.{journal_bytes}
-use Rattle.server_run.specs.Opening.{FoundGroups, IsAccepted, Bars, FoundEntries, IsResumed, opening_lines}
+use Rattle.server_run.specs.Opening.{FoundGroups, IsAccepted, Bars, FoundEntries, HasBegun, opening_lines}
 use Rattle.server_run.specs.Stops.{refusing, IsReached, KeepsSome}
 use Rattle.server_run.specs.Events.{Doing}
 use Rattle.book.specs.Outgoing.{Grew, GrewByFront}
@@ -130,14 +129,14 @@ pub record Followed (words : List (List ℕ)) (source file : Option (List ℕ)) 
   pub finished : Finished (limits_by plan) conf (numbered_of groups) (opening_intake conf groups) entries plan.turns did wire wire' (course_of s).ending
 
 -- What a run has begun with: the plan's turns, the configuration of the text that the source told, all of which was read, and
--- what it goes on with.
+-- the intake behind its journal.
 pub record Opened {D : Type 0} (bytes : D → Option (List ℕ)) (images : D → List ℕ → Type 0) (moment : D → ℕ) (since : D → ℕ → List ℕ → Type 0) (faults : D → ℕ) (words : List (List ℕ)) (source source' : Option (List ℕ))
-    (held : ℕ) (old : D) (turns : ℕ) (conf : Conf) (front : Fronted D) (ledger : Ledger) (missing : List ℕ) : Type 0 where
+    (old : D) (turns : ℕ) (conf : Conf) (front : Fronted D) : Type 0 where
   pub plan : Plan
   pub configured : Configured words source plan conf
   pub turns_are : turns ≡ plan.turns
   pub at_end : IsAtEnd source'
-  pub resumed : IsResumed bytes images moment since faults conf plan.max_entries held old front ledger missing
+  pub begun : HasBegun bytes images moment since faults conf plan.max_entries old front
 
 -- What became of a run that didn't begin: why, and the entries that it has, none or those that it found. A crash meanwhile left
 -- what one before it might have, or entries that it found.

@@ -1,6 +1,7 @@
 -- What each status is to a run: one row a status. All that depends on the status is said over these rows.
 use Rattle.std.specs.Prelude.{◌≡◌, ◌⊎◌, ℕ, List, Bool, true, false, Option, Some, None, Result, Ok, Err, ⊤}
 use Rattle.std.specs.Option.{option_map}
+use Rattle.zbx_types.specs.declared.memory.OutOfMemory.{OutOfMemory}
 use Rattle.outside.specs.declared.event.WireEvent.{WireEvent}
 use Rattle.outside.specs.declared.event.Trouble.{Trouble}
 use Rattle.outside.specs.declared.event.Trouble.TheVariants as trouble
@@ -70,15 +71,13 @@ behind_disk (Some stop.DiskFault) other = status.DiskFault
 behind_disk (Some (stop.Full entries bytes)) other = other
 
 -- the status with which a run ends behind events that were committed together, if it does: given what stopped, how the taking
--- of events ended, and how the lines of their entries were written. Want of memory stands before all, and then a fault of the
--- disk, at which no line is to be written, of the outbox, and of the wire.
-abbrev pub ended_with : Option Stop → Result (Unit {0}) Trouble → Result (Unit {0}) Trouble → Option Status
-ended_with s (Err trouble.OutOfMemory) settled = Some status.OutOfMemory
-ended_with s (Err trouble.Failed) (Err trouble.OutOfMemory) = Some status.OutOfMemory
-ended_with s (Err trouble.Failed) (Err trouble.Failed) = Some status.OutboxFault
+-- of events ended, and whether memory was refused as their entries were sent. Want of memory stands before all, and then a fault
+-- of the disk, and of the wire.
+abbrev pub ended_with : Option Stop → Result (Unit {0}) Trouble → Result (Unit {0}) OutOfMemory → Option Status
+ended_with s (Err trouble.OutOfMemory) sent = Some status.OutOfMemory
+ended_with s (Err trouble.Failed) (Err refused) = Some status.OutOfMemory
 ended_with s (Err trouble.Failed) (Ok done) = Some (behind_disk s status.WireFault)
-ended_with s (Ok enough) (Err trouble.OutOfMemory) = Some status.OutOfMemory
-ended_with s (Ok enough) (Err trouble.Failed) = Some status.OutboxFault
+ended_with s (Ok enough) (Err refused) = Some status.OutOfMemory
 ended_with s (Ok enough) (Ok done) = option_map status_of s
 
 -- what each status is to a run

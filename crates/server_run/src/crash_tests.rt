@@ -1,9 +1,11 @@
 ghost use Rattle.std.specs.Prelude.{◌≡◌, None};
 
-use super::tests::{Found, Over, none_fails, only, plain_config, run_behind, run_on, sink};
-use outside::{Disk, Failed, MemDisk};
+use super::tests::{Found, Over, none_fails, only, plain_config, run_behind, run_beside, sink};
+use outside::{Disk, Failed, MemDisk, OpenGate};
 use std::alloc::Global;
+use std::sync::Wait;
 use std::test::Fail;
+use std::thread::Threads;
 use zbx_types::{Bytes, Entry, Many, Numbered, OutOfMemory, Text};
 
 /// What a crash leaves of a piece that no sync followed.
@@ -246,38 +248,66 @@ fn run_again(alloc: Global, crashed: &Over<CrashDisk>) -> Result<Went, OutOfMemo
     Ok(judged(crashed, &behind))
 }
 
-/// Runs over three values up to the disk's call of this number, which fails.
-fn run_up_to(
-    alloc: Global,
+/// The words of a run over a script beside four syncers, or with none.
+fn words(beside: bool) -> &'static str {
+    if beside {
+        "--mode feed --config c --script s --syncers 4"
+    } else {
+        "--mode feed --config c --script s --syncers 0"
+    }
+}
+
+/// In which way a run takes three values: beside syncers or alone, and whether they all stand ready.
+#[derive(Clone, Copy)]
+struct Way {
+    beside: bool,
     ready: bool,
+}
+
+/// Runs over three values up to the disk's call of this number, which fails.
+fn run_up_to<R: Threads + Wait + Sync>(
+    rt: &R,
+    alloc: Global,
+    way: Way,
     torn: Torn,
     call: u64,
 ) -> Result<Over<CrashDisk>, OutOfMemory> {
     let fails = only(alloc, call)?;
     let outbox = sink(alloc, &[], 0)?;
     let disk = CrashDisk::new(alloc, fails, torn);
-    run_on(
+    run_beside(
+        rt,
         alloc,
-        "--mode feed --config c --script s",
-        plain_config(),
+        words(way.beside),
         three_frames(),
+        way.ready,
         disk,
         outbox,
-        none_fails(),
-        ready,
+        &OpenGate,
     )
 }
 
 /// Runs up to a call of the disk, and then behind what a crash leaves there.
-fn crashed_at(alloc: Global, ready: bool, torn: Torn, call: u64) -> Result<Went, OutOfMemory> {
-    let crashed = run_up_to(alloc, ready, torn, call)?;
+fn crashed_at<R: Threads + Wait + Sync>(
+    rt: &R,
+    alloc: Global,
+    way: Way,
+    torn: Torn,
+    call: u64,
+) -> Result<Went, OutOfMemory> {
+    let crashed = run_up_to(rt, alloc, way, torn, call)?;
     run_again(alloc, &crashed)
 }
 
 /// How many calls of the disk a run has, where each crash at one of them left all that was answered.
-fn calls_kept(alloc: Global, ready: bool, torn: Torn) -> Result<Option<u64>, OutOfMemory> {
+fn calls_kept<R: Threads + Wait + Sync>(
+    rt: &R,
+    alloc: Global,
+    way: Way,
+    torn: Torn,
+) -> Result<Option<u64>, OutOfMemory> {
     for before in 0..100u64 {
-        match crashed_at(alloc, ready, torn, before + 1)? {
+        match crashed_at(rt, alloc, way, torn, before + 1)? {
             Went::Through => return Ok(Some(before)),
             Went::Kept => {}
             Went::Lost => return Ok(None),
@@ -297,9 +327,19 @@ fn each_file_that_a_crash_leaves_has_what_was_answered(rt: HostRuntime) -> Resul
         Torn::Filled(1),
         Torn::Filled(2),
     ] {
-        // An append has four calls: one of the three values, or one for each of them.
-        assert!(rt; calls_kept(alloc, true, torn)? == Some(18));
-        assert!(rt; calls_kept(alloc, false, torn)? == Some(26));
+        for beside in [false, true] {
+            // An append has four calls: one of the three values, or one for each of them.
+            let together = Way {
+                beside,
+                ready: true,
+            };
+            assert!(rt; calls_kept(&rt, alloc, together, torn)? == Some(18));
+            let apart = Way {
+                beside,
+                ready: false,
+            };
+            assert!(rt; calls_kept(&rt, alloc, apart, torn)? == Some(26));
+        }
     }
     Ok(())
 }

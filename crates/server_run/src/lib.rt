@@ -1,7 +1,8 @@
-//! The run of the server on one thread, from its words to its printed line.
+//! The run of the server, on one thread or beside history syncers, from its words to its printed line.
 //!
 //! [`run_single`] reads the configuration, takes the events of a wire in their order, journals what it takes, answers each
-//! sender, evaluates the triggers and writes a line for each record. Events that stand ready one behind another, up to 128,
+//! sender, evaluates the triggers and writes a line for each record. [`run_syncers`] does the same while threads of their own
+//! evaluate the triggers. Events that stand ready one behind another, up to 128,
 //! are journaled by one append, and answered behind it in their order. Everything outside, the configuration's source, the
 //! wire, the journal's disk, the outbox and the printer, is handed in, so the same code runs over files and sockets and over
 //! memory, and its contract speaks of whatever was handed in.
@@ -22,8 +23,10 @@
 //! ```
 #![tactic(auto)]
 
-mod applying;
+mod course;
+mod crew;
 mod delivery;
+mod handing;
 mod numbering;
 mod opening;
 mod reading;
@@ -31,11 +34,15 @@ mod recovering;
 mod resuming;
 mod run;
 mod serving;
+mod shared;
+mod syncing;
 mod taking;
 
-pub use run::{Ended, run_single};
+pub use run::{Ended, run_single, run_syncers};
 
 #[cfg(test)]
 mod crash_tests;
+#[cfg(test)]
+mod syncer_tests;
 #[cfg(test)]
 mod tests;

@@ -1,19 +1,20 @@
 //! The opening of a run: its words, its configuration, its journal, and what its outbox lacks.
 
-ghost use Rattle.std.specs.Prelude.{◌≡◌, ◌≤◌, Ok, Some, None, All, IfOk, IfErr};
+ghost use Rattle.std.specs.Prelude.{ℕ, ◌≡◌, ◌≤◌, Ok, Some, None, All, IfOk, IfErr};
 ghost use Rattle.zbx_types.specs.Ids.{at_id};
 ghost use Rattle.pattern_set.specs.Patterns.{IsPattern};
 ghost use Rattle.config_templates.specs.Flat.{flat_of};
 ghost use Rattle.server_words.specs.Words.{plan_of};
 ghost use Rattle.server_run.specs.Ports.{ReadsUpTo};
-ghost use Rattle.server_run.specs.Opening.{IsResumed, TurnedAway};
+ghost use Rattle.server_run.specs.Opening.{HasBegun, TurnedAway};
 ghost use Rattle.server_run.specs.Patterns.{IsUnready};
 ghost use Rattle.server_run.specs.Runs.{IsUntaken, IsConfigured, Unconfigured, Opened, Unbegun};
 
 use crate::reading::{ReadError, read_all};
-use crate::resuming::{Refused, Resumed, resume};
+use crate::resuming::{Refused, resume};
 use config_templates::{FlatError, flat};
 use entry_step::{BuildError, Ready};
+use intake_front::Front;
 use outside::{Disk, Source};
 use server_words::{PlanError, Status, plan};
 use std::alloc::Global;
@@ -23,14 +24,16 @@ use zbx_types::{Conf, LONGEST_TEXT, Many, OutOfMemory, Text, by_id, copy_texts};
 #[derive(Drop)]
 pub(crate) struct Begun<D: Disk> {
     pub turns: u64,
+    pub syncers: u32,
     pub ready: Ready,
-    pub resumed: Resumed<D>,
+    pub front: Front<D>,
 }
 
 /// What the words and the configuration of a run ask for.
 #[derive(Drop)]
 struct Setup {
     turns: u64,
+    syncers: u32,
     max_entries: u64,
     ready: Ready,
 }
@@ -113,6 +116,7 @@ fn set_up<S: Source>(alloc: Global, words: &[Text], config: &mut S) -> Result<Se
     match prepare(alloc, bytes.as_slice()) {
         Ok(ready) => Ok(Setup {
             turns: plan.turns,
+            syncers: plan.syncers,
             max_entries: plan.max_entries,
             ready,
         }),
@@ -120,43 +124,38 @@ fn set_up<S: Source>(alloc: Global, words: &[Text], config: &mut S) -> Result<Se
     }
 }
 
-/// Goes on with a run that was configured, behind what its journal kept, with an outbox of so many bytes.
-fn resume_setup<D: Disk>(
-    alloc: Global,
-    setup: Setup,
-    disk: D,
-    held: u64,
-) -> Result<Begun<D>, Refused<D>>
+/// Goes on with a run that was configured, behind what its journal kept.
+fn resume_setup<D: Disk>(alloc: Global, setup: Setup, disk: D) -> Result<Begun<D>, Refused<D>>
     ensures ok { IfOk result (λ b. (b.turns ≡ setup.turns) × (b.ready ≡ setup.ready)
-        × IsResumed D.bytes D.images D.moment D.images_since D.faults setup.ready setup.max_entries held disk b.resumed.front b.resumed.ledger b.resumed.missing) }
-    ensures err { IfErr result (λ r. TurnedAway D.bytes D.images D.moment D.images_since D.faults setup.ready setup.max_entries held disk r.disk r.entries r.status) }
+        × HasBegun D.bytes D.images D.moment D.images_since D.faults setup.ready setup.max_entries disk b.front) }
+    ensures err { IfErr result (λ r. (held : ℕ) → TurnedAway D.bytes D.images D.moment D.images_since D.faults setup.ready setup.max_entries held disk r.disk r.entries r.status) }
 {
-    match resume(alloc, &setup.ready, disk, setup.max_entries, held) {
-        Ok(resumed) => Ok(Begun {
+    match resume(alloc, &setup.ready, disk, setup.max_entries) {
+        Ok(front) => Ok(Begun {
             turns: setup.turns,
+            syncers: setup.syncers,
             ready: setup.ready,
-            resumed,
+            front,
         }),
         Err(refused) => Err(refused),
     }
 }
 
-/// Opens a run over a disk, with an outbox of so many bytes. Takes no event.
+/// Opens a run over a disk. Takes no event.
 pub(crate) fn open<S: Source, D: Disk>(
     alloc: Global,
     words: &[Text],
     config: &mut S,
     disk: D,
-    held: u64,
 ) -> Result<Begun<D>, Refused<D>>
     ensures later { S.faults config.old ≤ S.faults config.new }
     ensures unread { plan_of words.now ≡ None → config.new ≡ config.old }
     ensures taken { ReadsUpTo 16777216 (S.left config.old) (S.left config.new) }
-    ensures ok { IfOk result (λ b. Opened D.bytes D.images D.moment D.images_since D.faults words.now (S.left config.old) (S.left config.new) held disk b.turns b.ready b.resumed.front b.resumed.ledger b.resumed.missing) }
-    ensures err { IfErr result (λ r. Unbegun D.bytes D.images D.moment D.images_since D.faults words.now (S.left config.old) (S.faults config.old) (S.faults config.new) held disk r.disk r.entries r.status) }
+    ensures ok { IfOk result (λ b. Opened D.bytes D.images D.moment D.images_since D.faults words.now (S.left config.old) (S.left config.new) disk b.turns b.ready b.front) }
+    ensures err { IfErr result (λ r. (held : ℕ) → Unbegun D.bytes D.images D.moment D.images_since D.faults words.now (S.left config.old) (S.faults config.old) (S.faults config.new) held disk r.disk r.entries r.status) }
 {
     match set_up(alloc, words, config) {
-        Ok(setup) => resume_setup(alloc, setup, disk, held),
+        Ok(setup) => resume_setup(alloc, setup, disk),
         Err(status) => Err(Refused {
             status,
             disk,

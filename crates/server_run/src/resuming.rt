@@ -3,12 +3,10 @@
 ghost use Rattle.std.specs.Prelude.{◌≡◌, ◌+◌, ℕ, List, IfOk, IfErr};
 ghost use Rattle.intake_journal.specs.declared.state.State.TheVariants as state;
 ghost use Rattle.intake_front.specs.Fronted.{HasJournaled};
-ghost use Rattle.intake_front.specs.Batch.{IsIdle};
 ghost use Rattle.intake_journal.specs.declared.format.Group.{Group};
 ghost use Rattle.server_run.specs.Recovered.{IsNumbered};
-ghost use Rattle.server_run.specs.Opening.{differ_at, config_text, status_for, IsTextJudged, IsJudged, IsTakenUp, HasBegun, IsResumed, TurnedAway};
+ghost use Rattle.server_run.specs.Opening.{differ_at, config_text, status_for, IsTextJudged, IsJudged, IsTakenUp, HasBegun, TurnedAway};
 
-use crate::applying::{Ledger, replay};
 use crate::numbering::Numbering;
 use crate::recovering::recover;
 use entry_step::Ready;
@@ -17,7 +15,7 @@ use intake_journal::{FIRST_GATE, Journal};
 use outside::Disk;
 use server_words::Status;
 use std::alloc::Global;
-use zbx_types::{Bytes, Conf, Entry, Many, Numbered, OutOfMemory, Text};
+use zbx_types::{Conf, Entry, Many, Numbered, Text};
 
 /// What is left of a run that was refused at its opening: why, its disk, and the entries that were found.
 #[derive(Drop)]
@@ -25,14 +23,6 @@ pub(crate) struct Refused<D> {
     pub status: Status,
     pub disk: D,
     pub entries: Many<Numbered>,
-}
-
-/// What a run goes on with: its intake, cells and counts of its entries, and those of their lines that its outbox lacks.
-#[derive(Drop)]
-pub(crate) struct Resumed<D: Disk> {
-    pub front: Front<D>,
-    pub ledger: Ledger,
-    pub missing: Bytes,
 }
 
 /// Where two texts differ first, or None where they are the same.
@@ -135,7 +125,6 @@ fn begin<D: Disk>(
     requires journaled { HasJournaled D.bytes D.images journal kept (journal.at + 1) }
     ensures ok { IfOk result (λ f. (most : ℕ) (old : D) → IsTakenUp D.bytes D.images D.moment D.images_since D.faults ready.now most old journal kept
         → HasBegun D.bytes D.images D.moment D.images_since D.faults ready.now most old f) }
-    ensures idle { IfOk result (λ f. IsIdle f) }
     ensures err { IfErr result (λ r. (most held : ℕ) (old : D) → IsTakenUp D.bytes D.images D.moment D.images_since D.faults ready.now most old journal kept
         → TurnedAway D.bytes D.images D.moment D.images_since D.faults ready.now most held old r.disk r.entries r.status) }
 {
@@ -149,67 +138,19 @@ fn begin<D: Disk>(
     }
 }
 
-/// What is left of a run that was refused behind its intake.
-fn turn_away<D: Disk>(front: Front<D>, status: Status) -> Refused<D>
-    requires { IsIdle front }
-    ensures status { result.status ≡ status }
-    ensures disk { result.disk ≡ front.journal.disk }
-    ensures entries { result.entries ≡ front.intake.entries }
-{
-    let (disk, entries) = front.end();
-    Refused {
-        status,
-        disk,
-        entries,
-    }
-}
-
-/// The cells and counts of the entries of an intake, and those of their lines that an outbox of so many bytes lacks.
-fn go_on<D: Disk>(
-    alloc: Global,
-    ready: &Ready,
-    front: Front<D>,
-    held: u64,
-) -> Result<Resumed<D>, Refused<D>>
-    requires { IsIdle front }
-    ensures ok { IfOk result (λ r. (most : ℕ) (old : D) → HasBegun D.bytes D.images D.moment D.images_since D.faults ready.now most old front
-        → IsResumed D.bytes D.images D.moment D.images_since D.faults ready.now most held old r.front r.ledger r.missing) }
-    ensures err { IfErr result (λ r. (most : ℕ) (old : D) → HasBegun D.bytes D.images D.moment D.images_since D.faults ready.now most old front
-        → TurnedAway D.bytes D.images D.moment D.images_since D.faults ready.now most held old r.disk r.entries r.status) }
-{
-    let (ledger, missing) = match replay(alloc, ready, front.entries(), held) {
-        Ok(made) => made,
-        Err(OutOfMemory) => return Err(turn_away(front, Status::OutOfMemory)),
-    };
-    let lines = ledger.tally.bytes;
-    if lines < held {
-        return Err(turn_away(front, Status::OutboxAhead { held, lines }));
-    }
-    Ok(Resumed {
-        front,
-        ledger,
-        missing,
-    })
-}
-
-/// Goes on behind what the journal on a disk kept, which is to have at most so many entries, with an outbox of so many bytes.
+/// Goes on behind what the journal on a disk kept, which is to have at most so many entries.
 pub(crate) fn resume<D: Disk>(
     alloc: Global,
     ready: &Ready,
     disk: D,
     max_entries: u64,
-    held: u64,
-) -> Result<Resumed<D>, Refused<D>>
-    ensures ok { IfOk result (λ r. IsResumed D.bytes D.images D.moment D.images_since D.faults ready.now max_entries held disk r.front r.ledger r.missing) }
-    ensures err { IfErr result (λ r. TurnedAway D.bytes D.images D.moment D.images_since D.faults ready.now max_entries held disk r.disk r.entries r.status) }
+) -> Result<Front<D>, Refused<D>>
+    ensures ok { IfOk result (HasBegun D.bytes D.images D.moment D.images_since D.faults ready.now max_entries disk) }
+    ensures err { IfErr result (λ r. (held : ℕ) → TurnedAway D.bytes D.images D.moment D.images_since D.faults ready.now max_entries held disk r.disk r.entries r.status) }
 {
     let (journal, kept) = match accepted(alloc, ready.conf(), disk, max_entries) {
         Ok(taken) => taken,
         Err(refused) => return Err(refused),
     };
-    let front = match begin(alloc, ready, journal, kept) {
-        Ok(front) => front,
-        Err(refused) => return Err(refused),
-    };
-    go_on(alloc, ready, front, held)
+    begin(alloc, ready, journal, kept)
 }

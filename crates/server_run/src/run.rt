@@ -25,22 +25,23 @@ ghost use Rattle.server_run.specs.Opening.{IsAccepted, Bars, opening_lines};
 ghost use Rattle.server_run.specs.Ports.{ReadsUpTo};
 ghost use Rattle.server_run.specs.Replayed.{run_lines};
 ghost use Rattle.server_run.specs.Tally.{counts_with, run_counts};
-ghost use Rattle.server_run.specs.Outbox.{IsBehind, Leaves, LinesAre, SizeIs};
-ghost use Rattle.server_run.specs.Runs.{IsBarred, Unbegun, FoundBy, Finished, Followed, Prints, limits_by, opening_intake};
+ghost use Rattle.server_run.specs.Outbox.{LinesAre, SizeIs};
+ghost use Rattle.server_run.specs.Runs.{IsBarred, Unbegun, FoundBy, Followed, Prints, limits_by, opening_intake};
 ghost use Rattle.server_run.specs.Statuses.{course_of, cut_short, IsRefusal, IsBarring, YieldsTo, IsCourse, IsUnprinted, EndsPrinted};
 ghost use Rattle.server_run.specs.Stops.{KeepsSome, Journals};
 
+use crate::course::{Course, NOTHING, copy_entries, held_back, started, started_beside};
 use crate::opening::{Begun, open};
-use crate::resuming::{Refused, Resumed};
-use crate::serving::serve;
-use book::{Tally, write_all};
-use entry_step::Ready;
-use outside::{Disk, Failed, Sink, Source, Wire};
+use crate::resuming::Refused;
+use book::write_all;
+use outside::{Disk, Failed, Gate, Sink, Source, Wire};
 use server_words::{Counts, Status, printed};
 use std::alloc::Global;
 use std::convert::AsStr;
-use std::mem::forget;
-use zbx_types::{Many, Numbered, Text};
+use std::marker::Brand;
+use std::sync::Wait;
+use std::thread::Threads;
+use zbx_types::{Many, Numbered, OutOfMemory, Text};
 
 /// What a run answers.
 #[derive(Drop)]
@@ -58,60 +59,6 @@ pub struct Ended<D, O> {
     pub entries: Many<Numbered>,
 }
 
-/// How a run went, before it is printed.
-#[derive(Drop)]
-struct Course<D> {
-    status: Status,
-    began: bool,
-    counts: Counts,
-    disk: D,
-    entries: Many<Numbered>,
-}
-
-/// No counts, for a run that didn't begin.
-const NOTHING: Counts = Counts {
-    entries: 0,
-    problems: 0,
-    recoveries: 0,
-    messages: 0,
-    bytes: 0,
-};
-
-/// Writes the lines that the outbox lacks, and takes events until one ends the run, at most `turns`. Answers why.
-fn serve_behind<W: Wire, D: Disk, O: Sink>(
-    alloc: Global,
-    turns: u64,
-    ready: &Ready,
-    wire: &mut W,
-    resumed: &mut Resumed<D>,
-    outbox: &mut O,
-) -> Status
-    requires going { resumed.old.front.journal.state ≡ state.Ready }
-    requires kept { IsKept D.bytes D.images resumed.old.front.journal.disk resumed.old.front.intake.entries }
-    requires idle { IsIdle resumed.old.front }
-    ensures wire { result ≡ Status.WireFault → Rose (W.tells wire.old).faults (W.tells wire.new).faults }
-    ensures outbox { result ≡ Status.OutboxFault → Rose (O.tells outbox.old).faults (O.tells outbox.new).faults }
-    ensures unprinted { IsUnprinted result }
-    ensures finished { Finished (limits_of resumed.old.front.journal 0) ready.now resumed.old.front.intake.entries resumed.old.front.intake resumed.new.front.intake.entries turns
-        (Journals D.bytes D.images D.moment D.images_since D.faults (λ c. ⊥) resumed.old.front.journal.disk resumed.new.front.journal.disk) (W.tells wire.old) (W.tells wire.new) (course_of result).ending }
-    ensures leaves { IsBehind ready.now resumed.old.front.intake resumed.old.ledger (O.tells outbox.old) resumed.old.missing
-        → Leaves ready.now resumed.new.front.intake.entries resumed.new.ledger.tally (O.tells outbox.old) (O.tells outbox.new) (course_of result).out }
-    ensures idle { IsIdle resumed.new.front }
-{
-    match write_all(outbox, resumed.missing.as_slice()) {
-        Ok(()) => serve(
-            alloc,
-            turns,
-            ready,
-            wire,
-            &mut resumed.front,
-            &mut resumed.ledger,
-            outbox,
-        ),
-        Err(Failed) => Status::OutboxFault,
-    }
-}
-
 /// Runs up to the printed line.
 fn go<S: Source, W: Wire, D: Disk, O: Sink>(
     alloc: Global,
@@ -119,30 +66,31 @@ fn go<S: Source, W: Wire, D: Disk, O: Sink>(
     config: &mut S,
     wire: &mut W,
     disk: D,
-    outbox: &mut O,
-) -> Course<D>
+    outbox: O,
+) -> Course<D, O>
     ensures source_later { S.faults config.old ≤ S.faults config.new }
     ensures unread { plan_of words.now ≡ None → config.new ≡ config.old }
     ensures taken { ReadsUpTo 16777216 (S.left config.old) (S.left config.new) }
     ensures to_the_end { result.began ≡ true → IsAtEnd (S.left config.new) }
     ensures wire { result.status ≡ Status.WireFault → Rose (W.tells wire.old).faults (W.tells wire.new).faults }
-    ensures outbox { result.status ≡ Status.OutboxFault → Rose (O.tells outbox.old).faults (O.tells outbox.new).faults }
+    ensures outbox { result.status ≡ Status.OutboxFault → Rose (O.tells outbox).faults (O.tells result.outbox).faults }
     ensures unprinted { IsUnprinted result.status }
     ensures not_begun { result.began ≡ false
-        → Unbegun D.bytes D.images D.moment D.images_since D.faults words.now (S.left config.old) (S.faults config.old) (S.faults config.new) (O.tells outbox.old).held disk result.disk result.entries result.status
-        × (wire.new ≡ wire.old) × (outbox.new ≡ outbox.old) }
+        → Unbegun D.bytes D.images D.moment D.images_since D.faults words.now (S.left config.old) (S.faults config.old) (S.faults config.new) (O.tells outbox).held disk result.disk result.entries result.status
+        × (wire.new ≡ wire.old) × (result.outbox ≡ outbox) }
     ensures followed { result.began ≡ true
-        → Followed words.now (S.left config.old) (D.bytes disk) (O.tells outbox.old).held (Journals D.bytes D.images D.moment D.images_since D.faults (KeepsAsOneOf (D.images disk)) disk result.disk)
+        → Followed words.now (S.left config.old) (D.bytes disk) (O.tells outbox).held (Journals D.bytes D.images D.moment D.images_since D.faults (KeepsAsOneOf (D.images disk)) disk result.disk)
         (W.tells wire.old) (W.tells wire.new) result.status result.entries }
     ensures lines { result.began ≡ true
-        → LinesAre (course_of result.status).out (O.tells outbox.old) (O.tells outbox.new) (drop (O.tells outbox.old).held (run_lines result.entries)) }
+        → LinesAre (course_of result.status).out (O.tells outbox) (O.tells result.outbox) (drop (O.tells outbox).held (run_lines result.entries)) }
     ensures counts { result.status ≡ Status.Ok → result.counts ≡ run_counts result.entries }
 {
     let Begun {
         turns,
+        syncers: _,
         ready,
-        resumed,
-    } = match open(alloc, words, config, disk, outbox.held()) {
+        front,
+    } = match open(alloc, words, config, disk) {
         Ok(begun) => begun,
         Err(refused) => {
             let Refused {
@@ -155,36 +103,80 @@ fn go<S: Source, W: Wire, D: Disk, O: Sink>(
                 began: false,
                 counts: NOTHING,
                 disk,
+                outbox,
                 entries,
             };
         }
     };
-    let mut resumed = resumed;
-    let status = serve_behind(alloc, turns, &ready, wire, &mut resumed, outbox);
-    // It holds nothing but memory, and most of what the process holds, which the system takes back whole where that ends.
-    forget(ready);
-    let Resumed { front, ledger, .. } = resumed;
-    let (disk, entries) = front.end();
-    let count = entries.as_slice().len() as u64;
-    Course {
-        status,
-        began: true,
-        counts: counts_of(ledger.tally, count),
-        disk,
-        entries,
+    match copy_entries(alloc, front.entries()) {
+        Ok(kept) => started::<Brand, W, D, O>(alloc, turns, ready, wire, front, kept, outbox),
+        Err(OutOfMemory) => held_back(front, Status::OutOfMemory, outbox),
     }
 }
 
-/// The counts that are printed.
-fn counts_of(tally: Tally, entries: u64) -> Counts
-    ensures { result ≡ counts_with entries tally }
+/// Runs beside syncers up to the printed line.
+fn go_beside<S, W, D, O, R, G>(
+    rt: &R,
+    alloc: Global,
+    words: &[Text],
+    config: &mut S,
+    wire: &mut W,
+    disk: D,
+    outbox: O,
+    gate: &G,
+) -> Course<D, O>
+where
+    S: Source,
+    W: Wire,
+    D: Disk,
+    O: Sink + Send,
+    R: Threads + Wait + Sync,
+    G: Gate + Sync,
+    ensures source_later { S.faults config.old ≤ S.faults config.new }
+    ensures unread { plan_of words.now ≡ None → config.new ≡ config.old }
+    ensures taken { ReadsUpTo 16777216 (S.left config.old) (S.left config.new) }
+    ensures to_the_end { result.began ≡ true → IsAtEnd (S.left config.new) }
+    ensures wire { result.status ≡ Status.WireFault → Rose (W.tells wire.old).faults (W.tells wire.new).faults }
+    ensures outbox { result.status ≡ Status.OutboxFault → Rose (O.tells outbox).faults (O.tells result.outbox).faults }
+    ensures unprinted { IsUnprinted result.status }
+    ensures not_begun { result.began ≡ false
+        → Unbegun D.bytes D.images D.moment D.images_since D.faults words.now (S.left config.old) (S.faults config.old) (S.faults config.new) (O.tells outbox).held disk result.disk result.entries result.status
+        × (wire.new ≡ wire.old) × (result.outbox ≡ outbox) }
+    ensures followed { result.began ≡ true
+        → Followed words.now (S.left config.old) (D.bytes disk) (O.tells outbox).held (Journals D.bytes D.images D.moment D.images_since D.faults (KeepsAsOneOf (D.images disk)) disk result.disk)
+        (W.tells wire.old) (W.tells wire.new) result.status result.entries }
+    ensures lines { result.began ≡ true
+        → LinesAre (course_of result.status).out (O.tells outbox) (O.tells result.outbox) (drop (O.tells outbox).held (run_lines result.entries)) }
+    ensures counts { result.status ≡ Status.Ok → result.counts ≡ run_counts result.entries }
 {
-    Counts {
-        entries,
-        problems: tally.problems,
-        recoveries: tally.recoveries,
-        messages: tally.messages,
-        bytes: tally.bytes,
+    let Begun {
+        turns,
+        syncers,
+        ready,
+        front,
+    } = match open(alloc, words, config, disk) {
+        Ok(begun) => begun,
+        Err(refused) => {
+            let Refused {
+                status,
+                disk,
+                entries,
+            } = refused;
+            return Course {
+                status,
+                began: false,
+                counts: NOTHING,
+                disk,
+                outbox,
+                entries,
+            };
+        }
+    };
+    match copy_entries(alloc, front.entries()) {
+        Ok(kept) => started_beside::<Brand, W, D, O, R, G>(
+            rt, alloc, syncers, turns, ready, wire, front, kept, outbox, gate,
+        ),
+        Err(OutOfMemory) => held_back(front, Status::OutOfMemory, outbox),
     }
 }
 
@@ -311,14 +303,122 @@ pub fn run_single<S: Source, W: Wire, D: Disk, O: Sink, P: Sink>(
         → (Rose (P.tells print.old).faults (P.tells print.new).faults → ⊥) → All IsPattern conf.patterns
         → (result.status ≡ Status.Ok) ⊎ ((result.status ≡ Status.OutOfMemory) ⊎ ((path : List ℕ) × (result.status ≡ Status.PatternTooLarge path))) }
 {
-    let mut outbox = outbox;
-    let course = go(alloc, words, config, wire, disk, &mut outbox);
+    let course = go(alloc, words, config, wire, disk, outbox);
     let status = report(alloc, course.status, &course.counts, print);
     Ended {
         status,
         began: course.began,
         disk: course.disk,
-        outbox,
+        outbox: course.outbox,
+        entries: course.entries,
+    }
+}
+
+/// Runs the server as [`run_single`] does, while as many history syncers as the plan says work entries out, each in a thread of
+/// its own. Where the plan says 0, or no thread can be started, this thread does all. If it returns, the same is true of it as of
+/// `run_single`, whatever the threads do and when.
+///
+/// A syncer calls the gate, with its number from 1 on and the number of the first entry, between taking an order and working it
+/// out.
+pub fn run_syncers<S, W, D, O, P, R, G>(
+    rt: &R,
+    alloc: Global,
+    words: &[Text],
+    config: &mut S,
+    wire: &mut W,
+    disk: D,
+    outbox: O,
+    print: &mut P,
+    gate: &G,
+) -> Ended<D, O>
+where
+    S: Source,
+    W: Wire,
+    D: Disk,
+    O: Sink + Send,
+    P: Sink,
+    R: Threads + Wait + Sync,
+    G: Gate + Sync,
+    // Usage comes exactly where the words have no plan, and then nothing was read.
+    ensures usage { result.status ≡ Status.Usage → plan_of words.now ≡ None }
+    ensures not_command { plan_of words.now ≡ None → (result.status ≡ Status.Usage) ⊎ (result.status ≡ Status.OutOfMemory) }
+    ensures unread { plan_of words.now ≡ None → config.new ≡ config.old }
+
+    // At most 16,777,217 bytes of the configuration were read; all of them, where the run began.
+    ensures taken { ReadsUpTo 16777216 (S.left config.old) (S.left config.new) }
+    ensures to_the_end { result.began ≡ true → IsAtEnd (S.left config.new) }
+
+    // ConfigRefused comes exactly where the configuration is refused, with its path and cause.
+    ensures config_refused { (path : List ℕ) (cause : Cause) → result.status ≡ Status.ConfigRefused path cause
+        → IfSome (S.left config.old) (λ text. flat_of text ≡ refuse path cause) }
+    ensures refused_text { (text path : List ℕ) (cause : Cause) → S.left config.old ≡ Some text → flat_of text ≡ refuse path cause
+        → (result.status ≡ Status.ConfigRefused path cause) ⊎ ((result.status ≡ Status.SourceFault)
+        ⊎ ((result.status ≡ Status.Usage) ⊎ (result.status ≡ Status.OutOfMemory))) }
+
+    // PatternRefused comes only where a pattern isn't one, and PatternTooLarge where one holds a brace; the path is where the
+    // first such pattern is used first.
+    ensures pattern_refused { (path : List ℕ) → result.status ≡ Status.PatternRefused path → IfSome (S.left config.old) (HasFlawAt IsNoPattern path) }
+    ensures pattern_too_large { (path : List ℕ) → result.status ≡ Status.PatternTooLarge path → IfSome (S.left config.old) (HasFlawAt HoldsBrace path) }
+
+    // NotOurs, Damaged, ConfigDiffers, OutboxAhead, and Full at the opening, come exactly where the journal or the outbox is
+    // so, with the place or the numbers.
+    ensures barred { result.began ≡ false → IsBarring result.status → IsBarred words.now (S.left config.old) (D.bytes disk) (O.tells outbox).held result.status }
+    ensures bars { (plan : Plan) (text : List ℕ) (conf : Conf) (file : List ℕ) (status : Status) → plan_of words.now ≡ Some plan → 0 < plan.max_entries → S.left config.old ≡ Some text → flat_of text ≡ Ok conf
+        → D.bytes disk ≡ Some file → Bars conf plan.max_entries (Some file) (O.tells outbox).held status → (result.status ≡ status) ⊎ YieldsTo result.status }
+
+    // A fault comes only where the count of its object rose.
+    ensures source { result.status ≡ Status.SourceFault → Rose (S.faults config.old) (S.faults config.new) }
+    ensures wire { result.status ≡ Status.WireFault → Rose (W.tells wire.old).faults (W.tells wire.new).faults }
+    ensures disk { result.status ≡ Status.DiskFault → Rose (D.faults disk) (D.faults result.disk) }
+    ensures outbox { result.status ≡ Status.OutboxFault → Rose (O.tells outbox).faults (O.tells result.outbox).faults }
+    ensures print { result.status ≡ Status.PrintFault → Rose (P.tells print.old).faults (P.tells print.new).faults }
+
+    // A run that hasn't begun was refused at its opening, and left the wire and the outbox alone. It has no entries, or those
+    // that it found. A crash at any moment of it left what one before it might have, or entries that it found.
+    ensures not_begun { result.began ≡ false → IsRefusal result.status × (wire.new ≡ wire.old) × (result.outbox ≡ outbox) }
+    ensures has_found { result.began ≡ false → (result.entries ≡ []) ⊎ FoundBy words.now (S.left config.old) (D.bytes disk) result.entries }
+    ensures stopped { result.began ≡ false → IfSome (D.bytes disk) (λ _. LeavesOnly D.moment D.images_since disk result.disk (λ c. KeepsAsOneOf (D.images disk) c
+        ⊎ KeepsSome (FoundBy words.now (S.left config.old) (D.bytes disk)) c)) }
+    ensures begun { result.began ≡ true → IsCourse result.status }
+
+    // Events taken, replies, closings and entries behind those that the journal kept; reading to the end; the limits of turns,
+    // entries and bytes. A crash at any moment left what one before the run might have, or the entries behind some of the events,
+    // those of the opening among them, or all that the events add whose groups the disk refused; and unless it did, the disk
+    // keeps the run's entries, and each crash leaves them.
+    ensures followed { result.began ≡ true
+        → Followed words.now (S.left config.old) (D.bytes disk) (O.tells outbox).held (Journals D.bytes D.images D.moment D.images_since D.faults (KeepsAsOneOf (D.images disk)) disk result.disk)
+        (W.tells wire.old) (W.tells wire.new) result.status result.entries }
+    ensures keeps { result.began ≡ true → (Rose (D.faults disk) (D.faults result.disk) → ⊥) → IfSome (D.bytes result.disk) (Keeps result.entries) }
+    ensures told { is_some (D.bytes result.disk) ≡ is_some (D.bytes disk) }
+
+    // The outbox has the lines of one thread that replays the entries, but for as many of their first bytes as it held.
+    ensures lines { result.began ≡ true
+        → LinesAre (course_of result.status).out (O.tells outbox) (O.tells result.outbox) (drop (O.tells outbox).held (run_lines result.entries)) }
+    ensures size { result.began ≡ true
+        → SizeIs (course_of result.status).out (O.tells outbox) (O.tells result.outbox) (drop (O.tells outbox).held (run_lines result.entries)) }
+
+    // The printed line is that of the status, over the counts of the entries.
+    ensures printed { Prints result.status (run_counts result.entries) (P.tells print.old) (P.tells print.new) }
+
+    // What is accepted and doesn't fail ends well, if memory is there.
+    ensures complete { (plan : Plan) (text : List ℕ) (conf : Conf) (file : List ℕ) (groups : List Group) (all : List WireEvent)
+        → plan_of words.now ≡ Some plan → 0 < plan.max_entries → S.left config.old ≡ Some text → flat_of text ≡ Ok conf
+        → D.bytes disk ≡ Some file → groups_of (kept file) ≡ Some groups → IsAccepted conf groups → (O.tells outbox).held ≤ length (opening_lines conf groups)
+        → (W.tells wire.old).left ≡ Some all → (served (limits_by plan) conf (opening_intake conf groups) (take plan.turns all)).stop ≡ Some stop.Closed
+        → (Rose (S.faults config.old) (S.faults config.new) → ⊥)
+        → (Rose (W.tells wire.old).faults (W.tells wire.new).faults → ⊥)
+        → (Rose (D.faults disk) (D.faults result.disk) → ⊥)
+        → (Rose (O.tells outbox).faults (O.tells result.outbox).faults → ⊥)
+        → (Rose (P.tells print.old).faults (P.tells print.new).faults → ⊥) → All IsPattern conf.patterns
+        → (result.status ≡ Status.Ok) ⊎ ((result.status ≡ Status.OutOfMemory) ⊎ ((path : List ℕ) × (result.status ≡ Status.PatternTooLarge path))) }
+{
+    let course = go_beside(rt, alloc, words, config, wire, disk, outbox, gate);
+    let status = report(alloc, course.status, &course.counts, print);
+    Ended {
+        status,
+        began: course.began,
+        disk: course.disk,
+        outbox: course.outbox,
         entries: course.entries,
     }
 }

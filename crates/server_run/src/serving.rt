@@ -1,74 +1,31 @@
 //! Events are taken, some at a time, up to the one that ends the run.
 
-ghost use Rattle.std.specs.Prelude.{◌≡◌, ◌≤◌, IfOk, IfErr, IsErrOf, OnOk, drop};
+ghost use Rattle.std.specs.Prelude.{◌≡◌, ◌≤◌, IsErrOf, IfErr, OnOk};
 ghost use Rattle.outside.specs.Causes.{Rose};
-ghost use Rattle.outside.specs.Tells.{SinkTells};
-ghost use Rattle.outside.specs.Events.{HasNextCause};
-ghost use Rattle.intake_journal.specs.declared.state.State.TheVariants as state;
-ghost use Rattle.intake_front.specs.Fronted.{IsKept, IsReady, limits_of};
+ghost use Rattle.intake_front.specs.Fronted.{IsReady, limits_of};
 ghost use Rattle.intake_front.specs.Batch.{IsIdle};
 ghost use Rattle.server_run.specs.Events.{TookOrEnded};
-ghost use Rattle.server_run.specs.Outbox.{Settles, SettlesUnless, UpToDate, KeepsUp, Leaves};
-ghost use Rattle.server_run.specs.Runs.{Finished};
-ghost use Rattle.server_run.specs.Statuses.{course_of, status_of, behind_disk, ended_with, IsUnprinted};
+ghost use Rattle.server_run.specs.Going.{IsServing, HasServed, IsGoing, IsSentBy, IsCause};
+ghost use Rattle.server_run.specs.Statuses.{status_of, behind_disk, ended_with};
 ghost use Rattle.server_run.specs.Stops.{Journals};
 
-use crate::applying::{Ledger, settle};
+use crate::handing::{Worker, send_after};
+use crate::shared::Prepared;
 use crate::taking::{Batch, take_batch};
-use entry_step::Ready;
+use book::{RingHead, RunName, StartName};
 use intake_front::{Collection, Front, Stop};
-use outside::{Disk, Sink, Trouble, Wire};
+use outside::{Disk, Trouble, Wire};
 use server_words::Status;
 use std::alloc::Global;
-use zbx_types::Numbered;
+use zbx_types::OutOfMemory;
 
-/// The entries after the first ones of this number.
-#[tactic(auto, using(std::proofs::lemmas::List::drop_all))]
-fn after_first(entries: &[Numbered], first: usize) -> &[Numbered]
-    ensures { result.now ≡ drop first entries.now }
-{
-    if first <= entries.len() {
-        &entries[first..]
-    } else {
-        &[]
-    }
-}
-
-/// Applies the entries after the first ones of this number, and writes their lines to the outbox. As `settle` fails.
-fn settle_after<D: Disk, O: Sink>(
-    alloc: Global,
-    ready: &Ready,
-    front: &Front<D>,
-    first: usize,
-    ledger: &mut Ledger,
-    outbox: &mut O,
-) -> Result<(), Trouble>
-    ensures cause { HasNextCause (O.tells outbox.old).faults (O.tells outbox.new).faults result }
-    ensures settled { Settles ready.now ledger.old ledger.new (drop first front.entry.now.intake.entries) (O.tells outbox.old) (O.tells outbox.new) result }
-{
-    let entries = after_first(front.entries(), first);
-    settle(alloc, ready, ledger, outbox, entries)
-}
-
-/// The same for events that were committed together, and stopped so: where the disk refused their groups nothing is done.
-fn settle_unless<D: Disk, O: Sink>(
-    alloc: Global,
-    ready: &Ready,
-    front: &Front<D>,
-    first: usize,
-    stop: Option<Stop>,
-    ledger: &mut Ledger,
-    outbox: &mut O,
-) -> Result<(), Trouble>
-    ensures cause { HasNextCause (O.tells outbox.old).faults (O.tells outbox.new).faults result }
-    ensures settled { SettlesUnless ready.now ledger.old ledger.new (drop first front.entry.now.intake.entries) (O.tells outbox.old) (O.tells outbox.new) stop result }
-{
-    match stop {
-        Some(Stop::DiskFault) => Ok(()),
-        None | Some(Stop::Closed | Stop::Full { .. }) => {
-            settle_after(alloc, ready, front, first, ledger, outbox)
-        }
-    }
+/// How far the taking of events has come.
+#[derive(Drop)]
+pub(crate) enum Taken {
+    /// It ended, and the run ends with this status.
+    Ended(Status),
+    /// So many events were taken, and none of them ended the run.
+    Going(u64),
 }
 
 /// What a run ends with whose last event stopped it so.
@@ -96,15 +53,12 @@ fn wire_status(stop: Option<Stop>) -> Status
 fn ended_with(
     stop: Option<Stop>,
     gathered: Result<(), Trouble>,
-    settled: Result<(), Trouble>,
+    sent: Result<(), OutOfMemory>,
 ) -> Option<Status>
-    ensures { result ≡ ended_with stop gathered settled }
+    ensures { result ≡ ended_with stop gathered sent }
 {
-    match (gathered, settled) {
-        (Err(Trouble::OutOfMemory), _) | (_, Err(Trouble::OutOfMemory)) => {
-            Some(Status::OutOfMemory)
-        }
-        (_, Err(Trouble::Failed)) => Some(Status::OutboxFault),
+    match (gathered, sent) {
+        (Err(Trouble::OutOfMemory), _) | (_, Err(OutOfMemory)) => Some(Status::OutOfMemory),
         (Err(Trouble::Failed), Ok(())) => Some(wire_status(stop)),
         (Ok(()), Ok(())) => match stop {
             Some(stop) => Some(status_of(stop)),
@@ -113,31 +67,29 @@ fn ended_with(
     }
 }
 
-/// Takes events, at most so many, commits them together, answers them, and applies their entries. Answers how many they were,
+/// Takes events, at most so many, commits them together, answers them, and sends their entries. Answers how many they were,
 /// or the status with which the run ends.
-fn serve_batch<W: Wire, D: Disk, O: Sink>(
+fn serve_batch<S: StartName, N: RunName, W: Wire, D: Disk, K: Worker<S, N>>(
     alloc: Global,
     most: u64,
     collection: &mut Collection<'_>,
     wire: &mut W,
     front: &mut Front<D>,
-    ledger: &mut Ledger,
-    outbox: &mut O,
+    head: &mut RingHead<S, N>,
+    worker: &mut K,
 ) -> Result<u64, Status>
-    requires going { front.old.journal.state ≡ state.Ready }
-    requires idle { IsIdle front.old }
+    requires conf { collection.old ≡ S.conf }
+    requires serving { IsServing S.conf S.kept front.old head.old }
     ensures wire_later { (W.tells wire.old).faults ≤ (W.tells wire.new).faults }
     ensures wire { IsErrOf result Status.WireFault → Rose (W.tells wire.old).faults (W.tells wire.new).faults }
-    ensures outbox_later { (O.tells outbox.old).faults ≤ (O.tells outbox.new).faults }
-    ensures outbox { IsErrOf result Status.OutboxFault → Rose (O.tells outbox.old).faults (O.tells outbox.new).faults }
-    ensures unprinted { IfErr result IsUnprinted }
-    ensures took { TookOrEnded (limits_of front.old.journal 0) collection.old front.old.intake front.new.intake (Journals D.bytes D.images D.moment D.images_since D.faults (λ c. ⊥) front.old.journal.disk front.new.journal.disk)
+    ensures cause { IfErr result IsCause }
+    ensures took { TookOrEnded (limits_of front.old.journal 0) S.conf front.old.intake front.new.intake (Journals D.bytes D.images D.moment D.images_since D.faults (λ c. ⊥) front.old.journal.disk front.new.journal.disk)
         (W.tells wire.old) (W.tells wire.new) most result }
-    ensures keeps_up { (sink : SinkTells) → UpToDate collection.old front.old.intake ledger.old sink (O.tells outbox.old)
-        → KeepsUp collection.old front.new.intake ledger.new sink (O.tells outbox.new) result }
+    ensures sent { IsSentBy S.kept head.new.sent front.new.intake.entries result }
+    ensures serving { OnOk result (IsServing S.conf S.kept front.new head.new) }
+    ensures ready { OnOk result (IsReady front.old.journal front.new.journal) }
     ensures same { collection.new ≡ collection.old }
     ensures idle { IsIdle front.new }
-    ensures state { OnOk result (IsReady front.old.journal front.new.journal) }
 {
     let from = front.entries().len();
     let Batch {
@@ -145,9 +97,8 @@ fn serve_batch<W: Wire, D: Disk, O: Sink>(
         stop,
         gathered,
     } = take_batch(alloc, most, collection, wire, front);
-    let ready = collection.ready();
-    let settled = settle_unless(alloc, ready, front, from, stop, ledger, outbox);
-    match ended_with(stop, gathered, settled) {
+    let sent = send_after(alloc, front, from, head, worker);
+    match ended_with(stop, gathered, sent) {
         None => Ok(count),
         Some(status) => Err(status),
     }
@@ -156,36 +107,34 @@ fn serve_batch<W: Wire, D: Disk, O: Sink>(
 /// The most events that are committed together.
 const MOST_TOGETHER: u64 = 128;
 
-/// Takes events until one ends the run, at most `turns`, and answers why.
-pub(crate) fn serve<W: Wire, D: Disk, O: Sink>(
+/// Takes events until one ends the run, at most `turns`, or the worker can't go on, and answers how far that came. The worker
+/// proceeds before each of them that are committed together.
+pub(crate) fn serve<S: StartName, N: RunName, W: Wire, D: Disk, K: Worker<S, N>>(
     alloc: Global,
     turns: u64,
-    ready: &Ready,
+    prepared: &Prepared<S>,
     wire: &mut W,
     front: &mut Front<D>,
-    ledger: &mut Ledger,
-    outbox: &mut O,
-) -> Status
-    requires going { front.old.journal.state ≡ state.Ready }
-    requires kept { IsKept D.bytes D.images front.old.journal.disk front.old.intake.entries }
-    requires idle { IsIdle front.old }
-    ensures wire { result ≡ Status.WireFault → Rose (W.tells wire.old).faults (W.tells wire.new).faults }
-    ensures outbox { result ≡ Status.OutboxFault → Rose (O.tells outbox.old).faults (O.tells outbox.new).faults }
-    ensures unprinted { IsUnprinted result }
-    ensures finished { Finished (limits_of front.old.journal 0) ready.now front.old.intake.entries front.old.intake front.new.intake.entries turns
-        (Journals D.bytes D.images D.moment D.images_since D.faults (λ c. ⊥) front.old.journal.disk front.new.journal.disk) (W.tells wire.old) (W.tells wire.new) (course_of result).ending }
-    ensures leaves { (sink : SinkTells) → UpToDate ready.now front.old.intake ledger.old sink (O.tells outbox.old)
-        → Leaves ready.now front.new.intake.entries ledger.new.tally sink (O.tells outbox.new) (course_of result).out }
-    ensures idle { IsIdle front.new }
+    head: &mut RingHead<S, N>,
+    worker: &mut K,
+) -> Taken
+    requires { IsServing S.conf S.kept front.old head.old }
+    ensures served { HasServed D.bytes D.images D.moment D.images_since D.faults S.conf S.kept front.old front.new (W.tells wire.old) (W.tells wire.new) head.new turns result }
+    ensures stops { IsGoing result → K.stops worker.new }
 {
-    let mut collection = Collection::new(ready);
+    let mut collection = Collection::new(prepared.ready());
     let mut taken = 0;
     while taken < turns {
+        match worker.proceed(alloc, prepared.ready(), head) {
+            Ok(true) => {}
+            Ok(false) => return Taken::Going(taken),
+            Err(OutOfMemory) => return Taken::Ended(Status::OutOfMemory),
+        }
         let most = (turns - taken).min(MOST_TOGETHER);
-        match serve_batch(alloc, most, &mut collection, wire, front, ledger, outbox) {
+        match serve_batch(alloc, most, &mut collection, wire, front, head, worker) {
             Ok(count) => taken += count,
-            Err(status) => return status,
+            Err(status) => return Taken::Ended(status),
         }
     }
-    Status::TurnLimit
+    Taken::Ended(Status::TurnLimit)
 }

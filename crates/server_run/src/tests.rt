@@ -1,9 +1,13 @@
 use super::*;
-use outside::{Disk, Failed, MemDisk, MemSink, MemSource, ScriptWire, Trouble, Wire, WireEvent};
+use outside::{
+    Disk, Failed, Gate, MemDisk, MemSink, MemSource, ScriptWire, Trouble, Wire, WireEvent,
+};
 use server_words::Status;
 use std::alloc::Global;
 use std::convert::AsStr;
+use std::sync::Wait;
 use std::test::Fail;
+use std::thread::Threads;
 use zbx_types::{Bytes, Entry, Many, Numbered, OutOfMemory, Text};
 
 // Scripts and expected reports are functions, so that a test's proof doesn't carry their bytes.
@@ -82,7 +86,7 @@ pub(crate) fn only(alloc: Global, number: u64) -> Result<Many<u64>, OutOfMemory>
     Ok(numbers)
 }
 
-fn source(alloc: Global, text: &str, fails: u64) -> Result<MemSource, OutOfMemory> {
+pub(crate) fn source(alloc: Global, text: &str, fails: u64) -> Result<MemSource, OutOfMemory> {
     Ok(MemSource::new(Bytes::of(alloc, text.as_bytes())?, only(alloc, fails)?))
 }
 
@@ -105,7 +109,7 @@ fn nothing_found() -> Found<'static> {
 }
 
 /// The words of a command, cut at blanks.
-fn words_of(alloc: Global, words: &str) -> Result<Many<Text>, OutOfMemory> {
+pub(crate) fn words_of(alloc: Global, words: &str) -> Result<Many<Text>, OutOfMemory> {
     let mut made = Many::new(alloc);
     for word in words.split_whitespace() {
         made.push(Text::of(alloc, word)?)?;
@@ -152,8 +156,39 @@ fn run_over(
     run_on(alloc, words, config, script, disk, outbox, fails, ready)
 }
 
+/// What a run reads and writes beside its disk and its outbox.
+#[derive(Drop)]
+struct Ports {
+    words: Many<Text>,
+    config: MemSource,
+    wire: TestWire,
+    print: MemSink,
+}
+
+fn ports_of(
+    alloc: Global,
+    words: &str,
+    config: &str,
+    script: &str,
+    fails: Fails,
+    ready: bool,
+) -> Result<Ports, OutOfMemory> {
+    let words = words_of(alloc, words)?;
+    let config = source(alloc, config, fails.source)?;
+    let script = source(alloc, script, 0)?;
+    let wire_fails = only(alloc, fails.wire)?;
+    let print = sink(alloc, &[], fails.print)?;
+    let wire = ScriptWire::new(alloc, script, wire_fails);
+    Ok(Ports {
+        words,
+        config,
+        wire: TestWire { wire, ready },
+        print,
+    })
+}
+
 /// Runs over a disk and an outbox.
-pub(crate) fn run_on<D: Disk + Drop>(
+fn run_on<D: Disk + Drop>(
     alloc: Global,
     words: &str,
     config: &str,
@@ -163,29 +198,18 @@ pub(crate) fn run_on<D: Disk + Drop>(
     fails: Fails,
     ready: bool,
 ) -> Result<Over<D>, OutOfMemory> {
-    let words = words_of(alloc, words)?;
-    let config = source(alloc, config, fails.source)?;
-    let script = source(alloc, script, 0)?;
-    let wire_fails = only(alloc, fails.wire)?;
-    let print = sink(alloc, &[], fails.print)?;
-    let wire = ScriptWire::new(alloc, script, wire_fails);
-    let wire = TestWire { wire, ready };
-    Ok(run_with(alloc, words, config, wire, disk, outbox, print))
+    let ports = ports_of(alloc, words, config, script, fails, ready)?;
+    Ok(run_with(alloc, ports, disk, outbox))
 }
 
 /// Runs over these objects, none of which is looked at before the end.
-fn run_with<D: Disk>(
-    alloc: Global,
-    words: Many<Text>,
-    config: MemSource,
-    wire: TestWire,
-    disk: D,
-    outbox: MemSink,
-    print: MemSink,
-) -> Over<D> {
-    let mut config = config;
-    let mut wire = wire;
-    let mut print = print;
+fn run_with<D: Disk>(alloc: Global, ports: Ports, disk: D, outbox: MemSink) -> Over<D> {
+    let Ports {
+        words,
+        mut config,
+        mut wire,
+        mut print,
+    } = ports;
     let ended = run_single(
         alloc,
         words.as_slice(),
@@ -198,7 +222,49 @@ fn run_with<D: Disk>(
     Over { ended, wire, print }
 }
 
-/// Adds the kind and the number of each entry, as `C1T2V3`.
+/// Runs over the plain configuration beside as many syncers as the words say, with a disk and an outbox.
+pub(crate) fn run_beside<R: Threads + Wait + Sync, D: Disk + Drop, G: Gate + Sync>(
+    rt: &R,
+    alloc: Global,
+    words: &str,
+    script: &str,
+    ready: bool,
+    disk: D,
+    outbox: MemSink,
+    gate: &G,
+) -> Result<Over<D>, OutOfMemory> {
+    let ports = ports_of(alloc, words, plain_config(), script, none_fails(), ready)?;
+    Ok(run_beside_with(rt, alloc, ports, disk, outbox, gate))
+}
+
+fn run_beside_with<R: Threads + Wait + Sync, D: Disk, G: Gate + Sync>(
+    rt: &R,
+    alloc: Global,
+    ports: Ports,
+    disk: D,
+    outbox: MemSink,
+    gate: &G,
+) -> Over<D> {
+    let Ports {
+        words,
+        mut config,
+        mut wire,
+        mut print,
+    } = ports;
+    let ended = run_syncers(
+        rt,
+        alloc,
+        words.as_slice(),
+        &mut config,
+        &mut wire,
+        disk,
+        outbox,
+        &mut print,
+        gate,
+    );
+    Over { ended, wire, print }
+}
+
 fn put_entries(alloc: Global, report: &mut Bytes, entries: &[Numbered]) -> Result<(), Fail> {
     for entry in entries {
         let kind = match &entry.entry {
@@ -308,7 +374,7 @@ fn ends(report: &Bytes, expected: &str) -> bool {
 }
 
 /// One connection brings the value 10.
-fn one_frame() -> &'static str {
+pub(crate) fn one_frame() -> &'static str {
     "100.000000000 open 1\n100.000000000 frame 1 {\"request\":\"sender data\",\"data\":[{\"host\":\"h\",\"key\":\"k\",\"value\":\"10\"}]}\n100.000000000 closed\n"
 }
 
@@ -342,12 +408,13 @@ fn source_report(number: u64) -> &'static str {
     }
 }
 
-/// The same of the n-th write to the outbox, where there are three lines.
+/// The same of the n-th write to the outbox, where there are three lines. The line that it refused is there, since the run
+/// tries once more where it ends.
 fn outbox_report(number: u64) -> &'static str {
     match number {
-        1 => "0.000000\"}\nstatus: OutboxFault\n",
-        2 => "0.000000\"}\nP|3-1|100.000000000|3|0|h|hot|hot\nstatus: OutboxFault\n",
-        3 => "|hot\nR|3-1|4|100.000000000|e\nstatus: OutboxFault\n",
+        1 => "0.000000\"}\nP|3-1|100.000000000|3|0|h|hot|hot\nstatus: OutboxFault\n",
+        2 => "|hot\nR|3-1|4|100.000000000|e\nstatus: OutboxFault\n",
+        3 => "|e\nF|5|h|k|value: not a number\nstatus: OutboxFault\n",
         _ => many_frames_report(),
     }
 }

@@ -1,11 +1,11 @@
 -- What is read of the options that a parse found.
-use Rattle.std.proofs.Common.{◌≡◌, ◌∙◌, ◌<◌, ◌^◌, ◌&&◌, ℕ, Bool, true, false, refl, sym, ap, ap₂, arith, List, [], ◌∷◌, map, Option, Some, None, Result, Ok, Err, nat_lt, lt-ltb, ltb-true, length, cond, inl, inr, subst}
-use Rattle.std.specs.Prelude.{option_and_then, option_map}
+use Rattle.std.proofs.Common.{◌≡◌, ◌∙◌, ◌<◌, ◌^◌, ◌&&◌, ℕ, Bool, true, false, refl, sym, ap, ap₂, arith, List, [], ◌∷◌, map, Option, Some, None, Result, Ok, Err, nat_lt, lt-ltb, ltb-true, cond, inl, inr, subst}
+use Rattle.std.specs.Prelude.{option_and_then}
 use Rattle.std.proofs.lemmas.Bool.{ne_eqb}
 use Rattle.std.specs.List.{list_all}
 use Rattle.std.specs.Char.{digit_value}
 use Rattle.std.specs.Str.Parse.{AllDigits, IsNumeral, ParsesUnsigned, digits_value, without_leading_plus}
-use Rattle.clap.specs.Words.{App, Row, HasKind, HasMatchesOf, first_value, first_of, one_text, one_of, rows_of, found_of, kind_of, fault_of, matches_of, is_simple, is_simple_and_free, ReadsOne}
+use Rattle.clap.specs.Words.{App, Row, HasKind, HasMatchesOf, first_value, first_of, one_text, rows_of, found_of, kind_of, fault_of, matches_of, is_simple, is_simple_and_free, ReadsOne}
 use Rattle.clap.specs.Kinds.{Kinds}
 use Rattle.clap.specs.Walk.{is_empty}
 use Rattle.clap.specs.declared.error.Error.{Error}

@@ -1,5 +1,5 @@
 -- The words of the command line, as `clap` reads a simple command, and their plan.
-use Rattle.std.specs.Prelude.{ℕ, Bool, true, ◌&&◌, ◌<◌, List, [], ◌∷◌, Option, Some, None, is_some, option_and_then, option_map, unwrap_or, if◌then◌else◌, codes, nat_lt, ◌^◌, ◌-◌}
+use Rattle.std.specs.Prelude.{ℕ, Bool, true, ◌&&◌, List, [], ◌∷◌, Option, Some, None, is_some, option_and_then, option_map, unwrap_or, if◌then◌else◌, codes, nat_lt, ◌^◌, ◌-◌}
 use Rattle.std.specs.Str.{bytes_eq}
 use Rattle.std.specs.Str.Parse.{digits_value, without_leading_plus}
 use Rattle.clap.specs.Words.{App, Row, Rule, new_app, new_rule, with_rule, matches_of, fault_of, first_of, one_of}
@@ -40,7 +40,7 @@ text_app = with_rule (with_rule (with_rule (with_rule (with_rule (with_rule bare
 -- the command: its texts and its numbers
 abbrev pub server_app : App
 server_app = with_rule (with_rule (with_rule (with_rule (with_rule text_app
-    (number (codes "syncers") (codes "0") 0 0)) (number (codes "turns") (codes "1000000000") 1 1000000000))
+    (number (codes "syncers") (codes "4") 0 16)) (number (codes "turns") (codes "1000000000") 1 1000000000))
     (number (codes "max-entries") (codes "4000000") 1 4000000)) (number (codes "number") (codes "1") 0 (2 ^ 64 - 1)))
     (number (codes "values") (codes "1000") 1 1000000)
 

@@ -62,7 +62,7 @@ pub(crate) fn command<'a>(alloc: Global) -> Result<Command<'a>, AllocError>
     ensures { IfOk result (λ command. app_of command ≡ server_app) }
 {
     text_command(alloc)?
-        .arg(number(alloc, "syncers", "0", 0, 0))?
+        .arg(number(alloc, "syncers", "4", 0, 16))?
         .arg(number(alloc, "turns", "1000000000", 1, 1_000_000_000))?
         .arg(number(alloc, "max-entries", "4000000", 1, 4_000_000))?
         .arg(number(alloc, "number", "1", 0, u64::MAX))?

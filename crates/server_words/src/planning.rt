@@ -15,9 +15,9 @@ use zbx_types::{OutOfMemory, Text};
 ///
 /// The words are `--name value` or `--name=value`, each option at most once, in any order. `--mode` is `feed`, `serve` or
 /// `workload`. The first two need `--config`, a path; feed needs `--script`, a path, and serve needs `--listen`, an
-/// address and port. `--journal` is a path, `--outbox` a path or `-`, `--syncers` is 0, `--turns` is 1 to 1,000,000,000,
-/// `--max-entries` 1 to 4,000,000, `--number` 0 to 2^64 - 1, and `--values` 1 to 1,000,000. What a mode doesn't need it
-/// may have.
+/// address and port. `--journal` is a path, `--outbox` a path or `-`, `--syncers` is 0 to 16, `--turns` 1 to
+/// 1,000,000,000, `--max-entries` 1 to 4,000,000, `--number` 0 to 2^64 - 1, and `--values` 1 to 1,000,000. What a mode
+/// doesn't need it may have.
 ///
 /// [`PlanError::Usage`] comes exactly where `clap` doesn't take the words as this command's, or the mode is another one
 /// or lacks what it needs. [`PlanError::OutOfMemory`] where there is no room for the command or for the plan.

@@ -66,27 +66,27 @@ fn plans() -> [(&'static str, &'static str); 11] {
     [
         (
             "--mode feed --config c --script s",
-            "feed config c script s outbox - 0 1000000000 4000000 1 1000",
+            "feed config c script s outbox - 4 1000000000 4000000 1 1000",
         ),
         (
             "--script=s --config=c --mode=feed",
-            "feed config c script s outbox - 0 1000000000 4000000 1 1000",
+            "feed config c script s outbox - 4 1000000000 4000000 1 1000",
         ),
         (
             "--mode serve --config c --listen 127.0.0.1:10051",
-            "serve config c listen 127.0.0.1:10051 outbox - 0 1000000000 4000000 1 1000",
+            "serve config c listen 127.0.0.1:10051 outbox - 4 1000000000 4000000 1 1000",
         ),
         (
             "--mode serve --config c --listen a:1 --script s --outbox o --syncers 0 --turns 1",
             "serve config c script s listen a:1 outbox o 0 1 4000000 1 1000",
         ),
         (
-            "--mode feed --config c --script s --turns 1000000000",
-            "feed config c script s outbox - 0 1000000000 4000000 1 1000",
+            "--mode feed --config c --script s --turns 1000000000 --syncers 16",
+            "feed config c script s outbox - 16 1000000000 4000000 1 1000",
         ),
         (
             "--mode feed --config= --script s --outbox -",
-            "feed config  script s outbox - 0 1000000000 4000000 1 1000",
+            "feed config  script s outbox - 4 1000000000 4000000 1 1000",
         ),
         (
             "--mode feed --config c --script s --turns +4 --syncers=00",
@@ -94,25 +94,25 @@ fn plans() -> [(&'static str, &'static str); 11] {
         ),
         (
             "--mode feed --config c --script s --journal j --max-entries 1",
-            "feed config c script s journal j outbox - 0 1000000000 1 1 1000",
+            "feed config c script s journal j outbox - 4 1000000000 1 1 1000",
         ),
         (
             "--mode feed --config c --script s --",
-            "feed config c script s outbox - 0 1000000000 4000000 1 1000",
+            "feed config c script s outbox - 4 1000000000 4000000 1 1000",
         ),
         (
             "--mode workload",
-            "workload outbox - 0 1000000000 4000000 1 1000",
+            "workload outbox - 4 1000000000 4000000 1 1000",
         ),
         (
             "--mode workload --number 18446744073709551615 --values 1000000 --outbox o --journal j",
-            "workload journal j outbox o 0 1000000000 4000000 18446744073709551615 1000000",
+            "workload journal j outbox o 4 1000000000 4000000 18446744073709551615 1000000",
         ),
     ]
 }
 
 /// Lines of words that aren't those of the command.
-fn others() -> [&'static str; 27] {
+fn others() -> [&'static str; 28] {
     [
         "",
         "--mode",
@@ -132,7 +132,8 @@ fn others() -> [&'static str; 27] {
         "--mode feed --config c --script s x",
         "--mode feed --config c --script s --help",
         "-h",
-        "--mode feed --config c --script s --syncers 1",
+        "--mode feed --config c --script s --syncers 17",
+        "--mode feed --config c --script s --syncers -1",
         "--mode feed --config c --script s --turns 0",
         "--mode feed --config c --script s --turns 1000000001",
         "--mode feed --config c --script s --journal j --journal k",

@@ -29,7 +29,7 @@ pub struct Plan {
     pub journal: Option<Text>,
     /// The path of the outbox, or `-` for standard output, which is its default.
     pub outbox: Text,
-    /// How many history syncers work at once: 0 so far, so that one thread does all.
+    /// How many history syncers work at once: 0 to 16; 4 is the default. At 0 one thread does all.
     pub syncers: u32,
     /// How many events are taken at most: 1 to 1,000,000,000, which is the default.
     pub turns: u64,

@@ -10,11 +10,15 @@
 //! is gone with the run, and without an outbox the lines go to standard output. With `--mode serve --listen ADDRESS` the
 //! events come over sockets, and `--mode workload --number N --values V` makes configuration and events from a number.
 //!
+//! In each mode `--syncers N` says how many history syncers, 0 to 16, work the entries out, each in a thread of its own. Without
+//! it they are 4; with 0 of them the thread that takes the events does all. The same entries come to the same lines whatever
+//! their number.
+//!
 //! It exits with the number of the status: 0 for Ok, 2 for Usage, 3 for ConfigRefused, 5 for SourceFault, 6 for NotOurs, 7 for
 //! Damaged, 8 for ConfigDiffers, 9 for OutboxAhead, 10 for DiskFault, 11 for OutboxFault, 12 for PrintFault, 13 for WireFault,
 //! 14 for Full, 15 for TurnLimit, 16 for OutOfMemory. Nothing goes to standard error.
 //!
-//! All that the run does is [`server_run::run_single`]. This crate hands it the files and standard output:
+//! All that the run does is [`server_run::run_syncers`]. This crate hands it the files and standard output:
 //! [`FileSource`](wire_mio::FileSource) reads a file, [`FileSink`](wire_mio::FileSink) adds to one, [`FileDisk`](wire_mio::FileDisk)
 //! keeps one, and [`StdSink`](wire_mio::StdSink) writes to standard output.
 //!
@@ -33,10 +37,12 @@ ghost use Rattle.zabbix_server.specs.Program.{status_in};
 
 use server_words::Status;
 use std::process::ExitCode;
+use std::sync::Wait;
+use std::thread::Threads;
 use zbx_types::OutOfMemory;
 
 fn main(rt: HostRuntime) -> ExitCode {
-    exit(status(&rt))
+    exit(status(&rt, &rt))
 }
 
 /// The program's exit: the number of the status of its run, or of OutOfMemory where there was no memory for its words or
@@ -52,11 +58,11 @@ fn exit(ended: Result<Status, OutOfMemory>) -> ExitCode
 
 /// How the program ended: with the status of a run over its words. [`OutOfMemory`] where there is no memory for its words
 /// or what they name; nothing was printed then.
-fn status(rt: &HostRuntime) -> Result<Status, OutOfMemory>
+fn status<R: Threads + Wait + Sync>(rt: &HostRuntime, threads: &R) -> Result<Status, OutOfMemory>
     ensures { IfOk result (λ status. (words : List (List ℕ)) × IsRunStatus words status) }
 {
     let words = arguments::words(rt, rt.alloc())?;
-    running::run(rt, rt.alloc(), words.as_slice())
+    running::run(rt, threads, rt.alloc(), words.as_slice())
 }
 
 #[cfg(test)]

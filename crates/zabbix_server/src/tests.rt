@@ -8,7 +8,9 @@ use std::convert::AsStr;
 use std::env::FillError;
 use std::process::ExitCode;
 use std::rt::Env;
+use std::sync::Wait;
 use std::test::Fail;
+use std::thread::Threads;
 use std::{env, fs};
 use wire_mio::FileSink;
 use zbx_types::{Bytes, Many, OutOfMemory, Text};
@@ -108,7 +110,8 @@ fn words_of(alloc: Global, words: &str) -> Result<Many<Text>, OutOfMemory> {
 }
 
 /// The number of a run's status over objects in memory.
-fn exit_in_memory(
+fn exit_in_memory<R: Threads + Wait + Sync>(
+    rt: &R,
     alloc: Global,
     words: &str,
     config: &str,
@@ -125,7 +128,8 @@ fn exit_in_memory(
     let outbox = MemSink::new(Bytes::new(alloc), only(alloc, fails.outbox)?);
     let printer = MemSink::new(Bytes::new(alloc), only(alloc, fails.printer)?);
     let disk = RamDisk::new(alloc);
-    Ok(status_of(alloc, words.as_slice(), config, wire, disk, outbox, printer).exit())
+    let words = words.as_slice();
+    Ok(status_of(rt, alloc, words, config, wire, disk, outbox, printer).exit())
 }
 
 #[test]
@@ -152,7 +156,10 @@ fn each_status_has_its_number(rt: HostRuntime) -> Result<(), Fail> {
         (good, plain_config(), one_frame(), printer, 12),
         (good, plain_config(), "open 1\n", none, 13),
     ] {
-        assert_eq!(rt; exit_in_memory(alloc, words, config, script, fails)?, exit);
+        assert_eq!(rt;
+            exit_in_memory(&rt, alloc, words, config, script, fails)?,
+            exit
+        );
     }
     Ok(())
 }
@@ -176,13 +183,18 @@ fn file_of(rt: &HostRuntime, name: &str, text: &str) -> Result<Text, Fail> {
 }
 
 /// The number of the status of a run over files, whose paths stand behind their words.
-fn exit_over_files(rt: &HostRuntime, config: &Text, script: &Text) -> Result<u8, Fail> {
+fn exit_over_files<R: Threads + Wait + Sync>(
+    rt: &HostRuntime,
+    threads: &R,
+    config: &Text,
+    script: &Text,
+) -> Result<u8, Fail> {
     let alloc = rt.alloc();
     let mut words = words_of(alloc, "--mode feed --config")?;
     words.push(config.copy(alloc)?)?;
     words.push(Text::of(alloc, "--script")?)?;
     words.push(script.copy(alloc)?)?;
-    Ok(run(rt, alloc, words.as_slice())?.exit())
+    Ok(run(rt, threads, alloc, words.as_slice())?.exit())
 }
 
 #[test]
@@ -199,7 +211,7 @@ fn a_run_over_files_ends_with_its_status(rt: HostRuntime) -> Result<(), Fail> {
         (&plain, &broken, 13),
         (&plain, &nowhere, 13),
     ] {
-        assert_eq!(rt; exit_over_files(&rt, config, script)?, exit);
+        assert_eq!(rt; exit_over_files(&rt, &rt, config, script)?, exit);
     }
     for path in [&plain, &refused, &script, &broken] {
         fs::remove_file(&rt, path.as_str())?;
@@ -209,7 +221,7 @@ fn a_run_over_files_ends_with_its_status(rt: HostRuntime) -> Result<(), Fail> {
 
 #[test]
 fn no_words_are_usage(rt: HostRuntime) -> Result<(), Fail> {
-    assert_eq!(rt; run(&rt, rt.alloc(), &[])?, Status::Usage);
+    assert_eq!(rt; run(&rt, &rt, rt.alloc(), &[])?, Status::Usage);
     Ok(())
 }
 

@@ -1,20 +1,30 @@
 use Rattle.std.proofs.Common.{◌≡◌, ◌∙◌, ap, length, List, rules}
 use Rattle.zbx_types.specs.declared.entries.Numbered.{Numbered}
-use Rattle.server_run.proofs.Events.{took_on, took_ends, keeps_on, keeps_ended, settled_of}
+use Rattle.server_run.specs.Going.{IsServing}
+use Rattle.server_run.proofs.Events.{took_ends}
+use Rattle.server_run.proofs.Going.{took_as, batch_whole, batch_on, batch_ended}
 use Rattle.server_run.proofs.serving.serve_batch.Goals as goal
 
-pub returns-in-None-clause-took : goal.returns-in-None-clause-took
-returns-in-None-clause-took g c = took_on _ _ _ _ _ _ _ _ _ _ _ c.settle_unless-settled.result c.take_batch-count.ensures.took (search rules)
+pub send_after-sent-requires-clause-whole : goal.send_after-sent-requires-clause-whole
+send_after-sent-requires-clause-whole g c =
+    let count : length c.entries-from.result.now ≡ length c.args.front.now.intake.entries = ap (λ (l : List Numbered). length l) c.entries-from.ensures in
+    batch_whole _ _ _ c.requires.conf _ _ _ _ _ _ _ _ _ c.take_batch-count.ensures.took c.requires.serving.sound _ _ c.requires.serving.sent _ count
+
+pub returns-in-None-clause-sent : goal.returns-in-None-clause-sent
+returns-in-None-clause-sent g c =
+    let count : length c.entries-from.result.now ≡ length c.args.front.now.intake.entries = ap (λ (l : List Numbered). length l) c.entries-from.ensures in
+    (batch_on _ _ _ c.requires.conf _ _ _ _ _ _ _ _ _ c.take_batch-count.ensures.took c.requires.serving.sound _ _ c.requires.serving.sent _ count c.send_after-sent.result _ c.send_after-sent.ensures.all c.send_after-sent.ensures.front (search rules)).0
+
+pub returns-in-None-clause-serving : goal.returns-in-None-clause-serving
+returns-in-None-clause-serving g c =
+    let count : length c.entries-from.result.now ≡ length c.args.front.now.intake.entries = ap (λ (l : List Numbered). length l) c.entries-from.ensures in
+    let on = batch_on _ _ _ c.requires.conf _ _ _ _ _ _ _ _ _ c.take_batch-count.ensures.took c.requires.serving.sound _ _ c.requires.serving.sent _ count c.send_after-sent.result _ c.send_after-sent.ensures.all c.send_after-sent.ensures.front (search rules) in
+    record { going = search rules; idle = c.take_batch-count.ensures.idle; sound = on.1; sent = on.0; room = search rules }
 
 pub returns-in-Some-clause-took : goal.returns-in-Some-clause-took
-returns-in-Some-clause-took g c = took_ends _ _ _ _ _ _ _ _ _ _ _ c.settle_unless-settled.result c.in-Some.status c.take_batch-count.ensures.took (search rules) (search rules)
+returns-in-Some-clause-took g c = took_ends _ _ _ _ _ _ _ _ _ _ _ c.send_after-sent.result c.in-Some.status (took_as _ _ _ _ _ _ _ _ _ _ _ _ c.requires.conf c.take_batch-count.ensures.took) (search rules) (search rules)
 
-pub returns-in-None-clause-keeps_up : goal.returns-in-None-clause-keeps_up
-returns-in-None-clause-keeps_up g c = λ sink u.
+pub returns-in-Some-clause-sent : goal.returns-in-Some-clause-sent
+returns-in-Some-clause-sent g c =
     let count : length c.entries-from.result.now ≡ length c.args.front.now.intake.entries = ap (λ (l : List Numbered). length l) c.entries-from.ensures in
-    keeps_on _ _ _ _ _ _ _ _ _ _ _ c.settle_unless-settled.result _ _ sink _ _ _ c.take_batch-count.ensures.took (settled_of _ _ _ _ _ _ _ _ _ (c.ready-ready.ensures ∙ c.take_batch-count.ensures.same) c.settle_unless-settled.ensures.settled) count u (search rules)
-
-pub returns-in-Some-clause-keeps_up : goal.returns-in-Some-clause-keeps_up
-returns-in-Some-clause-keeps_up g c = λ sink u.
-    let count : length c.entries-from.result.now ≡ length c.args.front.now.intake.entries = ap (λ (l : List Numbered). length l) c.entries-from.ensures in
-    keeps_ended _ _ _ _ _ _ _ _ _ _ _ c.settle_unless-settled.result _ _ sink _ _ _ c.take_batch-count.ensures.took (settled_of _ _ _ _ _ _ _ _ _ (c.ready-ready.ensures ∙ c.take_batch-count.ensures.same) c.settle_unless-settled.ensures.settled) count u c.in-Some.status (search rules)
+    batch_ended _ _ _ c.requires.conf _ _ _ _ _ _ _ _ _ c.take_batch-count.ensures.took c.requires.serving.sound _ _ c.requires.serving.sent _ count c.send_after-sent.result _ c.send_after-sent.ensures.all c.send_after-sent.ensures.front c.in-Some.status (search rules)

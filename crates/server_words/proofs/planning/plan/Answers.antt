@@ -1,7 +1,6 @@
-use Rattle.std.proofs.Common.{◌≡◌, ◌∙◌, rules}
+use Rattle.std.proofs.Common.{◌∙◌}
 use Rattle.std.proofs.lemmas.Result.{IfOk-weaker}
-use Rattle.clap.specs.Words.{app_of, found_of, rows_of}
-use Rattle.server_words.specs.Words.{plan_in, plan_of}
+use Rattle.clap.specs.Words.{app_of}
 use Rattle.server_words.proofs.Rows.{plan_found, plan_refused}
 use Rattle.server_words.proofs.planning.plan.Goals as goal
 

@@ -5,7 +5,7 @@ use Rattle.zabbix_server.proofs.running.status_of.Goals as goal
 
 pub returns : goal.returns
 returns g c =
-    let r = c.run_single in
+    let r = c.run_syncers in
     let after : Objects = record {
       source = g.S.Source.left r.new.config;
       source_faults = g.S.Source.faults r.new.config;

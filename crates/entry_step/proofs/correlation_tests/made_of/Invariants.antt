@@ -1,4 +1,0 @@
-use Rattle.entry_step.proofs.correlation_tests.made_of.Given as goal
-
-abbrev pub ghosts-made_over : goal.ghosts-made_over
-ghosts-made_over a = record { name = a.blank.name; parts = a.blank.parts }

@@ -1,0 +1,427 @@
+-- Laws of the taking of events behind what a run had done.
+use Rattle.std.proofs.Common.{◌≡◌, ◌⊎◌, ⊎_elim, ℕ, ◌+◌, ◌-◌, ◌≤◌, ◌<◌, List, [], ◌++◌, append-nil, refl, sym, ap, ◌∙◌, subst, arith, inl, inr, length, drop, true≢false}
+use Rattle.std.specs.Prelude.{◌≢◌, Option, Some, None, IfSome, Result, Ok, Err, OnOk, Bool, true, false}
+use Rattle.std.specs.Option.{option_to_list}
+use mathlib.Core.List.{IsPrefix}
+use Rattle.zbx_types.specs.declared.conf.Conf.{Conf}
+use Rattle.zbx_types.specs.declared.entries.Numbered.{Numbered}
+use Rattle.zbx_types.specs.declared.memory.OutOfMemory.{OutOfMemory}
+use Rattle.outside.specs.Causes.{Rose}
+use Rattle.outside.specs.Tells.{SinkTells, WireTells}
+use Rattle.outside.specs.declared.event.WireEvent.{WireEvent}
+use Rattle.outside.specs.declared.event.Trouble.{Trouble}
+use Rattle.book.specs.Ends.{HeadView}
+use Rattle.book.specs.Entries.{IsWholeLog}
+use Rattle.book.specs.Outgoing.{log_lines}
+use Rattle.book.specs.Tally.{tally_of}
+use Rattle.book.specs.declared.errors.BookError.{BookError}
+use Rattle.book.specs.declared.errors.BookError.TheVariants as refusal
+use Rattle.entry_step.specs.Log.{log_of}
+use Rattle.entry_step.specs.Records.{replay}
+use Rattle.server_words.specs.declared.status.Counts.{Counts}
+use Rattle.intake_front.specs.Batch.{IsIdle}
+use Rattle.intake_front.specs.Intake.{Limits, Intake, IsSound}
+use Rattle.intake_front.specs.Fronted.{Fronted, IsKept, IsReady, limits_of, refused_group}
+use Rattle.intake_front.specs.declared.answer.Stop.{Stop}
+use Rattle.server_words.specs.declared.status.Status.{Status}
+use Rattle.server_words.specs.declared.status.Status.TheVariants as status
+use Rattle.server_run.specs.declared.serving.Taken.{Taken}
+use Rattle.server_run.specs.declared.serving.Taken.TheVariants as taken
+use Rattle.server_run.specs.Events.{Doing, Ran, Took, Ends, ending_of}
+use Rattle.server_run.specs.Going.{Reaches, TakesOn, IsServing, IsServedAt, HasServed, IsEndedAt, IsSentAt, IsCause, IsJoined, IsWorse, IsOpened, IsAheadOf, HasGone, book_status}
+use Rattle.server_run.specs.Outbox.{LinesAre}
+use Rattle.server_run.specs.Tally.{counts_with}
+use Rattle.server_run.specs.Runs.{Finished}
+use Rattle.server_run.specs.Statuses.{Ending, never, at_closed, at_limit, at_wire_fault, at_disk_fault, at_full, anywhere, at_refusal, course_of, ended_with, EndsAs, LeftIs, IsCourse, IsUnprinted}
+use Rattle.server_run.specs.Stops.{refusing, Journals}
+use Rattle.server_run.proofs.Events.{ran_grows, ran_none, ran_on, finish_on, finish_with, goes_on_is, no_trouble, ended_sent, limits_kept}
+use Rattle.server_run.proofs.Logs.{behind_sent, sent_front}
+use Rattle.server_run.proofs.Runs.{finished_refused, is_ending}
+
+-- ---- what is sent
+
+pub sent_whole : (kept sent entries : List Numbered) (s : Status) → kept ++ sent ≡ entries → IsSentAt kept sent entries s
+sent_whole kept sent entries status.OutOfMemory is = ([], append-nil (kept ++ sent) ∙ is)
+sent_whole kept sent entries _ is = is
+
+pub sent_prefix : (kept sent entries : List Numbered) (s : Status) → IsSentAt kept sent entries s → IsPrefix (kept ++ sent) entries
+sent_prefix kept sent entries status.OutOfMemory is = is
+sent_prefix kept sent entries _ is = ([], append-nil (kept ++ sent) ∙ is)
+
+pub sent_all : (kept sent entries : List Numbered) (s : Status) → IsSentAt kept sent entries s → (s ≡ status.OutOfMemory → ⊥) → kept ++ sent ≡ entries
+sent_all kept sent entries status.OutOfMemory is other = absurd (other refl)
+sent_all kept sent entries _ is other = is
+
+-- what is sent by a status is sent by a worse one
+pub sent_worse : (kept sent entries : List Numbered) (s t : Status) → IsWorse s t → IsSentAt kept sent entries s → IsSentAt kept sent entries t
+sent_worse kept sent entries s t (inl same) is = subst (IsSentAt kept sent entries) (sym same) is
+sent_worse kept sent entries s t (inr (inl spent)) is = subst (IsSentAt kept sent entries) (sym spent) (sent_prefix kept sent entries s is)
+sent_worse kept sent entries s t (inr (inr (fault, other))) is = subst (IsSentAt kept sent entries) (sym fault) (sent_all kept sent entries s is other)
+
+-- ---- what some events send that are committed together
+
+pub took_as : (limits : Limits) (k conf : Conf) (old new : Intake) (did : Doing) (w w' : WireTells) (most count : ℕ) (s : Option Stop) (g : Result (Unit {0}) Trouble) → k ≡ conf → Took limits k old new did w w' most count s g
+    → Took limits conf old new did w w' most count s g
+took_as limits k conf old new did w w' most count s g same took = subst (λ (x : Conf). Took limits x old new did w w' most count s g) same took
+
+module _ (limits : Limits) (k conf : Conf) (same : k ≡ conf) (old new : Intake) (did : Doing) (w w' : WireTells) (most count : ℕ) (s : Option Stop) (g : Result (Unit {0}) Trouble) (took : Took limits k old new did w w' most count s g)
+    (sound : IsSound conf old) (kept sent : List Numbered) (is : kept ++ sent ≡ old.entries) (n : ℕ) (size : n ≡ length old.entries) where
+  here : Took limits conf old new did w w' most count s g
+  here = subst (λ (x : Conf). Took limits x old new did w w' most count s g) same took
+
+  -- with their entries all are sent
+  batch_all : kept ++ (sent ++ drop n new.entries) ≡ new.entries
+  batch_all = behind_sent kept sent old.entries new.entries n is size (ran_grows (refusing limits (refused_group old s)) conf old.entries old new did w w' count s here.lost (ending_of g) here.ran)
+
+  -- which are a whole log
+  pub batch_whole : IsWholeLog conf (kept ++ (sent ++ drop n new.entries))
+  batch_whole =
+      let i = here.sound sound in
+      subst (IsWholeLog conf) (sym (batch_all ∙ i.2)) (record { full = i.1.full; fits = i.1.fits })
+
+  module _ (t : Result (Unit {0}) OutOfMemory) (sent' : List Numbered) (all : OnOk t (sent' ≡ sent ++ drop n new.entries)) (front : IsPrefix sent' (sent ++ drop n new.entries)) where
+    sent_ok : (u : Unit {0}) → t ≡ Ok u → kept ++ sent' ≡ new.entries
+    sent_ok u well = ap (λ l. kept ++ l) (subst (λ r. OnOk r (sent' ≡ sent ++ drop n new.entries)) well all) ∙ batch_all
+
+    -- where the run goes on, and it serves
+    pub batch_on : ended_with s g t ≡ None → (kept ++ sent' ≡ new.entries) × IsSound conf new
+    batch_on on =
+        let why = goes_on_is s g t on in
+        let i = here.sound sound in
+        let kept_is : here.lost ≡ None = lost_none g here why.1.0 why.1.1 in
+        (sent_ok why.2.0 why.2.1, subst (IsSound conf) (sym (i.3 why.0 kept_is)) i.1)
+      where
+        lost_none : (x : Result (Unit {0}) Trouble) (h : Took limits conf old new did w w' most count s x) (u : Unit {0}) → x ≡ Ok u → h.lost ≡ None
+        lost_none (Ok enough) h u same = no_trouble h.lost (Ok enough) enough refl h.lost_is
+        lost_none (Err e) h u same = absurd (cc)
+
+    -- where it ends
+    pub batch_ended : (e : Status) → ended_with s g t ≡ Some e → IsSentAt kept sent' new.entries e
+    batch_ended e ends = ⊎_elim
+        (λ spent. subst (IsSentAt kept sent' new.entries) (sym spent) (sent_front kept sent' (sent ++ drop n new.entries) new.entries front batch_all))
+        (λ well. sent_whole kept sent' new.entries e (sent_ok well.0 well.1)) (ended_sent s g t e ends)
+
+-- ---- worse endings
+
+-- no event was lost where an ending isn't for want of memory
+none_lost : (s : Status) (turns count : ℕ) (stop : Option Stop) (lost : Option WireEvent) → (s ≡ status.OutOfMemory → ⊥) → EndsAs (course_of s).ending turns count stop lost → lost ≡ None
+none_lost status.Ok turns count stop lost other ends = ends.1
+none_lost status.PrintFault turns count stop lost other ends = ends.1
+none_lost status.TurnLimit turns count stop lost other ends = ends.2
+none_lost status.WireFault turns count stop lost other ends = ends.1
+none_lost status.OutboxFault turns count stop lost other ends = ends
+none_lost status.OutOfMemory turns count stop lost other ends = absurd (other refl)
+none_lost status.DiskFault turns count stop lost other ends = ends.1
+none_lost (status.Full entries bytes) turns count stop lost other ends = ends.1
+none_lost _ turns count stop lost other none = absurd none
+
+-- what is left, where no call of next failed
+left_anywhere : (s : Status) (lost : Option WireEvent) (left : Option (List WireEvent)) (rest : List WireEvent) (turns count : ℕ) (stop : Option Stop) → EndsAs (course_of s).ending turns count stop lost → (s ≡ status.OutOfMemory → ⊥) → (s ≡ status.WireFault → ⊥)
+    → LeftIs (course_of s).ending lost left rest → LeftIs anywhere lost left rest
+left_anywhere status.Ok lost left rest turns count stop ends other well is = is
+left_anywhere status.PrintFault lost left rest turns count stop ends other well is = is
+left_anywhere status.TurnLimit lost left rest turns count stop ends other well is = is
+left_anywhere status.WireFault lost left rest turns count stop ends other well is = absurd (well refl)
+left_anywhere status.OutboxFault lost left rest turns count stop ends other well is = is
+left_anywhere status.OutOfMemory lost left rest turns count stop ends other well is = absurd (other refl)
+left_anywhere status.DiskFault lost left rest turns count stop ends other well is = is
+left_anywhere (status.Full entries bytes) lost left rest turns count stop ends other well is = is
+left_anywhere _ lost left rest turns count stop none other well is = absurd none
+
+is_wire : (s : Status) → (s ≡ status.WireFault) ⊎ (s ≡ status.WireFault → ⊥)
+is_wire status.WireFault = inl refl
+is_wire status.Ok = inr (λ e. cc)
+is_wire status.PrintFault = inr (λ e. cc)
+is_wire status.TurnLimit = inr (λ e. cc)
+is_wire status.OutboxFault = inr (λ e. cc)
+is_wire status.OutOfMemory = inr (λ e. cc)
+is_wire status.DiskFault = inr (λ e. cc)
+is_wire (status.Full entries bytes) = inr (λ e. cc)
+is_wire status.Usage = inr (λ e. cc)
+is_wire status.SourceFault = inr (λ e. cc)
+is_wire (status.ConfigRefused path cause) = inr (λ e. cc)
+is_wire (status.PatternRefused path) = inr (λ e. cc)
+is_wire (status.PatternTooLarge path) = inr (λ e. cc)
+is_wire status.NotOurs = inr (λ e. cc)
+is_wire (status.Damaged at) = inr (λ e. cc)
+is_wire (status.ConfigDiffers at) = inr (λ e. cc)
+is_wire (status.OutboxAhead held lines) = inr (λ e. cc)
+
+-- a run that ended is one whose outbox failed
+finished_fault : (limits : Limits) (conf : Conf) (recovered : List Numbered) (begun : Intake) (entries : List Numbered) (turns : ℕ) (did : Doing) (w w' : WireTells) (s : Status) → (s ≡ status.OutOfMemory → ⊥)
+    → (s ≡ status.WireFault → Rose w.faults w'.faults) → Finished limits conf recovered begun entries turns did w w' (course_of s).ending → Finished limits conf recovered begun entries turns did w w' anywhere
+finished_fault limits conf recovered begun entries turns did w w' s other wire f = record {
+  handled = f.handled;
+  lost = f.lost;
+  refused = f.refused;
+  few = f.few;
+  given = f.given;
+  told = told w.left f.told;
+  entries_are = f.entries_are;
+  ends = none_lost s turns _ _ f.lost other f.ends;
+  refused_is = f.refused_is;
+  shows = f.shows;
+  journaled = f.journaled;
+}
+  where
+    told : (left : Option (List WireEvent)) → IfSome left (λ all. (rest : List WireEvent) × (all ≡ f.handled ++ (option_to_list f.lost ++ rest)) × (LeftIs (course_of s).ending f.lost w'.left rest ⊎ Rose w.faults w'.faults))
+        → IfSome left (λ all. (rest : List WireEvent) × (all ≡ f.handled ++ (option_to_list f.lost ++ rest)) × (LeftIs anywhere f.lost w'.left rest ⊎ Rose w.faults w'.faults))
+    told None t = tt
+    told (Some all) t = (t.0, t.1, ⊎_elim (λ is. ⊎_elim (λ fault. inr (wire fault)) (λ well. inl (left_anywhere s f.lost w'.left t.0 turns _ _ f.ends other well is)) (is_wire s)) (λ rose. inr rose) t.2)
+
+pub finished_worse : (limits : Limits) (conf : Conf) (recovered : List Numbered) (begun : Intake) (entries : List Numbered) (turns : ℕ) (did : Doing) (w w' : WireTells) (s t : Status) → IsWorse s t
+    → (s ≡ status.WireFault → Rose w.faults w'.faults) → Finished limits conf recovered begun entries turns did w w' (course_of s).ending → Finished limits conf recovered begun entries turns did w w' (course_of t).ending
+finished_worse limits conf recovered begun entries turns did w w' s t (inl same) wire f = subst (λ x. Finished limits conf recovered begun entries turns did w w' (course_of x).ending) (sym same) f
+finished_worse limits conf recovered begun entries turns did w w' s t (inr (inl spent)) wire f =
+    subst (λ x. Finished limits conf recovered begun entries turns did w w' (course_of x).ending) (sym spent) (finished_refused limits conf recovered begun entries turns did w w' (course_of s).ending f)
+finished_worse limits conf recovered begun entries turns did w w' s t (inr (inr (fault, other))) wire f =
+    subst (λ x. Finished limits conf recovered begun entries turns did w w' (course_of x).ending) (sym fault) (finished_fault limits conf recovered begun entries turns did w w' s other wire f)
+
+-- a run that took events has a status of one that has begun
+pub course_taken : (limits : Limits) (conf : Conf) (recovered : List Numbered) (begun : Intake) (entries : List Numbered) (turns : ℕ) (did : Doing) (w w' : WireTells) (s : Status) → Finished limits conf recovered begun entries turns did w w' (course_of s).ending → IsCourse s
+course_taken limits conf recovered begun entries turns did w w' s f = is_ending (course_of s).ending turns _ _ f.lost f.ends
+
+-- ---- a run, part by part
+
+module _ {D : Type 0} (bytes : D → Option (List ℕ)) (images : D → List ℕ → Type 0) (moment : D → ℕ) (since : D → ℕ → List ℕ → Type 0) (faults : D → ℕ) where
+  abbrev doing : D → D → Doing
+  doing old new = Journals bytes images moment since faults (λ c. ⊥) old new
+
+  abbrev At : Limits → Conf → List Numbered → Intake → Intake → D → D → WireTells → WireTells → ℕ → Type 0
+  At limits conf recovered start now d0 d w0 w count = Reaches bytes images moment since faults limits conf recovered start now d0 d w0 w count
+
+  -- at the start no event was taken
+  pub at_start : (limits : Limits) (conf : Conf) (i : Intake) (disk : D) (w : WireTells) → ((c : List ℕ) → since disk (moment disk) c → images disk c) → IsKept bytes images disk i.entries → At limits conf i.entries i i disk disk w w 0
+  at_start limits conf i disk w only_now kept = record { ran = ran_none bytes images moment since faults limits conf i disk w only_now kept; later = omega arith }
+
+  module _ (limits : Limits) (conf : Conf) (recovered : List Numbered) (start now : Intake) (d0 d1 : D) (w0 w1 : WireTells) (count n : ℕ) (r : At limits conf recovered start now d0 d1 w0 w1 (count + n)) where
+    -- more events, behind which the run goes on
+    pub at_more : (new : Intake) (d2 : D) (w2 : WireTells) (more : ℕ) (l : Limits) → l ≡ limits → Ran (refusing l 0) conf now.entries now new (doing d1 d2) w1 w2 more None None anywhere → w1.faults ≤ w2.faults
+        → At limits conf recovered start new d0 d2 w0 w2 (count + (n + more))
+    at_more new d2 w2 more l same t later =
+        let all = ran_on bytes images moment since faults limits conf recovered start now new d0 d1 d2 w0 w1 w2 (count + n) more r.ran l same conf refl t in
+        let sum : (count + n) + more ≡ count + (n + more) = omega arith in
+        record { ran = subst (λ k. Ran (refusing limits 0) conf recovered start new (doing d0 d2) w0 w2 k None None anywhere) sum all; later = omega (arith, r.later, later) }
+
+    -- as many as are allowed were taken
+    pub at_limit_of : (turns : ℕ) → n ≡ turns → Finished limits conf recovered start now.entries (count + turns) (doing d0 d1) w0 w1 at_limit
+    at_limit_of turns is = finish_on bytes images moment since faults limits conf recovered start now d0 d1 w0 w1 (count + n) (count + turns) at_limit r.ran (omega (arith, is)) (omega (arith, is), refl, refl)
+
+    -- or memory was refused
+    pub at_refusal_of : (turns : ℕ) → n ≤ turns → Finished limits conf recovered start now.entries (count + turns) (doing d0 d1) w0 w1 at_refusal
+    at_refusal_of turns few = finish_on bytes images moment since faults limits conf recovered start now d0 d1 w0 w1 (count + n) (count + turns) at_refusal r.ran (omega (arith, few)) (inl refl)
+
+    -- or the outbox failed
+    pub at_fault_of : (turns : ℕ) → n ≤ turns → Finished limits conf recovered start now.entries (count + turns) (doing d0 d1) w0 w1 anywhere
+    at_fault_of turns few = finish_on bytes images moment since faults limits conf recovered start now d0 d1 w0 w1 (count + n) (count + turns) anywhere r.ran (omega (arith, few)) refl
+
+    -- or the last events ended it
+    pub at_end : (new : Intake) (d2 : D) (w2 : WireTells) (most turns : ℕ) (e : Status) (l : Limits) → l ≡ limits → Ends l conf now new (doing d1 d2) w1 w2 most e → n + most ≤ turns
+        → Finished limits conf recovered start new.entries (count + turns) (doing d0 d2) w0 w2 (course_of e).ending
+    at_end new d2 w2 most turns e l same t few =
+        finish_with bytes images moment since faults limits conf recovered start now new d0 d1 d2 w0 w1 w2 (count + n) most (count + turns) e r.ran l same conf refl t (omega (arith, few)) r.later
+
+  -- ---- what somebody else made of it
+
+  module _ (conf : Conf) (kept : List Numbered) (old mid : Fronted D) (w0 w1 : WireTells) (head : HeadView) (turns : ℕ) where
+    abbrev Served : Taken → Type 0
+    Served t = HasServed bytes images moment since faults conf kept old mid w0 w1 head turns t
+
+    -- want of memory beside it ends the taking of events
+    spent : (t : Taken) → Served t → Served (taken.Ended status.OutOfMemory)
+    spent (taken.Ended s) h = record {
+      later = h.later;
+      takes = λ recovered start d0 w count r. finished_refused (limits_of old.journal 0) conf recovered start mid.intake.entries (count + turns) (doing d0 mid.journal.disk) w w1 (course_of s).ending (h.takes recovered start d0 w count r);
+      served = (
+        record { idle = h.served.0.idle; sent = sent_prefix kept head.sent mid.intake.entries s h.served.0.sent; unprinted = tt; wire = λ e. cc },
+        (tt, λ e. cc),
+      );
+    }
+    spent (taken.Going n) h = record {
+      later = h.later;
+      takes = λ recovered start d0 w count r. at_refusal_of (limits_of old.journal 0) conf recovered start mid.intake d0 mid.journal.disk w w1 count n (h.takes.1 recovered start d0 w count r) turns h.takes.0;
+      served = (
+        record { idle = h.served.0.idle; sent = sent_whole kept head.sent mid.intake.entries status.OutOfMemory h.served.0.sent; unprinted = tt; wire = λ e. cc },
+        (tt, λ e. cc),
+      );
+    }
+
+    pub joined : (t u : Taken) → IsJoined t u → Served t → Served u
+    joined t u (inl same) h = subst Served (sym same) h
+    joined t u (inr is) h = subst Served (sym is) (spent t h)
+
+    -- where the outbox failed too
+    pub ended_worse : (s t : Status) → IsWorse s t → IsEndedAt kept mid w0 w1 head s → IsEndedAt kept mid w0 w1 head t
+    ended_worse s t (inl same) h = subst (IsEndedAt kept mid w0 w1 head) (sym same) h
+    ended_worse s t (inr (inl is)) h =
+        subst (IsEndedAt kept mid w0 w1 head) (sym is) (record { idle = h.idle; sent = sent_prefix kept head.sent mid.intake.entries s h.sent; unprinted = tt; wire = λ e. cc })
+    ended_worse s t (inr (inr (is, other))) h =
+        subst (IsEndedAt kept mid w0 w1 head) (sym is) (record { idle = h.idle; sent = sent_all kept head.sent mid.intake.entries s h.sent other; unprinted = tt; wire = λ e. cc })
+
+  -- ---- events that are taken beside syncers, and behind them
+
+  module _ (conf : Conf) (kept : List Numbered) (old mid : Fronted D) (w0 w1 : WireTells) (head : HeadView) (turns : ℕ) where
+    abbrev Ends_as : Status → Type 0
+    Ends_as s = TakesOn bytes images moment since faults (limits_of old.journal 0) conf old.intake mid.intake old.journal.disk mid.journal.disk w0 w1 turns (taken.Ended s)
+
+    -- a fault of the outbox stands before what ended them
+    pub takes_worse : (s t : Status) → IsWorse s t → (s ≡ status.WireFault → Rose w0.faults w1.faults) → Ends_as s → Ends_as t
+    takes_worse s t worse wire takes = λ recovered start d0 w count r.
+        finished_worse (limits_of old.journal 0) conf recovered start mid.intake.entries (count + turns) (doing d0 mid.journal.disk) w w1 s t worse (λ is. omega (arith, r.later, wire is)) (takes recovered start d0 w count r)
+
+    -- or ends them
+    pub takes_fault : (n : ℕ) → HasServed bytes images moment since faults conf kept old mid w0 w1 head turns (taken.Going n) → Ends_as status.OutboxFault
+    takes_fault n h = λ recovered start d0 w count r.
+        at_fault_of (limits_of old.journal 0) conf recovered start mid.intake d0 mid.journal.disk w w1 count n (h.takes.1 recovered start d0 w count r) turns h.takes.0
+
+    pub fault_ended : IsServing conf kept mid head → IsEndedAt kept mid w0 w1 head status.OutboxFault
+    fault_ended s = record { idle = s.idle; sent = s.sent; unprinted = tt; wire = λ e. cc }
+
+    -- more are taken on one thread, behind those that the syncers had
+    module _ (new : Fronted D) (w2 : WireTells) (head' : HeadView) (n : ℕ) (h : HasServed bytes images moment since faults conf kept old mid w0 w1 head turns (taken.Going n)) (s : Status) where
+      pub takes_then : TakesOn bytes images moment since faults (limits_of mid.journal 0) conf mid.intake new.intake mid.journal.disk new.journal.disk w1 w2 (turns - n) (taken.Ended s)
+          → TakesOn bytes images moment since faults (limits_of old.journal 0) conf old.intake new.intake old.journal.disk new.journal.disk w0 w2 turns (taken.Ended s)
+      takes_then then = λ recovered start d0 w count r.
+          let before = h.takes.1 recovered start d0 w count r in
+          let same : limits_of mid.journal 0 ≡ limits_of old.journal 0 = limits_kept old.journal mid.journal h.served.1 in
+          let sum : (count + n) + (turns - n) ≡ count + turns = omega (arith, h.takes.0) in
+          let as_taken = subst (λ (l : Limits). TakesOn bytes images moment since faults l conf mid.intake new.intake mid.journal.disk new.journal.disk w1 w2 (turns - n) (taken.Ended s)) same then in
+          subst (λ m. Finished (limits_of old.journal 0) conf recovered start new.intake.entries m (doing d0 new.journal.disk) w w2 (course_of s).ending) sum (as_taken recovered start d0 w (count + n) before)
+
+      pub ended_then : IsEndedAt kept new w1 w2 head' s → IsEndedAt kept new w0 w2 head' s
+      ended_then e = record { idle = e.idle; sent = e.sent; unprinted = e.unprinted; wire = λ is. omega (arith, h.later, e.wire is) }
+
+  -- none more
+  pub at_none : (limits : Limits) (conf : Conf) (recovered : List Numbered) (start now : Intake) (d0 d1 : D) (w0 w1 : WireTells) (count : ℕ) → At limits conf recovered start now d0 d1 w0 w1 count → At limits conf recovered start now d0 d1 w0 w1 (count + 0)
+  at_none limits conf recovered start now d0 d1 w0 w1 count r = let same : count ≡ count + 0 = omega arith in subst (λ k. At limits conf recovered start now d0 d1 w0 w1 k) same r
+
+  -- where nobody takes events, none is taken
+  pub served_none : (conf : Conf) (kept : List Numbered) (front : Fronted D) (w : WireTells) (head : HeadView) (turns : ℕ) → IsServing conf kept front head
+      → HasServed bytes images moment since faults conf kept front front w w head turns (taken.Going 0)
+  served_none conf kept front w head turns s = record {
+    later = omega arith;
+    takes = (omega arith, λ recovered start d0 w0 count r. at_none (limits_of front.journal 0) conf recovered start front.intake d0 front.journal.disk w0 w count r);
+    served = (s, (s.going, refl, refl));
+  }
+
+  -- ---- how the taking of events ends
+
+  -- what a run has done that took so many events since it was like this
+  abbrev Since : Conf → Fronted D → Fronted D → WireTells → WireTells → ℕ → Type 0
+  Since conf old now w w1 n = (recovered : List Numbered) (start : Intake) (d0 : D) (w0 : WireTells) (count : ℕ) → At (limits_of old.journal 0) conf recovered start old.intake d0 old.journal.disk w0 w count
+      → At (limits_of old.journal 0) conf recovered start now.intake d0 now.journal.disk w0 w1 (count + n)
+
+  module _ (conf : Conf) (kept : List Numbered) (old now : Fronted D) (w w1 : WireTells) (turns n : ℕ) (ran : Since conf old now w w1 n) (later : w.faults ≤ w1.faults) (ready : IsReady old.journal now.journal) (within : n ≤ turns) where
+    -- by want of memory
+    pub served_refused : (head : HeadView) → IsIdle now → kept ++ head.sent ≡ now.intake.entries → HasServed bytes images moment since faults conf kept old now w w1 head turns (taken.Ended status.OutOfMemory)
+    served_refused head idle sent = record {
+      later = later;
+      takes = λ recovered start d0 w0 count r. at_refusal_of (limits_of old.journal 0) conf recovered start now.intake d0 now.journal.disk w0 w1 count n (ran recovered start d0 w0 count r) turns within;
+      served = (record { idle = idle; sent = sent_whole kept head.sent now.intake.entries status.OutOfMemory sent; unprinted = tt; wire = λ e. cc }, (tt, λ e. cc));
+    }
+
+    -- by their number
+    pub served_limit : (head : HeadView) → IsIdle now → kept ++ head.sent ≡ now.intake.entries → n ≡ turns → HasServed bytes images moment since faults conf kept old now w w1 head turns (taken.Ended status.TurnLimit)
+    served_limit head idle sent all = record {
+      later = later;
+      takes = λ recovered start d0 w0 count r. at_limit_of (limits_of old.journal 0) conf recovered start now.intake d0 now.journal.disk w0 w1 count n (ran recovered start d0 w0 count r) turns all;
+      served = (record { idle = idle; sent = sent; unprinted = tt; wire = λ e. cc }, (tt, λ e. cc));
+    }
+
+    -- by the last of them
+    pub served_end : (new : Fronted D) (w2 : WireTells) (head : HeadView) (most : ℕ) (e : Status) → Ends (limits_of now.journal 0) conf now.intake new.intake (doing now.journal.disk new.journal.disk) w1 w2 most e → n + most ≤ turns
+        → IsIdle new → IsSentAt kept head.sent new.intake.entries e → IsCause e → (e ≡ status.WireFault → Rose w1.faults w2.faults) → w1.faults ≤ w2.faults
+        → HasServed bytes images moment since faults conf kept old new w w2 head turns (taken.Ended e)
+    served_end new w2 head most e ends few idle sent cause wire more = record {
+      later = omega (arith, later, more);
+      takes = λ recovered start d0 w0 count r. at_end (limits_of old.journal 0) conf recovered start now.intake d0 now.journal.disk w0 w1 count n (ran recovered start d0 w0 count r) new.intake new.journal.disk w2 most turns e
+          (limits_of now.journal 0) (limits_kept old.journal now.journal ready) ends few;
+      served = (record { idle = idle; sent = sent; unprinted = cause.0; wire = λ is. omega (arith, later, wire is) }, cause);
+    }
+
+  -- ---- a whole run
+
+  -- what events made that were taken from the beginning on
+  pub finished_taken : (conf : Conf) (kept : List Numbered) (old new : Fronted D) (w w' : WireTells) (turns : ℕ) (s : Status) → IsOpened bytes images conf kept old → ((c : List ℕ) → since old.journal.disk (moment old.journal.disk) c → images old.journal.disk c)
+      → TakesOn bytes images moment since faults (limits_of old.journal 0) conf old.intake new.intake old.journal.disk new.journal.disk w w' turns (taken.Ended s)
+      → Finished (limits_of old.journal 0) conf kept old.intake new.intake.entries turns (doing old.journal.disk new.journal.disk) w w' (course_of s).ending
+  finished_taken conf kept old new w w' turns s o only_now takes =
+      let all = takes old.intake.entries old.intake old.journal.disk w 0 (at_start (limits_of old.journal 0) conf old.intake old.journal.disk w only_now o.durable) in
+      let sum : 0 + turns ≡ turns = omega arith in
+      subst (λ es. Finished (limits_of old.journal 0) conf es old.intake new.intake.entries turns (doing old.journal.disk new.journal.disk) w w' (course_of s).ending) o.entries_are
+      (subst (λ n. Finished (limits_of old.journal 0) conf old.intake.entries old.intake new.intake.entries n (doing old.journal.disk new.journal.disk) w w' (course_of s).ending) sum all)
+
+  module _ (conf : Conf) (kept : List Numbered) (outbox : SinkTells) (front : Fronted D) (turns : ℕ) (w w' : WireTells) (began : Bool) (s : Status) (counts : Counts) (disk : D) (entries : List Numbered) (outbox' : SinkTells) where
+    abbrev Gone : Type 0
+    Gone = HasGone bytes images moment since faults conf kept outbox front turns w w' began s counts disk entries outbox'
+
+    -- one that got no book
+    pub gone_held : began ≡ false → disk ≡ front.journal.disk → entries ≡ front.intake.entries → (error : BookError) → s ≡ book_status error
+        → ((h l : ℕ) → error ≡ refusal.OutboxAhead h l → (h ≡ outbox.held) × (l ≡ length (log_lines conf (log_of kept))) × (l < h)) → Gone
+    gone_held isnt disk_is entries_are error is ahead = record {
+      wire = λ e. absurd (not_wire error (sym is ∙ e));
+      fault = λ e. absurd (not_fault error (sym is ∙ e));
+      unprinted = subst IsUnprinted (sym is) (own error);
+      held_back = λ f. record { disk_is = disk_is; entries_are = entries_are; why = subst (IsAheadOf conf kept outbox.held) (sym is) (why error ahead) };
+      enough = λ so. absurd (clash so);
+      finished = λ so. absurd (clash so);
+      lines = λ so. absurd (clash so);
+      counts_are = λ e. absurd (not_well error (sym is ∙ e));
+    }
+      where
+        clash : began ≡ true → ⊥
+        clash so = true≢false (sym so ∙ isnt)
+
+        not_wire : (e : BookError) → book_status e ≡ status.WireFault → ⊥
+        not_wire (refusal.OutboxAhead h l) e = cc
+        not_wire refusal.OutOfMemory e = cc
+
+        not_fault : (e : BookError) → book_status e ≡ status.OutboxFault → ⊥
+        not_fault (refusal.OutboxAhead h l) e = cc
+        not_fault refusal.OutOfMemory e = cc
+
+        not_well : (e : BookError) → book_status e ≡ status.Ok → ⊥
+        not_well (refusal.OutboxAhead h l) e = cc
+        not_well refusal.OutOfMemory e = cc
+
+        own : (e : BookError) → IsUnprinted (book_status e)
+        own (refusal.OutboxAhead h l) = tt
+        own refusal.OutOfMemory = tt
+
+        why : (e : BookError) → ((h l : ℕ) → e ≡ refusal.OutboxAhead h l → (h ≡ outbox.held) × (l ≡ length (log_lines conf (log_of kept))) × (l < h)) → IsAheadOf conf kept outbox.held (book_status e)
+        why (refusal.OutboxAhead h l) f = f h l refl
+        why refusal.OutOfMemory f = tt
+
+    -- one that took events
+    pub gone_course : (new : Fronted D) (t : Status) → began ≡ true → disk ≡ new.journal.disk → entries ≡ new.intake.entries → IsWorse t s → IsUnprinted t → (t ≡ status.WireFault → Rose w.faults w'.faults)
+        → outbox.held ≤ length (log_lines conf (log_of kept)) → Finished (limits_of front.journal 0) conf kept front.intake new.intake.entries turns (doing front.journal.disk new.journal.disk) w w' (course_of t).ending
+        → (s ≡ status.OutboxFault → Rose outbox.faults outbox'.faults) → LinesAre (course_of s).out outbox outbox' (drop outbox.held (log_lines conf (log_of new.intake.entries)))
+        → (s ≡ status.Ok → counts ≡ counts_with (length new.intake.entries) (tally_of (replay conf (log_of new.intake.entries)))) → Gone
+    gone_course new t is_so disk_is entries_are worse own wire enough f fault lines counts_are = record {
+      wire = wire_worse worse;
+      fault = fault;
+      unprinted = own_worse worse;
+      held_back = λ isnt. absurd (true≢false (sym is_so ∙ isnt));
+      enough = λ y. enough;
+      finished = λ y. subst (λ d. Finished (limits_of front.journal 0) conf kept front.intake entries turns (doing front.journal.disk d) w w' (course_of s).ending) (sym disk_is)
+          (subst (λ es. Finished (limits_of front.journal 0) conf kept front.intake es turns (doing front.journal.disk new.journal.disk) w w' (course_of s).ending) (sym entries_are)
+          (finished_worse (limits_of front.journal 0) conf kept front.intake new.intake.entries turns (doing front.journal.disk new.journal.disk) w w' t s worse wire f));
+      lines = λ y. subst (λ es. LinesAre (course_of s).out outbox outbox' (drop outbox.held (log_lines conf (log_of es)))) (sym entries_are) lines;
+      counts_are = λ is. subst (λ es. counts ≡ counts_with (length es) (tally_of (replay conf (log_of es)))) (sym entries_are) (counts_are is);
+    }
+      where
+        wire_worse : IsWorse t s → s ≡ status.WireFault → Rose w.faults w'.faults
+        wire_worse (inl same) is = wire (sym same ∙ is)
+        wire_worse (inr (inl spent)) is = absurd (other spent is)
+          where
+            other : s ≡ status.OutOfMemory → s ≡ status.WireFault → ⊥
+            other a b = cc
+        wire_worse (inr (inr (fault, o))) is = absurd (other fault is)
+          where
+            other : s ≡ status.OutboxFault → s ≡ status.WireFault → ⊥
+            other a b = cc
+
+        own_worse : IsWorse t s → IsUnprinted s
+        own_worse (inl same) = subst IsUnprinted (sym same) own
+        own_worse (inr (inl spent)) = subst IsUnprinted (sym spent) tt
+        own_worse (inr (inr (fault, o))) = subst IsUnprinted (sym fault) tt

@@ -1,0 +1,82 @@
+//! The work of one history syncer.
+
+ghost use Rattle.std.specs.Prelude.{◌≡◌, ◌<◌};
+
+use crate::shared::{Prepared, Shared};
+use book::{Order, RunName, StartName};
+use entry_step::Steps;
+use outside::{Gate, Sink};
+use std::alloc::Global;
+use std::marker::Brand;
+use std::sync::Wait;
+use std::sync::ledger::{Blank, Ledger};
+use zbx_types::OutOfMemory;
+
+/// Works an order out apart from the book, and brings it back. Answers whether the outbox took the lines.
+fn do_order<S: StartName, N: RunName, O: Sink, L: Ledger, R: Wait>(
+    rt: &R,
+    alloc: Global,
+    prepared: &Prepared<S>,
+    shared: &Shared<S, N, O>,
+    order: Order<S>,
+    steps: &mut Steps<L>,
+) -> Result<bool, OutOfMemory> {
+    match order.run(alloc, prepared.ready(), steps) {
+        Ok(done) => shared.settle(rt, alloc, prepared, done, steps),
+        Err((order, refused)) => {
+            shared.give_back(rt, order);
+            Err(refused)
+        }
+    }
+}
+
+/// Works orders out until there is no more to do, or the outbox fails. Between taking an order and working it out the syncer
+/// says so at the gate.
+fn do_orders<S: StartName, N: RunName, O: Sink, L: Ledger, R: Wait, G: Gate>(
+    rt: &R,
+    alloc: Global,
+    prepared: &Prepared<S>,
+    shared: &Shared<S, N, O>,
+    gate: &G,
+    syncer: u32,
+    blank: Blank,
+) -> Result<(), OutOfMemory>
+    requires name { blank.name ≡ L.name }
+    requires parts { blank.parts ≡ L.parts }
+    requires some { 0 < L.parts }
+{
+    let mut steps = Steps::<L>::new(blank);
+    for _ in rt.forever() {
+        let Some(order) = shared.next_order(rt, alloc, prepared)? else {
+            return Ok(());
+        };
+        gate.reached(syncer, order.first());
+        if !do_order(rt, alloc, prepared, shared, order, &mut steps)? {
+            return Ok(());
+        }
+    }
+    unreachable!()
+}
+
+/// One syncer, whose steps nobody reads. It ends where the run ends and it finds nothing to do, where the outbox fails, and
+/// where memory is refused. The run ends then too.
+pub(crate) fn work<S: StartName, N: RunName, O: Sink, R: Wait, G: Gate>(
+    rt: &R,
+    alloc: Global,
+    prepared: &Prepared<S>,
+    shared: &Shared<S, N, O>,
+    gate: &G,
+    syncer: u32,
+) -> Result<(), OutOfMemory> {
+    let done = do_orders::<S, N, O, Brand, R, G>(
+        rt,
+        alloc,
+        prepared,
+        shared,
+        gate,
+        syncer,
+        Blank::new(1),
+    );
+    shared.end(rt);
+    done
+}
