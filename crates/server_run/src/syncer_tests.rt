@@ -241,3 +241,14 @@ fn an_outbox_that_fails_holds_the_first_lines(rt: HostRuntime) -> Result<(), Fai
     }
     Ok(())
 }
+
+#[test]
+fn no_more_entries_are_taken_once_the_outbox_failed(rt: HostRuntime) -> Result<(), Fail> {
+    let alloc = rt.alloc();
+    let outbox = failing(alloc, 1, 100)?;
+    let over = run_work_beside(&rt, alloc, MANY, 4, outbox, &OpenGate)?;
+    assert!(rt; over.ended.status == Status::OutboxFault);
+    assert!(rt; over.outbox().is_empty());
+    assert!(rt; over.ended.entries.as_slice().len() < 100_000);
+    Ok(())
+}
