@@ -37,6 +37,3 @@ mod words;
 pub use document::read;
 pub use json_form::ReadError;
 pub use raw::{RawConf, RawDepend, RawHost, RawItem, RawMacro, RawTrigger};
-
-#[cfg(test)]
-mod tests;

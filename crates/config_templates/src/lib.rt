@@ -53,6 +53,3 @@ mod uses;
 
 pub use fault::FlatError;
 pub use flattening::flat;
-
-#[cfg(test)]
-mod tests;

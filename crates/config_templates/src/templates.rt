@@ -5,6 +5,4 @@ pub(crate) mod links;
 pub(crate) mod names;
 pub(crate) mod ranks;
 pub(crate) mod sources;
-#[cfg(test)]
-mod tests;
 pub(crate) mod walks;

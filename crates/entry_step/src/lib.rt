@@ -78,8 +78,3 @@ pub use index::Ready;
 pub use parts::{ItemRow, Part, TriggerRow, WorkedOut, work_out};
 pub use stepping::step;
 pub use steps::Steps;
-
-#[cfg(test)]
-mod event_tests;
-#[cfg(test)]
-mod tests;
