@@ -39,10 +39,3 @@ mod syncing;
 mod taking;
 
 pub use run::{Ended, run_single, run_syncers};
-
-#[cfg(test)]
-mod crash_tests;
-#[cfg(test)]
-mod syncer_tests;
-#[cfg(test)]
-mod tests;

@@ -1,6 +1,6 @@
 ghost use Rattle.std.specs.Prelude.{◌≡◌, None};
 
-use super::tests::{Found, Over, none_fails, only, plain_config, run_behind, run_beside, sink};
+use crate::runs::{Found, Over, none_fails, only, plain_config, run_behind, run_beside, sink};
 use outside::{Disk, Failed, MemDisk, OpenGate};
 use std::alloc::Global;
 use std::sync::Wait;

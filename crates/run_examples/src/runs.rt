@@ -1,7 +1,9 @@
-use super::*;
+//! Runs over scripts on one thread, and what each fault makes of them.
+
 use outside::{
     Disk, Failed, Gate, MemDisk, MemSink, MemSource, ScriptWire, Trouble, Wire, WireEvent,
 };
+use server_run::{Ended, run_single, run_syncers};
 use server_words::Status;
 use std::alloc::Global;
 use std::convert::AsStr;

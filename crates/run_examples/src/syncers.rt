@@ -1,8 +1,8 @@
 ghost use Rattle.std.specs.Prelude.{◌≤◌};
 
-use super::tests::{one_frame, only, run_beside, sink, words_of};
-use super::*;
+use crate::runs::{one_frame, only, run_beside, sink, words_of};
 use outside::{Gate, HoldGate, MemSink, OpenGate, RamDisk, WorkWire, work_source};
+use server_run::{Ended, run_single, run_syncers};
 use server_words::Status;
 use std::alloc::Global;
 use std::convert::AsStr;
