@@ -7,7 +7,8 @@ usage: bench/waits.py PROGRAM [--values N] [--number N] [--triggers N] [--syncer
 1,000,000 values of the number 7, one trigger an item, and 0, 1, 2, 4 and 8 syncers in turn, three runs each, if nothing else
 is said. The configuration and the values are those of bench/workload.py. The kernel's own account of each thread is read
 every few milliseconds until the run ends, so that what is told of a thread may lack its last moment. Of each number of
-syncers the middle run is printed: the thread that takes values, and then all syncers together.
+syncers the middle run is printed: the thread that takes values, and then all syncers together, without the thread that starts them
+and waits.
 """
 
 import json
@@ -89,6 +90,7 @@ def main():
             took, (ran, ready, slept, first, last), others = sorted(runs)[len(runs) // 2]
             print(f"{syncers} syncers: {values / took:,.0f} values a second")
             told("takes values", last - first, ran / 1e9, ready / 1e9, slept, values)
+            others = sorted(others)[1:]
             if others:
                 lived = sum(last - first for _, _, _, first, last in others)
                 ran, ready, slept = (sum(it[at] for it in others) for at in range(3))
