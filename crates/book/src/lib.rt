@@ -75,8 +75,3 @@ pub use outgoing::{add_lines, behind};
 pub use ring::{Ring, RingEnd, RingHead};
 pub use tally::Tally;
 pub use writing::write_all;
-
-#[cfg(test)]
-mod book_tests;
-#[cfg(test)]
-mod tests;

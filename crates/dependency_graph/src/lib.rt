@@ -28,6 +28,3 @@ mod walks;
 pub use chains::depths;
 pub use cycles::{LinkPlace, first_on_cycle};
 pub use walks::walk;
-
-#[cfg(test)]
-mod tests;

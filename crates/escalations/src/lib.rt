@@ -36,6 +36,3 @@ mod steps;
 mod triggers;
 
 pub use running::{due, due_of, first, first_of, recovered};
-
-#[cfg(test)]
-mod tests;

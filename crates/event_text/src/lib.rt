@@ -51,10 +51,3 @@ mod words;
 pub use messages::message;
 pub use records::{line, lines};
 pub use titles::{name, patterns_in, tags};
-
-#[cfg(test)]
-mod message_tests;
-#[cfg(test)]
-mod tests;
-#[cfg(test)]
-mod title_tests;

@@ -48,8 +48,3 @@ mod writing;
 
 pub use reading::{LONGEST_EXPRESSION, ParseError, Parsed, one_expression, read};
 pub use writing::write;
-
-#[cfg(test)]
-mod tests;
-#[cfg(test)]
-mod written_tests;

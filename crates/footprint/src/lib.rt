@@ -33,6 +33,3 @@ mod tables;
 pub use feet::Feet;
 pub use reach::in_reach;
 pub use tables::chain;
-
-#[cfg(test)]
-mod tests;

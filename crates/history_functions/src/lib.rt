@@ -44,6 +44,3 @@ mod values;
 
 pub use functions::{value, value_at};
 pub use patterned::pattern_place;
-
-#[cfg(test)]
-mod tests;

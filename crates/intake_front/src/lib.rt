@@ -51,10 +51,3 @@ pub use collection::Collection;
 pub use fitting::first_misfit;
 pub use front::Front;
 pub use refusal::ValueRefusal;
-
-#[cfg(test)]
-mod front_tests;
-#[cfg(test)]
-mod taking_tests;
-#[cfg(test)]
-mod tests;

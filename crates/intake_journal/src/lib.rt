@@ -49,8 +49,3 @@ pub use journal::Journal;
 pub use opening::FIRST_GATE;
 pub use reading::LONGEST_JOURNAL;
 pub use state::{AppendError, JournalError, State};
-
-#[cfg(test)]
-mod journal_tests;
-#[cfg(test)]
-mod tests;

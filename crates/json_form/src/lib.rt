@@ -37,6 +37,3 @@ pub use names::Names;
 pub use parsing::parse;
 pub use places::{At, Object};
 pub use wording::Words;
-
-#[cfg(test)]
-mod tests;

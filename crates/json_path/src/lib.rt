@@ -45,8 +45,3 @@ mod tokens;
 pub use path::{Comparison, Condition, Function, Literal, Path, PathError, Segment, Selector};
 pub use reading::{LONGEST_PATH, read};
 pub use results::{SelectError, select};
-
-#[cfg(test)]
-mod selection_tests;
-#[cfg(test)]
-mod tests;

@@ -44,6 +44,3 @@ mod writing;
 pub use reading::{ReadError, read};
 pub use tree::{Member, Members, Tree, Trees};
 pub use writing::write;
-
-#[cfg(test)]
-mod tests;

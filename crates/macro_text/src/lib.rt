@@ -38,8 +38,3 @@ pub use index::{MacroIndex, Macros};
 pub use limited::{Expansion, expand_front, expand_within};
 pub use macros::{Macro, MacroRef};
 pub use replacing::expand;
-
-#[cfg(test)]
-mod limited_tests;
-#[cfg(test)]
-mod tests;

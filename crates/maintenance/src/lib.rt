@@ -34,8 +34,3 @@ mod suppression;
 
 pub use force::in_force;
 pub use suppression::{collects, suppressed};
-
-#[cfg(test)]
-mod suppression_tests;
-#[cfg(test)]
-mod tests;

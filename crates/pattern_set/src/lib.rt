@@ -38,6 +38,3 @@ pub use matcher::Matcher;
 pub use output::Filled;
 pub use patterns::Patterns;
 pub use spans::Span;
-
-#[cfg(test)]
-mod tests;

@@ -48,6 +48,3 @@ pub use memory::StepMemory;
 pub use numbering::{NOT_A_NUMBER, number_of};
 pub use outcome::{Outcome, StepDone, TOO_LONG, fail, is_short, parameter, pass};
 pub use steps::{apply, apply_at};
-
-#[cfg(test)]
-mod tests;

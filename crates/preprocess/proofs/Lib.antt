@@ -7,6 +7,6 @@ pub mod Apart
 pub mod Local
 mod Keeping
 pub mod Becoming
-mod Plain
+pub mod Plain
 pub mod Logs
 pub mod Exchanging

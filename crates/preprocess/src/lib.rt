@@ -53,6 +53,3 @@ pub use ended::Ended;
 pub use exchange::exchange_at;
 pub use running::run;
 pub use ways::{Way, ways_of};
-
-#[cfg(test)]
-mod tests;

@@ -45,6 +45,3 @@ pub use reading::read;
 pub use refused::Refusal;
 pub use replying::{refusal, reply};
 pub use request::Request;
-
-#[cfg(test)]
-mod tests;

@@ -24,6 +24,3 @@ pub use planning::plan;
 pub use printing::printed;
 pub use status::{Counts, Status};
 pub use words::{Mode, Plan, PlanError};
-
-#[cfg(test)]
-mod tests;

@@ -41,6 +41,3 @@ mod touched;
 
 pub use batch::Batch;
 pub use claims::Claims;
-
-#[cfg(test)]
-mod tests;

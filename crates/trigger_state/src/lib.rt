@@ -45,6 +45,3 @@ pub use cells::TriggerCells;
 pub use judging::{held_by, verdict, verdict_over};
 pub use looking::Opens;
 pub use problems::Open;
-
-#[cfg(test)]
-mod tests;

@@ -41,8 +41,3 @@ mod windows;
 pub use beside::Window;
 pub use cell::ItemCell;
 pub use keeping::{Keep, keeps};
-
-#[cfg(test)]
-mod keep_tests;
-#[cfg(test)]
-mod tests;

@@ -60,6 +60,3 @@ pub use standard::StdSink;
 pub use stored::{DiskFile, Stored};
 pub use wire::MioWire;
 pub use writer::WriterSink;
-
-#[cfg(test)]
-mod tests;

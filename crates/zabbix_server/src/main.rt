@@ -64,6 +64,3 @@ fn status<R: Threads + Wait + Sync>(rt: &HostRuntime, threads: &R) -> Result<Sta
     let words = arguments::words(rt, rt.alloc())?;
     running::run(rt, threads, rt.alloc(), words.as_slice())
 }
-
-#[cfg(test)]
-mod tests;

@@ -97,6 +97,3 @@ pub use steps::{OnFail, StepKind, StepSpec};
 pub use tag_tests::{Matching, TagOp, TagTest, has_tag, share_value, tests_pass};
 pub use text::Text;
 pub use triggers::{RecoveryMode, Trigger};
-
-#[cfg(test)]
-mod tests;

@@ -1,5 +1,0 @@
-use Rattle.book.proofs.tests.cross_behind.Given as goal
-
--- the ring that was just made
-abbrev pub ghosts-cross : goal.ghosts-cross
-ghosts-cross g a = record { ring = a.ring.id }

@@ -1,9 +1,0 @@
-use Rattle.std.specs.Prelude.{[], ◌∷◌}
-use Rattle.zbx_types.specs.declared.entries.Entry.TheVariants.{Config}
-use Rattle.book.specs.Entries.{no_conf}
-use Rattle.book.specs.Outgoing.{no_outbox}
-use Rattle.book.proofs.tests.entries_cross_threads.Given as goal
-
--- a run whose journal kept the entry of the configuration
-abbrev pub ghosts-cross_behind : goal.ghosts-cross_behind
-ghosts-cross_behind g a = record { conf = no_conf; kept = record { number = 1; entry = Config 0 [] } ∷ []; outbox = no_outbox }

@@ -1,5 +1,0 @@
-use Rattle.book.proofs.tests.hold.Given as goal
-
--- the ring that was just made
-abbrev pub ghosts-tell : goal.ghosts-tell
-ghosts-tell g a = record { ring = a.ring.id }

@@ -1,7 +1,0 @@
-use Rattle.std.proofs.Common.{◌≡◌, length}
-use Rattle.std.specs.List.{All}
-use Rattle.intake_journal.specs.Bytes.{HasShortValue}
-use Rattle.intake_journal.proofs.journal_tests.values.Given as goal
-
-abbrev pub invariant-loop : goal.invariant-loop
-invariant-loop l = record { many : length l.group ≡ l.counter; short : All HasShortValue l.group }
