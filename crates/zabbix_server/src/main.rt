@@ -14,9 +14,10 @@
 //! it they are 4; with 0 of them the thread that takes the events does all. The same entries come to the same lines whatever
 //! their number.
 //!
-//! It exits with the number of the status: 0 for Ok, 2 for Usage, 3 for ConfigRefused, 5 for SourceFault, 6 for NotOurs, 7 for
-//! Damaged, 8 for ConfigDiffers, 9 for OutboxAhead, 10 for DiskFault, 11 for OutboxFault, 12 for PrintFault, 13 for WireFault,
-//! 14 for Full, 15 for TurnLimit, 16 for OutOfMemory. Nothing goes to standard error.
+//! It exits with the number of the status: 0 for Ok, 2 for Usage, 3 for ConfigRefused, 4 for PatternRefused, 5 for SourceFault,
+//! 6 for NotOurs, 7 for Damaged, 8 for ConfigDiffers, 9 for OutboxAhead, 10 for DiskFault, 11 for OutboxFault, 12 for
+//! PrintFault, 13 for WireFault, 14 for Full, 15 for TurnLimit, 16 for OutOfMemory, 26 for PatternTooLarge. Nothing goes to
+//! standard error.
 //!
 //! All that the run does is [`server_run::run_syncers`]. This crate hands it the files and standard output:
 //! [`FileSource`](wire_mio::FileSource) reads a file, [`FileSink`](wire_mio::FileSink) adds to one, [`FileDisk`](wire_mio::FileDisk)
