@@ -324,10 +324,7 @@ fn named<S: StartName, N: RunName, W: Wire, D: Disk, O: Sink>(
     let (head, end) = ring.named::<N>();
     let book = match Book::new(alloc, prepared.ready(), kept, end, outbox) {
         Ok(book) => book,
-        Err((outbox, error)) => {
-            forget(prepared.into_ready());
-            return held_back(front, refused(error), outbox);
-        }
+        Err((outbox, error)) => return held_back(front, refused(error), outbox),
     };
     let mut front = front;
     let mut head = head;
@@ -364,10 +361,7 @@ pub(crate) fn started<S: StartName, W: Wire, D: Disk, O: Sink>(
         Ok(ring) => {
             named::<S, Brand, W, D, O>(alloc, turns, prepared, wire, front, kept, ring, outbox)
         }
-        Err(OutOfMemory) => {
-            forget(prepared.into_ready());
-            held_back(front, Status::OutOfMemory, outbox)
-        }
+        Err(OutOfMemory) => held_back(front, Status::OutOfMemory, outbox),
     }
 }
 
@@ -405,10 +399,7 @@ where
     let (head, end) = ring.named::<N>();
     let book = match Book::new(alloc, prepared.ready(), kept, end, outbox) {
         Ok(book) => book,
-        Err((outbox, error)) => {
-            forget(prepared.into_ready());
-            return held_back(front, refused(error), outbox);
-        }
+        Err((outbox, error)) => return held_back(front, refused(error), outbox),
     };
     let mut front = front;
     let mut head = head;
@@ -452,9 +443,6 @@ where
                 rt, alloc, syncers, turns, prepared, wire, front, kept, ring, outbox, gate,
             )
         }
-        Err(OutOfMemory) => {
-            forget(prepared.into_ready());
-            held_back(front, Status::OutOfMemory, outbox)
-        }
+        Err(OutOfMemory) => held_back(front, Status::OutOfMemory, outbox),
     }
 }

@@ -39,7 +39,6 @@ use server_words::{Counts, Status, printed};
 use std::alloc::Global;
 use std::convert::AsStr;
 use std::marker::Brand;
-use std::mem::forget;
 use std::sync::Wait;
 use std::thread::Threads;
 use zbx_types::{Many, Numbered, OutOfMemory, Text};
@@ -111,10 +110,7 @@ fn go<S: Source, W: Wire, D: Disk, O: Sink>(
     };
     match copy_entries(alloc, front.entries()) {
         Ok(kept) => started::<Brand, W, D, O>(alloc, turns, ready, wire, front, kept, outbox),
-        Err(OutOfMemory) => {
-            forget(ready);
-            held_back(front, Status::OutOfMemory, outbox)
-        }
+        Err(OutOfMemory) => held_back(front, Status::OutOfMemory, outbox),
     }
 }
 
@@ -180,10 +176,7 @@ where
         Ok(kept) => started_beside::<Brand, W, D, O, R, G>(
             rt, alloc, syncers, turns, ready, wire, front, kept, outbox, gate,
         ),
-        Err(OutOfMemory) => {
-            forget(ready);
-            held_back(front, Status::OutOfMemory, outbox)
-        }
+        Err(OutOfMemory) => held_back(front, Status::OutOfMemory, outbox),
     }
 }
 
