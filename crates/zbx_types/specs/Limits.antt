@@ -21,6 +21,10 @@ longest_expression = 4096
 abbrev pub longest_name : ℕ
 longest_name = 128
 
+-- the most bytes of the title of a trigger after macros, and of the name of its events
+abbrev pub longest_title : ℕ
+longest_title = 2048
+
 -- the most connections at once
 abbrev pub most_connections : ℕ
 most_connections = 128

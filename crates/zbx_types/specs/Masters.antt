@@ -10,18 +10,21 @@ use Rattle.zbx_types.specs.declared.triggers.Trigger.{Trigger}
 abbrev pub has_id : List ℕ → ℕ → Bool
 has_id ids id = list_any (λ x. x == id) ids
 
--- what a trigger depends on directly, and its depth; none and 0 where it isn't there
+-- what a trigger depends on directly, and nothing where it isn't there
 abbrev pub depends_by : Option Trigger → List ℕ
 depends_by None = []
 depends_by (Some trigger) = trigger.depends
 
+-- what the trigger with an id depends on directly
 abbrev pub depends_of : Conf → ℕ → List ℕ
 depends_of conf id = depends_by (at_id conf.triggers id)
 
+-- the depth of a trigger, and 0 where it isn't there
 abbrev pub depth_by : Option Trigger → ℕ
 depth_by None = 0
 depth_by (Some trigger) = trigger.depth
 
+-- the depth of the trigger with an id
 abbrev pub depth_of : Conf → ℕ → ℕ
 depth_of conf id = depth_by (at_id conf.triggers id)
 
@@ -29,10 +32,11 @@ depth_of conf id = depth_by (at_id conf.triggers id)
 abbrev pub DepthsFall : Conf → Type 0
 DepthsFall conf = (id m : ℕ) → has_id (depends_of conf id) m ≡ true → depth_of conf m < depth_of conf id
 
--- the same as a test: of these ids, and of each trigger's
+-- the triggers with these ids have smaller depths
 abbrev pub are_below : Conf → ℕ → List ℕ → Bool
 are_below conf depth ids = list_all (λ m. nat_lt (depth_of conf m) depth) ids
 
+-- the same as a test: each trigger that one depends on has a smaller depth
 abbrev pub depths_fall : Conf → Bool
 depths_fall conf = list_all (λ trigger. are_below conf trigger.depth trigger.depends) conf.triggers
 
@@ -58,10 +62,11 @@ pub data IsMaster (conf : Conf) (id : ℕ) : ℕ → Type 0 where
 abbrev pub MastersByChains : Type 0
 MastersByChains = (conf : Conf) → DepthsFall conf → (id m : ℕ) → (is_master conf id m ≡ true → IsMaster conf id m) × (IsMaster conf id m → is_master conf id m ≡ true)
 
--- ids found so far, of triggers that are there, with one more and with some more
+-- ids found so far, with one more where it is that of one of so many triggers
 abbrev pub noted : ℕ → List ℕ → ℕ → List ℕ
 noted size found id = if id == 0 then found else if nat_le id size then (if has_id found id then found else found ++ id ∷ []) else found
 
+-- ids found so far, with some more
 abbrev pub entered : ℕ → List ℕ → List ℕ → List ℕ
 entered size found [] = found
 entered size found (id ∷ ids) = entered size (noted size found id) ids

@@ -1,11 +1,12 @@
 -- Lists of numbers, each by its millionths.
 use Rattle.std.specs.Prelude.{ℤ, pos, ◌+ℤ◌, int_lt, List, [], ◌∷◌, if◌then◌else◌}
 
--- the least and the greatest of a number and some more
+-- the least of a number and some more
 abbrev pub least : ℤ → List ℤ → ℤ
 least z [] = z
 least z (x ∷ xs) = least (if int_lt x z then x else z) xs
 
+-- the greatest of a number and some more
 abbrev pub greatest : ℤ → List ℤ → ℤ
 greatest z [] = z
 greatest z (x ∷ xs) = greatest (if int_lt z x then x else z) xs

@@ -6,7 +6,7 @@ use Rattle.zbx_types.specs.declared.calls.Fun.TheVariants.{Last, First, Min, Max
 use Rattle.zbx_types.specs.declared.operators.Operator.{Operator}
 use Rattle.zbx_types.specs.declared.operators.Operator.TheVariants.{Any, Unwritten, Eq, Ne, Gt, Ge, Lt, Le, Like, Regexp, Iregexp, Other}
 
--- an operator by its name; where neither name nor argument is written, any value matches
+-- an operator by its name
 abbrev pub named : List ℕ → Operator
 named op =
     if bytes_eq op (codes "eq") then Eq else if bytes_eq op (codes "ne") then Ne
@@ -15,6 +15,7 @@ named op =
     else if bytes_eq op (codes "like") then Like else if bytes_eq op (codes "regexp") then Regexp
     else if bytes_eq op (codes "iregexp") then Iregexp else Other
 
+-- the operator of a call; where neither name nor argument is written, any value matches
 abbrev pub operator_of : List ℕ → List ℕ → Operator
 operator_of op arg =
     if length op == 0 then (if length arg == 0 then Any else Unwritten) else named op

@@ -38,6 +38,7 @@ op_tag Sub = 13
 op_tag Mul = 14
 op_tag Div = 15
 
+-- the operator of a tag
 abbrev tag_op : ℕ → Op
 tag_op n =
     cond (n == 4) Or (cond (n == 5) And (cond (n == 6) Eq (cond (n == 7) Ne (cond (n == 8) Lt (cond (n == 9) Le
@@ -51,15 +52,17 @@ nodes (negative a) rest = nodes a ((2, pos 0) ∷ rest)
 nodes (negation a) rest = nodes a ((3, pos 0) ∷ rest)
 nodes (binary op a b) rest = nodes a (nodes b ((op_tag op, pos 0) ∷ rest))
 
--- the stack of trees after the node of an operator
+-- the stack of trees after the node of a sign
 abbrev negative_top : List Tree → List Tree
 negative_top [] = []
 negative_top (a ∷ stack) = negative a ∷ stack
 
+-- the stack of trees after the node of a `not`
 abbrev negation_top : List Tree → List Tree
 negation_top [] = []
 negation_top (a ∷ stack) = negation a ∷ stack
 
+-- the stack of trees after the node of an operator between two
 abbrev binary_top : Op → List Tree → List Tree
 binary_top op [] = []
 binary_top op (b ∷ []) = []
@@ -108,5 +111,6 @@ nodes_back (binary op a b) stack rest =
 pub tree_back : (t : Tree) → top (rebuilt [] (nodes t [])) ≡ t
 tree_back t = ap top (nodes_back t [] [])
 
+-- trees are coded by their nodes
 abbrev pub tree_code : Coded Tree
 tree_code = code_by (List (ℕ × ℤ)) (coded_list (coded× coded_ℕ coded_ℤ)) (λ t. nodes t []) (λ ns. top (rebuilt [] ns)) tree_back

@@ -4,6 +4,7 @@ use Rattle.zbx_types.specs.Tree.{Tree, constant, call, negative, negation, binar
 use Rattle.zbx_types.specs.declared.expr.Expr.{Expr}
 use Rattle.zbx_types.specs.declared.expr.Expr.TheVariants.{Const, Call, Neg, Not, Bin}
 
+-- the tree of an expression
 abbrev pub tree_of : Expr → Tree
 tree_of (Const z) = constant z
 tree_of (Call place) = call place

@@ -1,13 +1,19 @@
 //! The configuration in flat form, in the words of the Zabbix 6.0 manual. Ranges, here and in the parts, are those that the
 //! document is held to when it is read (this project's own).
 
+ghost use Rattle.std.specs.Prelude.{◌≡◌};
+ghost use Rattle.zbx_types.specs.Ids.{at_id};
+ghost use Rattle.zbx_types.specs.Hosts.{host_name};
+
 use crate::actions::Action;
+use crate::ids::by_id;
 use crate::items::Item;
 use crate::maintenances::Maintenance;
 use crate::many::Many;
 use crate::rules::Rule;
 use crate::text::Text;
 use crate::triggers::Trigger;
+use std::convert::AsStr;
 
 /// The configuration in the flat form in which it is used: templates are laid out over their hosts, user macros are
 /// expanded, and names of hosts, items and triggers are ids where that is possible. Ids count from 1.
@@ -44,4 +50,16 @@ pub struct Host {
     pub groups: Many<Text>,
     /// Whether it is monitored.
     pub enabled: bool,
+}
+
+impl Conf {
+    /// The name of the host with an id, empty where there is none.
+    pub fn host_name(&self, id: u32) -> &str
+        ensures { result.now ≡ host_name (at_id self.now.hosts id) }
+    {
+        match by_id(self.hosts.as_slice(), id) {
+            Some(host) => host.name.as_str(),
+            None => "",
+        }
+    }
 }

@@ -1,6 +1,7 @@
 //! Journal entries, the records that they make, and the values that items keep.
 
 ghost use Rattle.std.specs.Prelude.{◌≡◌, IfOk};
+ghost use Rattle.zbx_types.specs.Entries.{moment_of};
 ghost use Rattle.zbx_types.specs.Records.{event_of, tags_of, host_of, trigger_name_of};
 
 use crate::fix::Fix;
@@ -216,6 +217,15 @@ pub fn copy_tags(alloc: Global, tags: &Many<Tag>) -> Result<Many<Tag>, OutOfMemo
 }
 
 impl Entry {
+    /// The moment at which it was taken.
+    pub fn moment(&self) -> Moment
+        ensures { result ≡ moment_of self.now }
+    {
+        match self {
+            Entry::Config { now, .. } | Entry::Value { now, .. } | Entry::Tick { now } => *now,
+        }
+    }
+
     /// A copy. [`OutOfMemory`] where there is no room for it.
     pub fn copy(&self, alloc: Global) -> Result<Entry, OutOfMemory>
         ensures { IfOk result (λ made. made ≡ self.now) }

@@ -80,8 +80,8 @@ pub use groups::groups_of;
 pub use ids::{by_id, id_of};
 pub use items::{Item, ItemKind, ValueType};
 pub use limits::{
-    LONGEST_EXPRESSION, LONGEST_KEY, LONGEST_NAME, LONGEST_RANGE, LONGEST_TEXT, LONGEST_VALUE,
-    MOST_CONNECTIONS,
+    LONGEST_EXPRESSION, LONGEST_KEY, LONGEST_NAME, LONGEST_RANGE, LONGEST_TEXT, LONGEST_TITLE,
+    LONGEST_VALUE, MOST_CONNECTIONS,
 };
 pub use maintenances::{Maintenance, Period};
 pub use many::{Many, copy_texts};
@@ -95,5 +95,5 @@ pub use reserved::Reserved;
 pub use rules::{Rule, RuleCond};
 pub use steps::{OnFail, StepKind, StepSpec};
 pub use tag_tests::{Matching, TagOp, TagTest, has_tag, share_value, tests_pass};
-pub use text::Text;
+pub use text::{Text, is_same, same_text};
 pub use triggers::{RecoveryMode, Trigger};

@@ -15,6 +15,9 @@ pub const LONGEST_EXPRESSION: usize = 4_096;
 /// The most bytes of the name of a host or template.
 pub const LONGEST_NAME: usize = 128;
 
+/// The most bytes of the title of a trigger after macros, and of the name of its events.
+pub const LONGEST_TITLE: usize = 2_048;
+
 /// The most connections at once.
 pub const MOST_CONNECTIONS: usize = 128;
 

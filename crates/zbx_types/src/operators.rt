@@ -1,10 +1,10 @@
 //! The operators of `count` and `find`.
 
-ghost use Rattle.std.specs.Prelude.{◌≡◌, ◌++◌, bytes_eq, codes, IfOk};
+ghost use Rattle.std.specs.Prelude.{◌≡◌, IfOk};
 ghost use Rattle.zbx_types.specs.Operators.{named, operator_of, pattern_of};
 
 use crate::memory::OutOfMemory;
-use crate::text::Text;
+use crate::text::{Text, same_text};
 use std::alloc::Global;
 use std::convert::AsStr;
 
@@ -35,12 +35,6 @@ pub enum Operator {
     Iregexp,
     /// Any other name: nothing matches.
     Other,
-}
-
-fn same_text(a: &[u8], b: &[u8]) -> bool
-    ensures { result ≡ bytes_eq a.now b.now }
-{
-    a == b
 }
 
 fn word(op: &[u8]) -> Operator

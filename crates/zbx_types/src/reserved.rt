@@ -1,6 +1,6 @@
 //! Lists with room.
 
-ghost use Rattle.std.specs.Prelude.{◌≡◌, ◌≤◌, ◌<◌, ◌+◌, ◌-◌, ◌++◌, ◌∷◌, [], OnOk, OnErr};
+ghost use Rattle.std.specs.Prelude.{◌≡◌, ◌≤◌, ◌<◌, ◌+◌, ◌-◌, ◌++◌, ◌∷◌, [], OnOk};
 
 use crate::many::Many;
 use crate::memory::OutOfMemory;
@@ -15,7 +15,7 @@ pub struct Reserved<T> {
 }
 
 impl<T> Model for Reserved<T> {
-    ghost use Rattle.std.specs.Prelude.{◌-◌, ℕ};
+    ghost use Rattle.std.specs.Prelude.{◌-◌};
     ghost use Rattle.std.specs.Vec.{vec_capacity, vec_len};
     ghost use Rattle.zbx_types.specs.Reserved.{Roomy};
 

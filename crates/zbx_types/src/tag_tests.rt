@@ -5,7 +5,7 @@ ghost use Rattle.zbx_types.specs.Texts.{contains};
 ghost use Rattle.zbx_types.specs.Tags.{has_tag, has_value, share_value, passes, joined};
 
 use crate::entries::Tag;
-use crate::text::Text;
+use crate::text::{Text, is_same};
 
 /// How conditions are joined (the Zabbix 6.0 manual, "Conditions", type of calculation).
 #[derive(Clone, Copy, Debug, PartialEq, Eq)]
@@ -38,13 +38,6 @@ pub struct TagTest {
     pub op: TagOp,
     /// The text that they are compared with.
     pub value: Text,
-}
-
-/// Whether two texts are the same.
-fn is_same(one: &Text, other: &Text) -> bool
-    ensures { result ≡ bytes_eq one.now other.now }
-{
-    one.as_bytes() == other.as_bytes()
 }
 
 /// Whether some tag has a name.

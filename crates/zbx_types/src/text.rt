@@ -1,6 +1,6 @@
 //! Texts in UTF-8.
 
-ghost use Rattle.std.specs.Prelude.{◌≡◌, ◌++◌, [], length, string_bytes, OnOk, OnErr, IfOk, IfSome, MatchOption, IsUtf8};
+ghost use Rattle.std.specs.Prelude.{◌≡◌, ◌++◌, [], length, bytes_eq, string_bytes, OnOk, OnErr, IfOk, IfSome, MatchOption, IsUtf8};
 ghost use Rattle.std.specs.Fmt.{decimal};
 ghost use Rattle.zbx_types.specs.Texts.{contains};
 
@@ -125,6 +125,20 @@ fn stands_in(text: &str, part: &str) -> bool
     ensures { result ≡ contains text.now part.now }
 {
     text.contains(part)
+}
+
+/// Whether two texts, or pieces of texts, have the same bytes.
+pub fn same_text(a: &[u8], b: &[u8]) -> bool
+    ensures { result ≡ bytes_eq a.now b.now }
+{
+    a == b
+}
+
+/// Whether two texts are the same.
+pub fn is_same(one: &Text, other: &Text) -> bool
+    ensures { result ≡ bytes_eq one.now other.now }
+{
+    same_text(one.as_bytes(), other.as_bytes())
 }
 
 impl From<String> for Text {
