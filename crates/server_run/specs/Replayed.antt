@@ -27,6 +27,7 @@ abbrev pub replay_under : Option Conf → List Numbered → List Rec
 replay_under None entries = []
 replay_under (Some conf) entries = replay conf (log_of entries)
 
+-- the records of entries, under the configuration that the first one brings
 unfoldable pub replayed : List Numbered → List Rec
 replayed entries = replay_under (conf_of_run entries) entries
 

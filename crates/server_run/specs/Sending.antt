@@ -68,6 +68,7 @@ pub record Outgoing : Type 0 where
   pub shut : List (ℕ × ℕ)
   pub stop : Option Stop
 
+-- nothing is handed out
 abbrev pub nothing_out : Outgoing
 nothing_out = record { replies = []; shut = []; stop = None }
 

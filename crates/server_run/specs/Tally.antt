@@ -10,5 +10,6 @@ use Rattle.server_run.specs.Replayed.{replayed}
 abbrev pub counts_with : ℕ → Tally → Counts
 counts_with entries t = record { entries = entries; problems = t.problems; recoveries = t.recoveries; messages = t.messages; bytes = t.bytes }
 
+-- the counts of a run with these entries
 unfoldable pub run_counts : List Numbered → Counts
 run_counts entries = counts_with (length entries) (tally_of (replayed entries))

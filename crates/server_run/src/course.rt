@@ -324,7 +324,10 @@ fn named<S: StartName, N: RunName, W: Wire, D: Disk, O: Sink>(
     let (head, end) = ring.named::<N>();
     let book = match Book::new(alloc, prepared.ready(), kept, end, outbox) {
         Ok(book) => book,
-        Err((outbox, error)) => return held_back(front, refused(error), outbox),
+        Err((outbox, error)) => {
+            forget(prepared.into_ready());
+            return held_back(front, refused(error), outbox);
+        }
     };
     let mut front = front;
     let mut head = head;
@@ -361,7 +364,10 @@ pub(crate) fn started<S: StartName, W: Wire, D: Disk, O: Sink>(
         Ok(ring) => {
             named::<S, Brand, W, D, O>(alloc, turns, prepared, wire, front, kept, ring, outbox)
         }
-        Err(OutOfMemory) => held_back(front, Status::OutOfMemory, outbox),
+        Err(OutOfMemory) => {
+            forget(prepared.into_ready());
+            held_back(front, Status::OutOfMemory, outbox)
+        }
     }
 }
 
@@ -399,7 +405,10 @@ where
     let (head, end) = ring.named::<N>();
     let book = match Book::new(alloc, prepared.ready(), kept, end, outbox) {
         Ok(book) => book,
-        Err((outbox, error)) => return held_back(front, refused(error), outbox),
+        Err((outbox, error)) => {
+            forget(prepared.into_ready());
+            return held_back(front, refused(error), outbox);
+        }
     };
     let mut front = front;
     let mut head = head;
@@ -443,6 +452,9 @@ where
                 rt, alloc, syncers, turns, prepared, wire, front, kept, ring, outbox, gate,
             )
         }
-        Err(OutOfMemory) => held_back(front, Status::OutOfMemory, outbox),
+        Err(OutOfMemory) => {
+            forget(prepared.into_ready());
+            held_back(front, Status::OutOfMemory, outbox)
+        }
     }
 }

@@ -1,6 +1,5 @@
 //! Who works entries out: one thread between the events, or syncers beside them.
 
-ghost use Rattle.std.specs.Prelude.{◌≡◌};
 ghost use Rattle.server_run.specs.Going.{IsServing, HasServed, IsJoined};
 
 use crate::handing::Worker;

@@ -2,7 +2,7 @@
 
 ghost use Rattle.std.specs.Prelude.{◌≡◌, ◌<◌, ◌++◌, ◌∷◌, [], length, List, IfOk, OnOk};
 ghost use Rattle.zbx_types.specs.declared.entries.Numbered.{Numbered};
-ghost use Rattle.entry_step.specs.Log.{log_of, moment_of};
+ghost use Rattle.entry_step.specs.Log.{log_of};
 ghost use Rattle.intake_journal.specs.declared.format.Group.{Group};
 ghost use Rattle.intake_front.specs.Intake.{with_group};
 ghost use Rattle.intake_front.specs.Fronted.{numbered_of};
@@ -22,21 +22,13 @@ pub(crate) struct Numbering {
     pub misfit: Option<u64>,
 }
 
-fn moment_of(entry: &Entry) -> Moment
-    ensures { result ≡ moment_of entry.now }
-{
-    match entry {
-        Entry::Config { now, .. } | Entry::Value { now, .. } | Entry::Tick { now } => *now,
-    }
-}
-
 /// The moment of the last entry, where there is one.
 fn reached(entries: &[Numbered]) -> Option<Moment>
     ensures { result ≡ reached (log_of entries.now) }
 {
     match entries {
         [] => None,
-        [.., last] => Some(moment_of(&last.entry)),
+        [.., last] => Some(last.entry.moment()),
     }
 }
 

@@ -18,6 +18,7 @@ use intake_front::Front;
 use outside::{Disk, Source};
 use server_words::{PlanError, Status, plan};
 use std::alloc::Global;
+use std::mem::forget;
 use zbx_types::{Conf, LONGEST_TEXT, Many, OutOfMemory, Text, by_id, copy_texts};
 
 /// What a run has begun with.
@@ -137,7 +138,10 @@ fn resume_setup<D: Disk>(alloc: Global, setup: Setup, disk: D) -> Result<Begun<D
             ready: setup.ready,
             front,
         }),
-        Err(refused) => Err(refused),
+        Err(refused) => {
+            forget(setup.ready);
+            Err(refused)
+        }
     }
 }
 

@@ -9,8 +9,7 @@ ghost use Rattle.intake_journal.specs.Kept.{kept, groups_of};
 ghost use Rattle.intake_journal.specs.Settled.{KeepsAsOneOf};
 ghost use Rattle.intake_journal.specs.declared.format.Group.{Group};
 ghost use Rattle.intake_journal.specs.declared.state.State.TheVariants as state;
-ghost use Rattle.intake_front.specs.Fronted.{Keeps, IsKept, limits_of};
-ghost use Rattle.intake_front.specs.Batch.{IsIdle};
+ghost use Rattle.intake_front.specs.Fronted.{Keeps};
 ghost use Rattle.intake_front.specs.Served.{served};
 ghost use Rattle.intake_front.specs.declared.answer.Stop.TheVariants as stop;
 ghost use Rattle.server_words.specs.declared.words.Plan.{Plan};
@@ -24,7 +23,7 @@ ghost use Rattle.server_run.specs.Patterns.{HasFlawAt, HoldsBrace};
 ghost use Rattle.server_run.specs.Opening.{IsAccepted, Bars, opening_lines};
 ghost use Rattle.server_run.specs.Ports.{ReadsUpTo};
 ghost use Rattle.server_run.specs.Replayed.{run_lines};
-ghost use Rattle.server_run.specs.Tally.{counts_with, run_counts};
+ghost use Rattle.server_run.specs.Tally.{run_counts};
 ghost use Rattle.server_run.specs.Outbox.{LinesAre, SizeIs};
 ghost use Rattle.server_run.specs.Runs.{IsBarred, Unbegun, FoundBy, Followed, Prints, limits_by, opening_intake};
 ghost use Rattle.server_run.specs.Statuses.{course_of, cut_short, IsRefusal, IsBarring, YieldsTo, IsCourse, IsUnprinted, EndsPrinted};
@@ -39,6 +38,7 @@ use server_words::{Counts, Status, printed};
 use std::alloc::Global;
 use std::convert::AsStr;
 use std::marker::Brand;
+use std::mem::forget;
 use std::sync::Wait;
 use std::thread::Threads;
 use zbx_types::{Many, Numbered, OutOfMemory, Text};
@@ -110,7 +110,10 @@ fn go<S: Source, W: Wire, D: Disk, O: Sink>(
     };
     match copy_entries(alloc, front.entries()) {
         Ok(kept) => started::<Brand, W, D, O>(alloc, turns, ready, wire, front, kept, outbox),
-        Err(OutOfMemory) => held_back(front, Status::OutOfMemory, outbox),
+        Err(OutOfMemory) => {
+            forget(ready);
+            held_back(front, Status::OutOfMemory, outbox)
+        }
     }
 }
 
@@ -176,7 +179,10 @@ where
         Ok(kept) => started_beside::<Brand, W, D, O, R, G>(
             rt, alloc, syncers, turns, ready, wire, front, kept, outbox, gate,
         ),
-        Err(OutOfMemory) => held_back(front, Status::OutOfMemory, outbox),
+        Err(OutOfMemory) => {
+            forget(ready);
+            held_back(front, Status::OutOfMemory, outbox)
+        }
     }
 }
 
