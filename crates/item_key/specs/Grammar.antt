@@ -1,10 +1,7 @@
 -- Keys by their grammar (the Zabbix 6.0 manual, "Item key format").
 use Rattle.std.specs.Prelude.{◌≡◌, ◌≤◌, ℕ, List, [], ◌∷◌, ◌++◌, length, nat_le, Bool, true, false, ◌==◌, if◌then◌else◌}
+use Rattle.zbx_types.specs.Limits.{longest_key}
 use Rattle.byte_grammar.specs.Bytes.{Each}
-
--- the most bytes of a key (this project's own)
-abbrev pub longest_key : ℕ
-longest_key = 2048
 
 -- a letter, a digit, `_`, `-` or `.`
 abbrev pub is_name_byte : ℕ → Bool
