@@ -1,7 +1,8 @@
 -- Which text is which value, by cases of the grammar of JSON (RFC 8259).
 use Rattle.std.specs.Prelude.{◌≡◌, ◌≢◌, ℕ, suc, ◌≤◌, List, [], ◌∷◌, ◌++◌, true, false, Some}
 use Rattle.std.specs.Char.{IsScalar, encode_utf8}
-use Rattle.json_text.specs.Bytes.{is_digit, is_nonzero_digit, is_e, is_sign, is_hex, hex_code, is_high, is_low}
+use Rattle.byte_grammar.specs.Bytes.{is_digit, is_nonzero_digit, is_e}
+use Rattle.json_text.specs.Bytes.{is_sign, is_hex, hex_code, is_high, is_low}
 use Rattle.json_text.specs.Bytes.{paired, short_escape, AreBlanks, AreDigits}
 use Rattle.json_text.specs.Json.{Json, null, boolean, number, words, list, object, Items, no_items, add, Members}
 use Rattle.json_text.specs.Json.{no_members, put}
