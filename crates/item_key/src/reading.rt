@@ -44,7 +44,7 @@ fn front(text: &[u8]) -> &[u8]
 
 /// Reads the key that a text begins with (the Zabbix 6.0 manual, "Item key format"), and takes no memory.
 ///
-/// `Ok` is the length in bytes, from 1 to [`LONGEST_KEY`](zbx_types::LONGEST_KEY), of the longest front that is a key; what stands behind it
+/// `Ok` is the length in bytes, from 1 to [`LONGEST_KEY`], of the longest front that is a key; what stands behind it
 /// is not looked at. `Err` comes where no front is a key: it is the place of the first byte where no key goes on,
 /// counted from 0, or the length of the text where that comes first.
 pub fn read(text: &[u8]) -> Result<u32, u32>
