@@ -117,12 +117,12 @@ pub data IsMember : List ℕ → List (List ℕ) → Type 0 where
 
 -- how a comparison is written
 abbrev pub symbol : Comparison → List ℕ
-symbol Eq = 61 ∷ 61 ∷ []
-symbol Ne = 33 ∷ 61 ∷ []
-symbol Le = 60 ∷ 61 ∷ []
-symbol Ge = 62 ∷ 61 ∷ []
-symbol Lt = 60 ∷ []
-symbol Gt = 62 ∷ []
+symbol Eq = codes "=="
+symbol Ne = codes "!="
+symbol Le = codes "<="
+symbol Ge = codes ">="
+symbol Lt = codes "<"
+symbol Gt = codes ">"
 
 -- a quoted text or a JSON number
 pub data IsLiteral : List ℕ → Literal → Type 0 where
@@ -149,11 +149,11 @@ pub data IsSelector : List ℕ → Selector → Type 0 where
 
 -- what a name stands behind: `.`, or `..` where it is deep
 abbrev pub dots : Bool → List ℕ
-dots deep = if deep then 46 ∷ 46 ∷ [] else 46 ∷ []
+dots deep = if deep then codes ".." else codes "."
 
 -- what opens brackets: `[`, or `..[` where they are deep
 abbrev pub opening : Bool → List ℕ
-opening deep = if deep then 46 ∷ 46 ∷ 91 ∷ [] else 91 ∷ []
+opening deep = if deep then codes "..[" else codes "["
 
 -- a segment: a name or `*` behind points, or a selector in brackets
 pub data IsSegment : List ℕ → Segment → Type 0 where
