@@ -1,9 +1,10 @@
-//! The ground of the readers that go through a text byte by byte: characters in UTF-8, runs of a machine, and the first
-//! fault of a text.
+//! The ground of the readers that go through a text byte by byte: characters in UTF-8, bytes of numbers, runs of a
+//! machine, and the first fault of a text.
 //!
 //! The public contract: [`next`] gives what a text in UTF-8 asks behind one byte more, or none exactly where no text in
 //! UTF-8 goes on so; [`is_whole`] tells whether the bytes so far are a text in UTF-8. UTF-8 is that of RFC 3629: no
-//! overlong forms, no surrogates (U+D800 to U+DFFF), and nothing above U+10FFFF.
+//! overlong forms, no surrogates (U+D800 to U+DFFF), and nothing above U+10FFFF. [`is_digit`] and [`is_e`] tell the
+//! bytes of numbers.
 //!
 //! A reader starts from [`Character::Whole`], and keeps one [`Character`] of what has come:
 //!
@@ -23,8 +24,10 @@
 #![tactic(auto)]
 
 mod characters;
+mod digits;
 
 pub use characters::{Character, is_whole, next};
+pub use digits::{is_digit, is_e};
 
 #[cfg(test)]
 mod tests;

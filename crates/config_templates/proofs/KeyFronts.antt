@@ -4,7 +4,8 @@ use Rattle.std.specs.Prelude.{◌&&◌, nat_le, if◌then◌else◌, ◌==◌}
 use Rattle.std.proofs.lemmas.Bool.{le-leb, leb-true, eq-eqb}
 use Rattle.std.proofs.lemmas.List.{take_all}
 use Rattle.std.proofs.lemmas.Grind.{common_steps}
-use Rattle.item_key.specs.Grammar.{IsKey, longest_key}
+use Rattle.zbx_types.specs.Limits.{longest_key}
+use Rattle.item_key.specs.Grammar.{IsKey}
 use Rattle.byte_grammar.specs.Runs.{run}
 use Rattle.item_key.specs.Machine.{ends_at, place_of}
 use Rattle.item_key.specs.Fault.{HasNoLonger, HasNone}

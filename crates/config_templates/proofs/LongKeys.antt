@@ -5,7 +5,7 @@ use Rattle.std.proofs.lemmas.Bool.{le-leb, leb-true}
 use Rattle.std.proofs.lemmas.List.{length-take-le, take-take}
 use Rattle.zbx_types.specs.declared.items.Item.{Item}
 use Rattle.zbx_types.specs.declared.causes.Cause.TheVariants.{BadKey}
-use Rattle.item_key.specs.Grammar.{longest_key}
+use Rattle.zbx_types.specs.Limits.{longest_key}
 use Rattle.item_key.specs.Machine.{ends_at, place_of}
 use Rattle.macro_text.specs.Expanded.{expanded}
 use Rattle.macro_text.specs.declared.macros.Macro.{Macro}

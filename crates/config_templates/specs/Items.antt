@@ -4,7 +4,7 @@ use Rattle.std.specs.List.{list_any}
 use Rattle.std.specs.Str.{bytes_eq}
 use Rattle.zbx_types.specs.declared.items.Item.{Item}
 use Rattle.zbx_types.specs.declared.causes.Cause.TheVariants.{BadKey, Duplicate, TooMany}
-use Rattle.item_key.specs.Grammar.{longest_key}
+use Rattle.zbx_types.specs.Limits.{longest_key}
 use Rattle.item_key.specs.Machine.{ends_at, place_of}
 use Rattle.macro_text.specs.Expanded.{expanded}
 use Rattle.macro_text.specs.declared.macros.Macro.{Macro}

@@ -1,7 +1,7 @@
 //! Keys of items.
 
 ghost use Rattle.std.specs.Prelude.{◌≡◌, ◌≤◌, length};
-ghost use Rattle.item_key.specs.Grammar.{longest_key};
+ghost use Rattle.zbx_types.specs.Limits.{longest_key};
 ghost use Rattle.config_templates.specs.Items.{is_key, key_length};
 
 use item_key::read;

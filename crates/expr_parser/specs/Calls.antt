@@ -6,7 +6,8 @@ use Rattle.zbx_types.specs.declared.calls.Call.{Call}
 use Rattle.zbx_types.specs.declared.calls.Fun.{Fun}
 use Rattle.zbx_types.specs.declared.calls.Range.{Range}
 use Rattle.zbx_types.specs.declared.calls.Range.TheVariants.{Count, Period}
-use Rattle.item_key.specs.Grammar.{IsKeyText, is_name_byte, longest_key}
+use Rattle.zbx_types.specs.Limits.{longest_key}
+use Rattle.item_key.specs.Grammar.{IsKeyText, is_name_byte}
 use Rattle.expr_parser.specs.Bytes.{Point, behind, AreBlanks, Digits}
 use Rattle.expr_parser.specs.Numbers.{IsNumber, IsPeriod}
 use Rattle.expr_parser.specs.declared.slots.Words.{Words}

@@ -7,8 +7,8 @@ use Rattle.item_key.specs.declared.places.Place.TheVariants.{Start, Name, Param,
 use Rattle.item_key.specs.declared.places.Turn.{Turn}
 use Rattle.item_key.specs.declared.places.Turn.TheVariants.{Stay, Comma, Close, Open}
 use Rattle.item_key.specs.Machine.{turn, outer, inner, step, ends_at, place_of}
-use Rattle.item_key.specs.Grammar.{is_name_byte, is_space, is_bare, begins_bare, Quoted, IsPlain, nothing, bare, quoted, AreMany, last, more, IsParam, one, list, IsKeyText, name, with_params}
-use Rattle.byte_grammar.specs.Bytes.{Each}
+use Rattle.item_key.specs.Grammar.{is_name_byte, is_bare, begins_bare, Quoted, IsPlain, nothing, bare, quoted, AreMany, last, more, IsParam, one, list, IsKeyText, name, with_params}
+use Rattle.byte_grammar.specs.Bytes.{Each, is_space}
 use Rattle.byte_grammar.specs.Runs.{run}
 use Rattle.byte_grammar.proofs.Runs.{joined, stays, byte_on, run_end}
 

@@ -1,6 +1,7 @@
 -- What is read, from the longest end among the bytes within the limit.
 use Rattle.std.proofs.Common.{◌≡◌, ℕ, suc, zero, ◌<◌, ◌≤◌, List, [], ◌∷◌, ◌++◌, length, take, refl, ap, arith, None, true, false, inl, inr, ◌⊎◌, length-take}
-use Rattle.item_key.specs.Grammar.{is_name_byte, IsKeyText, name, IsKey, longest_key}
+use Rattle.zbx_types.specs.Limits.{longest_key}
+use Rattle.item_key.specs.Grammar.{is_name_byte, IsKeyText, name, IsKey}
 use Rattle.item_key.specs.Machine.{ends_at, place_of, IsLongestEnd}
 use Rattle.byte_grammar.specs.Bytes.{Each}
 use Rattle.byte_grammar.specs.Runs.{run}

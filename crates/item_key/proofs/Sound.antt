@@ -1,7 +1,7 @@
 -- What the machine takes is a key of the grammar: each place promises what the grammar says once the rest has come.
 use Rattle.std.proofs.Common.{◌≡◌, ℕ, List, [], ◌∷◌, ◌++◌, refl, ap, sym, ◌∙◌, Option, Some, None, Bool, true, false, arith, ◌==◌, if◌then◌else◌, subst, inl, inr, ◌⊎◌, append_assoc, append-nil}
 use Rattle.std.proofs.lemmas.Bool.Decides.{nat_tests}
-use Rattle.byte_grammar.specs.Bytes.{Each}
+use Rattle.byte_grammar.specs.Bytes.{Each, is_space}
 use Rattle.byte_grammar.specs.Runs.{run, move}
 use Rattle.byte_grammar.proofs.Bytes.{each_none, each_snoc}
 use Rattle.item_key.specs.declared.places.Within.{Within}
@@ -11,7 +11,7 @@ use Rattle.item_key.specs.declared.places.Place.TheVariants.{Start, Name, Param,
 use Rattle.item_key.specs.declared.places.Turn.{Turn}
 use Rattle.item_key.specs.declared.places.Turn.TheVariants.{Stay, Comma, Close, Open, Wrong}
 use Rattle.item_key.specs.Machine.{turn, outer, inner, step, ends, ends_at, place_of}
-use Rattle.item_key.specs.Grammar.{is_name_byte, is_space, is_bare, begins_bare, Quoted, IsPlain, nothing, bare, quoted, AreMany, last, more, IsParam, one, list, IsKeyText, name, with_params}
+use Rattle.item_key.specs.Grammar.{is_name_byte, is_bare, begins_bare, Quoted, IsPlain, nothing, bare, quoted, AreMany, last, more, IsParam, one, list, IsKeyText, name, with_params}
 
 snoc : (q : List ℕ) (b : ℕ) (r : List ℕ) → q ++ b ∷ r ≡ (q ++ b ∷ []) ++ r
 snoc q b r = sym (append_assoc q (b ∷ []) r)

@@ -30,7 +30,7 @@ mod places;
 mod reading;
 
 pub use places::{Place, Within, may_end, next};
-pub use reading::{LONGEST_KEY, read};
+pub use reading::read;
 
 #[cfg(test)]
 mod tests;

@@ -169,7 +169,7 @@ fn stepped(place: Place, byte: u8) -> Option<Place>
 }
 
 /// The place behind a byte, or none where no key goes on with it. The limit of bytes is not looked at: whoever reads
-/// byte by byte counts them, and takes at most [`LONGEST_KEY`](crate::LONGEST_KEY).
+/// byte by byte counts them, and takes at most [`LONGEST_KEY`](zbx_types::LONGEST_KEY).
 #[tactic(auto, using(crate::proofs::Meanings::goes_on))]
 pub fn next(place: Place, byte: u8) -> Option<Place>
     ensures steps { result ≡ step place byte }

@@ -2,14 +2,13 @@
 
 ghost use Rattle.std.specs.Prelude.{◌≡◌, ◌≤◌, length, take, IfOk, IfErr};
 ghost use Rattle.byte_grammar.specs.Fault.{IsFaultUpTo};
+ghost use Rattle.zbx_types.specs.Limits.{longest_key};
 ghost use Rattle.item_key.specs.Fault.{HasNoLonger, HasNone};
-ghost use Rattle.item_key.specs.Grammar.{IsKey, IsKeyText, longest_key};
+ghost use Rattle.item_key.specs.Grammar.{IsKey, IsKeyText};
 ghost use Rattle.item_key.specs.Machine.{IsLongestEnd};
 
 use crate::places::{Place, may_end, next};
-
-/// The most bytes of a key (this project's own).
-pub const LONGEST_KEY: u32 = 2048;
+use zbx_types::LONGEST_KEY;
 
 /// The length of the longest front that is a key, 0 where none is.
 fn longest(text: &[u8]) -> u32
@@ -36,8 +35,8 @@ fn longest(text: &[u8]) -> u32
 fn front(text: &[u8]) -> &[u8]
     ensures { result.now ≡ take longest_key text.now }
 {
-    if text.len() > LONGEST_KEY as usize {
-        &text[..LONGEST_KEY as usize]
+    if text.len() > LONGEST_KEY {
+        &text[..LONGEST_KEY]
     } else {
         text
     }

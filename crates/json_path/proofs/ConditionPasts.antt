@@ -13,8 +13,8 @@ use Rattle.json_path.specs.declared.conditions.Checking.{Checking}
 use Rattle.json_path.specs.declared.conditions.Checking.TheVariants as at
 use Rattle.json_path.specs.declared.conditions.Checked.{Checked}
 use Rattle.json_path.specs.declared.conditions.Checked.TheVariants.{Open, Met, Wrong}
-use Rattle.byte_grammar.specs.Bytes.{Each}
-use Rattle.json_path.specs.Grammar.{is_space, is_name_byte, mark, IsQuoted, quoted, IsNumber, Spaced, behind_spaces, with_space, IsMember, root, named, bracketed, space_behind, symbol, IsLiteral, words, number, IsCondition, compares}
+use Rattle.byte_grammar.specs.Bytes.{Each, is_space}
+use Rattle.json_path.specs.Grammar.{is_name_byte, mark, IsQuoted, quoted, IsNumber, Spaced, behind_spaces, with_space, IsMember, root, named, bracketed, space_behind, symbol, IsLiteral, words, number, IsCondition, compares}
 use Rattle.json_path.specs.Tokens.{spell, unspelt, quotation, checked, begin_quote, may_end, numbering, numeral, whole_number}
 use Rattle.json_path.specs.Machine.{check, behind_member, name_goes, name_ends, bracket_begins, bracket_goes, operand, literal_begins, number_begins, behind_literal, words_go, number_goes, number_ends}
 use Rattle.json_path.proofs.Checked.{checked_is}

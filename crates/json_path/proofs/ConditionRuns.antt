@@ -13,8 +13,8 @@ use Rattle.json_path.specs.declared.conditions.Checking.{Checking}
 use Rattle.json_path.specs.declared.conditions.Checking.TheVariants as at
 use Rattle.json_path.specs.declared.conditions.Checked.{Checked}
 use Rattle.json_path.specs.declared.conditions.Checked.TheVariants.{Open, Met, Wrong}
-use Rattle.byte_grammar.specs.Bytes.{Each}
-use Rattle.json_path.specs.Grammar.{is_space, is_name_byte, mark, quoted, IsWhole, zero_part, whole_part, IsMinus, absent, present, is_first_digit, IsDecimal, no_fraction, fraction, IsNumber, no_exponent, exponent, Spaced, behind_spaces, with_space, IsMember, root, named, bracketed, space_behind, symbol, IsLiteral, words, number, IsCondition, compares}
+use Rattle.byte_grammar.specs.Bytes.{Each, is_space, is_nonzero_digit}
+use Rattle.json_path.specs.Grammar.{is_name_byte, mark, quoted, IsWhole, zero_part, whole_part, IsMinus, absent, present, IsDecimal, no_fraction, fraction, IsNumber, no_exponent, exponent, Spaced, behind_spaces, with_space, IsMember, root, named, bracketed, space_behind, symbol, IsLiteral, words, number, IsCondition, compares}
 use Rattle.json_path.specs.Tokens.{quotation, checked, part, begin_part, whole_number}
 use Rattle.json_path.specs.Machine.{check, behind_member, name_ends, behind_literal, number_ends}
 use Rattle.json_path.proofs.Checked.{utf8_checked}
@@ -272,10 +272,10 @@ whole_starts (zero_part m h e) = at h e
     at present e = record { byte = 45; rest = 48 ∷ []; is = e; other = refl }
 whole_starts (whole_part m d ds h i j e) = at d ds i h e
   where
-    not_equal : (d : ℕ) → is_first_digit d ≡ true → (d == 61) ≡ false
+    not_equal : (d : ℕ) → is_nonzero_digit d ≡ true → (d == 61) ≡ false
     not_equal d h = grind (arith, nat_tests)
 
-    at : (d : ℕ) (ds : List ℕ) → is_first_digit d ≡ true → {m t : List ℕ} → IsMinus m → t ≡ m ++ d ∷ ds → Starts t
+    at : (d : ℕ) (ds : List ℕ) → is_nonzero_digit d ≡ true → {m t : List ℕ} → IsMinus m → t ≡ m ++ d ∷ ds → Starts t
     at d ds i absent e = record { byte = d; rest = ds; is = e; other = not_equal d i }
     at d ds i present e = record { byte = 45; rest = d ∷ ds; is = e; other = refl }
 

@@ -19,7 +19,7 @@ use Rattle.json_path.specs.declared.brackets.Within.TheVariants as within
 use Rattle.json_path.specs.declared.places.Place.{Place}
 use Rattle.json_path.specs.declared.places.Place.TheVariants.{Start, Behind, Point, Points, Name, Inside, Call, Called}
 use Rattle.json_path.specs.declared.places.State.{State}
-use Rattle.json_path.specs.Grammar.{is_space}
+use Rattle.byte_grammar.specs.Bytes.{is_space}
 use Rattle.json_path.specs.Tokens.{unspelt, quotation, checked, integer}
 use Rattle.json_path.specs.Machine.{condition_goes, selector_goes, state, segment, step, ends}
 use Rattle.json_path.proofs.Checked.{utf8_checked}

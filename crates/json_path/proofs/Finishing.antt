@@ -9,8 +9,8 @@ use Rattle.json_path.specs.declared.integers.Digits.{Digits}
 use Rattle.json_path.specs.declared.numbers.Part.{Part}
 use Rattle.json_path.specs.declared.numbers.Part.TheVariants.{Minus, Zero, Integer, Point, Fraction, Letter, Sign, Exponent}
 use Rattle.json_path.specs.declared.numbers.Numeral.{Numeral}
-use Rattle.byte_grammar.specs.Bytes.{Each}
-use Rattle.json_path.specs.Grammar.{is_name_byte, is_digit, mark}
+use Rattle.byte_grammar.specs.Bytes.{Each, is_digit}
+use Rattle.json_path.specs.Grammar.{is_name_byte, mark}
 use Rattle.byte_grammar.specs.Utf8.{follow, rest_of}
 use Rattle.json_path.specs.Tokens.{spell, quote, checked, part, may_end, digit, farthest}
 use Rattle.json_path.proofs.Checked.{utf8_checked}

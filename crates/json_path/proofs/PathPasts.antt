@@ -12,8 +12,8 @@ use Rattle.json_path.specs.declared.brackets.Chosen.{Chosen}
 use Rattle.json_path.specs.declared.places.Place.{Place}
 use Rattle.json_path.specs.declared.places.Place.TheVariants.{Start, Behind, Point, Points, Name, Inside, Call, Called}
 use Rattle.json_path.specs.declared.places.State.{State}
-use Rattle.byte_grammar.specs.Bytes.{Each}
-use Rattle.json_path.specs.Grammar.{is_space, is_name_byte, dots, opening, member, members, selected, AreSegments, document, segment as with_segment, function_name, IsPath, selection, with_function}
+use Rattle.byte_grammar.specs.Bytes.{Each, is_space}
+use Rattle.json_path.specs.Grammar.{is_name_byte, dots, opening, member, members, selected, AreSegments, document, segment as with_segment, function_name, IsPath, selection, with_function}
 use Rattle.json_path.specs.Tokens.{spell, unspelt, checked}
 use Rattle.json_path.specs.Machine.{state, segment, behind_segment, member_goes, member_ends, function_of, call_begins, behind_name, selector_goes, behind_points, step_from, step, named_path, ends_from, start}
 use Rattle.byte_grammar.specs.Runs.{run}

@@ -11,8 +11,8 @@ use Rattle.json_path.specs.declared.brackets.Within.{Within}
 use Rattle.json_path.specs.declared.brackets.Within.TheVariants as within
 use Rattle.json_path.specs.declared.brackets.Chosen.{Chosen}
 use Rattle.json_path.specs.declared.brackets.Chosen.TheVariants.{Open, Closed, Wrong}
-use Rattle.byte_grammar.specs.Bytes.{Each}
-use Rattle.json_path.specs.Grammar.{is_space, is_digit, mark, IsQuoted, quoted, IsInteger, Spaced, behind_spaces, with_space, AreListed, first, next, IsBound, no_bound, bound, IsSelector, names, indexes, slice, all, condition, padded}
+use Rattle.byte_grammar.specs.Bytes.{Each, is_space, is_digit}
+use Rattle.json_path.specs.Grammar.{mark, IsQuoted, quoted, IsInteger, Spaced, behind_spaces, with_space, AreListed, first, next, IsBound, no_bound, bound, IsSelector, names, indexes, slice, all, condition, padded}
 use Rattle.json_path.specs.Tokens.{quotation, digit, begin_integer, integer}
 use Rattle.json_path.specs.Machine.{choose, behind_selector, behind_integers, colon, quote_begins, quote_goes, integer_goes, bound_goes, condition_goes, selector_begins}
 use Rattle.byte_grammar.proofs.Bytes.{each_snoc, each_none}

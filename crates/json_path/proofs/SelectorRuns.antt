@@ -12,7 +12,8 @@ use Rattle.json_path.specs.declared.brackets.Within.{Within}
 use Rattle.json_path.specs.declared.brackets.Within.TheVariants as within
 use Rattle.json_path.specs.declared.brackets.Chosen.{Chosen}
 use Rattle.json_path.specs.declared.brackets.Chosen.TheVariants.{Open, Closed, Wrong}
-use Rattle.json_path.specs.Grammar.{is_space, is_digit, mark, IsQuoted, IsInteger, plus, minus, Spaced, behind_spaces, with_space, AreListed, first, next, IsBound, no_bound, bound, IsSelector, names, indexes, slice, all, condition, padded}
+use Rattle.byte_grammar.specs.Bytes.{is_space, is_digit}
+use Rattle.json_path.specs.Grammar.{mark, IsQuoted, IsInteger, plus, minus, Spaced, behind_spaces, with_space, AreListed, first, next, IsBound, no_bound, bound, IsSelector, names, indexes, slice, all, condition, padded}
 use Rattle.json_path.specs.Tokens.{quotation, digit, begin_integer, integer}
 use Rattle.json_path.specs.Machine.{check, choose, behind_selector, behind_integers, condition_goes}
 use Rattle.byte_grammar.specs.Runs.{run}

@@ -7,8 +7,8 @@ use Rattle.json_path.specs.declared.tokens.Spelling.{Spelling}
 use Rattle.json_path.specs.declared.tokens.Quotation.{Quotation}
 use Rattle.json_path.specs.declared.tokens.Quoting.{Quoting}
 use Rattle.json_path.specs.declared.tokens.Quoting.TheVariants.{Open, Closed, Wrong}
-use Rattle.byte_grammar.specs.Bytes.{Each}
-use Rattle.json_path.specs.Grammar.{is_space, is_digit, is_first_digit, is_name_byte, mark, IsName, name, IsQuoted, quoted, Spaced, behind_spaces, with_space, IsMinus, absent, present, IsSign, no_sign, plus_sign, minus_sign, IsWhole, zero_part, whole_part, IsDecimal, no_fraction, fraction, IsNumber, no_exponent, exponent}
+use Rattle.byte_grammar.specs.Bytes.{Each, is_space, is_digit, is_nonzero_digit}
+use Rattle.json_path.specs.Grammar.{is_name_byte, mark, IsName, name, IsQuoted, quoted, Spaced, behind_spaces, with_space, IsMinus, absent, present, IsSign, no_sign, plus_sign, minus_sign, IsWhole, zero_part, whole_part, IsDecimal, no_fraction, fraction, IsNumber, no_exponent, exponent}
 use Rattle.json_path.specs.Tokens.{spell, unspelt, quotation, quote, checked}
 use Rattle.json_path.proofs.Checked.{utf8_checked}
 use Rattle.byte_grammar.proofs.Utf8Texts.{text_taken, one_byte}
@@ -75,7 +75,7 @@ small_digits (b ∷ ds) e = IsUtf8-append (b ∷ []) ds (one_byte b (small b e.0
     small : (b : ℕ) → is_digit b ≡ true → b < 128
     small b h = grind (arith, nat_tests)
 
-small_first : (b : ℕ) → is_first_digit b ≡ true → b < 128
+small_first : (b : ℕ) → is_nonzero_digit b ≡ true → b < 128
 small_first b h = grind (arith, nat_tests)
 
 small_letter : (b : ℕ) → (if b == 101 then true else b == 69) ≡ true → b < 128

@@ -10,10 +10,10 @@ use Rattle.json_path.specs.declared.tokens.Quoting.TheVariants.{Open, Closed, Wr
 use Rattle.json_path.specs.declared.integers.Digits.{Digits}
 use Rattle.json_path.specs.declared.numbers.Part.{Part}
 use Rattle.json_path.specs.declared.numbers.Part.TheVariants.{Minus, Zero, Integer, Point, Fraction, Letter, Sign, Exponent}
-use Rattle.byte_grammar.specs.Bytes.{Each}
-use Rattle.json_path.specs.Grammar.{is_digit, is_first_digit, is_name_byte, mark, IsName, name, Escapes, nothing, plain, escaped, AreDigits, one, more, IsInteger, plus, minus, SomeDigits, IsMinus, absent, present, IsSign, no_sign, plus_sign, minus_sign, IsWhole, zero_part, whole_part, IsDecimal, no_fraction, fraction, IsNumber, no_exponent, exponent}
+use Rattle.byte_grammar.specs.Bytes.{Each, is_digit, is_nonzero_digit, is_e}
+use Rattle.json_path.specs.Grammar.{is_name_byte, mark, IsName, name, Escapes, nothing, plain, escaped, AreDigits, one, more, IsInteger, plus, minus, SomeDigits, IsMinus, absent, present, IsSign, no_sign, plus_sign, minus_sign, IsWhole, zero_part, whole_part, IsDecimal, no_fraction, fraction, IsNumber, no_exponent, exponent}
 use Rattle.byte_grammar.specs.Utf8.{follow}
-use Rattle.json_path.specs.Tokens.{spell, spell_to, unspelt, checked, quotation, quoting, quote, closing, farthest, digit, begin_integer, integer, part, begin_part, may_end, is_letter}
+use Rattle.json_path.specs.Tokens.{spell, spell_to, unspelt, checked, quotation, quoting, quote, closing, farthest, digit, begin_integer, integer, part, begin_part, may_end}
 use Rattle.byte_grammar.proofs.Bytes.{each_none, each_one, each_snoc}
 use Rattle.json_path.proofs.Checked.{checked_is}
 use Rattle.byte_grammar.specs.Runs.{run}
@@ -160,12 +160,12 @@ digits_whole n t k h = at n.any n.minus n.value k h
 abbrev pub NumberPast : Part → List ℕ → Type 0
 NumberPast Minus t = t ≡ 45 ∷ []
 NumberPast Zero t = (m : List ℕ) × IsMinus m × (t ≡ m ++ 48 ∷ [])
-NumberPast Integer t = (m : List ℕ) × (d : ℕ) × (ds : List ℕ) × IsMinus m × (is_first_digit d ≡ true) × Each is_digit ds × (t ≡ m ++ d ∷ ds)
+NumberPast Integer t = (m : List ℕ) × (d : ℕ) × (ds : List ℕ) × IsMinus m × (is_nonzero_digit d ≡ true) × Each is_digit ds × (t ≡ m ++ d ∷ ds)
 NumberPast Point t = (w : List ℕ) × IsWhole w × (t ≡ w ++ 46 ∷ [])
 NumberPast Fraction t = (w : List ℕ) × (ds : List ℕ) × IsWhole w × SomeDigits ds × (t ≡ w ++ 46 ∷ ds)
-NumberPast Letter t = (u : List ℕ) × (e : ℕ) × IsDecimal u × (is_letter e ≡ true) × (t ≡ u ++ e ∷ [])
-NumberPast Sign t = (u : List ℕ) × (e : ℕ) × (g : List ℕ) × IsDecimal u × (is_letter e ≡ true) × IsSign g × (t ≡ u ++ e ∷ g)
-NumberPast Exponent t = (u : List ℕ) × (e : ℕ) × (g : List ℕ) × (ds : List ℕ) × IsDecimal u × (is_letter e ≡ true) × IsSign g × SomeDigits ds × (t ≡ u ++ e ∷ (g ++ ds))
+NumberPast Letter t = (u : List ℕ) × (e : ℕ) × IsDecimal u × (is_e e ≡ true) × (t ≡ u ++ e ∷ [])
+NumberPast Sign t = (u : List ℕ) × (e : ℕ) × (g : List ℕ) × IsDecimal u × (is_e e ≡ true) × IsSign g × (t ≡ u ++ e ∷ g)
+NumberPast Exponent t = (u : List ℕ) × (e : ℕ) × (g : List ℕ) × (ds : List ℕ) × IsDecimal u × (is_e e ≡ true) × IsSign g × SomeDigits ds × (t ≡ u ++ e ∷ (g ++ ds))
 
 -- what a byte makes of it
 pub data PartBehind (t : List ℕ) (b : ℕ) : Option Part → Type 0 where
@@ -178,20 +178,20 @@ one_digit b h = (omega arith, each_one is_digit b h)
 more_digits : (ds : List ℕ) (b : ℕ) → SomeDigits ds → is_digit b ≡ true → SomeDigits (ds ++ b ∷ [])
 more_digits ds b k h = let l = k.0 in (omega (arith, length-append ds (b ∷ [])), each_snoc is_digit ds b k.1 h)
 
-at_letter : (t : List ℕ) (b : ℕ) → IsDecimal t → is_letter b ≡ true → NumberPast Letter (t ++ b ∷ [])
+at_letter : (t : List ℕ) (b : ℕ) → IsDecimal t → is_e b ≡ true → NumberPast Letter (t ++ b ∷ [])
 at_letter t b d h = (t, b, d, h, refl)
 
 at_point : (t : List ℕ) (b : ℕ) → IsWhole t → (b == 46) ≡ true → NumberPast Point (t ++ b ∷ [])
 at_point t b w h = (t, w, ap (λ (v : ℕ). t ++ v ∷ []) (eq_true b 46 h))
 
 -- behind an integer part, a point or a letter
-behind_whole : (t : List ℕ) (b : ℕ) → IsWhole t → PartBehind t b (if b == 46 then Some Point else if is_letter b then Some Letter else None)
+behind_whole : (t : List ℕ) (b : ℕ) → IsWhole t → PartBehind t b (if b == 46 then Some Point else if is_e b then Some Letter else None)
 behind_whole t b w = either (PartBehind t b) (b == 46) _ _ (λ h. in_part Point (at_point t b w h))
-    (λ n. either (PartBehind t b) (is_letter b) _ _ (λ h. in_part Letter (at_letter t b (no_fraction w) h)) (λ m. no_part))
+    (λ n. either (PartBehind t b) (is_e b) _ _ (λ h. in_part Letter (at_letter t b (no_fraction w) h)) (λ m. no_part))
 
 pub part_behind : (p : Part) (t : List ℕ) (b : ℕ) → NumberPast p t → PartBehind t b (part p b)
 part_behind Minus t b k = either (PartBehind t b) (b == 48) _ _ (λ h. in_part Zero (45 ∷ [], present, rw (k, eq_true b 48 h) refl))
-    (λ n. either (PartBehind t b) (is_first_digit b) _ _ (λ h. in_part Integer (45 ∷ [], b, [], present, h, each_none is_digit, rw k refl)) (λ m. no_part))
+    (λ n. either (PartBehind t b) (is_nonzero_digit b) _ _ (λ h. in_part Integer (45 ∷ [], b, [], present, h, each_none is_digit, rw k refl)) (λ m. no_part))
 part_behind Zero t b k = behind_whole t b (zero_part k.0 k.1 k.2)
 part_behind Integer t b k = either (PartBehind t b) (is_digit b) _ _
     (λ h. in_part Integer (k.0, k.1, k.2 ++ b ∷ [], k.3, k.4, each_snoc is_digit k.2 b k.5 h, rw k.6 (append_assoc k.0 (k.1 ∷ k.2) (b ∷ []))))
@@ -199,7 +199,7 @@ part_behind Integer t b k = either (PartBehind t b) (is_digit b) _ _
 part_behind Point t b k = either (PartBehind t b) (is_digit b) _ _ (λ h. in_part Fraction (k.0, b ∷ [], k.1, one_digit b h, rw k.2 (append_assoc k.0 (46 ∷ []) (b ∷ [])))) (λ n. no_part)
 part_behind Fraction t b k = either (PartBehind t b) (is_digit b) _ _
     (λ h. in_part Fraction (k.0, k.1 ++ b ∷ [], k.2, more_digits k.1 b k.3 h, rw k.4 (append_assoc k.0 (46 ∷ k.1) (b ∷ []))))
-    (λ n. either (PartBehind t b) (is_letter b) _ _ (λ h. in_part Letter (at_letter t b (fraction k.0 k.1 k.2 k.3 k.4) h)) (λ m. no_part))
+    (λ n. either (PartBehind t b) (is_e b) _ _ (λ h. in_part Letter (at_letter t b (fraction k.0 k.1 k.2 k.3 k.4) h)) (λ m. no_part))
 part_behind Letter t b k = either (PartBehind t b) (is_digit b) _ _
     (λ h. in_part Exponent (k.0, k.1, [], b ∷ [], k.2, k.3, no_sign, one_digit b h, rw k.4 (append_assoc k.0 (k.1 ∷ []) (b ∷ []))))
     (λ n. either (PartBehind t b) (b == 43) _ _ (λ h. in_part Sign (k.0, k.1, 43 ∷ [], k.2, k.3, plus_sign, rw (k.4, eq_true b 43 h) (append_assoc k.0 (k.1 ∷ []) (43 ∷ []))))
@@ -212,7 +212,7 @@ part_behind Exponent t b k = either (PartBehind t b) (is_digit b) _ _
 pub number_start : (b : ℕ) → PartBehind [] b (begin_part b)
 number_start b = either (PartBehind [] b) (b == 45) _ _ (λ h. in_part Minus (ap (λ (v : ℕ). v ∷ []) (eq_true b 45 h)))
     (λ n. either (PartBehind [] b) (b == 48) _ _ (λ h. in_part Zero ([], absent, ap (λ (v : ℕ). v ∷ []) (eq_true b 48 h)))
-    (λ m. either (PartBehind [] b) (is_first_digit b) _ _ (λ h. in_part Integer ([], b, [], absent, h, each_none is_digit, refl)) (λ l. no_part)))
+    (λ m. either (PartBehind [] b) (is_nonzero_digit b) _ _ (λ h. in_part Integer ([], b, [], absent, h, each_none is_digit, refl)) (λ l. no_part)))
 
 pub number_whole : (p : Part) (t : List ℕ) → NumberPast p t → may_end p ≡ true → IsNumber t
 number_whole Zero t k e = no_exponent (no_fraction (zero_part k.0 k.1 k.2))

@@ -11,10 +11,10 @@ use Rattle.json_path.specs.declared.integers.Digits.{Digits}
 use Rattle.json_path.specs.declared.numbers.Part.{Part}
 use Rattle.json_path.specs.declared.numbers.Part.TheVariants.{Minus, Zero, Integer, Point, Fraction, Letter, Sign, Exponent}
 use Rattle.json_path.specs.declared.numbers.Numeral.{Numeral}
-use Rattle.byte_grammar.specs.Bytes.{Each}
-use Rattle.json_path.specs.Grammar.{is_digit, is_first_digit, mark, Escapes, nothing, plain, escaped, AreDigits, one, more, SomeDigits, IsMinus, absent, present, IsSign, no_sign, plus_sign, minus_sign, IsWhole, zero_part, whole_part, IsDecimal, no_fraction, fraction, IsNumber, no_exponent, exponent}
+use Rattle.byte_grammar.specs.Bytes.{Each, is_digit, is_nonzero_digit, is_e}
+use Rattle.json_path.specs.Grammar.{mark, Escapes, nothing, plain, escaped, AreDigits, one, more, SomeDigits, IsMinus, absent, present, IsSign, no_sign, plus_sign, minus_sign, IsWhole, zero_part, whole_part, IsDecimal, no_fraction, fraction, IsNumber, no_exponent, exponent}
 use Rattle.byte_grammar.specs.Utf8.{follow}
-use Rattle.json_path.specs.Tokens.{spell, spell_to, quotation, quote, farthest, digit, part, begin_part, may_end, is_letter}
+use Rattle.json_path.specs.Tokens.{spell, spell_to, quotation, quote, farthest, digit, part, begin_part, may_end}
 use Rattle.byte_grammar.specs.Runs.{run}
 use Rattle.byte_grammar.proofs.Runs.{run_none, run_end, one_on, joined, grown, before}
 
@@ -113,7 +113,7 @@ pub record Parted {S : Type 0} (outer : S → ℕ → Option S) (s : S) (f : Num
   pub now : Part
   pub is : run outer (Some s) text ≡ Some (f (numeral_so now text))
   pub ends : may_end now ≡ true
-  pub letter : (e : ℕ) → is_letter e ≡ true → part now e ≡ Some Letter
+  pub letter : (e : ℕ) → is_e e ≡ true → part now e ≡ Some Letter
 
 module _ {S : Type 0} (outer : S → ℕ → Option S) (s : S) (f : Numeral → S) (k : Numbers outer s f) where
   number_on : (p q : Part) (t : List ℕ) (b : ℕ) → run outer (Some s) t ≡ Some (f (numeral_so p t)) → part p b ≡ Some q → run outer (Some s) (t ++ b ∷ []) ≡ Some (f (numeral_so q (t ++ b ∷ [])))
@@ -137,30 +137,30 @@ module _ {S : Type 0} (outer : S → ℕ → Option S) (s : S) (f : Numeral → 
   whole_digit : (b : ℕ) → is_digit b ≡ true → part Integer b ≡ Some Integer
   whole_digit b h = rw h refl
 
-  first_part : (d : ℕ) → is_first_digit d ≡ true → begin_part d ≡ Some Integer
+  first_part : (d : ℕ) → is_nonzero_digit d ≡ true → begin_part d ≡ Some Integer
   first_part d h = grind (arith, nat_tests)
 
-  behind_minus : (d : ℕ) → is_first_digit d ≡ true → part Minus d ≡ Some Integer
+  behind_minus : (d : ℕ) → is_nonzero_digit d ≡ true → part Minus d ≡ Some Integer
   behind_minus d h = grind (arith, nat_tests)
 
   zero_run : {m : List ℕ} → IsMinus m → run outer (Some s) (m ++ 48 ∷ []) ≡ Some (f (numeral_so Zero (m ++ 48 ∷ [])))
   zero_run absent = number_begins 48 Zero refl
   zero_run present = number_on Minus Zero (45 ∷ []) 48 (number_begins 45 Minus refl) refl
 
-  first_run : (d : ℕ) → is_first_digit d ≡ true → {m : List ℕ} → IsMinus m → run outer (Some s) (m ++ d ∷ []) ≡ Some (f (numeral_so Integer (m ++ d ∷ [])))
+  first_run : (d : ℕ) → is_nonzero_digit d ≡ true → {m : List ℕ} → IsMinus m → run outer (Some s) (m ++ d ∷ []) ≡ Some (f (numeral_so Integer (m ++ d ∷ [])))
   first_run d h absent = number_begins d Integer (first_part d h)
   first_run d h present = number_on Minus Integer (45 ∷ []) d (number_begins 45 Minus refl) (behind_minus d h)
 
-  letter_of : (e : ℕ) → is_letter e ≡ true → (is_digit e ≡ false) × ((e == 46) ≡ false)
+  letter_of : (e : ℕ) → is_e e ≡ true → (is_digit e ≡ false) × ((e == 46) ≡ false)
   letter_of e h = (grind (arith, nat_tests), grind (arith, nat_tests))
 
-  zero_letter : (e : ℕ) → is_letter e ≡ true → part Zero e ≡ Some Letter
+  zero_letter : (e : ℕ) → is_e e ≡ true → part Zero e ≡ Some Letter
   zero_letter e h = let l = letter_of e h in rw (l.1, h) refl
 
-  integer_letter : (e : ℕ) → is_letter e ≡ true → part Integer e ≡ Some Letter
+  integer_letter : (e : ℕ) → is_e e ≡ true → part Integer e ≡ Some Letter
   integer_letter e h = let l = letter_of e h in rw (l.0, l.1, h) refl
 
-  fraction_letter : (e : ℕ) → is_letter e ≡ true → part Fraction e ≡ Some Letter
+  fraction_letter : (e : ℕ) → is_e e ≡ true → part Fraction e ≡ Some Letter
   fraction_letter e h = let l = letter_of e h in rw (l.0, h) refl
 
   whole_run : {t : List ℕ} → IsWhole t → (r : Parted outer s f t) × (part r.now 46 ≡ Some Point)

@@ -1,7 +1,7 @@
 -- Paths by their grammar (the Zabbix 6.0 manual, "JSONPath functionality"), with what each text says.
 use Rattle.std.specs.Prelude.{◌≡◌, ◌<◌, ◌≤◌, ◌+◌, ◌-◌, ◌*◌, ◌^◌, ℕ, ℤ, pos, neg_ℤ, List, [], ◌∷◌, ◌++◌, length, nat_le}
 use Rattle.std.specs.Prelude.{Bool, true, false, ◌==◌, if◌then◌else◌, Option, Some, None, IsUtf8, codes}
-use Rattle.byte_grammar.specs.Bytes.{Each}
+use Rattle.byte_grammar.specs.Bytes.{Each, is_space, is_digit, is_nonzero_digit, is_e}
 use Rattle.json_path.specs.declared.path.Path.{Path}
 use Rattle.json_path.specs.declared.path.Segment.{Segment}
 use Rattle.json_path.specs.declared.path.Selector.{Selector}
@@ -13,18 +13,6 @@ use Rattle.json_path.specs.declared.path.Literal.{Literal}
 use Rattle.json_path.specs.declared.path.Literal.TheVariants.{Words, Number}
 use Rattle.json_path.specs.declared.path.Function.{Function}
 use Rattle.json_path.specs.declared.path.Function.TheVariants.{Length, First, Min, Max, Sum, Avg}
-
--- the byte of a space
-abbrev pub is_space : ℕ → Bool
-is_space b = b == 32
-
--- a digit
-abbrev pub is_digit : ℕ → Bool
-is_digit b = if nat_le 48 b then nat_le b 57 else false
-
--- a digit from 1 to 9
-abbrev pub is_first_digit : ℕ → Bool
-is_first_digit b = if nat_le 49 b then nat_le b 57 else false
 
 -- a letter, a digit, `_`, `-`, or a byte above 127
 abbrev pub is_name_byte : ℕ → Bool
@@ -86,7 +74,7 @@ pub data IsSign : List ℕ → Type 0 where
 -- the integer part of a JSON number, with its sign: 0, or digits that don't begin with it
 pub data IsWhole : List ℕ → Type 0 where
   zero_part : {text : List ℕ} (m : List ℕ) → IsMinus m → text ≡ m ++ 48 ∷ [] → IsWhole text
-  whole_part : {text : List ℕ} (m : List ℕ) (d : ℕ) (ds : List ℕ) → IsMinus m → is_first_digit d ≡ true
+  whole_part : {text : List ℕ} (m : List ℕ) (d : ℕ) (ds : List ℕ) → IsMinus m → is_nonzero_digit d ≡ true
       → Each is_digit ds → text ≡ m ++ d ∷ ds → IsWhole text
 
 -- the same, perhaps with a fraction
@@ -97,7 +85,7 @@ pub data IsDecimal : List ℕ → Type 0 where
 -- a JSON number (RFC 8259, section 6): the same, perhaps with an exponent behind `e` or `E`
 pub data IsNumber : List ℕ → Type 0 where
   no_exponent : {text : List ℕ} → IsDecimal text → IsNumber text
-  exponent : {text : List ℕ} (t s ds : List ℕ) (e : ℕ) → IsDecimal t → (if e == 101 then true else e == 69) ≡ true
+  exponent : {text : List ℕ} (t s ds : List ℕ) (e : ℕ) → IsDecimal t → is_e e ≡ true
       → IsSign s → SomeDigits ds → text ≡ t ++ e ∷ (s ++ ds) → IsNumber text
 
 -- one of the two, with spaces around it
@@ -129,12 +117,12 @@ pub data IsMember : List ℕ → List (List ℕ) → Type 0 where
 
 -- how a comparison is written
 abbrev pub symbol : Comparison → List ℕ
-symbol Eq = 61 ∷ 61 ∷ []
-symbol Ne = 33 ∷ 61 ∷ []
-symbol Le = 60 ∷ 61 ∷ []
-symbol Ge = 62 ∷ 61 ∷ []
-symbol Lt = 60 ∷ []
-symbol Gt = 62 ∷ []
+symbol Eq = codes "=="
+symbol Ne = codes "!="
+symbol Le = codes "<="
+symbol Ge = codes ">="
+symbol Lt = codes "<"
+symbol Gt = codes ">"
 
 -- a quoted text or a JSON number
 pub data IsLiteral : List ℕ → Literal → Type 0 where
@@ -161,11 +149,11 @@ pub data IsSelector : List ℕ → Selector → Type 0 where
 
 -- what a name stands behind: `.`, or `..` where it is deep
 abbrev pub dots : Bool → List ℕ
-dots deep = if deep then 46 ∷ 46 ∷ [] else 46 ∷ []
+dots deep = if deep then codes ".." else codes "."
 
 -- what opens brackets: `[`, or `..[` where they are deep
 abbrev pub opening : Bool → List ℕ
-opening deep = if deep then 46 ∷ 46 ∷ 91 ∷ [] else 91 ∷ []
+opening deep = if deep then codes "..[" else codes "["
 
 -- a segment: a name or `*` behind points, or a selector in brackets
 pub data IsSegment : List ℕ → Segment → Type 0 where

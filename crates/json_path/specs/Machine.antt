@@ -2,7 +2,8 @@
 use Rattle.std.specs.Prelude.{ℕ, ℤ, List, [], ◌∷◌, ◌++◌, Option, Some, None, Bool, true, false, ◌==◌, nat_eq}
 use Rattle.std.specs.Prelude.{if◌then◌else◌, codes}
 use Rattle.std.specs.Cmp.Lexicographic.{pointwise}
-use Rattle.json_path.specs.Grammar.{is_digit, is_name_byte}
+use Rattle.byte_grammar.specs.Bytes.{is_digit}
+use Rattle.json_path.specs.Grammar.{is_name_byte}
 use Rattle.json_path.specs.Tokens.{unspelt, spell, checked, quote, begin_quote, digit, begin_integer, integer}
 use Rattle.json_path.specs.Tokens.{number_on, numeral, begin_part}
 use Rattle.json_path.specs.declared.path.Path.{Path}

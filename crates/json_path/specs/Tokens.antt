@@ -3,7 +3,8 @@ use Rattle.std.specs.Prelude.{ℕ, ℤ, pos, negsuc, neg_ℤ, List, [], ◌∷�
 use Rattle.std.specs.Prelude.{Bool, true, false, ◌==◌, nat_le, nat_lt, if◌then◌else◌}
 use Rattle.std.specs.Str.{is_utf8}
 use Rattle.byte_grammar.specs.Utf8.{follow}
-use Rattle.json_path.specs.Grammar.{mark, is_digit, is_first_digit}
+use Rattle.byte_grammar.specs.Bytes.{is_digit, is_nonzero_digit, is_e}
+use Rattle.json_path.specs.Grammar.{mark}
 use Rattle.byte_grammar.specs.declared.characters.Character.{Character}
 use Rattle.byte_grammar.specs.declared.characters.Character.TheVariants.{Whole}
 use Rattle.json_path.specs.declared.tokens.Spelling.{Spelling}
@@ -84,18 +85,14 @@ integer n =
     if n.minus then (if nat_lt n.value (2 ^ 63) then neg_ℤ (pos n.value) else negsuc (2 ^ 63 - 1))
     else (if nat_lt n.value (2 ^ 63) then pos n.value else pos (2 ^ 63 - 1))
 
--- `e` or `E`
-abbrev pub is_letter : ℕ → Bool
-is_letter b = if b == 101 then true else b == 69
-
 -- the part of a JSON number that a byte belongs to, none where it doesn't go on with it
 abbrev pub part : Part → ℕ → Option Part
-part Minus b = if b == 48 then Some Zero else if is_first_digit b then Some Integer else None
-part Zero b = if b == 46 then Some Point else if is_letter b then Some Letter else None
+part Minus b = if b == 48 then Some Zero else if is_nonzero_digit b then Some Integer else None
+part Zero b = if b == 46 then Some Point else if is_e b then Some Letter else None
 part Integer b =
-    if is_digit b then Some Integer else if b == 46 then Some Point else if is_letter b then Some Letter else None
+    if is_digit b then Some Integer else if b == 46 then Some Point else if is_e b then Some Letter else None
 part Point b = if is_digit b then Some Fraction else None
-part Fraction b = if is_digit b then Some Fraction else if is_letter b then Some Letter else None
+part Fraction b = if is_digit b then Some Fraction else if is_e b then Some Letter else None
 part Letter b = if is_digit b then Some Exponent else if b == 43 then Some Sign else if b == 45 then Some Sign else None
 part Sign b = if is_digit b then Some Exponent else None
 part Exponent b = if is_digit b then Some Exponent else None
@@ -103,7 +100,7 @@ part Exponent b = if is_digit b then Some Exponent else None
 -- the part that a byte begins a number with
 abbrev pub begin_part : ℕ → Option Part
 begin_part b =
-    if b == 45 then Some Minus else if b == 48 then Some Zero else if is_first_digit b then Some Integer else None
+    if b == 45 then Some Minus else if b == 48 then Some Zero else if is_nonzero_digit b then Some Integer else None
 
 -- a number may end in this part
 abbrev pub may_end : Part → Bool

@@ -6,9 +6,10 @@ ghost use Rattle.json_path.specs.Machine.{behind_selector, behind_integers, colo
 ghost use Rattle.json_path.specs.Machine.{integer_goes, bound_goes, condition_goes, selector_begins, check, choose};
 
 use crate::conditions::{Checked, Checking, added, checked_on};
-use crate::integers::{Digits, counted, integer_begun, integer_of, is_decimal};
+use crate::integers::{Digits, counted, integer_begun, integer_of};
 use crate::path::Selector;
 use crate::tokens::{Quotation, Quoting, quote_begun, quoted};
+use byte_grammar::is_digit;
 use std::alloc::Global;
 use zbx_types::{Many, OutOfMemory, Text};
 
@@ -157,7 +158,7 @@ fn counted_on(integers: Many<i64>, digits: Digits, byte: u8) -> Result<Chosen, O
 fn in_index(integers: Many<i64>, digits: Digits, byte: u8) -> Result<Chosen, OutOfMemory>
     ensures { IfOk result (λ now. now ≡ choose (Within.Index integers digits) byte) }
 {
-    if is_decimal(byte) {
+    if is_digit(byte) {
         Ok(index_or_none(integers, counted(digits, byte)))
     } else if digits.any {
         counted_on(integers, digits, byte)
@@ -200,7 +201,7 @@ fn behind_colon(from: Option<i64>, byte: u8) -> Chosen
 fn in_bound(from: Option<i64>, digits: Digits, byte: u8) -> Chosen
     ensures { result ≡ choose (Within.To from digits) byte }
 {
-    if is_decimal(byte) {
+    if is_digit(byte) {
         bound_or_none(from, counted(digits, byte))
     } else if digits.any {
         let to = Some(integer_of(digits));

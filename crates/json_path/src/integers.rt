@@ -1,8 +1,9 @@
 //! Integers, byte by byte.
 
 ghost use Rattle.std.specs.Prelude.{◌≡◌};
-ghost use Rattle.json_path.specs.Grammar.{is_digit};
 ghost use Rattle.json_path.specs.Tokens.{farthest, digit, begin_integer, integer};
+
+use byte_grammar::is_digit;
 
 /// An integer so far.
 #[derive(Clone, Copy)]
@@ -13,13 +14,6 @@ pub struct Digits {
     pub any: bool,
     /// The number that the digits stand for.
     pub value: u64,
-}
-
-/// A digit.
-pub fn is_decimal(byte: u8) -> bool
-    ensures { result ≡ is_digit byte }
-{
-    b'0' <= byte && byte <= b'9'
 }
 
 fn limit(minus: bool) -> u64
@@ -61,7 +55,7 @@ pub fn integer_begun(byte: u8) -> Option<Digits>
             any: false,
             value: 0,
         })
-    } else if is_decimal(byte) {
+    } else if is_digit(byte) {
         Some(Digits {
             minus: false,
             any: true,

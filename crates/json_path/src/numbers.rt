@@ -1,11 +1,11 @@
 //! JSON numbers, byte by byte.
 
 ghost use Rattle.std.specs.Prelude.{◌≡◌, IfOk, []};
-ghost use Rattle.json_path.specs.Grammar.{is_first_digit};
-ghost use Rattle.json_path.specs.Tokens.{part, begin_part, may_end, numeral, whole_number, number_on, is_letter};
+ghost use Rattle.byte_grammar.specs.Bytes.{is_nonzero_digit};
+ghost use Rattle.json_path.specs.Tokens.{part, begin_part, may_end, numeral, whole_number, number_on};
 
-use crate::integers::is_decimal;
 use crate::tokens::text_of;
+use byte_grammar::{is_digit, is_e};
 use std::alloc::Global;
 use zbx_types::{Bytes, OutOfMemory, Text};
 
@@ -40,15 +40,9 @@ pub struct Numeral {
 }
 
 fn is_leading(byte: u8) -> bool
-    ensures { result ≡ is_first_digit byte }
+    ensures { result ≡ is_nonzero_digit byte }
 {
     b'1' <= byte && byte <= b'9'
-}
-
-fn is_exponent(byte: u8) -> bool
-    ensures { result ≡ is_letter byte }
-{
-    byte == b'e' || byte == b'E'
 }
 
 fn part_begun(byte: u8) -> Option<Part>
@@ -70,7 +64,7 @@ fn behind_zero(byte: u8) -> Option<Part>
 {
     if byte == b'.' {
         Some(Part::Point)
-    } else if is_exponent(byte) {
+    } else if is_e(byte) {
         Some(Part::Letter)
     } else {
         None
@@ -92,7 +86,7 @@ fn behind_minus(byte: u8) -> Option<Part>
 fn behind_letter(byte: u8) -> Option<Part>
     ensures { result ≡ part Part.Letter byte }
 {
-    if is_decimal(byte) {
+    if is_digit(byte) {
         Some(Part::Exponent)
     } else if byte == b'+' {
         Some(Part::Sign)
@@ -106,9 +100,9 @@ fn behind_letter(byte: u8) -> Option<Part>
 fn behind_fraction(byte: u8) -> Option<Part>
     ensures { result ≡ part Part.Fraction byte }
 {
-    if is_decimal(byte) {
+    if is_digit(byte) {
         Some(Part::Fraction)
-    } else if is_exponent(byte) {
+    } else if is_e(byte) {
         Some(Part::Letter)
     } else {
         None
@@ -121,13 +115,13 @@ fn part_behind(now: Part, byte: u8) -> Option<Part>
     match now {
         Part::Minus => behind_minus(byte),
         Part::Zero => behind_zero(byte),
-        Part::Integer if is_decimal(byte) => Some(Part::Integer),
+        Part::Integer if is_digit(byte) => Some(Part::Integer),
         Part::Integer => behind_zero(byte),
-        Part::Point if is_decimal(byte) => Some(Part::Fraction),
+        Part::Point if is_digit(byte) => Some(Part::Fraction),
         Part::Fraction => behind_fraction(byte),
         Part::Letter => behind_letter(byte),
-        Part::Sign if is_decimal(byte) => Some(Part::Exponent),
-        Part::Exponent if is_decimal(byte) => Some(Part::Exponent),
+        Part::Sign if is_digit(byte) => Some(Part::Exponent),
+        Part::Exponent if is_digit(byte) => Some(Part::Exponent),
         _ => None,
     }
 }

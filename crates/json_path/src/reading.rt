@@ -1,6 +1,7 @@
 //! Reading of paths.
 
 ghost use Rattle.std.specs.Prelude.{◌≡◌, ◌≤◌, ℕ, length, IfOk, IfErr};
+ghost use Rattle.zbx_types.specs.Limits.{longest_value};
 ghost use Rattle.byte_grammar.specs.Fault.{IsFault};
 ghost use Rattle.json_path.specs.Grammar.{IsPath, IsPathText};
 
@@ -10,7 +11,7 @@ use std::alloc::Global;
 use zbx_types::OutOfMemory;
 
 /// The most bytes of a path's text (this project's own).
-pub const LONGEST_PATH: u32 = 65_535;
+pub const LONGEST_PATH: u32 = zbx_types::LONGEST_VALUE as u32;
 
 /// Reads a path (the Zabbix 6.0 manual, "JSONPath functionality"; the grammar is in the crate's page). The text has at
 /// most [`LONGEST_PATH`] bytes.
@@ -19,7 +20,7 @@ pub const LONGEST_PATH: u32 = 65_535;
 /// is the place of the first byte where no path goes on, counted from 0, or the length of the text where it ends before
 /// that. [`PathError::OutOfMemory`] comes where there is no room for the path.
 pub fn read(alloc: Global, text: &[u8]) -> Result<Path, PathError>
-    requires { length text.now ≤ LONGEST_PATH }
+    requires { length text.now ≤ longest_value }
     ensures found { IfOk result (λ path. IsPath text.now path) }
     ensures only { IfOk result (λ path. (other : Path) → IsPath text.now other → other ≡ path) }
     ensures none { IfErr result (λ error. (at : ℕ) → error ≡ PathError.At at → IsPathText text.now → ⊥) }

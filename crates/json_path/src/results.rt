@@ -8,7 +8,7 @@ ghost use Rattle.json_path.specs.declared.results.SelectError.TheVariants.{OutOf
 ghost use Rattle.std.specs.Fmt.{decimal};
 ghost use Rattle.json_text.specs.Json.{list};
 ghost use Rattle.json_text.specs.Trees.{json_of};
-ghost use Rattle.json_text.specs.Written.{json_written, comma_before};
+ghost use Rattle.json_text.specs.Written.{json_written};
 ghost use Rattle.json_path.specs.Results.{Gives, takes_one, is_definite_segment, is_definite, bare_text, items_from};
 ghost use Rattle.json_path.specs.Results.{plain_result, number_result, first_of_numbers, mean, of_numbers, numbers_of};
 ghost use Rattle.json_path.specs.Results.{sum_result, first_result, function_result, array_items, function_of_array};
@@ -19,7 +19,7 @@ use crate::contents::add_items;
 use crate::path::{Function, Path, Segment, Selector};
 use crate::selecting::selected;
 use crate::sums::numbers_of;
-use json_text::{Tree, write};
+use json_text::{Tree, put_comma, write};
 use std::alloc::Global;
 use std::convert::AsStr;
 use thiserror::Error;
@@ -91,12 +91,6 @@ fn bare(alloc: Global, tree: &Tree) -> Result<Bytes, OutOfMemory>
             compact(alloc, tree)
         }
     }
-}
-
-fn put_comma(out: &mut Bytes, first: bool) -> Result<(), OutOfMemory>
-    ensures { OnOk result (out.new ≡ out.old ++ comma_before first) }
-{
-    if first { Ok(()) } else { out.extend(b",") }
 }
 
 /// The array of some values.

@@ -1,9 +1,9 @@
 -- What the grammar says is a value, the machine takes, and makes the same value of it.
 use Rattle.std.proofs.Common.{◌≡◌, ℕ, suc, ◌+◌, ◌≤◌, ◌<◌, ◌==◌, List, [], ◌∷◌, ◌++◌, length, refl, ap, sym, ◌∙◌, Option, Some, None, Bool, true, false, arith, nat_lt, if◌then◌else◌}
 use Rattle.std.proofs.lemmas.Bool.Decides.{nat_tests}
-use Rattle.byte_grammar.specs.Bytes.{Each}
+use Rattle.byte_grammar.specs.Bytes.{Each, is_digit, is_e}
 use Rattle.byte_grammar.specs.Runs.{run}
-use Rattle.json_text.specs.Bytes.{is_blank, is_digit, is_e, is_sign, AreBlanks}
+use Rattle.json_text.specs.Bytes.{is_blank, is_sign, AreBlanks}
 use Rattle.json_text.specs.Json.{Json, null, boolean, number, words, list, object, Items, no_items, add, Members, no_members, put}
 use Rattle.json_text.specs.Grammar.{IsNumber, IsString, IsName, IsValue, is_null, is_true, is_false, is_number, is_words, empty_list, is_list, empty_object, is_object, IsElement, element, AreItems, no_item, next_item, AreMembers, no_member, next_member, IsJson}
 use Rattle.json_text.specs.Tokens.{number_step, number_ends, spot}

@@ -1,8 +1,8 @@
 -- What the grammar says is a number, the machine takes.
 use Rattle.std.proofs.Common.{◌≡◌, ℕ, ◌==◌, List, [], ◌∷◌, ◌++◌, refl, ap, sym, ◌∙◌, Option, Some, true, false, arith, append_assoc, append-nil}
 use Rattle.std.proofs.lemmas.Bool.Decides.{nat_tests}
-use Rattle.byte_grammar.specs.Bytes.{Each}
-use Rattle.json_text.specs.Bytes.{is_blank, is_digit, is_nonzero_digit, is_e, is_sign, AreDigits}
+use Rattle.byte_grammar.specs.Bytes.{Each, is_digit, is_nonzero_digit, is_e}
+use Rattle.json_text.specs.Bytes.{is_blank, is_sign, AreDigits}
 use Rattle.json_text.specs.Grammar.{IsMinus, no_minus, minus, IsWhole, only_zero, whole, IsFraction, no_fraction, fraction, IsExponent, no_exponent, unsigned, signed, IsNumber}
 use Rattle.json_text.specs.Tokens.{number_step, number_ends}
 use Rattle.json_text.specs.Machine.{state, move, begun, after}

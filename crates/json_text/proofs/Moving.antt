@@ -4,9 +4,9 @@ use Rattle.std.proofs.lemmas.Bool.Decides.{nat_tests}
 use Rattle.std.specs.List.{prefix_len}
 use Rattle.std.specs.Option.{MatchOption, IfSome}
 use Rattle.std.proofs.lemmas.List.{take_more, take_all, length-take-le}
-use Rattle.byte_grammar.specs.Bytes.{Each}
+use Rattle.byte_grammar.specs.Bytes.{Each, is_digit}
 use Rattle.byte_grammar.specs.Runs.{run}
-use Rattle.json_text.specs.Bytes.{is_blank, is_digit}
+use Rattle.json_text.specs.Bytes.{is_blank}
 use Rattle.json_text.specs.Json.{words, no_members}
 use Rattle.json_text.specs.Machine.{state, move, after, step, quoted, unquoted}
 use Rattle.json_text.specs.Moves.{reach, is_plain, keeps, IsQuoted, takes_string, behind_string}

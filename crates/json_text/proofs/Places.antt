@@ -5,8 +5,8 @@ use Rattle.std.proofs.lemmas.Str.{encode_ascii, IsUtf8-append, IsUtf8-encode, Is
 use Rattle.std.proofs.lemmas.Bool.Decides.{nat_tests}
 use Rattle.std.proofs.Common.{◌+◌, ◌-◌, ◌<◌, length, take, drop, get_or, arith, ◌≡◌, ℕ, List, [], ◌∷◌, ◌++◌, refl, ap, sym, ◌∙◌, Some, None, Bool, true, nat_lt, subst, IsUtf8}
 use lib.Utf8.{low_scalar}
-use Rattle.byte_grammar.specs.Bytes.{Each}
-use Rattle.json_text.specs.Bytes.{is_digit, is_e, is_sign, is_nonzero_digit, AreDigits}
+use Rattle.byte_grammar.specs.Bytes.{Each, is_digit, is_nonzero_digit, is_e}
+use Rattle.json_text.specs.Bytes.{is_sign, AreDigits}
 use Rattle.json_text.specs.Json.{Json}
 use Rattle.byte_grammar.specs.Fault.{IsViable, IsFault, EachLength}
 use Rattle.json_text.specs.Grammar.{IsMinus, no_minus, minus, IsWhole, only_zero, whole, IsFraction, no_fraction, fraction, IsExponent, no_exponent, unsigned, signed, IsJson, IsText}

@@ -1,7 +1,8 @@
 -- What the machine makes of a text is what the grammar says of it.
 use Rattle.std.proofs.Common.{◌≡◌, ℕ, suc, ◌==◌, List, [], ◌∷◌, ◌++◌, length, refl, ap, sym, ◌∙◌, Option, Some, None, Bool, true, false, nat_lt, inl, inr, ◌⊎◌, append_assoc, append-nil, subst, if◌then◌else◌}
 use Rattle.byte_grammar.specs.Runs.{run, move as on_move}
-use Rattle.json_text.specs.Bytes.{is_blank, is_digit, AreBlanks}
+use Rattle.byte_grammar.specs.Bytes.{is_digit}
+use Rattle.json_text.specs.Bytes.{is_blank, AreBlanks}
 use Rattle.json_text.specs.Json.{Json, null, boolean, number, words, list, object, no_items, add, Members, no_members, put}
 use Rattle.json_text.specs.Grammar.{no_chars, IsValue, is_null, is_true, is_false, is_number, is_words, empty_list, is_list, empty_object, is_object, IsElement, element, no_item, next_item, no_member, next_member, IsJson}
 use Rattle.json_text.specs.Tokens.{number_step, number_ends, string_step}

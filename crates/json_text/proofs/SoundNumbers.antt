@@ -1,8 +1,8 @@
 -- What the machine takes in a number is a number of the grammar.
 use Rattle.std.proofs.Common.{◌≡◌, ℕ, ◌==◌, List, [], ◌∷◌, ◌++◌, refl, ap, sym, ◌∙◌, Some, None, true, false, arith, inl, inr, append_assoc, append-nil, subst}
 use Rattle.std.proofs.lemmas.Bool.Decides.{nat_tests}
-use Rattle.byte_grammar.specs.Bytes.{Each}
-use Rattle.json_text.specs.Bytes.{is_digit, is_nonzero_digit, is_e, is_sign, AreDigits}
+use Rattle.byte_grammar.specs.Bytes.{Each, is_digit, is_nonzero_digit, is_e}
+use Rattle.json_text.specs.Bytes.{is_sign, AreDigits}
 use Rattle.json_text.specs.Grammar.{IsMinus, no_minus, minus, IsWhole, only_zero, whole, IsFraction, no_fraction, fraction, IsExponent, no_exponent, unsigned, signed, IsNumber}
 use Rattle.json_text.specs.Tokens.{number_step, number_ends, behind_whole, digit_to}
 use Rattle.json_text.specs.declared.number.InNumber.{InNumber}

@@ -1,23 +1,11 @@
 -- Kinds of bytes in JSON texts (RFC 8259, "JSON Grammar", "Numbers" and "Strings").
 use Rattle.std.specs.Prelude.{ℕ, ◌+◌, ◌*◌, ◌-◌, ◌%◌, List, Bool, true, false, ◌==◌, nat_le, nat_lt}
 use Rattle.std.specs.Prelude.{if◌then◌else◌, Option, Some, None}
-use Rattle.byte_grammar.specs.Bytes.{Each}
+use Rattle.byte_grammar.specs.Bytes.{Each, is_digit}
 
 -- a space, a tab, a line feed or a carriage return
 abbrev pub is_blank : ℕ → Bool
 is_blank b = if b == 32 then true else if b == 9 then true else if b == 10 then true else b == 13
-
--- `0` to `9`
-abbrev pub is_digit : ℕ → Bool
-is_digit b = if nat_le 48 b then nat_le b 57 else false
-
--- `1` to `9`
-abbrev pub is_nonzero_digit : ℕ → Bool
-is_nonzero_digit b = if nat_le 49 b then nat_le b 57 else false
-
--- `e` or `E`
-abbrev pub is_e : ℕ → Bool
-is_e b = if b == 101 then true else b == 69
 
 -- `+` or `-`
 abbrev pub is_sign : ℕ → Bool

@@ -1,7 +1,8 @@
 -- Which text is which value, by cases of the grammar of JSON (RFC 8259).
-use Rattle.std.specs.Prelude.{◌≡◌, ◌≢◌, ℕ, suc, ◌≤◌, List, [], ◌∷◌, ◌++◌, true, false, Some}
+use Rattle.std.specs.Prelude.{◌≡◌, ◌≢◌, ℕ, suc, ◌≤◌, List, [], ◌∷◌, ◌++◌, true, false, Some, codes}
 use Rattle.std.specs.Char.{IsScalar, encode_utf8}
-use Rattle.json_text.specs.Bytes.{is_digit, is_nonzero_digit, is_e, is_sign, is_hex, hex_code, is_high, is_low}
+use Rattle.byte_grammar.specs.Bytes.{is_digit, is_nonzero_digit, is_e}
+use Rattle.json_text.specs.Bytes.{is_sign, is_hex, hex_code, is_high, is_low}
 use Rattle.json_text.specs.Bytes.{paired, short_escape, AreBlanks, AreDigits}
 use Rattle.json_text.specs.Json.{Json, null, boolean, number, words, list, object, Items, no_items, add, Members}
 use Rattle.json_text.specs.Json.{no_members, put}
@@ -80,9 +81,9 @@ pub record IsName (t k : List ℕ) : Type 0 where
 
 mutual
   pub data IsValue : ℕ → List ℕ → Json → Type 0 where
-    is_null : {d : ℕ} {t : List ℕ} → t ≡ 110 ∷ 117 ∷ 108 ∷ 108 ∷ [] → IsValue d t null
-    is_true : {d : ℕ} {t : List ℕ} → t ≡ 116 ∷ 114 ∷ 117 ∷ 101 ∷ [] → IsValue d t (boolean true)
-    is_false : {d : ℕ} {t : List ℕ} → t ≡ 102 ∷ 97 ∷ 108 ∷ 115 ∷ 101 ∷ [] → IsValue d t (boolean false)
+    is_null : {d : ℕ} {t : List ℕ} → t ≡ codes "null" → IsValue d t null
+    is_true : {d : ℕ} {t : List ℕ} → t ≡ codes "true" → IsValue d t (boolean true)
+    is_false : {d : ℕ} {t : List ℕ} → t ≡ codes "false" → IsValue d t (boolean false)
     is_number : {d : ℕ} {t : List ℕ} → IsNumber t → IsValue d t (number t)
     is_words : {d : ℕ} {t s : List ℕ} → IsString t s → IsValue d t (words s)
     empty_list : {d : ℕ} {t : List ℕ} (x : List ℕ) → AreBlanks x → t ≡ 91 ∷ (x ++ 93 ∷ [])

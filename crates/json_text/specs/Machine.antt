@@ -2,7 +2,8 @@
 use Rattle.std.specs.Prelude.{ℕ, List, [], ◌∷◌, ◌++◌, length, Bool, true, false, ◌==◌, nat_lt, if◌then◌else◌, Option}
 use Rattle.std.specs.Prelude.{Some, None}
 use Rattle.byte_grammar.specs.Runs.{run}
-use Rattle.json_text.specs.Bytes.{is_blank, is_digit}
+use Rattle.byte_grammar.specs.Bytes.{is_digit}
+use Rattle.json_text.specs.Bytes.{is_blank}
 use Rattle.json_text.specs.Json.{Json, null, boolean, number, words, list, object, no_items, add, no_members, put}
 use Rattle.json_text.specs.Tokens.{number_step, number_ends, spot, string_step}
 use Rattle.json_text.specs.declared.number.InNumber.{InNumber}

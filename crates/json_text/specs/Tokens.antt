@@ -2,7 +2,8 @@
 use Rattle.std.specs.Prelude.{ℕ, List, [], ◌∷◌, ◌++◌, Bool, true, false, ◌==◌, nat_lt, if◌then◌else◌, Option}
 use Rattle.std.specs.Prelude.{Some, None}
 use Rattle.std.specs.Char.{encode_utf8}
-use Rattle.json_text.specs.Bytes.{is_digit, is_e, is_sign, is_hex, hex_value, hex_code, paired, short_escape}
+use Rattle.byte_grammar.specs.Bytes.{is_digit, is_e}
+use Rattle.json_text.specs.Bytes.{is_sign, is_hex, hex_value, hex_code, paired, short_escape}
 use Rattle.json_text.specs.declared.number.InNumber.{InNumber}
 use Rattle.json_text.specs.declared.number.InNumber.TheVariants.{Minus, Zero, Whole, Point, Fraction, Exponent}
 use Rattle.json_text.specs.declared.number.InNumber.TheVariants.{Signed, Digits}

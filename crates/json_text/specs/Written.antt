@@ -1,5 +1,5 @@
 -- The written form of values (this project's own): no blanks, members in order, numbers with their text.
-use Rattle.std.specs.Prelude.{ℕ, ◌/◌, ◌%◌, List, [], ◌∷◌, ◌++◌, Bool, true, false, ◌==◌, nat_lt, if◌then◌else◌}
+use Rattle.std.specs.Prelude.{ℕ, ◌/◌, ◌%◌, List, [], ◌∷◌, ◌++◌, Bool, true, false, ◌==◌, nat_lt, if◌then◌else◌, codes}
 use Rattle.std.specs.Char.{digit_char}
 use Rattle.json_text.specs.Json.{Json, null, boolean, number, words, list, object, Items, no_items, item, Members}
 use Rattle.json_text.specs.Json.{no_members, member}
@@ -22,9 +22,9 @@ in_quotes s = 34 ∷ (escaped s ++ 34 ∷ [])
 -- Behind the first item or member a comma stands before each other one. The closing bracket belongs to them.
 abbrev mutual
   pub json_written : Json → List ℕ
-  json_written null = 110 ∷ 117 ∷ 108 ∷ 108 ∷ []
-  json_written (boolean false) = 102 ∷ 97 ∷ 108 ∷ 115 ∷ 101 ∷ []
-  json_written (boolean true) = 116 ∷ 114 ∷ 117 ∷ 101 ∷ []
+  json_written null = codes "null"
+  json_written (boolean false) = codes "false"
+  json_written (boolean true) = codes "true"
   json_written (number s) = s
   json_written (words s) = in_quotes s
   json_written (list js) = 91 ∷ items_written js

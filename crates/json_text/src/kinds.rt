@@ -1,26 +1,16 @@
 //! Kinds of bytes.
 
 ghost use Rattle.std.specs.Prelude.{◌≡◌, ◌<◌};
-ghost use Rattle.json_text.specs.Bytes.{is_blank as blank_test, is_digit as digit_test, is_e as e_test};
+ghost use Rattle.json_text.specs.Bytes.{is_blank as blank_test};
 ghost use Rattle.json_text.specs.Bytes.{is_sign as sign_test, is_hex as hex_test, hex_value as hex_number};
 ghost use Rattle.json_text.specs.Bytes.{hex_code as code_number, paired as pair_number, short_escape};
+
+use byte_grammar::is_digit;
 
 pub(crate) fn is_blank(byte: u8) -> bool
     ensures { result ≡ blank_test byte }
 {
     byte == b' ' || byte == b'\t' || byte == b'\n' || byte == b'\r'
-}
-
-pub(crate) fn is_digit(byte: u8) -> bool
-    ensures { result ≡ digit_test byte }
-{
-    b'0' <= byte && byte <= b'9'
-}
-
-pub(crate) fn is_e(byte: u8) -> bool
-    ensures { result ≡ e_test byte }
-{
-    byte == b'e' || byte == b'E'
 }
 
 pub(crate) fn is_sign(byte: u8) -> bool

@@ -16,7 +16,8 @@
 //! ```
 //!
 //! [`write`] puts no blanks. In texts a quote and a backslash get a backslash, bytes below 32 are `\u00` with two
-//! lower-case hexadecimal digits, and all else stands as it is.
+//! lower-case hexadecimal digits, and all else stands as it is. For a caller that writes an array of its own,
+//! [`put_comma`] adds the comma before each item but the first.
 //!
 //! Contracts see a [`Tree`] as a plain tree, without where it lies in memory. A short use:
 //!
@@ -43,4 +44,4 @@ mod writing;
 
 pub use reading::{ReadError, read};
 pub use tree::{Member, Members, Tree, Trees};
-pub use writing::write;
+pub use writing::{put_comma, write};

@@ -8,7 +8,7 @@ ghost use Rattle.json_text.specs.Trees.{json_of};
 ghost use Rattle.json_text.specs.declared.place.Mode.TheVariants as modes;
 
 use crate::frame::{Frame, Read, Stack};
-use crate::kinds::{is_blank, is_digit};
+use crate::kinds::is_blank;
 use crate::making::{behind_string, is_end, quoted, takes_string, text_of, with_item};
 use crate::naming::Fields;
 use crate::number::{InNumber, may_end, next_in_number};
@@ -16,6 +16,7 @@ use crate::place::{InLiteral, Mode, Use};
 use crate::spans::{blank_len, digits, plain, plain_in_quotes};
 use crate::string::{Spot, next_in_string};
 use crate::tree::{Members, Tree, Trees};
+use byte_grammar::is_digit;
 use std::alloc::Global;
 use std::mem::replace;
 use zbx_types::{Bytes, OutOfMemory, Text};

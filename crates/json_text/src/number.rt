@@ -3,7 +3,8 @@
 ghost use Rattle.std.specs.Prelude.{◌≡◌};
 ghost use Rattle.json_text.specs.Tokens.{behind_whole as place_behind_whole, digit_to, number_step, number_ends};
 
-use crate::kinds::{is_digit, is_e, is_sign};
+use crate::kinds::is_sign;
+use byte_grammar::{is_digit, is_e};
 
 /// A place in a number (RFC 8259, "Numbers"): what its bytes so far say of those that may follow.
 #[derive(Clone, Copy)]

@@ -2,14 +2,16 @@
 
 ghost use Rattle.std.specs.Prelude.{◌≡◌, ◌≤◌, IfOk, IfSome, length, take};
 ghost use Rattle.std.specs.List.{prefix_len};
-ghost use Rattle.json_text.specs.Bytes.{is_blank as blank_test, is_digit as digit_test};
+ghost use Rattle.byte_grammar.specs.Bytes.{is_digit as digit_test};
+ghost use Rattle.json_text.specs.Bytes.{is_blank as blank_test};
 ghost use Rattle.json_text.specs.Moves.{is_plain as plain_test, keeps as keeps_test, IsQuoted, LeadTo};
 ghost use Rattle.json_text.specs.declared.place.Use.{Use};
 ghost use Rattle.json_text.specs.declared.place.Mode.TheVariants as modes;
 
-use crate::kinds::{is_blank, is_digit};
+use crate::kinds::is_blank;
 use crate::number::InNumber;
 use crate::string::{InString, Spot};
+use byte_grammar::is_digit;
 use std::alloc::Global;
 use zbx_types::{Bytes, OutOfMemory, Text};
 

@@ -51,8 +51,8 @@ fn put_quoted(out: &mut Bytes, text: &[u8]) -> Result<(), OutOfMemory>
     out.extend(b"\"")
 }
 
-/// The comma before an item or a member that isn't the first.
-fn put_comma(out: &mut Bytes, first: bool) -> Result<(), OutOfMemory>
+/// Adds the comma that stands before each item or member but the first.
+pub fn put_comma(out: &mut Bytes, first: bool) -> Result<(), OutOfMemory>
     ensures ok { OnOk result (out.new ≡ out.old ++ comma_before first) }
     ensures err { OnErr result (out.new ≡ out.old) }
 {
