@@ -13,6 +13,7 @@ use Rattle.item_key.specs.declared.places.Place.TheVariants.{Start}
 use Rattle.item_key.specs.Machine as key
 use Rattle.byte_grammar.specs.declared.characters.Character.{Character}
 use Rattle.byte_grammar.specs.declared.characters.Character.TheVariants.{Whole}
+use Rattle.zbx_types.specs.Limits.{longest_key, longest_name}
 use Rattle.expr_parser.specs.Bytes.{is_blank, is_gap, one_less}
 use Rattle.expr_parser.specs.declared.figures.Figures.{Figures}
 use Rattle.expr_parser.specs.declared.slots.Slot.{Slot}
@@ -283,7 +284,7 @@ number f l o k cs b =
 -- a byte of a host's name, or the slash behind it
 abbrev pub host : Fun → List ℕ → ℕ → List Pending → List Call → ℕ → Option State
 host f h o k cs b =
-    if is_host_byte b then (if nat_lt (length h) 128 then Some (state (Host f (h ++ b ∷ [])) b o k cs) else None)
+    if is_host_byte b then (if nat_lt (length h) longest_name then Some (state (Host f (h ++ b ∷ [])) b o k cs) else None)
     else if b == 47 then (if nat_lt 0 (length h) then Some (state (Key f h [] Start Whole) b o k cs) else None)
     else None
 
@@ -318,7 +319,7 @@ key_more f h t (Some place) (Some u) o k cs b = Some (state (Key f h (t ++ b ∷
 abbrev pub key_on : Bool → Fun → List ℕ → List ℕ → Place → Character → ℕ → List Pending → List Call → ℕ → Option State
 key_on free f h t place u o k cs b =
     if free then key_more f h t (key.step place b) (follow u b) o k cs b
-    else if nat_lt (length t) 2048 then key_more f h t (key.step place b) (follow u b) o k cs b else None
+    else if nat_lt (length t) longest_key then key_more f h t (key.step place b) (follow u b) o k cs b else None
 
 -- what stands behind the key, where host and key are characters
 abbrev pub key_end : Fun → List ℕ → List ℕ → ℕ → List Pending → List Call → ℕ → Option State

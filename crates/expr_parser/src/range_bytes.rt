@@ -14,6 +14,9 @@ use crate::parts::{Ahead, Part};
 use crate::slots::{Slot, least_period, takes_count};
 use zbx_types::{LONGEST_RANGE, Range};
 
+/// The most values of a range.
+const MOST_VALUES: u32 = 10_000;
+
 pub(crate) fn grown(most: u32, number: u32, byte: u8) -> Option<u32>
     requires { bytes.is_digit byte ≡ true }
     ensures { result ≡ parts.grown most number byte }
@@ -183,7 +186,7 @@ pub(crate) fn latest_byte(slot: Slot, number: u32, byte: u8) -> Option<Part>
     ensures { result ≡ parts.latest_byte slot number byte }
 {
     if digit(byte) {
-        in_latest(grown(10000, number, byte))
+        in_latest(grown(MOST_VALUES, number, byte))
     } else {
         match latest_range(number) {
             Some(range) => colon(slot, range, byte),
@@ -196,7 +199,7 @@ pub(crate) fn hash_byte(byte: u8) -> Option<Part>
     ensures { result ≡ parts.hash_byte byte }
 {
     if digit(byte) {
-        in_latest(grown(10000, 0, byte))
+        in_latest(grown(MOST_VALUES, 0, byte))
     } else {
         None
     }
