@@ -1,7 +1,7 @@
 -- Calls of functions, by the cases of their grammar (the Zabbix 6.0 manual, "Trigger expression" and "Supported
 -- functions").
 use Rattle.std.specs.Prelude.{◌≡◌, ◌≤◌, ◌<◌, ℕ, List, [], ◌∷◌, ◌++◌, Option, Some, None, Bool, true, false, ◌==◌}
-use Rattle.std.specs.Prelude.{if◌then◌else◌, length, take, IsUtf8}
+use Rattle.std.specs.Prelude.{if◌then◌else◌, length, take, IsUtf8, codes}
 use Rattle.zbx_types.specs.declared.calls.Call.{Call}
 use Rattle.zbx_types.specs.declared.calls.Fun.{Fun}
 use Rattle.zbx_types.specs.declared.calls.Range.{Range}
@@ -103,7 +103,7 @@ pub data IsPart : Slot → List ℕ → Value → Type 0 where
   ranged : {s : Slot} {t : List ℕ} {r : Range} → IsRange s t r → IsPart s t (Ranged r 0)
   shifted : {s : Slot} {t : List ℕ} {r : Range} {n : ℕ} (u w : List ℕ) → IsRange s u r → takes_count s ≡ true
       → IsPeriod 0 longest_range w n
-      → t ≡ u ++ (58 ∷ 110 ∷ 111 ∷ 119 ∷ 45 ∷ w) → IsPart s t (Ranged r n)
+      → t ≡ u ++ (codes ":now-" ++ w) → IsPart s t (Ranged r n)
   word : {t : List ℕ} {ws : Words} (w : List ℕ) → is_one_of (word_list ws) w ≡ true → t ≡ 34 ∷ (w ++ 34 ∷ [])
       → IsPart (Word ws) t (Said w)
   number : {s : Slot} {t : List ℕ} (most n : ℕ) → number_limit s ≡ Some most → IsNumber most t n → IsPart s t (Said t)

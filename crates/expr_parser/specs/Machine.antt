@@ -1,6 +1,6 @@
 -- Expressions byte by byte: where an expression stands behind a front of it.
 use Rattle.std.specs.Prelude.{◌≡◌, ℕ, zero, suc, List, [], ◌∷◌, ◌++◌, length, Bool, true, false, ◌==◌, nat_le, nat_lt}
-use Rattle.std.specs.Prelude.{if◌then◌else◌, Option, Some, None, pos}
+use Rattle.std.specs.Prelude.{if◌then◌else◌, Option, Some, None, pos, codes}
 use Rattle.std.specs.Str.{is_utf8}
 use Rattle.zbx_types.specs.Tree.{Tree, constant, call, negative, negation, binary}
 use Rattle.zbx_types.specs.declared.expr.Op.{Op}
@@ -103,7 +103,7 @@ has_room cs = nat_lt (length cs) 32
 
 -- the word of a negation
 abbrev pub not_word : List ℕ
-not_word = 110 ∷ 111 ∷ 116 ∷ []
+not_word = codes "not"
 
 -- the letters are that word
 abbrev pub is_not : List ℕ → Bool
