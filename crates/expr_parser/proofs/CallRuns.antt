@@ -14,6 +14,7 @@ use Rattle.item_key.proofs.Complete as keys
 use Rattle.byte_grammar.specs.declared.characters.Character.{Character}
 use Rattle.byte_grammar.specs.declared.characters.Character.TheVariants.{Whole}
 use Rattle.zbx_types.specs.Limits.{longest_key, longest_name}
+use Rattle.zbx_types.specs.NameBytes.{is_host_name_byte}
 use Rattle.expr_parser.specs.declared.slots.Slot.{Slot}
 use Rattle.expr_parser.specs.declared.slots.Slot.TheVariants as slots'
 use Rattle.expr_parser.specs.declared.slots.Slot.TheVariants.{Newest, Span, MaybeSpan, Silence, Percent, Free}
@@ -25,7 +26,7 @@ use Rattle.expr_parser.specs.declared.pending.Pending.{Pending}
 use Rattle.expr_parser.specs.Bytes.{is_blank, is_digit, AreBlanks, Point, one_less, behind}
 use Rattle.expr_parser.specs.Functions.{name_of, slots}
 use Rattle.zbx_types.specs.Operators.{is_dated}
-use Rattle.expr_parser.specs.Calls.{is_host_byte, AreHostBytes, IsHost, IsPart, put, Arguments, no_more, another, plain_call, IsCall, dated, of_item}
+use Rattle.expr_parser.specs.Calls.{AreHostBytes, IsHost, IsPart, put, Arguments, no_more, another, plain_call, IsCall, dated, of_item}
 use Rattle.byte_grammar.specs.Utf8.{follow}
 use Rattle.byte_grammar.specs.Runs.{run}
 use Rattle.expr_parser.specs.Parts.{part, part_value}
@@ -127,7 +128,7 @@ arguments_run (another {s} {ss} {c} {d} {text} {v} x t r a i w e) p m o k cs h g
 
 -- ---- hosts
 
-name_low : (b : ℕ) → is_host_byte b ≡ true → nat_lt b 128 ≡ true
+name_low : (b : ℕ) → is_host_name_byte b ≡ true → nat_lt b 128 ≡ true
 name_low b h = grind (arith, nat_tests)
 
 host_chars : (h : List ℕ) → AreHostBytes h → run follow (Some Whole) h ≡ Some Whole

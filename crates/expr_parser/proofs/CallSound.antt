@@ -15,6 +15,7 @@ use Rattle.item_key.proofs.Sound as keys
 use Rattle.byte_grammar.specs.declared.characters.Character.{Character}
 use Rattle.byte_grammar.specs.declared.characters.Character.TheVariants.{Whole, One, Two, Three, BehindE0, BehindEd, BehindF0, BehindF4}
 use Rattle.zbx_types.specs.Limits.{longest_key, longest_name}
+use Rattle.zbx_types.specs.NameBytes.{is_host_name_byte}
 use Rattle.expr_parser.specs.declared.slots.Slot.{Slot}
 use Rattle.expr_parser.specs.declared.parts.Value.{Value}
 use Rattle.expr_parser.specs.declared.parts.Value.TheVariants.{Ranged, Said}
@@ -24,7 +25,7 @@ use Rattle.expr_parser.specs.declared.pending.Pending.{Pending}
 use Rattle.expr_parser.specs.Bytes.{is_blank, Point, beginning}
 use Rattle.expr_parser.specs.Functions.{name_of, slots}
 use Rattle.zbx_types.specs.Operators.{is_dated}
-use Rattle.expr_parser.specs.Calls.{is_host_byte, AreHostBytes, put, all_absent, no_more, another, plain_call, IsCall, of_item}
+use Rattle.expr_parser.specs.Calls.{AreHostBytes, put, all_absent, no_more, another, plain_call, IsCall, of_item}
 use Rattle.byte_grammar.specs.Utf8.{follow}
 use Rattle.byte_grammar.specs.Runs.{run}
 use Rattle.expr_parser.specs.Grammar.{called}
@@ -69,7 +70,7 @@ delivered_sound n d o k cs c ss q b s deep w h = elim (way (b == 44) _ _ (Some s
   ]
 ]
 
-host_snoc : (h : List ℕ) (b : ℕ) → AreHostBytes h → is_host_byte b ≡ true → AreHostBytes (h ++ b ∷ [])
+host_snoc : (h : List ℕ) (b : ℕ) → AreHostBytes h → is_host_name_byte b ≡ true → AreHostBytes (h ++ b ∷ [])
 unfolding AreHostBytes
 host_snoc [] b a g = (g, tt)
 host_snoc (x ∷ h) b a g = (a.0, host_snoc h b a.1 g)
@@ -91,7 +92,7 @@ take_none zero = omega arith
 take_none (suc m) = omega arith
 
 pub host_sound : (n d o : ℕ) (k : List Pending) (cs : List Call) (f : Fun) (h q : List ℕ) (b : ℕ) (s : State) → d + o ≡ 32 → Token n d k cs q (name_of f ++ 40 ∷ 47 ∷ h) → has_room cs ≡ true → is_dated f ≡ false → AreHostBytes h → length h ≤ longest_name → host f h o k cs b ≡ Some s → Stands n (q ++ b ∷ []) s
-host_sound n d o k cs f h q b s deep t r looks a l e = elim (way (is_host_byte b) _ _ (Some s) e) [
+host_sound n d o k cs f h q b s deep t r looks a l e = elim (way (is_host_name_byte b) _ _ (Some s) e) [
   | inl z ↦ elim (way (nat_lt (length h) longest_name) _ _ (Some s) z.1) [
     | inl y ↦ let i = length-append h (b ∷ []) in let j = lt_true (length h) longest_name y.0 in
         stays n q d o b (Host f (h ++ b ∷ [])) k cs s deep (token_on n d k cs q (name_of f ++ 40 ∷ 47 ∷ h) (b ∷ []) (name_of f ++ 40 ∷ 47 ∷ (h ++ b ∷ [])) (append_assoc (name_of f) (40 ∷ 47 ∷ h) (b ∷ [])) t, r, looks, host_snoc h b a z.0, omega arith) y.1

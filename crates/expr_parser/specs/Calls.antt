@@ -6,8 +6,9 @@ use Rattle.zbx_types.specs.declared.calls.Call.{Call}
 use Rattle.zbx_types.specs.declared.calls.Fun.{Fun}
 use Rattle.zbx_types.specs.declared.calls.Range.{Range}
 use Rattle.zbx_types.specs.declared.calls.Range.TheVariants.{Count, Period}
-use Rattle.item_key.specs.Grammar.{IsKeyText, is_name_byte}
+use Rattle.item_key.specs.Grammar.{IsKeyText}
 use Rattle.zbx_types.specs.Limits.{longest_range, longest_key, longest_name}
+use Rattle.zbx_types.specs.NameBytes.{is_host_name_byte}
 use Rattle.expr_parser.specs.Bytes.{Point, behind, AreBlanks, Digits}
 use Rattle.expr_parser.specs.Numbers.{IsNumber, IsPeriod}
 use Rattle.expr_parser.specs.declared.slots.Words.{Words}
@@ -18,14 +19,10 @@ use Rattle.expr_parser.specs.declared.parts.Value.TheVariants.{Ranged, Said}
 use Rattle.expr_parser.specs.Functions.{name_of, slots, default_range, takes_count, least_period, word_list}
 use Rattle.zbx_types.specs.Operators.{is_dated}
 
--- a byte of a host's name: a letter, a digit, space, `_`, `-` or `.`
-abbrev pub is_host_byte : ℕ → Bool
-is_host_byte b = if b == 32 then true else is_name_byte b
-
 -- bytes of a host's name alone, or nothing
 unfoldable pub AreHostBytes : List ℕ → Type 0
 AreHostBytes [] = Unit {0}
-AreHostBytes (b ∷ bs) = (is_host_byte b ≡ true) × AreHostBytes bs
+AreHostBytes (b ∷ bs) = (is_host_name_byte b ≡ true) × AreHostBytes bs
 
 -- a host's name, of 1 to 128 bytes
 abbrev pub IsHost : List ℕ → Type 0

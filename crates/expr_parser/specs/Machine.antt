@@ -14,6 +14,7 @@ use Rattle.item_key.specs.Machine as key
 use Rattle.byte_grammar.specs.declared.characters.Character.{Character}
 use Rattle.byte_grammar.specs.declared.characters.Character.TheVariants.{Whole}
 use Rattle.zbx_types.specs.Limits.{longest_key, longest_name}
+use Rattle.zbx_types.specs.NameBytes.{is_host_name_byte}
 use Rattle.expr_parser.specs.Bytes.{is_blank, is_gap, one_less}
 use Rattle.expr_parser.specs.declared.figures.Figures.{Figures}
 use Rattle.expr_parser.specs.declared.slots.Slot.{Slot}
@@ -29,7 +30,7 @@ use Rattle.expr_parser.specs.declared.pending.Rest.{Rest}
 use Rattle.expr_parser.specs.declared.pending.Rest.TheVariants.{Nd, D, R, Nothing}
 use Rattle.expr_parser.specs.Functions.{name_of, slots}
 use Rattle.zbx_types.specs.Operators.{is_dated}
-use Rattle.expr_parser.specs.Calls.{is_host_byte, put, put_range, all_absent, plain_call, is_same, greatest_number}
+use Rattle.expr_parser.specs.Calls.{put, put_range, all_absent, plain_call, is_same, greatest_number}
 use Rattle.expr_parser.specs.Grammar.{op_level}
 use Rattle.byte_grammar.specs.Utf8.{follow}
 use Rattle.expr_parser.specs.Figures.{first_figure, figure, figures_value, is_figure}
@@ -284,7 +285,8 @@ number f l o k cs b =
 -- a byte of a host's name, or the slash behind it
 abbrev pub host : Fun → List ℕ → ℕ → List Pending → List Call → ℕ → Option State
 host f h o k cs b =
-    if is_host_byte b then (if nat_lt (length h) longest_name then Some (state (Host f (h ++ b ∷ [])) b o k cs) else None)
+    if is_host_name_byte b then
+    (if nat_lt (length h) longest_name then Some (state (Host f (h ++ b ∷ [])) b o k cs) else None)
     else if b == 47 then (if nat_lt 0 (length h) then Some (state (Key f h [] Start Whole) b o k cs) else None)
     else None
 

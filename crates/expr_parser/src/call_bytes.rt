@@ -22,29 +22,18 @@ use crate::states::{MOST_CALLS, Mode, Moved, State, blank, to};
 use byte_grammar::Character;
 use item_key::{Place, may_end, next};
 use std::alloc::Global;
-use zbx_types::{Bytes, Call, Expr, Fun, LONGEST_KEY, LONGEST_NAME, OutOfMemory, Range, Text};
+use zbx_types::{
+    Bytes, Call, Expr, Fun, LONGEST_KEY, LONGEST_NAME, OutOfMemory, Range, Text, is_host_name_byte,
+};
 
 /// The bytes of most keys, for which there is room from the first on.
 const KEY_ROOM: usize = 32;
 
 #[inline(always)]
-pub(crate) fn host_byte(byte: u8) -> bool
-    ensures { result ≡ calls.is_host_byte byte }
-{
-    byte == b' '
-        || (b'a' <= byte && byte <= b'z')
-        || (b'A' <= byte && byte <= b'Z')
-        || (b'0' <= byte && byte <= b'9')
-        || byte == b'_'
-        || byte == b'-'
-        || byte == b'.'
-}
-
-#[inline(always)]
 pub(crate) fn host(alloc: Global, fun: Fun, text: Bytes, s: &mut State, byte: u8) -> Moved
     ensures { IfOk result (λ on. reach on (state s.new) ≡ machine.host fun text s.old.base.open_ones (reverse s.old.base.stack.items) s.old.base.calls byte) }
 {
-    if host_byte(byte) {
+    if is_host_name_byte(byte) {
         if text.len() < LONGEST_NAME {
             let text = longer(text, byte)?;
             Ok(to(s, Mode::Host(fun, text), byte))
