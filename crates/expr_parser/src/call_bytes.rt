@@ -1,19 +1,14 @@
 //! The bytes of calls: hosts, keys and arguments.
 
-ghost use Rattle.std.specs.Prelude.{◌≡◌, ◌≤◌, ◌<◌, ◌++◌, ◌∷◌, [], IfOk, reverse, nat_le, nat_lt, Some, None, true, false, option_map, length, if◌then◌else◌, pos};
+ghost use Rattle.std.specs.Prelude.{◌≡◌, IfOk, reverse, Some, None, false, if◌then◌else◌};
 ghost use Rattle.std.specs.Str.{is_utf8};
-ghost use Rattle.expr_parser.specs.Bytes as bytes;
 ghost use Rattle.expr_parser.specs.Calls as calls;
 ghost use Rattle.expr_parser.specs.Parts as parts;
-ghost use Rattle.expr_parser.specs.Figures as figures;
 ghost use Rattle.expr_parser.specs.Machine as machine;
 ghost use Rattle.expr_parser.specs.Staying.{reach};
-ghost use Rattle.expr_parser.specs.View.{state, slot_list, whole_of};
+ghost use Rattle.expr_parser.specs.View.{state, slot_list};
 ghost use Rattle.expr_parser.specs.declared.parts.Part.{Part};
 ghost use Rattle.expr_parser.specs.declared.parts.Value.TheVariants.{Said};
-ghost use Rattle.expr_parser.specs.declared.pending.Pending.TheVariants.{Waits};
-ghost use Rattle.zbx_types.specs.Tree as trees;
-ghost use Rattle.zbx_types.specs.Trees.{tree_of};
 
 use crate::figures::longer;
 use crate::parts::{Part, Value, part_on, part_value};

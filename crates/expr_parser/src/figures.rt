@@ -1,6 +1,6 @@
 //! Numbers byte by byte.
 
-ghost use Rattle.std.specs.Prelude.{◌≡◌, ◌++◌, ◌∷◌, [], ◌*◌, ◌+◌, ◌-◌, ◌^◌, ◌≤◌, true, IfOk, nat_le, if◌then◌else◌, Some, None, option_map};
+ghost use Rattle.std.specs.Prelude.{◌≡◌, ◌++◌, ◌∷◌, [], ◌*◌, IfOk, nat_le, if◌then◌else◌, Some, None, option_map};
 ghost use Rattle.expr_parser.specs.Bytes as bytes;
 ghost use Rattle.expr_parser.specs.Numbers as numbers;
 ghost use Rattle.expr_parser.specs.Figures as figures;

@@ -1,12 +1,9 @@
 //! The bytes of ranges and shifts.
 
-ghost use Rattle.std.specs.Prelude.{◌≡◌, ◌≤◌, ◌++◌, ◌∷◌, [], ◌*◌, ◌+◌, ◌-◌, true, IfOk, nat_le, if◌then◌else◌, Some, None, option_map, is_some};
+ghost use Rattle.std.specs.Prelude.{◌≡◌, true, option_map};
 ghost use Rattle.expr_parser.specs.Bytes as bytes;
-ghost use Rattle.expr_parser.specs.Numbers as numbers;
 ghost use Rattle.expr_parser.specs.Functions as functions;
-ghost use Rattle.expr_parser.specs.Calls as calls;
 ghost use Rattle.expr_parser.specs.Parts as parts;
-ghost use Rattle.expr_parser.specs.Figures as figures;
 ghost use Rattle.expr_parser.specs.declared.parts.Part.TheVariants.{Seconds, Shift, Latest};
 
 use crate::figures::{digit, period_factor};

@@ -1,6 +1,6 @@
 //! Reading of expressions.
 
-ghost use Rattle.std.specs.Prelude.{◌≡◌, ◌≤◌, ◌<◌, ℕ, List, [], length, get_or, true, false, IfOk, IfErr, Some, None};
+ghost use Rattle.std.specs.Prelude.{◌≡◌, ◌≤◌, ◌<◌, ℕ, List, length, get_or, true, false, IfOk, IfErr, Some, None};
 ghost use Rattle.std.specs.List.{All};
 ghost use Rattle.zbx_types.specs.Limits.{longest_expression};
 ghost use Rattle.zbx_types.specs.Tree.{Tree};

@@ -5,7 +5,7 @@ ghost use Rattle.expr_parser.specs.Machine as machine;
 ghost use Rattle.expr_parser.specs.Parts as parts;
 ghost use Rattle.expr_parser.specs.Staying.{reach};
 ghost use Rattle.expr_parser.specs.View as view;
-ghost use Rattle.expr_parser.specs.View.{slot_list, state};
+ghost use Rattle.expr_parser.specs.View.{state};
 ghost use Rattle.expr_parser.specs.declared.parts.Part.{Part};
 ghost use Rattle.expr_parser.specs.declared.pending.Pending.{Pending};
 ghost use Rattle.expr_parser.specs.declared.slots.Slot.{Slot};
