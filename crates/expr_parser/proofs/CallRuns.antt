@@ -11,6 +11,7 @@ use Rattle.item_key.specs.declared.places.Place.TheVariants.{Start, Name, Done a
 use Rattle.item_key.specs.Machine as key
 use Rattle.item_key.specs.Grammar.{IsKeyText}
 use Rattle.item_key.proofs.Complete as keys
+use Rattle.byte_grammar.specs.Bytes.{is_digit}
 use Rattle.byte_grammar.specs.declared.characters.Character.{Character}
 use Rattle.byte_grammar.specs.declared.characters.Character.TheVariants.{Whole}
 use Rattle.zbx_types.specs.Limits.{longest_key, longest_name}
@@ -23,7 +24,7 @@ use Rattle.expr_parser.specs.declared.parts.Value.TheVariants.{Ranged, Said}
 use Rattle.expr_parser.specs.declared.parts.Part.{Part}
 use Rattle.expr_parser.specs.declared.parts.Part.TheVariants.{Before}
 use Rattle.expr_parser.specs.declared.pending.Pending.{Pending}
-use Rattle.expr_parser.specs.Bytes.{is_blank, is_digit, AreBlanks, Point, one_less, behind}
+use Rattle.expr_parser.specs.Bytes.{is_blank, AreBlanks, Point, one_less, behind}
 use Rattle.expr_parser.specs.Functions.{name_of, slots}
 use Rattle.zbx_types.specs.Operators.{is_dated}
 use Rattle.expr_parser.specs.Calls.{AreHostBytes, IsHost, IsPart, put, Arguments, no_more, another, plain_call, IsCall, dated, of_item}

@@ -4,6 +4,7 @@ use Rattle.std.proofs.lemmas.Bool.Decides.{nat_tests}
 use Rattle.std.specs.Str.{IsUtf8}
 use Rattle.zbx_types.specs.declared.calls.Range.{Range}
 use Rattle.zbx_types.specs.declared.calls.Range.TheVariants.{Count}
+use Rattle.byte_grammar.specs.Bytes.{is_digit}
 use Rattle.byte_grammar.specs.declared.characters.Character.TheVariants.{Whole}
 use Rattle.zbx_types.specs.Limits.{longest_range}
 use Rattle.expr_parser.specs.declared.figures.Figures.{Figures}
@@ -15,7 +16,6 @@ use Rattle.expr_parser.specs.declared.parts.Value.TheVariants.{Ranged, Said}
 use Rattle.expr_parser.specs.declared.parts.Ahead.TheVariants.{Now, Ow, W, Dash, Digits as Figured}
 use Rattle.expr_parser.specs.declared.parts.Part.{Part}
 use Rattle.expr_parser.specs.declared.parts.Part.TheVariants.{Before, Latest, Seconds, Spanned, Back, Shift, Shifted, Letters, Number, Opened, Quoted, Text, Closed}
-use Rattle.expr_parser.specs.Bytes.{is_digit}
 use Rattle.expr_parser.specs.declared.figures.Figures.TheVariants.{Integral, Pointed, Fraction, Suffixed}
 use Rattle.expr_parser.specs.Numbers.{period_factor, number_factor, millionths, IsPeriod}
 use Rattle.expr_parser.specs.Functions.{takes_count, least_period, word_list}

@@ -4,6 +4,7 @@ use Rattle.std.specs.Prelude.{◌==◌, nat_le, if◌then◌else◌}
 use Rattle.std.specs.Option.{option_map}
 use Rattle.zbx_types.specs.declared.calls.Range.{Range}
 use Rattle.zbx_types.specs.declared.calls.Range.TheVariants.{Count, Period}
+use Rattle.byte_grammar.specs.Bytes.{is_digit}
 use Rattle.byte_grammar.specs.declared.characters.Character.{Character}
 use Rattle.byte_grammar.specs.declared.characters.Character.TheVariants.{Whole}
 use Rattle.zbx_types.specs.Limits.{longest_range}
@@ -18,7 +19,6 @@ use Rattle.expr_parser.specs.declared.parts.Part.{Part}
 use Rattle.expr_parser.specs.declared.parts.Part.TheVariants.{Before, Hash, Latest, Seconds, Spanned, Back, Shift}
 use Rattle.expr_parser.specs.declared.parts.Part.TheVariants.{Shifted, Letters, Number, Opened, Quoted, Text, Slash}
 use Rattle.expr_parser.specs.declared.parts.Part.TheVariants.{Closed}
-use Rattle.expr_parser.specs.Bytes.{is_digit}
 use Rattle.expr_parser.specs.Numbers.{period_factor}
 use Rattle.expr_parser.specs.Functions.{takes_count, least_period, word_list}
 use Rattle.expr_parser.specs.Calls.{absent_value, number_limit, is_one_of, greatest_percent}
