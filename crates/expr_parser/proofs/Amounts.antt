@@ -4,7 +4,8 @@ use Rattle.std.proofs.lemmas.Bool.Decides.{nat_tests}
 use Rattle.std.specs.Char.{is_ascii_digit}
 use Rattle.std.specs.List.{prefix_len}
 use Rattle.zbx_types.specs.Numerals.{Numeral, read_number, numeral_of, unsigned_of, pointed_of, numeral_with, exponent_of, value_of, magnitude, digits_after, front_digits, behind_digits}
-use Rattle.expr_parser.specs.Bytes.{is_digit, AreDigits}
+use Rattle.byte_grammar.specs.Bytes.{is_digit}
+use Rattle.expr_parser.specs.Bytes.{AreDigits}
 use Rattle.expr_parser.specs.Numbers.{is_at_most, millionths}
 use native.Mathlib.Nat.{le-div_iff_mul-le, div-mul-le_self, le_trans, le_of_eq, pow-suc, mul-div-mul_right}
 use Rattle.expr_parser.proofs.Lists.{le_test, le_true, are_snoc, digit_bounds, way, some_is, none_some}

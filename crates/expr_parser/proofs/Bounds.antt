@@ -11,6 +11,7 @@ use Rattle.zbx_types.specs.declared.calls.Fun.TheVariants.{Find, NoData, Percent
 use Rattle.zbx_types.specs.declared.calls.Fun.TheVariants.{Time, Date, DayOfWeek, DayOfMonth}
 use Rattle.zbx_types.specs.declared.calls.Range.{Range}
 use Rattle.zbx_types.specs.declared.calls.Range.TheVariants.{Count}
+use Rattle.zbx_types.specs.Limits.{longest_range}
 use Rattle.expr_parser.specs.declared.slots.Slot.{Slot}
 use Rattle.expr_parser.specs.declared.slots.Slot.TheVariants.{Newest, Span, MaybeSpan, Silence, Word, Percent, Free}
 use Rattle.expr_parser.specs.declared.parts.Value.{Value}
@@ -18,7 +19,7 @@ use Rattle.expr_parser.specs.declared.parts.Value.TheVariants.{Ranged, Said}
 use Rattle.expr_parser.specs.Bytes.{Point}
 use Rattle.expr_parser.specs.Numbers.{IsPeriod, seconds, suffixed_period}
 use Rattle.expr_parser.specs.Functions.{default_range, least_period}
-use Rattle.expr_parser.specs.Calls.{absent_value, longest_period, IsRange, latest, span, IsPart, absent, ranged}
+use Rattle.expr_parser.specs.Calls.{absent_value, IsRange, latest, span, IsPart, absent, ranged}
 use Rattle.expr_parser.specs.Calls.{shifted, word, number as figured, quoted_number, quoted, put, put_text, plain_call}
 use Rattle.expr_parser.specs.Calls.{Arguments, no_more, another, IsCall, dated, of_item, IsBoundedRange, IsBoundedCall}
 use Rattle.expr_parser.specs.Grammar.{Spells, IsExpr, number, called, paren, minus, denied, tighter, joined}
@@ -107,7 +108,7 @@ range_within (span {s} {t} {n} m e p) =
 -- what an argument says stays within the bounds
 abbrev pub ValueWithin : Value → Type 0
 ValueWithin (Said t) = Unit {0}
-ValueWithin (Ranged r n) = IsBoundedRange r × (n ≤ longest_period)
+ValueWithin (Ranged r n) = IsBoundedRange r × (n ≤ longest_range)
 
 absent_within : (s : Slot) (v : Value) → absent_value s ≡ Some v → ValueWithin v
 absent_within Newest v h =

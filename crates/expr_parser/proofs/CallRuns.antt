@@ -11,8 +11,11 @@ use Rattle.item_key.specs.declared.places.Place.TheVariants.{Start, Name, Done a
 use Rattle.item_key.specs.Machine as key
 use Rattle.item_key.specs.Grammar.{IsKeyText}
 use Rattle.item_key.proofs.Complete as keys
+use Rattle.byte_grammar.specs.Bytes.{is_digit}
 use Rattle.byte_grammar.specs.declared.characters.Character.{Character}
 use Rattle.byte_grammar.specs.declared.characters.Character.TheVariants.{Whole}
+use Rattle.zbx_types.specs.Limits.{longest_key, longest_name}
+use Rattle.zbx_types.specs.NameBytes.{is_host_name_byte}
 use Rattle.expr_parser.specs.declared.slots.Slot.{Slot}
 use Rattle.expr_parser.specs.declared.slots.Slot.TheVariants as slots'
 use Rattle.expr_parser.specs.declared.slots.Slot.TheVariants.{Newest, Span, MaybeSpan, Silence, Percent, Free}
@@ -21,10 +24,10 @@ use Rattle.expr_parser.specs.declared.parts.Value.TheVariants.{Ranged, Said}
 use Rattle.expr_parser.specs.declared.parts.Part.{Part}
 use Rattle.expr_parser.specs.declared.parts.Part.TheVariants.{Before}
 use Rattle.expr_parser.specs.declared.pending.Pending.{Pending}
-use Rattle.expr_parser.specs.Bytes.{is_blank, is_digit, AreBlanks, Point, one_less, behind}
+use Rattle.expr_parser.specs.Bytes.{is_blank, AreBlanks, Point, one_less, behind}
 use Rattle.expr_parser.specs.Functions.{name_of, slots}
 use Rattle.zbx_types.specs.Operators.{is_dated}
-use Rattle.expr_parser.specs.Calls.{is_host_byte, AreHostBytes, IsHost, IsPart, put, Arguments, no_more, another, plain_call, IsCall, dated, of_item}
+use Rattle.expr_parser.specs.Calls.{AreHostBytes, IsHost, IsPart, put, Arguments, no_more, another, plain_call, IsCall, dated, of_item}
 use Rattle.byte_grammar.specs.Utf8.{follow}
 use Rattle.byte_grammar.specs.Runs.{run}
 use Rattle.expr_parser.specs.Parts.{part, part_value}
@@ -126,7 +129,7 @@ arguments_run (another {s} {ss} {c} {d} {text} {v} x t r a i w e) p m o k cs h g
 
 -- ---- hosts
 
-name_low : (b : ℕ) → is_host_byte b ≡ true → nat_lt b 128 ≡ true
+name_low : (b : ℕ) → is_host_name_byte b ≡ true → nat_lt b 128 ≡ true
 name_low b h = grind (arith, nat_tests)
 
 host_chars : (h : List ℕ) → AreHostBytes h → run follow (Some Whole) h ≡ Some Whole
@@ -137,12 +140,12 @@ host_chars (b ∷ h) a = rw (name_low b a.0) (host_chars h a.1)
 pub host_utf8 : (h : List ℕ) → AreHostBytes h → is_utf8 h ≡ true
 host_utf8 h a = is_utf8-from_IsUtf8 h (taken_text h (host_chars h a))
 
-host_run : (f : Fun) (bs h : List ℕ) (p : Point) (o : ℕ) (k : List Pending) (cs : List Call) → AreHostBytes bs → length h + length bs ≤ 128
+host_run : (f : Fun) (bs h : List ℕ) (p : Point) (o : ℕ) (k : List Pending) (cs : List Call) → AreHostBytes bs → length h + length bs ≤ longest_name
     → after p.held (Some (state (Host f h) p.last o k cs)) bs ≡ Some (state (Host f (h ++ bs)) (behind p bs).last o k cs)
 unfolding after behind AreHostBytes
 host_run f [] h p o k cs a l = ap (λ (v : List ℕ). Some (state (Host f v) p.last o k cs)) (sym (append-nil h))
 host_run f (b ∷ bs) h p o k cs a l =
-    stepped p (Host f h) o k cs b bs (Some (state (Host f (h ++ b ∷ [])) b o k cs)) (rw (a.0, lt_test (length h) 128 (omega arith)) refl)
+    stepped p (Host f h) o k cs b bs (Some (state (Host f (h ++ b ∷ [])) b o k cs)) (rw (a.0, lt_test (length h) longest_name (omega arith)) refl)
     ∙ host_run f bs (h ++ b ∷ []) (onward p b) o k cs a.1 (let e = length-append h (b ∷ []) in omega arith)
     ∙ ap (λ (v : List ℕ). Some (state (Host f v) (behind (onward p b) bs).last o k cs)) (sym (snoc h b bs))
 
@@ -161,25 +164,25 @@ key_stops place r b d h e = elim (way (b == 44) true (b == 41) true d) [
     at Ended c g h e = none_some r h
     at _ c g h e = absurd cc
 
-key_goes : (free : Bool) (f : Fun) (h t : List ℕ) (place r : Place) (u v : Character) (l o : ℕ) (k : List Pending) (cs : List Call) (b : ℕ) → key.step place b ≡ Some r → follow u b ≡ Some v → (free ≡ true) ⊎ (length t < 2048)
+key_goes : (free : Bool) (f : Fun) (h t : List ℕ) (place r : Place) (u v : Character) (l o : ℕ) (k : List Pending) (cs : List Call) (b : ℕ) → key.step place b ≡ Some r → follow u b ≡ Some v → (free ≡ true) ⊎ (length t < longest_key)
     → move free (Key f h t place u) l o k cs b ≡ Some (state (Key f h (t ++ b ∷ []) r v) b o k cs)
 key_goes free f h t place r u v l o k cs b e g z = elim (either_way (is_delimiter b)) [
   | inr d ↦ rw d (goes free z)
   | inl d ↦ rw d (elim (either_way (key.ends place)) [ inl w ↦ absurd (key_stops place r b d e w) | inr w ↦ rw w (goes free z) ])
 ]
   where
-    goes : (free : Bool) → (free ≡ true) ⊎ (length t < 2048) → key_on free f h t place u o k cs b ≡ Some (state (Key f h (t ++ b ∷ []) r v) b o k cs)
+    goes : (free : Bool) → (free ≡ true) ⊎ (length t < longest_key) → key_on free f h t place u o k cs b ≡ Some (state (Key f h (t ++ b ∷ []) r v) b o k cs)
     goes true z = rw (e, g) refl
     goes false (inl z) = absurd cc
-    goes false (inr z) = rw (lt_test (length t) 2048 z, e, g) refl
+    goes false (inr z) = rw (lt_test (length t) longest_key z, e, g) refl
 
 -- the limit, where bytes are held to it
 abbrev Fits : ℕ → List ℕ → List ℕ → Type 0
-Fits n t ks = 0 < n → length t + length (take n ks) ≤ 2048
+Fits n t ks = 0 < n → length t + length (take n ks) ≤ longest_key
 
-fits_on : (n : ℕ) (t : List ℕ) (b : ℕ) (ks : List ℕ) → Fits n t (b ∷ ks) → ((is_zero n ≡ true) ⊎ (length t < 2048)) × Fits (one_less n) (t ++ b ∷ []) ks
+fits_on : (n : ℕ) (t : List ℕ) (b : ℕ) (ks : List ℕ) → Fits n t (b ∷ ks) → ((is_zero n ≡ true) ⊎ (length t < longest_key)) × Fits (one_less n) (t ++ b ∷ []) ks
 fits_on zero t b ks h = (inl refl, λ z. absurd (omega arith))
-fits_on (suc n) t b ks h = let g : length t + suc (length (take n ks)) ≤ 2048 = h (omega arith) in (inr (omega arith), λ z. let e = length-append t (b ∷ []) in omega arith)
+fits_on (suc n) t b ks h = let g : length t + suc (length (take n ks)) ≤ longest_key = h (omega arith) in (inr (omega arith), λ z. let e = length-append t (b ∷ []) in omega arith)
 
 key_run : (f : Fun) (h ks t : List ℕ) (place q : Place) (u v : Character) (p : Point) (o : ℕ) (k : List Pending) (cs : List Call) → run key.step (Some place) ks ≡ Some q → run follow (Some u) ks ≡ Some v → Fits p.held t ks
     → after p.held (Some (state (Key f h t place u) p.last o k cs)) ks ≡ Some (state (Key f h (t ++ ks) q v) (behind p ks).last o k cs)
@@ -203,7 +206,7 @@ ended_place None h = absurd cc
 ended_place (Some q) h = (q, refl, h)
 
 -- a call of a function that looks at an item, from behind its parenthesis
-pub item_run : (f : Fun) (h t r : List ℕ) (d : Call) (p : Point) (o : ℕ) (k : List Pending) (cs : List Call) → has_room cs ≡ true → IsHost h → IsKeyText t → IsUtf8 t → length (take (behind p (47 ∷ (h ++ 47 ∷ []))).held t) ≤ 2048 → Arguments (slots f) (plain_call f h t) r d
+pub item_run : (f : Fun) (h t r : List ℕ) (d : Call) (p : Point) (o : ℕ) (k : List Pending) (cs : List Call) → has_room cs ≡ true → IsHost h → IsKeyText t → IsUtf8 t → length (take (behind p (47 ∷ (h ++ 47 ∷ []))).held t) ≤ longest_key → Arguments (slots f) (plain_call f h t) r d
     → after p.held (Some (state (Slash f) p.last o k cs)) (47 ∷ (h ++ 47 ∷ (t ++ (r ++ 41 ∷ [])))) ≡ Some (state (Done (call (length cs))) 41 o k (cs ++ d ∷ []))
 item_run f h t r d p o k cs room a b c l w =
     let p1 : Point = onward p 47 in
@@ -211,7 +214,7 @@ item_run f h t r d p o k cs room a b c l w =
     let p3 : Point = onward (behind (onward p 47) h) 47 in
     let e = ended_place (key.place_of t) (keys.taken b) in
     let same : behind p (47 ∷ (h ++ 47 ∷ [])) ≡ onward (behind (onward p 47) h) 47 = onward_behind p 47 (h ++ 47 ∷ []) ∙ behind_append (onward p 47) h (47 ∷ []) ∙ behind_one (behind (onward p 47) h) 47 in
-    let fits : length (take (onward (behind (onward p 47) h) 47).held t) ≤ 2048 = subst (λ (q : Point). length (take q.held t) ≤ 2048) same l in
+    let fits : length (take (onward (behind (onward p 47) h) 47).held t) ≤ longest_key = subst (λ (q : Point). length (take q.held t) ≤ longest_key) same l in
     stepped p (Slash f) o k cs 47 (h ++ 47 ∷ (t ++ (r ++ 41 ∷ []))) (Some (state (Host f []) 47 o k cs)) refl
     ∙ two_runs (onward p 47) (Some (state (Host f []) 47 o k cs)) (Some (state (Host f h) (behind (onward p 47) h).last o k cs)) h (47 ∷ (t ++ (r ++ 41 ∷ []))) (host_run f h [] (onward p 47) o k cs a.2 (omega (arith, a.1)))
     ∙ stepped (behind (onward p 47) h) (Host f h) o k cs 47 (t ++ (r ++ 41 ∷ [])) (Some (state (Key f h [] Start Whole) 47 o k cs)) (rw (lt_test 0 (length h) a.0) refl)
@@ -242,7 +245,7 @@ call_run (of_item {p} {text = t} {c = d} f h ks r i a b c l w q) m o k0 k cs roo
     ap (λ (v : List ℕ). after p.held (Some (state m p.last o k0 cs)) v) q
     ∙ name_run f p m o k0 k cs (47 ∷ (h ++ 47 ∷ (ks ++ (r ++ 41 ∷ [])))) roomy (subst (λ (v : List ℕ). On m p.last o k0 k cs v) q on)
     ∙ ap (λ (v : State). after (behind p (name_of f ++ 40 ∷ [])).held (Some v) (47 ∷ (h ++ 47 ∷ (ks ++ (r ++ 41 ∷ []))))) (call_item f o k cs i ∙ ap (λ (v : ℕ). state (Slash f) v o k cs) (sym l40))
-    ∙ item_run f h ks r d (behind p (name_of f ++ 40 ∷ [])) o k cs roomy a b c (subst (λ (v : Point). length (take v.held ks) ≤ 2048) parts l) w
+    ∙ item_run f h ks r d (behind p (name_of f ++ 40 ∷ [])) o k cs roomy a b c (subst (λ (v : Point). length (take v.held ks) ≤ longest_key) parts l) w
 
 -- a call ends with a parenthesis
 pub ends_41 : (a b : List ℕ) (p : Point) → ((q : Point) → (behind q b).last ≡ 41) → (behind p (a ++ b)).last ≡ 41

@@ -14,6 +14,8 @@ use Rattle.item_key.specs.Grammar.{is_name_byte}
 use Rattle.item_key.proofs.Sound as keys
 use Rattle.byte_grammar.specs.declared.characters.Character.{Character}
 use Rattle.byte_grammar.specs.declared.characters.Character.TheVariants.{Whole, One, Two, Three, BehindE0, BehindEd, BehindF0, BehindF4}
+use Rattle.zbx_types.specs.Limits.{longest_key, longest_name}
+use Rattle.zbx_types.specs.NameBytes.{is_host_name_byte}
 use Rattle.expr_parser.specs.declared.slots.Slot.{Slot}
 use Rattle.expr_parser.specs.declared.parts.Value.{Value}
 use Rattle.expr_parser.specs.declared.parts.Value.TheVariants.{Ranged, Said}
@@ -23,7 +25,7 @@ use Rattle.expr_parser.specs.declared.pending.Pending.{Pending}
 use Rattle.expr_parser.specs.Bytes.{is_blank, Point, beginning}
 use Rattle.expr_parser.specs.Functions.{name_of, slots}
 use Rattle.zbx_types.specs.Operators.{is_dated}
-use Rattle.expr_parser.specs.Calls.{is_host_byte, AreHostBytes, put, all_absent, no_more, another, plain_call, IsCall, of_item}
+use Rattle.expr_parser.specs.Calls.{AreHostBytes, put, all_absent, no_more, another, plain_call, IsCall, of_item}
 use Rattle.byte_grammar.specs.Utf8.{follow}
 use Rattle.byte_grammar.specs.Runs.{run}
 use Rattle.expr_parser.specs.Grammar.{called}
@@ -68,7 +70,7 @@ delivered_sound n d o k cs c ss q b s deep w h = elim (way (b == 44) _ _ (Some s
   ]
 ]
 
-host_snoc : (h : List ℕ) (b : ℕ) → AreHostBytes h → is_host_byte b ≡ true → AreHostBytes (h ++ b ∷ [])
+host_snoc : (h : List ℕ) (b : ℕ) → AreHostBytes h → is_host_name_byte b ≡ true → AreHostBytes (h ++ b ∷ [])
 unfolding AreHostBytes
 host_snoc [] b a g = (g, tt)
 host_snoc (x ∷ h) b a g = (a.0, host_snoc h b a.1 g)
@@ -85,14 +87,14 @@ no_characters : run follow (Some Whole) [] ≡ Some Whole
 unfolding run
 no_characters = refl
 
-take_none : (m : ℕ) → length {A = ℕ} (take m []) ≤ 2048
+take_none : (m : ℕ) → length {A = ℕ} (take m []) ≤ longest_key
 take_none zero = omega arith
 take_none (suc m) = omega arith
 
-pub host_sound : (n d o : ℕ) (k : List Pending) (cs : List Call) (f : Fun) (h q : List ℕ) (b : ℕ) (s : State) → d + o ≡ 32 → Token n d k cs q (name_of f ++ 40 ∷ 47 ∷ h) → has_room cs ≡ true → is_dated f ≡ false → AreHostBytes h → length h ≤ 128 → host f h o k cs b ≡ Some s → Stands n (q ++ b ∷ []) s
-host_sound n d o k cs f h q b s deep t r looks a l e = elim (way (is_host_byte b) _ _ (Some s) e) [
-  | inl z ↦ elim (way (nat_lt (length h) 128) _ _ (Some s) z.1) [
-    | inl y ↦ let i = length-append h (b ∷ []) in let j = lt_true (length h) 128 y.0 in
+pub host_sound : (n d o : ℕ) (k : List Pending) (cs : List Call) (f : Fun) (h q : List ℕ) (b : ℕ) (s : State) → d + o ≡ 32 → Token n d k cs q (name_of f ++ 40 ∷ 47 ∷ h) → has_room cs ≡ true → is_dated f ≡ false → AreHostBytes h → length h ≤ longest_name → host f h o k cs b ≡ Some s → Stands n (q ++ b ∷ []) s
+host_sound n d o k cs f h q b s deep t r looks a l e = elim (way (is_host_name_byte b) _ _ (Some s) e) [
+  | inl z ↦ elim (way (nat_lt (length h) longest_name) _ _ (Some s) z.1) [
+    | inl y ↦ let i = length-append h (b ∷ []) in let j = lt_true (length h) longest_name y.0 in
         stays n q d o b (Host f (h ++ b ∷ [])) k cs s deep (token_on n d k cs q (name_of f ++ 40 ∷ 47 ∷ h) (b ∷ []) (name_of f ++ 40 ∷ 47 ∷ (h ++ b ∷ [])) (append_assoc (name_of f) (40 ∷ 47 ∷ h) (b ∷ [])) t, r, looks, host_snoc h b a z.0, omega arith) y.1
     | inr y ↦ none_some s y.1
   ]
@@ -203,14 +205,14 @@ zero_is zero h = refl
 zero_is (suc m) h = absurd cc
 
 -- a key with one byte more is within the limit
-fits_on : (n : ℕ) (x t q : List ℕ) (b : ℕ) → q ≡ x ++ t → length (take (at n x).held t) ≤ 2048 → (is_zero (at n q).held ≡ true) ⊎ (length t < 2048) → length (take (at n x).held (t ++ b ∷ [])) ≤ 2048
+fits_on : (n : ℕ) (x t q : List ℕ) (b : ℕ) → q ≡ x ++ t → length (take (at n x).held t) ≤ longest_key → (is_zero (at n q).held ≡ true) ⊎ (length t < longest_key) → length (take (at n x).held (t ++ b ∷ [])) ≤ longest_key
 fits_on n x t q b e h (inr g) = let l = take_le (at n x).held (t ++ b ∷ []) in let m = length-append t (b ∷ []) in omega arith
 fits_on n x t q b e h (inl g) =
     let z : (at n q).held ≡ 0 = zero_is (at n q).held g in
     let y : (at n q).held ≡ (at n x).held - length t = ap (λ (v : List ℕ). (at n v).held) e ∙ ap (λ (v : Point). v.held) (behind_append (beginning n) x t) ∙ held_behind (at n x) t in
-    subst (λ (v : List ℕ). length v ≤ 2048) (sym (take_short (at n x).held t (b ∷ []) (omega arith))) h
+    subst (λ (v : List ℕ). length v ≤ longest_key) (sym (take_short (at n x).held t (b ∷ []) (omega arith))) h
 
-key_more_sound : (n d o : ℕ) (k : List Pending) (cs : List Call) (f : Fun) (h t q : List ℕ) (place : Place) (u : Character) (b : ℕ) (r : Option Place) (v : Option Character) (s : State) → d + o ≡ 32 → InKey n d k cs f h t place u q → (is_zero (at n q).held ≡ true) ⊎ (length t < 2048)
+key_more_sound : (n d o : ℕ) (k : List Pending) (cs : List Call) (f : Fun) (h t q : List ℕ) (place : Place) (u : Character) (b : ℕ) (r : Option Place) (v : Option Character) (s : State) → d + o ≡ 32 → InKey n d k cs f h t place u q → (is_zero (at n q).held ≡ true) ⊎ (length t < longest_key)
     → key.step place b ≡ r → follow u b ≡ v → key_more f h t r v o k cs b ≡ Some s → Stands n (q ++ b ∷ []) s
 key_more_sound n d o k cs f h t q place u b None v s deep w l e g i = none_some s i
 key_more_sound n d o k cs f h t q place u b (Some r) None s deep w l e g i = none_some s i
@@ -230,8 +232,8 @@ key_more_sound n d o k cs f h t q place u b (Some r) (Some v) s deep w l e g i =
 key_on_sound : (n d o : ℕ) (k : List Pending) (cs : List Call) (f : Fun) (h t q : List ℕ) (place : Place) (u : Character) (b : ℕ) (s : State) → d + o ≡ 32 → InKey n d k cs f h t place u q → key_on (is_zero (at n q).held) f h t place u o k cs b ≡ Some s → Stands n (q ++ b ∷ []) s
 key_on_sound n d o k cs f h t q place u b s deep w i = elim (way (is_zero (at n q).held) _ _ (Some s) i) [
   | inl z ↦ key_more_sound n d o k cs f h t q place u b (key.step place b) (follow u b) s deep w (inl z.0) refl refl z.1
-  | inr z ↦ elim (way (nat_lt (length t) 2048) _ _ (Some s) z.1) [
-    | inl y ↦ key_more_sound n d o k cs f h t q place u b (key.step place b) (follow u b) s deep w (inr (lt_true (length t) 2048 y.0)) refl refl y.1
+  | inr z ↦ elim (way (nat_lt (length t) longest_key) _ _ (Some s) z.1) [
+    | inl y ↦ key_more_sound n d o k cs f h t q place u b (key.step place b) (follow u b) s deep w (inr (lt_true (length t) longest_key y.0)) refl refl y.1
     | inr y ↦ none_some s y.1
   ]
 ]
@@ -245,7 +247,7 @@ key_call n d k cs f h t q place u w e g = record {
   entry = w.entry;
   room = w.room;
   goes_on = λ r c a. of_item f h t r w.looks w.host (keys.sound t (ap (λ (o : Option Place). key.ends_at o) w.place_is ∙ e)) (IsUtf8-from_is_utf8 t g)
-      (subst (λ (v : Point). length (take v.held t) ≤ 2048) (sym (at_append n w.front (name_of f ++ 40 ∷ 47 ∷ (h ++ 47 ∷ [])))) w.fits) a
+      (subst (λ (v : Point). length (take v.held t) ≤ longest_key) (sym (at_append n w.front (name_of f ++ 40 ∷ 47 ∷ (h ++ 47 ∷ [])))) w.fits) a
       (append_assoc (name_of f) (40 ∷ 47 ∷ (h ++ 47 ∷ t)) (r ++ 41 ∷ []) ∙ ap (λ (v : List ℕ). name_of f ++ 40 ∷ 47 ∷ v) (append_assoc h (47 ∷ t) (r ++ 41 ∷ [])));
 }
 

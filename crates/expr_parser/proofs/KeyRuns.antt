@@ -3,6 +3,7 @@ use Rattle.std.proofs.lemmas.List.{take_all, length-drop}
 use Rattle.std.proofs.Common.{zero, suc, ◌+◌, ◌-◌, ◌<◌, ◌≤◌, length, take, drop, get_or, arith, add-one, ◌≡◌, ℕ, List, [], ◌∷◌, ◌++◌, refl, ap, sym, ◌∙◌, Option, Some, None, Bool, true, false, length-take, length-append, append_assoc, append-nil, inl, inr, subst}
 use Rattle.zbx_types.specs.declared.calls.Call.{Call}
 use Rattle.zbx_types.specs.declared.calls.Fun.{Fun}
+use Rattle.zbx_types.specs.Limits.{longest_key}
 use Rattle.expr_parser.specs.Machine.{State, Key, after, go, is_zero, is_delimiter, move, start, state, step}
 use Rattle.expr_parser.specs.Staying.{KeyGoes, KeyLeads, Leads}
 use Rattle.expr_parser.specs.declared.keys.Spot.{Spot}
@@ -30,10 +31,10 @@ take_more (x ∷ xs) zero h = refl
 take_more (x ∷ xs) (suc i) h = ap (λ (v : List ℕ). x ∷ v) (take_more xs i (omega arith))
 
 -- a byte of a key
-key_step : (f : Fun) (h t : List ℕ) (o : ℕ) (k : List Pending) (cs : List Call) (a c : Spot) (b : ℕ) → length t < 2048 → KeyGoes a b c → move false (Key f h t a.place a.character) a.last o k cs b ≡ Some (state (Key f h (t ++ b ∷ []) c.place c.character) c.last o k cs)
+key_step : (f : Fun) (h t : List ℕ) (o : ℕ) (k : List Pending) (cs : List Call) (a c : Spot) (b : ℕ) → length t < longest_key → KeyGoes a b c → move false (Key f h t a.place a.character) a.last o k cs b ≡ Some (state (Key f h (t ++ b ∷ []) c.place c.character) c.last o k cs)
 key_step f h t o k cs a c b l g = elim (either_way (is_delimiter b)) [
-  | inl d ↦ rw (d, g.inside d, lt_test (length t) 2048 l, g.place, g.character, g.last) refl
-  | inr d ↦ rw (d, lt_test (length t) 2048 l, g.place, g.character, g.last) refl
+  | inl d ↦ rw (d, g.inside d, lt_test (length t) longest_key l, g.place, g.character, g.last) refl
+  | inr d ↦ rw (d, lt_test (length t) longest_key l, g.place, g.character, g.last) refl
 ]
 
 pub key_none : (a : Spot) (text : List ℕ) → KeyLeads a text 0 a
@@ -42,17 +43,17 @@ key_none a text = record { is = λ f h t o k cs l. rw (append-nil t) (leads_none
 pub key_more : (a b c : Spot) (text : List ℕ) (i : ℕ) → i < length text → KeyLeads a text i b → KeyGoes b (get_or text i 0) c → KeyLeads a text (suc i) c
 key_more a b c text i h r g = record { is = λ host_fun host t o k cs l. one host_fun host t o k cs l }
   where
-    one : (f : Fun) (host t : List ℕ) (o : ℕ) (k : List Pending) (cs : List Call) → length t + suc i ≤ 2048
+    one : (f : Fun) (host t : List ℕ) (o : ℕ) (k : List Pending) (cs : List Call) → length t + suc i ≤ longest_key
         → Leads (state (Key f host t a.place a.character) a.last o k cs) text (suc i) (state (Key f host (t ++ take (suc i) text) c.place c.character) c.last o k cs)
     one f host t o k cs l =
         let x : List ℕ = t ++ take i text in
         let e : x ++ get_or text i 0 ∷ [] ≡ t ++ take (suc i) text = append_assoc t (take i text) (get_or text i 0 ∷ []) ∙ ap (λ (v : List ℕ). t ++ v) (sym (take_more text i h)) in
-        let fits : length x < 2048 = omega (arith, length-append t (take i text), length-take i text) in
+        let fits : length x < longest_key = omega (arith, length-append t (take i text), length-take i text) in
         leads_more (state (Key f host t a.place a.character) a.last o k cs) (state (Key f host x b.place b.character) b.last o k cs) (state (Key f host (t ++ take (suc i) text) c.place c.character) c.last o k cs) text i h (r.is f host t o k cs (omega arith))
         (key_step f host x o k cs b c (get_or text i 0) fits g ∙ ap (λ (v : List ℕ). Some (state (Key f host v c.place c.character) c.last o k cs)) e)
 
 -- the key behind the bytes that were added to it
-pub key_taken : (a b : Spot) (text : List ℕ) (i : ℕ) (f : Fun) (h t u : List ℕ) (o : ℕ) (k : List Pending) (cs : List Call) → u ≡ t ++ take i text → length t + i ≤ 2048 → KeyLeads a text i b
+pub key_taken : (a b : Spot) (text : List ℕ) (i : ℕ) (f : Fun) (h t u : List ℕ) (o : ℕ) (k : List Pending) (cs : List Call) → u ≡ t ++ take i text → length t + i ≤ longest_key → KeyLeads a text i b
     → Leads (state (Key f h t a.place a.character) a.last o k cs) text i (state (Key f h u b.place b.character) b.last o k cs)
 key_taken a b text i f h t u o k cs e l r = rw e (r.is f h t o k cs l)
 

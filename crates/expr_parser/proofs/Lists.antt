@@ -1,7 +1,8 @@
 -- Lists, bytes and points.
 use Rattle.std.proofs.Common.{◌≡◌, ℕ, zero, suc, ◌+◌, ◌-◌, ◌*◌, ◌≤◌, ◌<◌, List, [], ◌∷◌, ◌++◌, length, refl, ap, sym, ◌∙◌, Bool, true, false, nat_le, nat_lt, ◌==◌, arith, Some, None, inl, inr, ◌⊎◌, if◌then◌else◌, append_assoc}
 use Rattle.std.proofs.lemmas.Bool.Decides.{nat_tests}
-use Rattle.expr_parser.specs.Bytes.{is_blank, is_digit, is_gap, ends_word, AreBlanks, AreDigits, Digits, first_byte, Point, one_less, behind}
+use Rattle.byte_grammar.specs.Bytes.{is_digit}
+use Rattle.expr_parser.specs.Bytes.{is_blank, is_gap, ends_word, AreBlanks, AreDigits, Digits, first_byte, Point, one_less, behind}
 
 -- one byte moves to the front
 pub snoc : (q : List ℕ) (b : ℕ) (r : List ℕ) → q ++ b ∷ r ≡ (q ++ b ∷ []) ++ r

@@ -13,6 +13,7 @@ use Rattle.item_key.specs.Grammar.{IsKeyText}
 use Rattle.item_key.proofs.Sound as keys
 use Rattle.byte_grammar.specs.declared.characters.Character.{Character}
 use Rattle.byte_grammar.specs.declared.characters.Character.TheVariants.{Whole, One, Two, Three, BehindE0, BehindEd, BehindF0, BehindF4}
+use Rattle.zbx_types.specs.Limits.{longest_key, longest_name}
 use Rattle.expr_parser.specs.declared.slots.Slot.{Slot}
 use Rattle.expr_parser.specs.declared.parts.Part.{Part}
 use Rattle.expr_parser.specs.declared.pending.Half.TheVariants.{Denied}
@@ -145,14 +146,14 @@ take_short (suc m) [] b h = absurd (omega arith)
 take_short (suc m) (x ∷ a) b h = ap (λ (v : List ℕ). x ∷ v) (take_short m a b (omega arith))
 
 -- a host and a key, with this key
-item_lives : (n d o : ℕ) (k : List Pending) (cs : List Call) (p : List ℕ) (f : Fun) (h t : List ℕ) → d + o ≡ 32 → Entry n d k cs p → has_room cs ≡ true → is_dated f ≡ false → IsHost h → IsKeyText t → IsUtf8 t → length (take (at n (p ++ (name_of f ++ 40 ∷ 47 ∷ (h ++ 47 ∷ [])))).held t) ≤ 2048
+item_lives : (n d o : ℕ) (k : List Pending) (cs : List Call) (p : List ℕ) (f : Fun) (h t : List ℕ) → d + o ≡ 32 → Entry n d k cs p → has_room cs ≡ true → is_dated f ≡ false → IsHost h → IsKeyText t → IsUtf8 t → length (take (at n (p ++ (name_of f ++ 40 ∷ 47 ∷ (h ++ 47 ∷ [])))).held t) ≤ longest_key
     → Lives n (p ++ (name_of f ++ 40 ∷ 47 ∷ (h ++ 47 ∷ t)))
 item_lives n d o k cs p f h t deep e r l a b c g =
     let m = samples (slots f) (plain_call f h t) in
     let i : (p ++ (name_of f ++ 40 ∷ 47 ∷ (h ++ 47 ∷ t))) ++ (m.text ++ 41 ∷ []) ≡ p ++ (name_of f ++ 40 ∷ 47 ∷ (h ++ 47 ∷ (t ++ (m.text ++ 41 ∷ [])))) = append_assoc p (name_of f ++ 40 ∷ 47 ∷ (h ++ 47 ∷ t)) (m.text ++ 41 ∷ []) ∙ ap (λ (v : List ℕ). p ++ v) (append_assoc (name_of f) (40 ∷ 47 ∷ (h ++ 47 ∷ t)) (m.text ++ 41 ∷ []) ∙ ap (λ (v : List ℕ). name_of f ++ 40 ∷ 47 ∷ v) (append_assoc h (47 ∷ t) (m.text ++ 41 ∷ []))) in
     further n (p ++ (name_of f ++ 40 ∷ 47 ∷ (h ++ 47 ∷ t))) (m.text ++ 41 ∷ []) (moved n ((p ++ (name_of f ++ 40 ∷ 47 ∷ (h ++ 47 ∷ t))) ++ (m.text ++ 41 ∷ [])) (p ++ (name_of f ++ 40 ∷ 47 ∷ (h ++ 47 ∷ (t ++ (m.text ++ 41 ∷ []))))) i
     (call_lives n d o k cs p (name_of f ++ 40 ∷ 47 ∷ (h ++ 47 ∷ (t ++ (m.text ++ 41 ∷ [])))) m.whole deep e r
-    (of_item f h t m.text l a b c (subst (λ (v : Point). length (take v.held t) ≤ 2048) (sym (at_append n p (name_of f ++ 40 ∷ 47 ∷ (h ++ 47 ∷ [])))) g) m.is refl)))
+    (of_item f h t m.text l a b c (subst (λ (v : Point). length (take v.held t) ≤ longest_key) (sym (at_append n p (name_of f ++ 40 ∷ 47 ∷ (h ++ 47 ∷ [])))) g) m.is refl)))
 
 key_k : IsKeyText (107 ∷ [])
 unfolding run
@@ -162,7 +163,7 @@ utf_k : run follow (Some Whole) (107 ∷ []) ≡ Some Whole
 unfolding run
 utf_k = refl
 
-short_k : (m : ℕ) → length {A = ℕ} (take m (107 ∷ [])) ≤ 2048
+short_k : (m : ℕ) → length {A = ℕ} (take m (107 ∷ [])) ≤ longest_key
 short_k zero = omega arith
 short_k (suc zero) = omega arith
 short_k (suc (suc m)) = omega arith
@@ -180,7 +181,7 @@ no_bytes : AreHostBytes []
 unfolding AreHostBytes
 no_bytes = tt
 
-host_token : (n d o : ℕ) (k : List Pending) (cs : List Call) (p : List ℕ) (f : Fun) (h : List ℕ) → d + o ≡ 32 → Entry n d k cs p → has_room cs ≡ true → is_dated f ≡ false → AreHostBytes h → length h ≤ 128 → Lives n (p ++ (name_of f ++ 40 ∷ 47 ∷ h))
+host_token : (n d o : ℕ) (k : List Pending) (cs : List Call) (p : List ℕ) (f : Fun) (h : List ℕ) → d + o ≡ 32 → Entry n d k cs p → has_room cs ≡ true → is_dated f ≡ false → AreHostBytes h → length h ≤ longest_name → Lives n (p ++ (name_of f ++ 40 ∷ 47 ∷ h))
 host_token n d o k cs p f [] deep e r l a b = further n (p ++ (name_of f ++ 40 ∷ 47 ∷ [])) (104 ∷ []) (moved n ((p ++ (name_of f ++ 40 ∷ 47 ∷ [])) ++ 104 ∷ []) (p ++ (name_of f ++ 40 ∷ 47 ∷ 104 ∷ [])) (append_assoc p (name_of f ++ 40 ∷ 47 ∷ []) (104 ∷ []) ∙ ap (λ (v : List ℕ). p ++ v) (append_assoc (name_of f) (40 ∷ 47 ∷ []) (104 ∷ []))) (host_lives n d o k cs p f (104 ∷ []) deep e r l host_h))
 host_token n d o k cs p f (c ∷ h) deep e r l a b = host_lives n d o k cs p f (c ∷ h) deep e r l (omega arith, b, a)
 
@@ -293,7 +294,7 @@ key_lives n d o k cs f h t q place u deep len w =
     let l1 = length-append (w.front ++ (name_of f ++ 40 ∷ 47 ∷ (h ++ 47 ∷ []))) t in
     let l2 : length q ≡ length ((w.front ++ (name_of f ++ 40 ∷ 47 ∷ (h ++ 47 ∷ []))) ++ t) = ap (λ (v : List ℕ). length v) w.parts in
     let l3 = held_behind (beginning n) (w.front ++ (name_of f ++ 40 ∷ 47 ∷ (h ++ 47 ∷ []))) in
-    let fits : length (take (at n (w.front ++ (name_of f ++ 40 ∷ 47 ∷ (h ++ 47 ∷ [])))).held (t ++ (tail u ++ key.finish place))) ≤ 2048 = subst (λ (v : List ℕ). length v ≤ 2048) (sym (take_short (at n (w.front ++ (name_of f ++ 40 ∷ 47 ∷ (h ++ 47 ∷ [])))).held t (tail u ++ key.finish place) (omega arith))) w.fits in
+    let fits : length (take (at n (w.front ++ (name_of f ++ 40 ∷ 47 ∷ (h ++ 47 ∷ [])))).held (t ++ (tail u ++ key.finish place))) ≤ longest_key = subst (λ (v : List ℕ). length v ≤ longest_key) (sym (take_short (at n (w.front ++ (name_of f ++ 40 ∷ 47 ∷ (h ++ 47 ∷ [])))).held t (tail u ++ key.finish place) (omega arith))) w.fits in
     further n q (tail u ++ key.finish place)
     (moved n (q ++ (tail u ++ key.finish place)) (w.front ++ (name_of f ++ 40 ∷ 47 ∷ (h ++ 47 ∷ (t ++ (tail u ++ key.finish place)))))
     (ap (λ (v : List ℕ). v ++ (tail u ++ key.finish place)) w.parts ∙ append_assoc (w.front ++ (name_of f ++ 40 ∷ 47 ∷ (h ++ 47 ∷ []))) t (tail u ++ key.finish place) ∙ append_assoc w.front (name_of f ++ 40 ∷ 47 ∷ (h ++ 47 ∷ [])) (t ++ (tail u ++ key.finish place))

@@ -1,8 +1,9 @@
 -- What has come of a number.
 use Rattle.std.proofs.Common.{◌≡◌, ℕ, ◌*◌, ◌≤◌, List, [], ◌∷◌, ◌++◌, refl, ap, sym, ◌∙◌, nat_le, ◌==◌, arith, Option, Some, None, inl, inr, subst, append_assoc, append-nil}
+use Rattle.byte_grammar.specs.Bytes.{is_digit}
 use Rattle.expr_parser.specs.declared.figures.Figures.{Figures}
 use Rattle.expr_parser.specs.declared.figures.Figures.TheVariants.{Integral, Pointed, Fraction, Suffixed}
-use Rattle.expr_parser.specs.Bytes.{is_digit, AreDigits}
+use Rattle.expr_parser.specs.Bytes.{AreDigits}
 use Rattle.expr_parser.specs.Numbers.{is_at_most, millionths, IsDecimal, whole, pointed, IsNumber, decimal, suffixed, number_factor}
 use Rattle.expr_parser.specs.Figures.{figures_text, figures_value, held_to, scaled, first_figure, figure}
 use Rattle.expr_parser.proofs.Lists.{way, some_is, none_some, le_true, are_snoc, are_one, eq_true}

@@ -1,9 +1,10 @@
 -- Runs over numbers.
 use Rattle.std.proofs.Common.{◌≡◌, ℕ, ◌*◌, ◌≤◌, List, [], ◌∷◌, ◌++◌, refl, ap, sym, ◌∙◌, Bool, true, false, ◌==◌, arith, Some, if◌then◌else◌, subst, append_assoc, append-nil}
 use Rattle.std.proofs.lemmas.Bool.Decides.{nat_tests}
+use Rattle.byte_grammar.specs.Bytes.{is_digit}
 use Rattle.expr_parser.specs.declared.figures.Figures.{Figures}
 use Rattle.expr_parser.specs.declared.figures.Figures.TheVariants.{Integral, Fraction, Suffixed}
-use Rattle.expr_parser.specs.Bytes.{is_digit, AreDigits}
+use Rattle.expr_parser.specs.Bytes.{AreDigits}
 use Rattle.expr_parser.specs.Numbers.{millionths, IsDecimal, whole, pointed, IsNumber, decimal, suffixed, number_factor}
 use Rattle.expr_parser.specs.Figures.{figures_text, figures_value, held_to, scaled, first_figure, figure, is_figure}
 use Rattle.expr_parser.proofs.Lists.{snoc, le_test, are_snoc, are_one}

@@ -6,6 +6,7 @@ use Rattle.zbx_types.specs.declared.calls.Range.{Range}
 use Rattle.zbx_types.specs.declared.calls.Range.TheVariants.{Count, Period}
 use Rattle.byte_grammar.specs.declared.characters.Character.{Character}
 use Rattle.byte_grammar.specs.declared.characters.Character.TheVariants.{Whole, One, Two, Three, BehindE0, BehindEd, BehindF0, BehindF4}
+use Rattle.zbx_types.specs.Limits.{longest_range}
 use Rattle.expr_parser.specs.declared.slots.Words.{Words}
 use Rattle.expr_parser.specs.declared.slots.Slot.{Slot}
 use Rattle.expr_parser.specs.declared.slots.Slot.TheVariants.{Newest, Span, MaybeSpan, Silence, Word, Percent, Free}
@@ -18,7 +19,7 @@ use Rattle.expr_parser.specs.declared.parts.Part.TheVariants.{Before, Hash, Late
 use Rattle.expr_parser.specs.Bytes.{Digits, AreDigits}
 use Rattle.expr_parser.specs.Numbers.{IsNumber, decimal, whole, seconds, suffixed_period}
 use Rattle.expr_parser.specs.Functions.{takes_count, least_period, word_list}
-use Rattle.expr_parser.specs.Calls.{is_one_of, is_same, number_limit, longest_period, greatest_percent, IsRange, latest, span, IsQuoted, nothing, plain, backslash, IsPart, absent, ranged, shifted, word, number, quoted_number, quoted}
+use Rattle.expr_parser.specs.Calls.{is_one_of, is_same, number_limit, greatest_percent, IsRange, latest, span, IsQuoted, nothing, plain, backslash, IsPart, absent, ranged, shifted, word, number, quoted_number, quoted}
 use Rattle.expr_parser.specs.Figures.{figures_text}
 use Rattle.expr_parser.specs.Parts.{is_front, begins_one}
 use Rattle.expr_parser.proofs.Lists.{way, eq_true, digits_snoc}
@@ -115,7 +116,7 @@ least_small Free m h = absurd cc
 thirty_more : (b : ℕ) (bs : List ℕ) → Digits 0 (b ∷ bs) 0 → Digits 0 (b ∷ (bs ++ 51 ∷ 48 ∷ [])) 30
 thirty_more b bs d = subst (λ (v : List ℕ). Digits 0 (b ∷ v) 30) (append_assoc bs (51 ∷ []) (48 ∷ [])) (digits_snoc (b ∷ (bs ++ 51 ∷ [])) 48 0 3 (digits_snoc (b ∷ bs) 51 0 0 d refl) refl)
 
-seconds_live : (s : Slot) (v b : ℕ) (bs : List ℕ) (m : ℕ) → Digits 0 (b ∷ bs) v → v ≤ longest_period → least_period s ≡ Some m → PartLives s (b ∷ bs)
+seconds_live : (s : Slot) (v b : ℕ) (bs : List ℕ) (m : ℕ) → Digits 0 (b ∷ bs) v → v ≤ longest_range → least_period s ≡ Some m → PartLives s (b ∷ bs)
 seconds_live s zero b bs m d l e = let g = least_small s m e in
     record { more = 51 ∷ 48 ∷ []; value = Ranged (Period 30) 0; is = ranged (span m e (seconds b (bs ++ 51 ∷ 48 ∷ []) (thirty_more b bs d) g (omega arith))) }
 seconds_live s (suc v) b bs m d l e = elim (cases_lt (suc v) m) [

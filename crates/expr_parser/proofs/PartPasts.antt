@@ -2,8 +2,10 @@
 use Rattle.std.proofs.Common.{◌≡◌, ℕ, zero, suc, ◌+◌, ◌-◌, ◌*◌, ◌≤◌, List, [], ◌∷◌, ◌++◌, refl, ap, sym, ◌∙◌, Bool, true, false, nat_le, ◌==◌, arith, Option, Some, None, inl, inr, if◌then◌else◌, subst, option_map, append_assoc, append-nil}
 use Rattle.zbx_types.specs.declared.calls.Range.{Range}
 use Rattle.zbx_types.specs.declared.calls.Range.TheVariants.{Count, Period}
+use Rattle.byte_grammar.specs.Bytes.{is_digit}
 use Rattle.byte_grammar.specs.declared.characters.Character.{Character}
 use Rattle.byte_grammar.specs.declared.characters.Character.TheVariants.{Whole}
+use Rattle.zbx_types.specs.Limits.{longest_range}
 use Rattle.expr_parser.specs.declared.figures.Figures.{Figures}
 use Rattle.expr_parser.specs.declared.slots.Words.{Words}
 use Rattle.expr_parser.specs.declared.slots.Words.TheVariants.{Operators, Directions, Strengths}
@@ -15,10 +17,10 @@ use Rattle.expr_parser.specs.declared.parts.Ahead.{Ahead}
 use Rattle.expr_parser.specs.declared.parts.Ahead.TheVariants.{Now, Ow, W, Dash, Digits as Figured}
 use Rattle.expr_parser.specs.declared.parts.Part.{Part}
 use Rattle.expr_parser.specs.declared.parts.Part.TheVariants.{Before, Hash, Latest, Seconds, Spanned, Back, Shift, Shifted, Letters, Number, Opened, Quoted, Text, Slash, Closed}
-use Rattle.expr_parser.specs.Bytes.{is_digit, Digits}
+use Rattle.expr_parser.specs.Bytes.{Digits}
 use Rattle.expr_parser.specs.Numbers.{period_factor, IsPeriod, seconds, suffixed_period}
 use Rattle.expr_parser.specs.Functions.{takes_count, least_period, word_list}
-use Rattle.expr_parser.specs.Calls.{number_limit, is_one_of, longest_period, greatest_percent, IsRange, latest, span, IsQuoted, nothing, quote, backslash, plain, IsPart, absent, ranged, shifted, word, number, quoted_number, quoted}
+use Rattle.expr_parser.specs.Calls.{number_limit, is_one_of, greatest_percent, IsRange, latest, span, IsQuoted, nothing, quote, backslash, plain, IsPart, absent, ranged, shifted, word, number, quoted_number, quoted}
 use Rattle.byte_grammar.specs.Utf8.{follow, is_whole}
 use Rattle.byte_grammar.specs.Runs.{run}
 use Rattle.expr_parser.specs.Figures.{figure, first_figure, figures_text, figures_value}
@@ -48,10 +50,10 @@ abbrev pub Past : Slot → Part → List ℕ → Type 0
 Past s Before t = t ≡ []
 Past s Hash t = (t ≡ 35 ∷ []) × (takes_count s ≡ true)
 Past s (Latest v) t = (b : ℕ) × (bs : List ℕ) × (t ≡ 35 ∷ b ∷ bs) × Digits 0 (b ∷ bs) v × (v ≤ 10000) × (takes_count s ≡ true)
-Past s (Seconds v) t = (b : ℕ) × (bs : List ℕ) × (m : ℕ) × (t ≡ b ∷ bs) × Digits 0 (b ∷ bs) v × (v ≤ longest_period) × (least_period s ≡ Some m)
+Past s (Seconds v) t = (b : ℕ) × (bs : List ℕ) × (m : ℕ) × (t ≡ b ∷ bs) × Digits 0 (b ∷ bs) v × (v ≤ longest_range) × (least_period s ≡ Some m)
 Past s (Spanned r) t = IsRange s t r
 Past s (Back a r) t = (u : List ℕ) × (t ≡ u ++ gone a) × IsRange s u r × (takes_count s ≡ true)
-Past s (Shift r v) t = (u : List ℕ) × (b : ℕ) × (bs : List ℕ) × (t ≡ u ++ (58 ∷ 110 ∷ 111 ∷ 119 ∷ 45 ∷ b ∷ bs)) × IsRange s u r × (takes_count s ≡ true) × Digits 0 (b ∷ bs) v × (v ≤ longest_period)
+Past s (Shift r v) t = (u : List ℕ) × (b : ℕ) × (bs : List ℕ) × (t ≡ u ++ (58 ∷ 110 ∷ 111 ∷ 119 ∷ 45 ∷ b ∷ bs)) × IsRange s u r × (takes_count s ≡ true) × Digits 0 (b ∷ bs) v × (v ≤ longest_range)
 Past s (Shifted r v) t = IsPart s t (Ranged r v)
 Past s (Letters w) t = (ws : Words) × (s ≡ Word ws) × (t ≡ 34 ∷ w) × (begins_one (word_list ws) w ≡ true)
 Past s (Number f) t = (most : ℕ) × (number_limit s ≡ Some most) × (t ≡ figures_text f) × NumberPast most f
@@ -77,15 +79,15 @@ pub record Lasts (least v : ℕ) (o : Option ℕ) (m : ℕ → Part) (q : Part) 
   pub factor : ℕ
   pub is : o ≡ Some factor
   pub long : least ≤ v * factor
-  pub short : v * factor ≤ longest_period
+  pub short : v * factor ≤ longest_range
   pub place : Some (m (v * factor)) ≡ Some q
 
 lasting_some : (least v : ℕ) (o : Option ℕ) (m : ℕ → Part) (q : Part) → option_map m (lasting least v o) ≡ Some q → Lasts least v o m q
 lasting_some least v None m q h = none_some q h
-lasting_some least v (Some f) m q h = at (nat_le least (v * f)) (nat_le (v * f) longest_period) refl refl h
+lasting_some least v (Some f) m q h = at (nat_le least (v * f)) (nat_le (v * f) longest_range) refl refl h
   where
-    at : (c d : Bool) → nat_le least (v * f) ≡ c → nat_le (v * f) longest_period ≡ d → option_map m (if c then (if d then Some (v * f) else None) else None) ≡ Some q → Lasts least v (Some f) m q
-    at true true e g h = record { factor = f; is = refl; long = le_true least (v * f) e; short = le_true (v * f) longest_period g; place = h }
+    at : (c d : Bool) → nat_le least (v * f) ≡ c → nat_le (v * f) longest_range ≡ d → option_map m (if c then (if d then Some (v * f) else None) else None) ≡ Some q → Lasts least v (Some f) m q
+    at true true e g h = record { factor = f; is = refl; long = le_true least (v * f) e; short = le_true (v * f) longest_range g; place = h }
     at true false e g h = none_some q h
     at false d e g h = none_some q h
 
@@ -128,10 +130,10 @@ latest_past s v t b q p h = elim (way (is_digit b) _ _ (Some q) h) [
 second_past : (s : Slot) (v : ℕ) (t : List ℕ) (b : ℕ) (q : Part) (o : Option ℕ) → Past s (Seconds v) t → least_period s ≡ o → second s v o b ≡ Some q → Past s q (t ++ b ∷ [])
 second_past s v t b q None p e h = none_some q h
 second_past s v t b q (Some m) p e h = elim (way (is_digit b) _ _ (Some q) h) [
-  | inl z ↦ let g = grown_some longest_period v b Seconds q z.1 in as_part _ _ q (p.0, p.1 ++ b ∷ [], m, ap (λ (x : List ℕ). x ++ b ∷ []) p.3, digits_snoc (p.0 ∷ p.1) b 0 v p.4 z.0, g.0, e) g.1
+  | inl z ↦ let g = grown_some longest_range v b Seconds q z.1 in as_part _ _ q (p.0, p.1 ++ b ∷ [], m, ap (λ (x : List ℕ). x ++ b ∷ []) p.3, digits_snoc (p.0 ∷ p.1) b 0 v p.4 z.0, g.0, e) g.1
   | inr z ↦ elim (way (b == 58) _ _ (Some q) z.1) [
     | inl y ↦ elim (way (nat_le m v) _ _ (Some q) y.1) [
-      | inl x ↦ colon_past s (Period v) t b q (span m e (subst (λ (w : List ℕ). IsPeriod m longest_period w v) (sym p.3) (seconds p.0 p.1 p.4 (le_true m v x.0) p.5))) x.1
+      | inl x ↦ colon_past s (Period v) t b q (span m e (subst (λ (w : List ℕ). IsPeriod m longest_range w v) (sym p.3) (seconds p.0 p.1 p.4 (le_true m v x.0) p.5))) x.1
       | inr x ↦ none_some q x.1
     ]
     | inr y ↦ let g = lasting_some m v (period_factor b) (λ n. Spanned (Period n)) q y.1 in
@@ -142,7 +144,7 @@ second_past s v t b q (Some m) p e h = elim (way (is_digit b) _ _ (Some q) h) [
 first_second_past : (s : Slot) (b : ℕ) (q : Part) (o : Option ℕ) → least_period s ≡ o → first_second o b ≡ Some q → Past s q (b ∷ [])
 first_second_past s b q None e h = none_some q h
 first_second_past s b q (Some m) e h = elim (way (is_digit b) _ _ (Some q) h) [
-  | inl z ↦ let g = grown_some longest_period 0 b Seconds q z.1 in as_part _ _ q (b, [], m, refl, one_digit b z.0, g.0, e) g.1
+  | inl z ↦ let g = grown_some longest_range 0 b Seconds q z.1 in as_part _ _ q (b, [], m, refl, one_digit b z.0, g.0, e) g.1
   | inr z ↦ none_some q z.1
 ]
 
@@ -286,13 +288,13 @@ back_past s Ow r t b q p h = awaited_past s 111 Ow W r t p.0 b q p.1 refl p.2 p.
 back_past s W r t b q p h = awaited_past s 119 W Dash r t p.0 b q p.1 refl p.2 p.3 h
 back_past s Dash r t b q p h = awaited_past s 45 Dash Figured r t p.0 b q p.1 refl p.2 p.3 h
 back_past s Figured r t b q p h = elim (way (is_digit b) _ _ (Some q) h) [
-  | inl z ↦ let g = grown_some longest_period 0 b (Shift r) q z.1 in as_part _ _ q (p.0, b, [], ap (λ (v : List ℕ). v ++ b ∷ []) p.1 ∙ append_assoc p.0 (58 ∷ 110 ∷ 111 ∷ 119 ∷ 45 ∷ []) (b ∷ []), p.2, p.3, one_digit b z.0, g.0) g.1
+  | inl z ↦ let g = grown_some longest_range 0 b (Shift r) q z.1 in as_part _ _ q (p.0, b, [], ap (λ (v : List ℕ). v ++ b ∷ []) p.1 ∙ append_assoc p.0 (58 ∷ 110 ∷ 111 ∷ 119 ∷ 45 ∷ []) (b ∷ []), p.2, p.3, one_digit b z.0, g.0) g.1
   | inr z ↦ none_some q z.1
 ]
 
 shift_past : (s : Slot) (r : Range) (v : ℕ) (t : List ℕ) (b : ℕ) (q : Part) → Past s (Shift r v) t → shift_byte r v b ≡ Some q → Past s q (t ++ b ∷ [])
 shift_past s r v t b q p h = elim (way (is_digit b) _ _ (Some q) h) [
-  | inl z ↦ let g = grown_some longest_period v b (Shift r) q z.1 in
+  | inl z ↦ let g = grown_some longest_range v b (Shift r) q z.1 in
       as_part _ _ q (p.0, p.1, p.2 ++ b ∷ [], ap (λ (x : List ℕ). x ++ b ∷ []) p.3 ∙ append_assoc p.0 (58 ∷ 110 ∷ 111 ∷ 119 ∷ 45 ∷ p.1 ∷ p.2) (b ∷ []), p.4, p.5, digits_snoc (p.1 ∷ p.2) b 0 v p.6 z.0, g.0) g.1
   | inr z ↦ let g = lasting_some 0 v (period_factor b) (Shifted r) q z.1 in
       as_part _ _ {p = Shifted r (v * g.factor)} q (shifted p.0 ((p.1 ∷ p.2) ++ b ∷ []) p.4 p.5 (suffixed_period p.1 p.2 b v g.factor p.6 g.is refl g.long g.short refl) (ap (λ (x : List ℕ). x ++ b ∷ []) p.3 ∙ append_assoc p.0 (58 ∷ 110 ∷ 111 ∷ 119 ∷ 45 ∷ p.1 ∷ p.2) (b ∷ []))) g.place
@@ -331,7 +333,7 @@ ranged_ends s t (Some r) v g h = subst (λ (x : Value). IsPart s t x) (some_is (
 seconds_ends : (s : Slot) (t : List ℕ) (n : ℕ) (o : Option ℕ) (v : Value) → Past s (Seconds n) t → least_period s ≡ o → seconds_value o n ≡ Some v → IsPart s t v
 seconds_ends s t n None v p e h = none_some v h
 seconds_ends s t n (Some m) v p e h = elim (way (nat_le m n) _ _ (Some v) h) [
-  | inl z ↦ subst (λ (x : Value). IsPart s t x) (some_is (Ranged (Period n) 0) v z.1) (ranged (span m e (subst (λ (w : List ℕ). IsPeriod m longest_period w n) (sym p.3) (seconds p.0 p.1 p.4 (le_true m n z.0) p.5))))
+  | inl z ↦ subst (λ (x : Value). IsPart s t x) (some_is (Ranged (Period n) 0) v z.1) (ranged (span m e (subst (λ (w : List ℕ). IsPeriod m longest_range w n) (sym p.3) (seconds p.0 p.1 p.4 (le_true m n z.0) p.5))))
   | inr z ↦ none_some v z.1
 ]
 

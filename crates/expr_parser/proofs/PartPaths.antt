@@ -3,6 +3,8 @@ use Rattle.std.proofs.Common.{◌≡◌, ℕ, zero, suc, ◌+◌, ◌-◌, ◌*�
 use Rattle.std.proofs.lemmas.Bool.Decides.{nat_tests}
 use Rattle.zbx_types.specs.declared.calls.Range.{Range}
 use Rattle.zbx_types.specs.declared.calls.Range.TheVariants.{Count, Period}
+use Rattle.zbx_types.specs.Limits.{longest_range}
+use Rattle.byte_grammar.specs.Bytes.{is_digit}
 use Rattle.expr_parser.specs.declared.figures.Figures.{Figures}
 use Rattle.expr_parser.specs.declared.slots.Words.{Words}
 use Rattle.expr_parser.specs.declared.slots.Words.TheVariants.{Operators, Directions, Strengths}
@@ -12,10 +14,10 @@ use Rattle.expr_parser.specs.declared.parts.Value.TheVariants.{Ranged}
 use Rattle.expr_parser.specs.declared.parts.Ahead.TheVariants.{Now, Digits as Figured}
 use Rattle.expr_parser.specs.declared.parts.Part.{Part}
 use Rattle.expr_parser.specs.declared.parts.Part.TheVariants.{Before, Hash, Latest, Seconds, Spanned, Back, Shift, Shifted, Letters, Number, Quoted}
-use Rattle.expr_parser.specs.Bytes.{is_digit, Digits}
+use Rattle.expr_parser.specs.Bytes.{Digits}
 use Rattle.expr_parser.specs.Numbers.{period_factor, IsPeriod, seconds, suffixed_period}
 use Rattle.expr_parser.specs.Functions.{takes_count, least_period, word_list}
-use Rattle.expr_parser.specs.Calls.{number_limit, is_one_of, is_same, longest_period, greatest_percent, greatest_number, IsRange, latest, span}
+use Rattle.expr_parser.specs.Calls.{number_limit, is_one_of, is_same, greatest_percent, greatest_number, IsRange, latest, span}
 use Rattle.expr_parser.specs.Figures.{first_figure, is_figure}
 use Rattle.expr_parser.specs.Parts.{is_front, begins_one, grown, lasting, part, part_value, latest_range}
 use Rattle.expr_parser.proofs.Lists.{snoc, way, some_is, none_some, le_test, le_true, digit_bounds, digits_le, eq_true}
@@ -61,10 +63,10 @@ digit_steps s m most on (b ∷ bs) v n d h =
 pub latest_on : (s : Slot) → OnDigits s Latest 10000
 latest_on s v b h = rw h refl
 
-pub shift_on : (s : Slot) (r : Range) → OnDigits s (Shift r) longest_period
+pub shift_on : (s : Slot) (r : Range) → OnDigits s (Shift r) longest_range
 shift_on s r v b h = rw h refl
 
-pub seconds_on : (s : Slot) (m : ℕ) → least_period s ≡ Some m → OnDigits s Seconds longest_period
+pub seconds_on : (s : Slot) (m : ℕ) → least_period s ≡ Some m → OnDigits s Seconds longest_range
 seconds_on s m e v b h = rw (e, h) refl
 
 pub digit_not_hash : (b : ℕ) → is_digit b ≡ true → (b == 35) ≡ false
@@ -73,7 +75,7 @@ digit_not_hash b h = let r = digit_bounds b h in grind (arith, nat_tests)
 pub digit_not_quote : (b : ℕ) → is_digit b ≡ true → (b == 34) ≡ false
 digit_not_quote b h = let r = digit_bounds b h in grind (arith, nat_tests)
 
-pub begin_seconds : (s : Slot) (m b : ℕ) → least_period s ≡ Some m → is_digit b ≡ true → part s Before b ≡ option_map Seconds (grown longest_period 0 b)
+pub begin_seconds : (s : Slot) (m b : ℕ) → least_period s ≡ Some m → is_digit b ≡ true → part s Before b ≡ option_map Seconds (grown longest_range 0 b)
 begin_seconds Newest m b e h = none_some m e
 begin_seconds Span m b e h = rw (digit_not_hash b h, h) refl
 begin_seconds MaybeSpan m b e h = rw (digit_not_hash b h, h) refl
@@ -126,10 +128,10 @@ latest_run s b bs n e d h g = record {
   on = λ c. rw (latest_some n h, c) refl;
 }
 
-pub seconds_run : (s : Slot) (m b : ℕ) (bs : List ℕ) (n : ℕ) → least_period s ≡ Some m → Digits 0 (b ∷ bs) n → m ≤ n → n ≤ longest_period → RangeRun s (b ∷ bs) (Period n)
+pub seconds_run : (s : Slot) (m b : ℕ) (bs : List ℕ) (n : ℕ) → least_period s ≡ Some m → Digits 0 (b ∷ bs) n → m ≤ n → n ≤ longest_range → RangeRun s (b ∷ bs) (Period n)
 seconds_run s m b bs n e d h g = record {
   place = Seconds n;
-  steps = digits_from s Before Seconds longest_period (seconds_on s m e) (λ c k. begin_seconds s m c e k) b bs n d g;
+  steps = digits_from s Before Seconds longest_range (seconds_on s m e) (λ c k. begin_seconds s m c e k) b bs n d g;
   value = rw (e, le_test m n h) refl;
   on = λ c. rw (e, le_test m n h, c) refl;
 }
@@ -140,10 +142,10 @@ factor_pos c f h = grind (arith, nat_tests)
 pub factor_le : (m f c : ℕ) → period_factor c ≡ Some f → m ≤ m * f
 factor_le m f c h = let p = factor_pos c f h in le-mul_of_pos_right m p
 
-pub unit_is : (least v f n : ℕ) → n ≡ v * f → least ≤ n → n ≤ longest_period → lasting least v (Some f) ≡ Some n
-unit_is least v f n e h g = rw (le_test least (v * f) (omega (arith, e)), le_test (v * f) longest_period (omega (arith, e))) (ap (λ (z : ℕ). Some z) (sym e))
+pub unit_is : (least v f n : ℕ) → n ≡ v * f → least ≤ n → n ≤ longest_range → lasting least v (Some f) ≡ Some n
+unit_is least v f n e h g = rw (le_test least (v * f) (omega (arith, e)), le_test (v * f) longest_range (omega (arith, e))) (ap (λ (z : ℕ). Some z) (sym e))
 
-pub period_run : (s : Slot) (m : ℕ) {t : List ℕ} (n : ℕ) → least_period s ≡ Some m → IsPeriod m longest_period t n → RangeRun s t (Period n)
+pub period_run : (s : Slot) (m : ℕ) {t : List ℕ} (n : ℕ) → least_period s ≡ Some m → IsPeriod m longest_range t n → RangeRun s t (Period n)
 period_run s m n e (seconds b bs d h g) = seconds_run s m b bs n e d h g
 period_run s m n e (suffixed_period {t} b bs c v f d k p h g q) =
     let w = factor_bounds c f k in
@@ -151,7 +153,7 @@ period_run s m n e (suffixed_period {t} b bs c v f d k p h g q) =
     record {
       place = Spanned (Period n);
       steps = subst (λ (z : List ℕ). Steps s Before z (Spanned (Period n))) (sym q)
-          (steps_append s (b ∷ bs) (c ∷ []) Before (Seconds v) (Spanned (Period n)) (digits_from s Before Seconds longest_period (seconds_on s m e) (λ a z. begin_seconds s m a e z) b bs v d (omega (arith, p)))
+          (steps_append s (b ∷ bs) (c ∷ []) Before (Seconds v) (Spanned (Period n)) (digits_from s Before Seconds longest_range (seconds_on s m e) (λ a z. begin_seconds s m a e z) b bs v d (omega (arith, p)))
           (one s c (Seconds v) (Spanned (Period n)) (rw (e, w.0, w.1, k) (ap (λ (o : Option ℕ). option_map (λ z. Spanned (Period z)) o) (unit_is m v f n p h g)))));
       value = refl;
       on = λ z. rw z refl;
@@ -164,14 +166,14 @@ range_run (span {s} {t} {n} m e p) = period_run s m n e p
 -- ---- shifts
 
 -- a run over a period behind `now-`
-pub shift_run : (s : Slot) (r : Range) {t : List ℕ} (n : ℕ) → IsPeriod 0 longest_period t n → (q : Part) × Steps s (Back Figured r) t q × (part_value s q ≡ Some (Ranged r n))
-shift_run s r n (seconds b bs d h g) = (Shift r n, digits_from s (Back Figured r) (Shift r) longest_period (shift_on s r) (λ c k. rw k refl) b bs n d g, refl)
+pub shift_run : (s : Slot) (r : Range) {t : List ℕ} (n : ℕ) → IsPeriod 0 longest_range t n → (q : Part) × Steps s (Back Figured r) t q × (part_value s q ≡ Some (Ranged r n))
+shift_run s r n (seconds b bs d h g) = (Shift r n, digits_from s (Back Figured r) (Shift r) longest_range (shift_on s r) (λ c k. rw k refl) b bs n d g, refl)
 shift_run s r n (suffixed_period {t} b bs c v f d k p h g q) =
     let w = factor_bounds c f k in
     let le = factor_le v f c k in (
       Shifted r n,
       subst (λ (z : List ℕ). Steps s (Back Figured r) z (Shifted r n)) (sym q)
-          (steps_append s (b ∷ bs) (c ∷ []) (Back Figured r) (Shift r v) (Shifted r n) (digits_from s (Back Figured r) (Shift r) longest_period (shift_on s r) (λ a z. rw z refl) b bs v d (omega (arith, p)))
+          (steps_append s (b ∷ bs) (c ∷ []) (Back Figured r) (Shift r v) (Shifted r n) (digits_from s (Back Figured r) (Shift r) longest_range (shift_on s r) (λ a z. rw z refl) b bs v d (omega (arith, p)))
           (one s c (Shift r v) (Shifted r n) (rw (w.0, k) (ap (λ (o : Option ℕ). option_map (Shifted r) o) (unit_is 0 v f n p h g))))),
       refl,
     )

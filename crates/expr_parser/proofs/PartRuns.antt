@@ -4,7 +4,9 @@ use Rattle.std.proofs.lemmas.Bool.Decides.{nat_tests}
 use Rattle.std.specs.Str.{IsUtf8}
 use Rattle.zbx_types.specs.declared.calls.Range.{Range}
 use Rattle.zbx_types.specs.declared.calls.Range.TheVariants.{Count}
+use Rattle.byte_grammar.specs.Bytes.{is_digit}
 use Rattle.byte_grammar.specs.declared.characters.Character.TheVariants.{Whole}
+use Rattle.zbx_types.specs.Limits.{longest_range}
 use Rattle.expr_parser.specs.declared.figures.Figures.{Figures}
 use Rattle.expr_parser.specs.declared.slots.Words.{Words}
 use Rattle.expr_parser.specs.declared.slots.Slot.{Slot}
@@ -14,11 +16,10 @@ use Rattle.expr_parser.specs.declared.parts.Value.TheVariants.{Ranged, Said}
 use Rattle.expr_parser.specs.declared.parts.Ahead.TheVariants.{Now, Ow, W, Dash, Digits as Figured}
 use Rattle.expr_parser.specs.declared.parts.Part.{Part}
 use Rattle.expr_parser.specs.declared.parts.Part.TheVariants.{Before, Latest, Seconds, Spanned, Back, Shift, Shifted, Letters, Number, Opened, Quoted, Text, Closed}
-use Rattle.expr_parser.specs.Bytes.{is_digit}
 use Rattle.expr_parser.specs.declared.figures.Figures.TheVariants.{Integral, Pointed, Fraction, Suffixed}
 use Rattle.expr_parser.specs.Numbers.{period_factor, number_factor, millionths, IsPeriod}
 use Rattle.expr_parser.specs.Functions.{takes_count, least_period, word_list}
-use Rattle.expr_parser.specs.Calls.{absent_value, number_limit, is_one_of, longest_period, greatest_percent, IsQuoted, IsPart, absent, ranged, shifted, word, number, quoted_number, quoted}
+use Rattle.expr_parser.specs.Calls.{absent_value, number_limit, is_one_of, greatest_percent, IsQuoted, IsPart, absent, ranged, shifted, word, number, quoted_number, quoted}
 use Rattle.byte_grammar.specs.Utf8.{follow}
 use Rattle.byte_grammar.specs.Runs.{run}
 use Rattle.expr_parser.specs.Figures.{scaled, figure, first_figure, is_figure}
@@ -38,7 +39,7 @@ pub record PartRun (s : Slot) (t : List ℕ) (v : Value) : Type 0 where
   pub steps : Steps s Before t place
   pub value : part_value s place ≡ Some v
 
-shifted_run : (s : Slot) (u w : List ℕ) (r : Range) (n : ℕ) → RangeRun s u r → takes_count s ≡ true → IsPeriod 0 longest_period w n → PartRun s (u ++ (58 ∷ 110 ∷ 111 ∷ 119 ∷ 45 ∷ w)) (Ranged r n)
+shifted_run : (s : Slot) (u w : List ℕ) (r : Range) (n : ℕ) → RangeRun s u r → takes_count s ≡ true → IsPeriod 0 longest_range w n → PartRun s (u ++ (58 ∷ 110 ∷ 111 ∷ 119 ∷ 45 ∷ w)) (Ranged r n)
 shifted_run s u w r n g c p =
     let q = shift_run s r n p in
     record {

@@ -3,6 +3,7 @@ use Rattle.std.proofs.Math.Seq.{take-length}
 use Rattle.std.proofs.Common.{zero, suc, ◌+◌, ◌<◌, ◌≤◌, length, take, get_or, arith, add-one, ◌≡◌, ℕ, List, [], ◌∷◌, ◌++◌, refl, ap, sym, ◌∙◌, subst, Option, Some, None, false, length-take, Result, Ok, Err, IfOk, IfErr}
 use Rattle.zbx_types.specs.Tree.{Tree}
 use Rattle.zbx_types.specs.declared.calls.Call.{Call}
+use Rattle.zbx_types.specs.Limits.{longest_expression}
 use Rattle.expr_parser.specs.Bytes.{behind, beginning, one_less}
 use Rattle.expr_parser.specs.Grammar.{IsExpr, IsText}
 use Rattle.expr_parser.specs.Fault.{IsViable, IsFault}
@@ -70,10 +71,10 @@ front_length text i h = omega (arith, length-take i text)
 front_viable : (text : List ℕ) (i : ℕ) (s : State) → i ≤ length text → Reached text i s → IsViable IsText (take i text)
 front_viable text i s h r = viable (take i text) s (r.is (length (take i text)) (omega (arith, front_length text i h)))
 
-pub fault_limit : (text : List ℕ) (i : ℕ) (s : State) → i < length text → i ≡ 4096 → Reached text i s → IsFault IsText 4096 text i
+pub fault_limit : (text : List ℕ) (i : ℕ) (s : State) → i < length text → i ≡ longest_expression → Reached text i s → IsFault IsText longest_expression text i
 fault_limit text i s h e r = record { within = omega arith; fits = omega arith; goes_on = front_viable text i s (omega arith) r; stops = λ n a b c. absurd (omega arith) }
 
-pub fault_stop : (text : List ℕ) (i : ℕ) (s : State) → i < length text → i ≤ 4096 → Reached text i s → step false s (get_or text i 0) ≡ None → IsFault IsText 4096 text i
+pub fault_stop : (text : List ℕ) (i : ℕ) (s : State) → i < length text → i ≤ longest_expression → Reached text i s → step false s (get_or text i 0) ≡ None → IsFault IsText longest_expression text i
 fault_stop text i s h l r e = record {
   within = omega arith;
   fits = l;
@@ -81,7 +82,7 @@ fault_stop text i s h l r e = record {
   stops = λ n a b c. not_viable (take n text) (none_on (length (take n text)) (Some start) text (suc i) n a (stopped text i s h r e (length (take n text)) (omega (arith, front_length text n b))));
 }
 
-pub fault_end : (text : List ℕ) (i : ℕ) (s : State) → i ≡ length text → i ≤ 4096 → Reached text i s → IsFault IsText 4096 text i
+pub fault_end : (text : List ℕ) (i : ℕ) (s : State) → i ≡ length text → i ≤ longest_expression → Reached text i s → IsFault IsText longest_expression text i
 fault_end text i s e l r = record { within = omega arith; fits = l; goes_on = front_viable text i s (omega arith) r; stops = λ n a b c. absurd (omega arith) }
 
 -- no expression where a byte has no state
@@ -113,7 +114,7 @@ err_map_two {T} {E} (Ok x) {P} {Q} {R} f p q = p
 err_map_two {T} {E} (Err e) {P} {Q} {R} f p q = f e p q
 
 -- where a text isn't an expression, the machine has none
-pub ends_none : (text : List ℕ) (i : ℕ) (s : State) → i ≡ length text → i ≤ 4096 → Reached text i s → ((e : Tree) (ks : List Call) → IsExpr text e ks → length text ≤ 4096 → ⊥) → ends s ≡ None
+pub ends_none : (text : List ℕ) (i : ℕ) (s : State) → i ≡ length text → i ≤ longest_expression → Reached text i s → ((e : Tree) (ks : List Call) → IsExpr text e ks → length text ≤ longest_expression → ⊥) → ends s ≡ None
 ends_none text i s h l r f = at (ends s) refl
   where
     at : (o : Option (Tree × List Call)) → ends s ≡ o → o ≡ None

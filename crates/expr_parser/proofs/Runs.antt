@@ -4,9 +4,10 @@ use Rattle.std.proofs.lemmas.Bool.Decides.{nat_tests}
 use Rattle.zbx_types.specs.Tree.{Tree, constant}
 use Rattle.zbx_types.specs.declared.calls.Call.{Call}
 use Rattle.zbx_types.specs.declared.calls.Fun.{Fun}
+use Rattle.byte_grammar.specs.Bytes.{is_digit}
 use Rattle.expr_parser.specs.declared.figures.Figures.{Figures}
 use Rattle.expr_parser.specs.declared.pending.Pending.{Pending}
-use Rattle.expr_parser.specs.Bytes.{is_blank, is_digit, is_gap, AreBlanks, first_byte, Point, one_less, behind}
+use Rattle.expr_parser.specs.Bytes.{is_blank, is_gap, AreBlanks, first_byte, Point, one_less, behind}
 use Rattle.expr_parser.specs.Numbers.{IsNumber, decimal, suffixed}
 use Rattle.expr_parser.specs.Functions.{name_of}
 use Rattle.expr_parser.specs.Calls.{greatest_number}

@@ -8,6 +8,7 @@ use Rattle.item_key.specs.declared.places.Place.{Place}
 use Rattle.item_key.specs.Machine as key
 use Rattle.byte_grammar.specs.declared.characters.Character.{Character}
 use Rattle.byte_grammar.specs.declared.characters.Character.TheVariants.{Whole}
+use Rattle.zbx_types.specs.Limits.{longest_key, longest_name}
 use Rattle.expr_parser.specs.declared.slots.Slot.{Slot}
 use Rattle.expr_parser.specs.declared.parts.Part.{Part}
 use Rattle.expr_parser.specs.declared.parts.Part.TheVariants.{Before}
@@ -79,7 +80,7 @@ pub record InKey (n d : ℕ) (k : List Pending) (cs : List Call) (f : Fun) (h t 
   pub host : IsHost h
   pub place_is : key.place_of t ≡ Some place
   pub characters_are : run follow (Some Whole) t ≡ Some u
-  pub fits : length (take (at n (front ++ (name_of f ++ 40 ∷ 47 ∷ (h ++ 47 ∷ [])))).held t) ≤ 2048
+  pub fits : length (take (at n (front ++ (name_of f ++ 40 ∷ 47 ∷ (h ++ 47 ∷ [])))).held t) ≤ longest_key
   pub steady : (u ≡ Whole) ⊎ ((b : ℕ) → 128 ≤ b → key.step place b ≡ Some place)
 
 -- a call up to its arguments or among them: what they may still be
@@ -109,7 +110,7 @@ Within' n Operand d k cs q = Waiting n d k cs q
 Within' n (Word nots w) d k cs q = (t : Token n d k cs q w) × (is_begun nots (has_room cs) w ≡ true) × (nots ≡ true → (floor k ≤ 6) × (is_gap (at n t.front).last ≡ true))
 Within' n (Number f) d k cs q = Token n d k cs q (figures_text f) × NumberPast greatest_number f
 Within' n (Slash f) d k cs q = Token n d k cs q (name_of f ++ 40 ∷ []) × (has_room cs ≡ true) × (is_dated f ≡ false)
-Within' n (Host f h) d k cs q = Token n d k cs q (name_of f ++ 40 ∷ 47 ∷ h) × (has_room cs ≡ true) × (is_dated f ≡ false) × AreHostBytes h × (length h ≤ 128)
+Within' n (Host f h) d k cs q = Token n d k cs q (name_of f ++ 40 ∷ 47 ∷ h) × (has_room cs ≡ true) × (is_dated f ≡ false) × AreHostBytes h × (length h ≤ longest_name)
 Within' n (Key f h t place u) d k cs q = InKey n d k cs f h t place u q
 Within' n (Argument fresh c s ss x) d k cs q = InArgument n d k cs fresh c s ss x q
 Within' n (Close c) d k cs q = InCall n d k cs c [] q

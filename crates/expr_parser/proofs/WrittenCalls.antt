@@ -2,12 +2,12 @@
 use Rattle.std.proofs.Common.{◌≡◌, ℕ, zero, suc, ◌≤◌, ◌<◌, List, [], ◌∷◌, ◌++◌, length, take, refl, ap, sym, subst, ◌∙◌, Bool, true, false, ◌==◌, arith, Some, inl, inr, ◌⊎◌, if◌then◌else◌, length-append, append_assoc, append-nil}
 use Rattle.std.specs.Fmt.{decimal}
 use Rattle.std.specs.Str.{IsUtf8}
-use Rattle.zbx_types.specs.Limits.{longest_key}
 use Rattle.zbx_types.specs.declared.calls.Call.{Call}
 use Rattle.zbx_types.specs.declared.calls.Fun.{Fun}
 use Rattle.zbx_types.specs.declared.calls.Fun.TheVariants as fun
 use Rattle.zbx_types.specs.declared.calls.Range.{Range}
 use Rattle.zbx_types.specs.declared.calls.Range.TheVariants.{Count}
+use Rattle.zbx_types.specs.Limits.{longest_range, longest_key}
 use Rattle.expr_parser.specs.declared.slots.Words.{Words}
 use Rattle.expr_parser.specs.declared.slots.Words.TheVariants.{Operators, Directions, Strengths}
 use Rattle.expr_parser.specs.declared.slots.Slot.{Slot}
@@ -18,7 +18,7 @@ use Rattle.expr_parser.specs.Bytes.{Point, behind}
 use Rattle.expr_parser.specs.Numbers.{IsNumber, IsPeriod, seconds, suffixed_period}
 use Rattle.expr_parser.specs.Functions.{name_of, slots, default_range, takes_count, least_period, word_list}
 use Rattle.zbx_types.specs.Operators.{is_dated}
-use Rattle.expr_parser.specs.Calls.{absent_value, number_limit, is_one_of, is_same, longest_period, greatest_percent, IsRange, latest, span, IsQuoted, nothing, quote, backslash, plain, IsPart, absent, ranged, shifted, word, number, quoted_number, quoted, put, all_absent, may_be_absent, Arguments, no_more, another, plain_call, IsCall, dated, of_item}
+use Rattle.expr_parser.specs.Calls.{absent_value, number_limit, is_one_of, is_same, greatest_percent, IsRange, latest, span, IsQuoted, nothing, quote, backslash, plain, IsPart, absent, ranged, shifted, word, number, quoted_number, quoted, put, all_absent, may_be_absent, Arguments, no_more, another, plain_call, IsCall, dated, of_item}
 use Rattle.expr_parser.specs.Written.{escaped, quoted_text, written_range, written_shift, range_argument, last_arguments, written_call}
 use Rattle.expr_parser.proofs.Lists.{no_blanks, way, either_way, eq_true, held_behind, some_is, none_some}
 use Rattle.expr_parser.proofs.NumberPaths.{number_path}
@@ -127,16 +127,16 @@ number_again Free t most n e h =
 
 -- ---- ranges
 
-period_again : {least most n : ℕ} {t : List ℕ} → most ≤ longest_period → IsPeriod least most t n → IsPeriod least most (decimal n) n
+period_again : {least most n : ℕ} {t : List ℕ} → most ≤ longest_range → IsPeriod least most t n → IsPeriod least most (decimal n) n
 period_again {least} {most} {n} small (seconds b bs d lo hi) = in_seconds least most n small lo hi
   where
-    in_seconds : (least most n : ℕ) → most ≤ longest_period → least ≤ n → n ≤ most → IsPeriod least most (decimal n) n
+    in_seconds : (least most n : ℕ) → most ≤ longest_range → least ≤ n → n ≤ most → IsPeriod least most (decimal n) n
     in_seconds least most n small lo hi =
         let d = decimal_is n (omega (arith, small, hi)) in
         subst (λ (z : List ℕ). IsPeriod least most z n) (sym d.is) (seconds d.first d.rest d.value lo hi)
 period_again {least} {most} {n} small (suffixed_period b bs c m f d e k lo hi t) = in_seconds least most n small lo hi
   where
-    in_seconds : (least most n : ℕ) → most ≤ longest_period → least ≤ n → n ≤ most → IsPeriod least most (decimal n) n
+    in_seconds : (least most n : ℕ) → most ≤ longest_range → least ≤ n → n ≤ most → IsPeriod least most (decimal n) n
     in_seconds least most n small lo hi =
         let d = decimal_is n (omega (arith, small, hi)) in
         subst (λ (z : List ℕ). IsPeriod least most z n) (sym d.is) (seconds d.first d.rest d.value lo hi)
@@ -151,7 +151,7 @@ range_again (span m l p) = span m l (period_again (omega arith) p)
 ranged_again : (s : Slot) (r : Range) → IsRange s (written_range r) r → Again s (Ranged r 0)
 ranged_again s r g = subst (λ (z : List ℕ). IsPart s z (Ranged r 0)) (sym (append-nil (written_range r))) (ranged g)
 
-shifted_again : (s : Slot) (r : Range) (n : ℕ) (w : List ℕ) → IsRange s (written_range r) r → takes_count s ≡ true → IsPeriod 0 longest_period w n → Again s (Ranged r n)
+shifted_again : (s : Slot) (r : Range) (n : ℕ) (w : List ℕ) → IsRange s (written_range r) r → takes_count s ≡ true → IsPeriod 0 longest_range w n → Again s (Ranged r n)
 shifted_again s r n w g c p = elim (either_way (n == 0)) [
   | inl e ↦ subst (λ (v : ℕ). Again s (Ranged r v)) (sym (eq_true n 0 e)) (ranged_again s r g)
   | inr e ↦ rw e (shifted (written_range r) (decimal n) g c (period_again (omega arith) p) refl)

@@ -11,8 +11,9 @@ use Rattle.zbx_types.specs.Numerals.{digits_after}
 use Rattle.zbx_types.specs.Written.{without_last_zeros, written}
 use Rattle.zbx_types.proofs.DigitLemmas.{length-without_last_zeros, value-without_last_zeros, six_write}
 use Rattle.zbx_types.proofs.ReadAgain.{written_is_read}
+use Rattle.byte_grammar.specs.Bytes.{is_digit}
 use Rattle.expr_parser.specs.declared.figures.Figures.{Figures}
-use Rattle.expr_parser.specs.Bytes.{is_digit, AreDigits, Digits}
+use Rattle.expr_parser.specs.Bytes.{AreDigits, Digits}
 use Rattle.expr_parser.specs.Figures.{is_figure}
 use Rattle.expr_parser.specs.Numbers.{IsDecimal, whole, pointed, IsNumber, decimal as plain_number, suffixed}
 use Rattle.expr_parser.specs.Calls.{greatest_number}

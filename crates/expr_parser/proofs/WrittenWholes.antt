@@ -3,7 +3,7 @@ use Rattle.std.proofs.Common.{◌≡◌, ℕ, ◌+◌, ◌-◌, ◌*◌, ◌≤�
 use Rattle.std.proofs.Common.{false, arith, Option, Some, None, append-nil, inl, inr, if◌then◌else◌, option_map}
 use Rattle.zbx_types.specs.Numerals.{digits_after}
 use Rattle.zbx_types.proofs.NumeralLemmas.{digits_after-append}
-use Rattle.expr_parser.specs.Bytes.{is_digit}
+use Rattle.byte_grammar.specs.Bytes.{is_digit}
 use Rattle.expr_parser.specs.declared.figures.Figures.TheVariants.{Integral}
 use Rattle.expr_parser.specs.Figures.{held_to}
 use Rattle.expr_parser.specs.Numbers.{IsWritten, is_at_most, millionths}

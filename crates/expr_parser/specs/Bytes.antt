@@ -1,14 +1,10 @@
 -- Bytes, and points in a text.
-use Rattle.std.specs.Prelude.{◌≡◌, ◌-◌, ◌+◌, ◌*◌, ℕ, zero, suc, List, [], ◌∷◌, Bool, true, false, ◌==◌, nat_le}
-use Rattle.std.specs.Prelude.{if◌then◌else◌}
+use Rattle.std.specs.Prelude.{◌≡◌, ◌-◌, ◌+◌, ◌*◌, ℕ, zero, suc, List, [], ◌∷◌, Bool, true, ◌==◌, if◌then◌else◌}
+use Rattle.byte_grammar.specs.Bytes.{is_digit}
 
 -- space, tab, carriage return or line feed
 abbrev pub is_blank : ℕ → Bool
 is_blank b = if b == 32 then true else if b == 9 then true else if b == 13 then true else b == 10
-
--- a digit
-abbrev pub is_digit : ℕ → Bool
-is_digit b = if nat_le 48 b then nat_le b 57 else false
 
 -- a byte beside which a word may stand: a parenthesis or a blank
 abbrev pub is_gap : ℕ → Bool

@@ -1,13 +1,14 @@
 -- Calls of functions, by the cases of their grammar (the Zabbix 6.0 manual, "Trigger expression" and "Supported
 -- functions").
 use Rattle.std.specs.Prelude.{◌≡◌, ◌≤◌, ◌<◌, ℕ, List, [], ◌∷◌, ◌++◌, Option, Some, None, Bool, true, false, ◌==◌}
-use Rattle.std.specs.Prelude.{if◌then◌else◌, length, take, IsUtf8}
+use Rattle.std.specs.Prelude.{if◌then◌else◌, length, take, IsUtf8, codes}
 use Rattle.zbx_types.specs.declared.calls.Call.{Call}
 use Rattle.zbx_types.specs.declared.calls.Fun.{Fun}
 use Rattle.zbx_types.specs.declared.calls.Range.{Range}
 use Rattle.zbx_types.specs.declared.calls.Range.TheVariants.{Count, Period}
-use Rattle.zbx_types.specs.Limits.{longest_key}
-use Rattle.item_key.specs.Grammar.{IsKeyText, is_name_byte}
+use Rattle.item_key.specs.Grammar.{IsKeyText}
+use Rattle.zbx_types.specs.Limits.{longest_range, longest_key, longest_name}
+use Rattle.zbx_types.specs.NameBytes.{is_host_name_byte}
 use Rattle.expr_parser.specs.Bytes.{Point, behind, AreBlanks, Digits}
 use Rattle.expr_parser.specs.Numbers.{IsNumber, IsPeriod}
 use Rattle.expr_parser.specs.declared.slots.Words.{Words}
@@ -18,22 +19,14 @@ use Rattle.expr_parser.specs.declared.parts.Value.TheVariants.{Ranged, Said}
 use Rattle.expr_parser.specs.Functions.{name_of, slots, default_range, takes_count, least_period, word_list}
 use Rattle.zbx_types.specs.Operators.{is_dated}
 
--- a byte of a host's name: a letter, a digit, space, `_`, `-` or `.`
-abbrev pub is_host_byte : ℕ → Bool
-is_host_byte b = if b == 32 then true else is_name_byte b
-
 -- bytes of a host's name alone, or nothing
 unfoldable pub AreHostBytes : List ℕ → Type 0
 AreHostBytes [] = Unit {0}
-AreHostBytes (b ∷ bs) = (is_host_byte b ≡ true) × AreHostBytes bs
+AreHostBytes (b ∷ bs) = (is_host_name_byte b ≡ true) × AreHostBytes bs
 
 -- a host's name, of 1 to 128 bytes
 abbrev pub IsHost : List ℕ → Type 0
-IsHost h = (0 < length h) × (length h ≤ 128) × AreHostBytes h
-
--- 31 days in seconds
-abbrev pub longest_period : ℕ
-longest_period = 2678400
+IsHost h = (0 < length h) × (length h ≤ longest_name) × AreHostBytes h
 
 -- the greatest percentage, in millionths
 abbrev pub greatest_percent : ℕ
@@ -46,17 +39,17 @@ greatest_number = 1000000000000000000000000000000
 -- a range within its bounds: 1 to 10,000 values, or a period from 1 second to 31 days
 abbrev pub IsBoundedRange : Range → Type 0
 IsBoundedRange (Count n) = (0 < n) × (n ≤ 10000)
-IsBoundedRange (Period n) = (0 < n) × (n ≤ longest_period)
+IsBoundedRange (Period n) = (0 < n) × (n ≤ longest_range)
 
 -- a call whose range is within its bounds and whose shift is at most 31 days
 abbrev pub IsBoundedCall : Call → Type 0
-IsBoundedCall c = IsBoundedRange c.range × (c.shift ≤ longest_period)
+IsBoundedCall c = IsBoundedRange c.range × (c.shift ≤ longest_range)
 
 -- a range without a shift: `#n`, n from 1 to 10,000, or a period up to 31 days
 pub data IsRange : Slot → List ℕ → Range → Type 0 where
   latest : {s : Slot} {t : List ℕ} {n : ℕ} (b : ℕ) (bs : List ℕ) → takes_count s ≡ true → Digits 0 (b ∷ bs) n → 0 < n
       → n ≤ 10000 → t ≡ 35 ∷ b ∷ bs → IsRange s t (Count n)
-  span : {s : Slot} {t : List ℕ} {n : ℕ} (m : ℕ) → least_period s ≡ Some m → IsPeriod m longest_period t n
+  span : {s : Slot} {t : List ℕ} {n : ℕ} (m : ℕ) → least_period s ≡ Some m → IsPeriod m longest_range t n
       → IsRange s t (Period n)
 
 -- the text between quotes stands for these bytes: `\"` for a quote, any other backslash for itself
@@ -106,8 +99,8 @@ pub data IsPart : Slot → List ℕ → Value → Type 0 where
   absent : {s : Slot} {v : Value} → absent_value s ≡ Some v → IsPart s [] v
   ranged : {s : Slot} {t : List ℕ} {r : Range} → IsRange s t r → IsPart s t (Ranged r 0)
   shifted : {s : Slot} {t : List ℕ} {r : Range} {n : ℕ} (u w : List ℕ) → IsRange s u r → takes_count s ≡ true
-      → IsPeriod 0 longest_period w n
-      → t ≡ u ++ (58 ∷ 110 ∷ 111 ∷ 119 ∷ 45 ∷ w) → IsPart s t (Ranged r n)
+      → IsPeriod 0 longest_range w n
+      → t ≡ u ++ (codes ":now-" ++ w) → IsPart s t (Ranged r n)
   word : {t : List ℕ} {ws : Words} (w : List ℕ) → is_one_of (word_list ws) w ≡ true → t ≡ 34 ∷ (w ++ 34 ∷ [])
       → IsPart (Word ws) t (Said w)
   number : {s : Slot} {t : List ℕ} (most n : ℕ) → number_limit s ≡ Some most → IsNumber most t n → IsPart s t (Said t)

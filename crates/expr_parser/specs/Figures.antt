@@ -1,9 +1,9 @@
 -- Numbers byte by byte.
 use Rattle.std.specs.Prelude.{ℕ, ◌*◌, List, [], ◌∷◌, ◌++◌, Option, Some, None, Bool, true, ◌==◌, nat_le, if◌then◌else◌}
 use Rattle.std.specs.Prelude.{is_some}
+use Rattle.byte_grammar.specs.Bytes.{is_digit}
 use Rattle.expr_parser.specs.declared.figures.Figures.{Figures}
 use Rattle.expr_parser.specs.declared.figures.Figures.TheVariants.{Integral, Pointed, Fraction, Suffixed}
-use Rattle.expr_parser.specs.Bytes.{is_digit}
 use Rattle.expr_parser.specs.Numbers.{is_at_most, millionths, number_factor}
 
 -- the text of a number so far

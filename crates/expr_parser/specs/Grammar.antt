@@ -1,5 +1,6 @@
 -- Which text is which expression, by the cases of the grammar.
 use Rattle.std.specs.Prelude.{◌≡◌, ◌<◌, ℕ, suc, ◌+◌, List, [], ◌∷◌, ◌++◌, Bool, true, false, length, pos, if◌then◌else◌}
+use Rattle.std.specs.Prelude.{codes}
 use Rattle.zbx_types.specs.Tree.{Tree, constant, call, negative, negation, binary}
 use Rattle.zbx_types.specs.declared.expr.Op.{Op}
 use Rattle.zbx_types.specs.declared.expr.Op.TheVariants.{Or, And, Eq, Ne, Lt, Le, Gt, Ge, Add, Sub, Mul, Div}
@@ -11,18 +12,18 @@ use Rattle.expr_parser.specs.Calls.{IsCall, greatest_number}
 
 -- how an operator is written
 abbrev pub op_text : Op → List ℕ
-op_text Or = 111 ∷ 114 ∷ []
-op_text And = 97 ∷ 110 ∷ 100 ∷ []
-op_text Eq = 61 ∷ []
-op_text Ne = 60 ∷ 62 ∷ []
-op_text Lt = 60 ∷ []
-op_text Le = 60 ∷ 61 ∷ []
-op_text Gt = 62 ∷ []
-op_text Ge = 62 ∷ 61 ∷ []
-op_text Add = 43 ∷ []
-op_text Sub = 45 ∷ []
-op_text Mul = 42 ∷ []
-op_text Div = 47 ∷ []
+op_text Or = codes "or"
+op_text And = codes "and"
+op_text Eq = codes "="
+op_text Ne = codes "<>"
+op_text Lt = codes "<"
+op_text Le = codes "<="
+op_text Gt = codes ">"
+op_text Ge = codes ">="
+op_text Add = codes "+"
+op_text Sub = codes "-"
+op_text Mul = codes "*"
+op_text Div = codes "/"
 
 -- The levels, the loosest first. 6 is `not`, 7 the sign, and 8 numbers, calls and parentheses.
 abbrev pub op_level : Op → ℕ
@@ -73,7 +74,7 @@ pub data Spells : Point → ℕ → ℕ → ℕ → List ℕ → Tree → List C
       → text ≡ 45 ∷ (x ++ t) → Spells p d c 7 text (negative e) ks
   denied : {p : Point} {d c : ℕ} {text : List ℕ} {e : Tree} {ks : List Call} (x t : List ℕ) → is_gap p.last ≡ true
       → AreBlanks x → ends_word (first_byte (x ++ t)) ≡ true
-      → Spells (behind p (110 ∷ 111 ∷ 116 ∷ x)) d c 7 t e ks → text ≡ 110 ∷ 111 ∷ 116 ∷ (x ++ t)
+      → Spells (behind p (codes "not" ++ x)) d c 7 t e ks → text ≡ codes "not" ++ (x ++ t)
       → Spells p d c 6 text (negation e) ks
   tighter : {p : Point} {d c l : ℕ} {text : List ℕ} {e : Tree} {ks : List Call} → Spells p d c (suc l) text e ks
       → Spells p d c l text e ks

@@ -1,6 +1,6 @@
 -- Expressions byte by byte: where an expression stands behind a front of it.
 use Rattle.std.specs.Prelude.{◌≡◌, ℕ, zero, suc, List, [], ◌∷◌, ◌++◌, length, Bool, true, false, ◌==◌, nat_le, nat_lt}
-use Rattle.std.specs.Prelude.{if◌then◌else◌, Option, Some, None, pos}
+use Rattle.std.specs.Prelude.{if◌then◌else◌, Option, Some, None, pos, codes}
 use Rattle.std.specs.Str.{is_utf8}
 use Rattle.zbx_types.specs.Tree.{Tree, constant, call, negative, negation, binary}
 use Rattle.zbx_types.specs.declared.expr.Op.{Op}
@@ -13,6 +13,8 @@ use Rattle.item_key.specs.declared.places.Place.TheVariants.{Start}
 use Rattle.item_key.specs.Machine as key
 use Rattle.byte_grammar.specs.declared.characters.Character.{Character}
 use Rattle.byte_grammar.specs.declared.characters.Character.TheVariants.{Whole}
+use Rattle.zbx_types.specs.Limits.{longest_key, longest_name}
+use Rattle.zbx_types.specs.NameBytes.{is_host_name_byte}
 use Rattle.expr_parser.specs.Bytes.{is_blank, is_gap, one_less}
 use Rattle.expr_parser.specs.declared.figures.Figures.{Figures}
 use Rattle.expr_parser.specs.declared.slots.Slot.{Slot}
@@ -28,7 +30,7 @@ use Rattle.expr_parser.specs.declared.pending.Rest.{Rest}
 use Rattle.expr_parser.specs.declared.pending.Rest.TheVariants.{Nd, D, R, Nothing}
 use Rattle.expr_parser.specs.Functions.{name_of, slots}
 use Rattle.zbx_types.specs.Operators.{is_dated}
-use Rattle.expr_parser.specs.Calls.{is_host_byte, put, put_range, all_absent, plain_call, is_same, greatest_number}
+use Rattle.expr_parser.specs.Calls.{put, put_range, all_absent, plain_call, is_same, greatest_number}
 use Rattle.expr_parser.specs.Grammar.{op_level}
 use Rattle.byte_grammar.specs.Utf8.{follow}
 use Rattle.expr_parser.specs.Figures.{first_figure, figure, figures_value, is_figure}
@@ -102,7 +104,7 @@ has_room cs = nat_lt (length cs) 32
 
 -- the word of a negation
 abbrev pub not_word : List ℕ
-not_word = 110 ∷ 111 ∷ 116 ∷ []
+not_word = codes "not"
 
 -- the letters are that word
 abbrev pub is_not : List ℕ → Bool
@@ -283,7 +285,8 @@ number f l o k cs b =
 -- a byte of a host's name, or the slash behind it
 abbrev pub host : Fun → List ℕ → ℕ → List Pending → List Call → ℕ → Option State
 host f h o k cs b =
-    if is_host_byte b then (if nat_lt (length h) 128 then Some (state (Host f (h ++ b ∷ [])) b o k cs) else None)
+    if is_host_name_byte b then
+    (if nat_lt (length h) longest_name then Some (state (Host f (h ++ b ∷ [])) b o k cs) else None)
     else if b == 47 then (if nat_lt 0 (length h) then Some (state (Key f h [] Start Whole) b o k cs) else None)
     else None
 
@@ -318,7 +321,7 @@ key_more f h t (Some place) (Some u) o k cs b = Some (state (Key f h (t ++ b ∷
 abbrev pub key_on : Bool → Fun → List ℕ → List ℕ → Place → Character → ℕ → List Pending → List Call → ℕ → Option State
 key_on free f h t place u o k cs b =
     if free then key_more f h t (key.step place b) (follow u b) o k cs b
-    else if nat_lt (length t) 2048 then key_more f h t (key.step place b) (follow u b) o k cs b else None
+    else if nat_lt (length t) longest_key then key_more f h t (key.step place b) (follow u b) o k cs b else None
 
 -- what stands behind the key, where host and key are characters
 abbrev pub key_end : Fun → List ℕ → List ℕ → ℕ → List Pending → List Call → ℕ → Option State

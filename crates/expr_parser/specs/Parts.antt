@@ -4,8 +4,10 @@ use Rattle.std.specs.Prelude.{◌==◌, nat_le, if◌then◌else◌}
 use Rattle.std.specs.Option.{option_map}
 use Rattle.zbx_types.specs.declared.calls.Range.{Range}
 use Rattle.zbx_types.specs.declared.calls.Range.TheVariants.{Count, Period}
+use Rattle.byte_grammar.specs.Bytes.{is_digit}
 use Rattle.byte_grammar.specs.declared.characters.Character.{Character}
 use Rattle.byte_grammar.specs.declared.characters.Character.TheVariants.{Whole}
+use Rattle.zbx_types.specs.Limits.{longest_range}
 use Rattle.expr_parser.specs.declared.figures.Figures.{Figures}
 use Rattle.expr_parser.specs.declared.slots.Slot.{Slot}
 use Rattle.expr_parser.specs.declared.slots.Slot.TheVariants.{Newest, Span, MaybeSpan, Silence, Word, Percent, Free}
@@ -17,10 +19,9 @@ use Rattle.expr_parser.specs.declared.parts.Part.{Part}
 use Rattle.expr_parser.specs.declared.parts.Part.TheVariants.{Before, Hash, Latest, Seconds, Spanned, Back, Shift}
 use Rattle.expr_parser.specs.declared.parts.Part.TheVariants.{Shifted, Letters, Number, Opened, Quoted, Text, Slash}
 use Rattle.expr_parser.specs.declared.parts.Part.TheVariants.{Closed}
-use Rattle.expr_parser.specs.Bytes.{is_digit}
 use Rattle.expr_parser.specs.Numbers.{period_factor}
 use Rattle.expr_parser.specs.Functions.{takes_count, least_period, word_list}
-use Rattle.expr_parser.specs.Calls.{absent_value, number_limit, is_one_of, longest_period, greatest_percent}
+use Rattle.expr_parser.specs.Calls.{absent_value, number_limit, is_one_of, greatest_percent}
 use Rattle.byte_grammar.specs.Utf8.{follow, is_whole}
 use Rattle.expr_parser.specs.Figures.{first_figure, figure, figures_text, figures_value}
 
@@ -43,7 +44,7 @@ grown most v b = if nat_le (v * 10 + (b - 48)) most then Some (v * 10 + (b - 48)
 abbrev pub lasting : ℕ → ℕ → Option ℕ → Option ℕ
 lasting least v None = None
 lasting least v (Some f) =
-    if nat_le least (v * f) then (if nat_le (v * f) longest_period then Some (v * f) else None) else None
+    if nat_le least (v * f) then (if nat_le (v * f) longest_range then Some (v * f) else None) else None
 
 -- the colon behind a range
 abbrev pub colon : Slot → Range → ℕ → Option Part
@@ -53,14 +54,14 @@ colon s r b = if b == 58 then (if takes_count s then Some (Back Now r) else None
 abbrev pub second : Slot → ℕ → Option ℕ → ℕ → Option Part
 second s v None b = None
 second s v (Some least) b =
-    if is_digit b then option_map Seconds (grown longest_period v b)
+    if is_digit b then option_map Seconds (grown longest_range v b)
     else if b == 58 then (if nat_le least v then colon s (Period v) b else None)
     else option_map (λ n. Spanned (Period n)) (lasting least v (period_factor b))
 
 -- the first digit of a period, where one may stand there
 abbrev pub first_second : Option ℕ → ℕ → Option Part
 first_second None b = None
-first_second (Some least) b = if is_digit b then option_map Seconds (grown longest_period 0 b) else None
+first_second (Some least) b = if is_digit b then option_map Seconds (grown longest_range 0 b) else None
 
 -- the first digit of a number, where one may stand there
 abbrev pub first_number : Option ℕ → ℕ → Option Part
@@ -142,7 +143,7 @@ back Now r b = awaited 110 Ow r b
 back Ow r b = awaited 111 W r b
 back W r b = awaited 119 Dash r b
 back Dash r b = awaited 45 Digits r b
-back Digits r b = if is_digit b then option_map (Shift r) (grown longest_period 0 b) else None
+back Digits r b = if is_digit b then option_map (Shift r) (grown longest_range 0 b) else None
 
 -- a byte behind `#`
 abbrev pub hash_byte : ℕ → Option Part
@@ -155,7 +156,7 @@ latest_byte s v b = if is_digit b then option_map Latest (grown 10000 v b) else 
 -- a byte behind the first digits of a shift
 abbrev pub shift_byte : Range → ℕ → ℕ → Option Part
 shift_byte r v b =
-    if is_digit b then option_map (Shift r) (grown longest_period v b)
+    if is_digit b then option_map (Shift r) (grown longest_range v b)
     else option_map (Shifted r) (lasting 0 v (period_factor b))
 
 -- a byte behind the quote in front of a number, and in such a number

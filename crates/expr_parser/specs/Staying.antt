@@ -4,6 +4,7 @@ use Rattle.item_key.specs.Machine.{ends, step}
 use Rattle.byte_grammar.specs.Utf8.{follow}
 use Rattle.zbx_types.specs.declared.calls.Call.{Call}
 use Rattle.zbx_types.specs.declared.calls.Fun.{Fun}
+use Rattle.zbx_types.specs.Limits.{longest_key}
 use Rattle.expr_parser.specs.Machine.{State, Key, after, is_delimiter, state}
 use Rattle.expr_parser.specs.declared.keys.Spot.{Spot}
 use Rattle.expr_parser.specs.declared.pending.Pending.{Pending}
@@ -26,5 +27,5 @@ pub record KeyGoes (from : Spot) (b : ℕ) (to : Spot) : Type 0 where
 
 -- so many bytes at the front of a text lead from a spot in a key to a spot in it, where they fit into the key
 pub record KeyLeads (a : Spot) (text : List ℕ) (i : ℕ) (b : Spot) : Type 0 where
-  pub is : (f : Fun) (h t : List ℕ) (o : ℕ) (k : List Pending) (cs : List Call) → length t + i ≤ 2048
+  pub is : (f : Fun) (h t : List ℕ) (o : ℕ) (k : List Pending) (cs : List Call) → length t + i ≤ longest_key
       → Leads (state (Key f h t a.place a.character) a.last o k cs) text i (state (Key f h (t ++ take i text) b.place b.character) b.last o k cs)

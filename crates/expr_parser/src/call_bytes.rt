@@ -1,19 +1,14 @@
 //! The bytes of calls: hosts, keys and arguments.
 
-ghost use Rattle.std.specs.Prelude.{◌≡◌, ◌≤◌, ◌<◌, ◌++◌, ◌∷◌, [], IfOk, reverse, nat_le, nat_lt, Some, None, true, false, option_map, length, if◌then◌else◌, pos};
+ghost use Rattle.std.specs.Prelude.{◌≡◌, IfOk, reverse, Some, None, false, if◌then◌else◌};
 ghost use Rattle.std.specs.Str.{is_utf8};
-ghost use Rattle.expr_parser.specs.Bytes as bytes;
 ghost use Rattle.expr_parser.specs.Calls as calls;
 ghost use Rattle.expr_parser.specs.Parts as parts;
-ghost use Rattle.expr_parser.specs.Figures as figures;
 ghost use Rattle.expr_parser.specs.Machine as machine;
 ghost use Rattle.expr_parser.specs.Staying.{reach};
-ghost use Rattle.expr_parser.specs.View.{state, slot_list, whole_of};
+ghost use Rattle.expr_parser.specs.View.{state, slot_list};
 ghost use Rattle.expr_parser.specs.declared.parts.Part.{Part};
 ghost use Rattle.expr_parser.specs.declared.parts.Value.TheVariants.{Said};
-ghost use Rattle.expr_parser.specs.declared.pending.Pending.TheVariants.{Waits};
-ghost use Rattle.zbx_types.specs.Tree as trees;
-ghost use Rattle.zbx_types.specs.Trees.{tree_of};
 
 use crate::figures::longer;
 use crate::parts::{Part, Value, part_on, part_value};
@@ -22,29 +17,18 @@ use crate::states::{MOST_CALLS, Mode, Moved, State, blank, to};
 use byte_grammar::Character;
 use item_key::{Place, may_end, next};
 use std::alloc::Global;
-use zbx_types::{Bytes, Call, Expr, Fun, LONGEST_KEY, LONGEST_NAME, OutOfMemory, Range, Text};
+use zbx_types::{
+    Bytes, Call, Expr, Fun, LONGEST_KEY, LONGEST_NAME, OutOfMemory, Range, Text, is_host_name_byte,
+};
 
 /// The bytes of most keys, for which there is room from the first on.
 const KEY_ROOM: usize = 32;
 
 #[inline(always)]
-pub(crate) fn host_byte(byte: u8) -> bool
-    ensures { result ≡ calls.is_host_byte byte }
-{
-    byte == b' '
-        || (b'a' <= byte && byte <= b'z')
-        || (b'A' <= byte && byte <= b'Z')
-        || (b'0' <= byte && byte <= b'9')
-        || byte == b'_'
-        || byte == b'-'
-        || byte == b'.'
-}
-
-#[inline(always)]
 pub(crate) fn host(alloc: Global, fun: Fun, text: Bytes, s: &mut State, byte: u8) -> Moved
     ensures { IfOk result (λ on. reach on (state s.new) ≡ machine.host fun text s.old.base.open_ones (reverse s.old.base.stack.items) s.old.base.calls byte) }
 {
-    if host_byte(byte) {
+    if is_host_name_byte(byte) {
         if text.len() < LONGEST_NAME {
             let text = longer(text, byte)?;
             Ok(to(s, Mode::Host(fun, text), byte))

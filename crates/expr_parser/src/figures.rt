@@ -1,12 +1,13 @@
 //! Numbers byte by byte.
 
-ghost use Rattle.std.specs.Prelude.{◌≡◌, ◌++◌, ◌∷◌, [], ◌*◌, ◌+◌, ◌-◌, ◌^◌, ◌≤◌, true, IfOk, nat_le, if◌then◌else◌, Some, None, option_map};
-ghost use Rattle.expr_parser.specs.Bytes as bytes;
+ghost use Rattle.std.specs.Prelude.{◌≡◌, ◌++◌, ◌∷◌, [], ◌*◌, IfOk, nat_le, if◌then◌else◌, Some, None, option_map};
+ghost use Rattle.byte_grammar.specs.Bytes.{is_digit};
 ghost use Rattle.expr_parser.specs.Numbers as numbers;
 ghost use Rattle.expr_parser.specs.Figures as figures;
 ghost use Rattle.expr_parser.specs.declared.figures.Figures.TheVariants.{Integral, Fraction};
 
 use crate::whole_numbers::{WholeNumber, first_digit};
+use byte_grammar::is_digit;
 use std::alloc::Global;
 use zbx_types::{Bytes, Fix, OutOfMemory};
 
@@ -21,12 +22,6 @@ pub(crate) enum Figures {
     Fraction(Bytes),
     /// Behind the suffix, with the millionths of the number.
     Suffixed(Bytes, u128),
-}
-
-pub(crate) fn digit(byte: u8) -> bool
-    ensures { result ≡ bytes.is_digit byte }
-{
-    b'0' <= byte && byte <= b'9'
 }
 
 /// The bytes with one more at the end.
@@ -76,7 +71,7 @@ fn number_factor(byte: u8) -> Option<u64>
 pub(crate) fn is_figure(byte: u8) -> bool
     ensures { result ≡ figures.is_figure byte }
 {
-    digit(byte) || byte == b'.' || number_factor(byte).is_some()
+    is_digit(byte) || byte == b'.' || number_factor(byte).is_some()
 }
 
 fn millionths(text: &[u8]) -> Option<u128>
@@ -149,7 +144,7 @@ pub(crate) fn first_figure(
 ) -> Result<Option<Figures>, OutOfMemory>
     ensures { IfOk result (λ made. made ≡ figures.first_figure most byte) }
 {
-    if digit(byte) {
+    if is_digit(byte) {
         let number = first_digit(alloc, most, byte)?;
         Ok(integral(number))
     } else {
@@ -161,7 +156,7 @@ pub(crate) fn first_figure(
 fn behind_integral(most: u128, whole: WholeNumber, byte: u8) -> Result<Option<Figures>, OutOfMemory>
     ensures { IfOk result (λ made. made ≡ figures.figure most (Integral whole) byte) }
 {
-    if digit(byte) {
+    if is_digit(byte) {
         let number = whole.more(most, byte)?;
         Ok(integral(number))
     } else if byte == b'.' {
@@ -180,7 +175,7 @@ fn behind_integral(most: u128, whole: WholeNumber, byte: u8) -> Result<Option<Fi
 fn behind_fraction(most: u128, text: Bytes, byte: u8) -> Result<Option<Figures>, OutOfMemory>
     ensures { IfOk result (λ made. made ≡ figures.figure most (Fraction text) byte) }
 {
-    if digit(byte) {
+    if is_digit(byte) {
         Ok(fraction(most, longer(text, byte)?))
     } else {
         let number = millionths(text.as_slice());
@@ -189,9 +184,9 @@ fn behind_fraction(most: u128, text: Bytes, byte: u8) -> Result<Option<Figures>,
 }
 
 fn behind_point(most: u128, text: Bytes, byte: u8) -> Result<Option<Figures>, OutOfMemory>
-    ensures { IfOk result (λ made. made ≡ (if bytes.is_digit byte then figures.held_to most (text ++ byte ∷ []) (Fraction (text ++ byte ∷ [])) else None)) }
+    ensures { IfOk result (λ made. made ≡ (if is_digit byte then figures.held_to most (text ++ byte ∷ []) (Fraction (text ++ byte ∷ [])) else None)) }
 {
-    if digit(byte) {
+    if is_digit(byte) {
         let text = longer(text, byte)?;
         Ok(fraction(most, text))
     } else {

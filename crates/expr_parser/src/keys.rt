@@ -1,6 +1,6 @@
 //! Bytes of a key one behind another, which are taken at once.
 
-ghost use Rattle.std.specs.Prelude.{◌≡◌, ◌≤◌, ℕ, List, length, IfOk, IfSome};
+ghost use Rattle.std.specs.Prelude.{◌≤◌, ℕ, List, length, IfOk, IfSome};
 ghost use Rattle.expr_parser.specs.Machine as machine;
 ghost use Rattle.expr_parser.specs.Staying.{KeyGoes, KeyLeads, Leads};
 ghost use Rattle.expr_parser.specs.View.{state};

@@ -1,17 +1,9 @@
 //! Expressions byte by byte.
 
-ghost use Rattle.std.specs.Prelude.{◌≡◌, ◌≤◌, ◌<◌, ◌++◌, ◌∷◌, [], IfOk, reverse, nat_le, nat_lt, Some, None, true, false, option_map, length, if◌then◌else◌, pos, is_some};
-ghost use Rattle.std.specs.Str.{is_utf8};
-ghost use Rattle.expr_parser.specs.Bytes as bytes;
-ghost use Rattle.expr_parser.specs.Calls as calls;
-ghost use Rattle.expr_parser.specs.Parts as parts;
-ghost use Rattle.expr_parser.specs.Figures as figures;
+ghost use Rattle.std.specs.Prelude.{◌≡◌, IfOk, reverse, Some, false, option_map};
 ghost use Rattle.expr_parser.specs.Machine as machine;
 ghost use Rattle.expr_parser.specs.Staying.{reach};
-ghost use Rattle.expr_parser.specs.View.{state, slot_list, whole_of};
-ghost use Rattle.expr_parser.specs.declared.parts.Value.TheVariants.{Said};
-ghost use Rattle.expr_parser.specs.declared.pending.Pending.TheVariants.{Waits};
-ghost use Rattle.zbx_types.specs.Tree as trees;
+ghost use Rattle.expr_parser.specs.View.{state, whole_of};
 ghost use Rattle.zbx_types.specs.Trees.{tree_of};
 
 use crate::call_bytes::{ArgumentPlace, argument, close, host, key_byte, slash};

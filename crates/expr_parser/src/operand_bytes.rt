@@ -1,16 +1,10 @@
 //! The bytes of operands: words, numbers, signs and parentheses.
 
-ghost use Rattle.std.specs.Prelude.{◌≡◌, ◌≤◌, ◌<◌, ◌++◌, ◌∷◌, [], IfOk, OnOk, reverse, nat_le, nat_lt, Some, None, true, false, option_map, length, if◌then◌else◌, pos, is_some};
-ghost use Rattle.std.specs.Str.{is_utf8};
-ghost use Rattle.expr_parser.specs.Bytes as bytes;
+ghost use Rattle.std.specs.Prelude.{◌≡◌, IfOk, reverse, nat_le, Some, None, option_map, if◌then◌else◌, pos};
 ghost use Rattle.expr_parser.specs.Calls as calls;
-ghost use Rattle.expr_parser.specs.Parts as parts;
-ghost use Rattle.expr_parser.specs.Figures as figures;
 ghost use Rattle.expr_parser.specs.Machine as machine;
 ghost use Rattle.expr_parser.specs.Staying.{reach};
-ghost use Rattle.expr_parser.specs.View.{state, slot_list, whole_of};
-ghost use Rattle.expr_parser.specs.declared.parts.Value.TheVariants.{Said};
-ghost use Rattle.expr_parser.specs.declared.pending.Pending.TheVariants.{Waits};
+ghost use Rattle.expr_parser.specs.View.{state};
 ghost use Rattle.zbx_types.specs.Tree as trees;
 ghost use Rattle.zbx_types.specs.Trees.{tree_of};
 

@@ -1,13 +1,10 @@
 //! Arguments byte by byte.
 
-ghost use Rattle.std.specs.Prelude.{◌≡◌, ◌≤◌, ◌++◌, ◌∷◌, [], ◌*◌, ◌+◌, ◌-◌, true, IfOk, nat_le, if◌then◌else◌, Some, None, option_map, MatchResult};
-ghost use Rattle.expr_parser.specs.Bytes as bytes;
-ghost use Rattle.expr_parser.specs.Numbers as numbers;
+ghost use Rattle.std.specs.Prelude.{◌≡◌, IfOk, Some, None, MatchResult};
 ghost use Rattle.expr_parser.specs.Functions as functions;
 ghost use Rattle.expr_parser.specs.Calls as calls;
 ghost use Rattle.expr_parser.specs.Parts as parts;
 ghost use Rattle.expr_parser.specs.Figures as figures;
-ghost use Rattle.expr_parser.specs.declared.parts.Part.TheVariants.{Seconds, Shift, Latest};
 
 use crate::figures::{Figures, figure, first_figure, longer, text_of, value};
 use crate::range_bytes::{

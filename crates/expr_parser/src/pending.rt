@@ -1,6 +1,6 @@
 //! What waits for its operand.
 
-ghost use Rattle.std.specs.Prelude.{◌≡◌, ◌≤◌, ◌<◌, ◌++◌, ◌∷◌, [], IfOk, reverse, nat_le, Some, None, option_map};
+ghost use Rattle.std.specs.Prelude.{◌≡◌, IfOk, reverse};
 ghost use Rattle.expr_parser.specs.Grammar as grammar;
 ghost use Rattle.expr_parser.specs.Machine as machine;
 ghost use Rattle.zbx_types.specs.Trees.{tree_of};

@@ -1,21 +1,22 @@
 //! The bytes of ranges and shifts.
 
-ghost use Rattle.std.specs.Prelude.{◌≡◌, ◌≤◌, ◌++◌, ◌∷◌, [], ◌*◌, ◌+◌, ◌-◌, true, IfOk, nat_le, if◌then◌else◌, Some, None, option_map, is_some};
-ghost use Rattle.expr_parser.specs.Bytes as bytes;
-ghost use Rattle.expr_parser.specs.Numbers as numbers;
+ghost use Rattle.std.specs.Prelude.{◌≡◌, true, option_map};
+ghost use Rattle.byte_grammar.specs.Bytes.{is_digit};
 ghost use Rattle.expr_parser.specs.Functions as functions;
-ghost use Rattle.expr_parser.specs.Calls as calls;
 ghost use Rattle.expr_parser.specs.Parts as parts;
-ghost use Rattle.expr_parser.specs.Figures as figures;
 ghost use Rattle.expr_parser.specs.declared.parts.Part.TheVariants.{Seconds, Shift, Latest};
 
-use crate::figures::{digit, period_factor};
+use crate::figures::period_factor;
 use crate::parts::{Ahead, Part};
 use crate::slots::{Slot, least_period, takes_count};
+use byte_grammar::is_digit;
 use zbx_types::{LONGEST_RANGE, Range};
 
+/// The most values of a range.
+const MOST_VALUES: u32 = 10_000;
+
 pub(crate) fn grown(most: u32, number: u32, byte: u8) -> Option<u32>
-    requires { bytes.is_digit byte ≡ true }
+    requires { is_digit byte ≡ true }
     ensures { result ≡ parts.grown most number byte }
 {
     let wide = number as u64 * 10 + (byte - b'0') as u64;
@@ -63,7 +64,7 @@ pub(crate) fn second(slot: Slot, number: u32, byte: u8) -> Option<Part>
     match least_period(slot) {
         None => None,
         Some(least) => {
-            if digit(byte) {
+            if is_digit(byte) {
                 in_seconds(grown(LONGEST_RANGE, number, byte))
             } else if byte == b':' {
                 if least <= number {
@@ -87,7 +88,7 @@ pub(crate) fn first_second(slot: Slot, byte: u8) -> Option<Part>
     match least_period(slot) {
         None => None,
         Some(_) => {
-            if digit(byte) {
+            if is_digit(byte) {
                 in_seconds(grown(LONGEST_RANGE, 0, byte))
             } else {
                 None
@@ -138,7 +139,7 @@ pub(crate) fn back(ahead: Ahead, range: Range, byte: u8) -> Option<Part>
         Ahead::W => awaited(b'w', Ahead::Dash, range, byte),
         Ahead::Dash => awaited(b'-', Ahead::Digits, range, byte),
         Ahead::Digits => {
-            if digit(byte) {
+            if is_digit(byte) {
                 in_shift(range, grown(LONGEST_RANGE, 0, byte))
             } else {
                 None
@@ -150,7 +151,7 @@ pub(crate) fn back(ahead: Ahead, range: Range, byte: u8) -> Option<Part>
 pub(crate) fn shift_byte(range: Range, number: u32, byte: u8) -> Option<Part>
     ensures { result ≡ parts.shift_byte range number byte }
 {
-    if digit(byte) {
+    if is_digit(byte) {
         in_shift(range, grown(LONGEST_RANGE, number, byte))
     } else {
         match lasting(0, number, period_factor(byte)) {
@@ -182,8 +183,8 @@ pub(crate) fn latest_range(number: u32) -> Option<Range>
 pub(crate) fn latest_byte(slot: Slot, number: u32, byte: u8) -> Option<Part>
     ensures { result ≡ parts.latest_byte slot number byte }
 {
-    if digit(byte) {
-        in_latest(grown(10000, number, byte))
+    if is_digit(byte) {
+        in_latest(grown(MOST_VALUES, number, byte))
     } else {
         match latest_range(number) {
             Some(range) => colon(slot, range, byte),
@@ -195,8 +196,8 @@ pub(crate) fn latest_byte(slot: Slot, number: u32, byte: u8) -> Option<Part>
 pub(crate) fn hash_byte(byte: u8) -> Option<Part>
     ensures { result ≡ parts.hash_byte byte }
 {
-    if digit(byte) {
-        in_latest(grown(10000, 0, byte))
+    if is_digit(byte) {
+        in_latest(grown(MOST_VALUES, 0, byte))
     } else {
         None
     }

@@ -1,7 +1,8 @@
 //! Reading of expressions.
 
-ghost use Rattle.std.specs.Prelude.{◌≡◌, ◌≤◌, ◌<◌, ℕ, List, [], length, get_or, true, false, IfOk, IfErr, Some, None};
+ghost use Rattle.std.specs.Prelude.{◌≡◌, ◌≤◌, ◌<◌, ℕ, List, length, get_or, true, false, IfOk, IfErr, Some, None};
 ghost use Rattle.std.specs.List.{All};
+ghost use Rattle.zbx_types.specs.Limits.{longest_expression};
 ghost use Rattle.zbx_types.specs.Tree.{Tree};
 ghost use Rattle.zbx_types.specs.Trees.{CallsBelow, tree_of};
 ghost use Rattle.zbx_types.specs.declared.calls.Call.{Call};
@@ -189,12 +190,12 @@ fn answer(alloc: Global, s: Box<State>, count: u32) -> Result<Parsed, ParseError
 /// that passes a limit (the length of the text, where that comes first), and with 0 where it is one that looks at no
 /// item. [`ParseError::OutOfMemory`] comes for want of memory alone.
 pub fn read(alloc: Global, text: &[u8]) -> Result<Parsed, ParseError>
-    ensures found { IfOk result (λ p. IsExpr text.now (tree_of p.expr) p.calls × (length text.now ≤ 4096) × (looks_at_item p.calls ≡ true)) }
+    ensures found { IfOk result (λ p. IsExpr text.now (tree_of p.expr) p.calls × (length text.now ≤ longest_expression) × (looks_at_item p.calls ≡ true)) }
     ensures below { IfOk result (λ p. CallsBelow (length p.calls) (tree_of p.expr)) }
     ensures bounded { IfOk result (λ p. All IsBoundedCall p.calls) }
-    ensures none { IfErr result (λ x. (at : ℕ) → x ≡ At at → (e : Tree) (ks : List Call) → IsExpr text.now e ks → length text.now ≤ 4096 → looks_at_item ks ≡ false) }
-    ensures dates { IfErr result (λ x. (at : ℕ) → x ≡ At at → (e : Tree) (ks : List Call) → IsExpr text.now e ks → length text.now ≤ 4096 → at ≡ 0) }
-    ensures place { IfErr result (λ x. (at : ℕ) → x ≡ At at → ((e : Tree) (ks : List Call) → IsExpr text.now e ks → length text.now ≤ 4096 → ⊥) → IsFault IsText 4096 text.now at) }
+    ensures none { IfErr result (λ x. (at : ℕ) → x ≡ At at → (e : Tree) (ks : List Call) → IsExpr text.now e ks → length text.now ≤ longest_expression → looks_at_item ks ≡ false) }
+    ensures dates { IfErr result (λ x. (at : ℕ) → x ≡ At at → (e : Tree) (ks : List Call) → IsExpr text.now e ks → length text.now ≤ longest_expression → at ≡ 0) }
+    ensures place { IfErr result (λ x. (at : ℕ) → x ≡ At at → ((e : Tree) (ks : List Call) → IsExpr text.now e ks → length text.now ≤ longest_expression → ⊥) → IsFault IsText longest_expression text.now at) }
 {
     let mut state = match begun(alloc, text) {
         Ok(begun) => begun,

@@ -1,10 +1,9 @@
 //! Functions by name, and the arguments that they take.
 
-ghost use Rattle.std.specs.Prelude.{◌≡◌, ◌≤◌, None, Some};
+ghost use Rattle.std.specs.Prelude.{◌≡◌};
 ghost use Rattle.expr_parser.specs.Functions as functions;
 ghost use Rattle.expr_parser.specs.Calls as calls;
 ghost use Rattle.expr_parser.specs.Parts as parts;
-ghost use Rattle.expr_parser.specs.Machine as machine;
 ghost use Rattle.expr_parser.specs.View.{slot_list};
 ghost use Rattle.expr_parser.specs.declared.slots.Words.TheVariants.{Operators};
 

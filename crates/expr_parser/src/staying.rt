@@ -5,7 +5,7 @@ ghost use Rattle.expr_parser.specs.Machine as machine;
 ghost use Rattle.expr_parser.specs.Parts as parts;
 ghost use Rattle.expr_parser.specs.Staying.{reach};
 ghost use Rattle.expr_parser.specs.View as view;
-ghost use Rattle.expr_parser.specs.View.{slot_list, state};
+ghost use Rattle.expr_parser.specs.View.{state};
 ghost use Rattle.expr_parser.specs.declared.parts.Part.{Part};
 ghost use Rattle.expr_parser.specs.declared.pending.Pending.{Pending};
 ghost use Rattle.expr_parser.specs.declared.slots.Slot.{Slot};
@@ -14,7 +14,7 @@ ghost use Rattle.zbx_types.specs.declared.calls.Call.{Call};
 ghost use Rattle.zbx_types.specs.declared.calls.Fun.{Fun};
 ghost use Rattle.zbx_types.specs.declared.expr.Op.{Op};
 
-use crate::call_bytes::{delimiter, host_byte};
+use crate::call_bytes::delimiter;
 use crate::figures::{Figures, figure, is_figure};
 use crate::names::begun;
 use crate::parts::Part;
@@ -27,7 +27,7 @@ use byte_grammar::Character;
 use item_key::{Place, may_end, next};
 use std::alloc::Global;
 use std::mem::replace;
-use zbx_types::{Bytes, LONGEST_KEY, LONGEST_NAME, OutOfMemory};
+use zbx_types::{Bytes, LONGEST_KEY, LONGEST_NAME, OutOfMemory, is_host_name_byte};
 
 /// Whether an expression goes on with a byte, or none where the byte wasn't taken.
 type Stay = Result<Option<bool>, OutOfMemory>;
@@ -49,7 +49,7 @@ fn host_on(alloc: Global, text: &mut Bytes, byte: u8) -> Stay
     ensures goes { IfOk result (λ is. (on : Bool) → is ≡ Some on → (f : Fun) (o : ℕ) (k : List Pending) (cs : List Call) → reach on (machine.state (machine.Host f text.new) byte o k cs) ≡ machine.host f text.old o k cs byte) }
     ensures stays { IfOk result (λ is. is ≡ None → text.new ≡ text.old) }
 {
-    if !host_byte(byte) {
+    if !is_host_name_byte(byte) {
         return Ok(None);
     }
     if text.len() >= LONGEST_NAME {

@@ -1,7 +1,7 @@
 //! Whole numbers that are still written, with their millionths: a digit more is one step.
 
-ghost use Rattle.std.specs.Prelude.{◌≡◌, ◌≤◌, ◌++◌, ◌∷◌, [], ◌*◌, ◌+◌, ◌-◌, ◌^◌, true, IfOk, if◌then◌else◌, Some, None};
-ghost use Rattle.expr_parser.specs.Bytes.{is_digit};
+ghost use Rattle.std.specs.Prelude.{◌≡◌, ◌≤◌, ◌++◌, ◌∷◌, [], ◌^◌, true, IfOk, if◌then◌else◌, Some, None};
+ghost use Rattle.byte_grammar.specs.Bytes.{is_digit};
 ghost use Rattle.expr_parser.specs.Numbers.{IsWritten, is_at_most, millionths};
 
 use crate::figures::longer;

@@ -1,5 +1,6 @@
 use Rattle.std.proofs.Common.{arith, rules, sym, ◌≡◌, ◌≤◌, length, ℕ, subst, None}
 use Rattle.zbx_types.specs.Trees.{tree_of}
+use Rattle.zbx_types.specs.Limits.{longest_expression}
 use Rattle.expr_parser.specs.Grammar.{IsText}
 use Rattle.expr_parser.specs.Fault.{IsFault}
 use Rattle.expr_parser.specs.Machine.{ends}
@@ -15,7 +16,7 @@ loop-count-init c = record { within = omega arith; fits = omega arith; reached =
 pub returns-then-count-eq-LONGEST-clause-place : goal.returns-then-count-eq-LONGEST-clause-place
 returns-then-count-eq-LONGEST-clause-place c = λ at e n.
     let f : c.loop-count.count ≡ at = cc in
-    subst (λ (i : ℕ). IsFault IsText 4096 c.args.text.now i) f
+    subst (λ (i : ℕ). IsFault IsText longest_expression c.args.text.now i) f
     (fault_limit c.args.text.now c.loop-count.count (state c.loop-count.state.value) (omega arith) (omega arith) c.loop-count.invariant.reached)
 
 pub returns-in-Ok-None-clause-none : goal.returns-in-Ok-None-clause-none
@@ -32,7 +33,7 @@ pub returns-in-Ok-None-clause-place : goal.returns-in-Ok-None-clause-place
 returns-in-Ok-None-clause-place c = λ at e n.
     let stops = c.in-Ok-None.ensures.stops c.in-Ok-None.field-0-is in
     let f : c.loop-count.count ≡ at = cc in
-    subst (λ (i : ℕ). IsFault IsText 4096 c.args.text.now i) f
+    subst (λ (i : ℕ). IsFault IsText longest_expression c.args.text.now i) f
     (fault_stop c.args.text.now c.loop-count.count (state c.loop-count.state.value) (omega arith) (omega arith) c.loop-count.invariant.reached (rw (left c.args.text.now c.loop-count.count, first_left c.args.text.now c.loop-count.count) at stops))
 
 pub loop-count-preserved : goal.loop-count-preserved
@@ -47,7 +48,7 @@ loop-count-preserved c =
 pub returns-clause-found : goal.returns-clause-found
 returns-clause-found c =
     let i : c.loop-count.count ≡ length c.args.text.now = omega arith in
-    let l : length c.args.text.now ≤ 4096 = omega arith in
+    let l : length c.args.text.now ≤ longest_expression = omega arith in
     ok_map c.answer.result (λ p h. (found_end c.args.text.now c.loop-count.count (state c.loop-count.state.value) (tree_of p.expr) p.calls i c.loop-count.invariant.reached h.0, l, h.1)) c.answer.ensures.found
 
 pub returns-clause-below : goal.returns-clause-below
@@ -73,8 +74,8 @@ returns-clause-dates c =
 pub returns-clause-place : goal.returns-clause-place
 returns-clause-place c =
     let i : c.loop-count.count ≡ length c.args.text.now = omega arith in
-    let m : c.loop-count.count ≤ 4096 = omega arith in
+    let m : c.loop-count.count ≤ longest_expression = omega arith in
     err_map c.answer.result (λ x h at e n.
     let z : ends (state c.loop-count.state.value) ≡ None = ends_none c.args.text.now c.loop-count.count (state c.loop-count.state.value) i m c.loop-count.invariant.reached n in
-    subst (λ (j : ℕ). IsFault IsText 4096 c.args.text.now j) (sym (h at e z))
+    subst (λ (j : ℕ). IsFault IsText longest_expression c.args.text.now j) (sym (h at e z))
     (fault_end c.args.text.now c.loop-count.count (state c.loop-count.state.value) i m c.loop-count.invariant.reached)) c.answer.ensures.none
