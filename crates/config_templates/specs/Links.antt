@@ -28,10 +28,11 @@ pub record Link : Type 0 where
   pub from : ℕ
   pub to : List ℕ
 
--- the templates and the hosts of the document
+-- the templates of the document
 abbrev pub placed_templates : RawConf → List (Placed RawHost)
 placed_templates raw = placed (codes "/templates") raw.templates
 
+-- the hosts of the document
 abbrev pub placed_hosts : RawConf → List (Placed RawHost)
 placed_hosts raw = placed (codes "/hosts") raw.hosts
 

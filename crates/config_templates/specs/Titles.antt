@@ -32,5 +32,6 @@ title_of macros raw = shown longest_title macros raw.name
 abbrev pub tag_of : List Macro → Tag → Tag
 tag_of macros tag = record { tag = filled macros tag.tag; value = shown longest_tag_value macros tag.value }
 
+-- the tags of a trigger of a host with these macros
 abbrev pub tags_of : List Macro → RawTrigger → List Tag
 tags_of macros raw = map (tag_of macros) raw.tags

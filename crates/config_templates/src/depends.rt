@@ -2,8 +2,9 @@
 
 ghost use Rattle.std.specs.Prelude.{◌≡◌, ℕ, List, get_or, ◌+◌, ◌++◌, ◌∷◌, [], ◌<◌, length, map, Some, None, slice_get, All, IfOk, IfErr, OnOk, codes};
 ghost use Rattle.config_templates.specs.Answers.{Gives, GivesAs, Tells};
-ghost use Rattle.config_templates.specs.Depends.{host_depended, trigger_placed, depend_of, depends_of, depending_of, dependings_from, dependings_of, links_of, depend_path, cyclic, linked, linked_from, all_linked, depending, written_triggers};
-ghost use Rattle.config_templates.specs.Dependings.{depending_now, dependings_now, placed_depend, IsKnown};
+ghost use Rattle.config_templates.specs.Depends.{host_depended, trigger_placed, depend_of, depends_of, depending_of, dependings_from, dependings_of};
+ghost use Rattle.config_templates.specs.Depends.{links_of, depend_path, cyclic, linked, linked_from, all_linked, depending, written_triggers};
+ghost use Rattle.config_templates.specs.Dependings.{dependings_now, placed_depend, IsKnown};
 ghost use Rattle.config_templates.specs.Elements.{element_path, IsRefusal, placed_trigger, placed_host, own_triggers};
 ghost use Rattle.config_templates.specs.Inherited.{Inherits};
 ghost use Rattle.config_templates.specs.Links.{placed_hosts, sources_of};

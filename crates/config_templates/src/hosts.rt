@@ -1,6 +1,6 @@
 //! The hosts that maintenances and actions name.
 
-ghost use Rattle.std.specs.Prelude.{◌≡◌, ◌++◌, None, Some, is_some, position, IfOk, IfErr, OnOk, codes};
+ghost use Rattle.std.specs.Prelude.{◌≡◌, ◌++◌, None, is_some, position, IfOk, IfErr, OnOk, codes};
 ghost use Rattle.std.specs.Fmt.{decimal};
 ghost use Rattle.std.specs.Str.{bytes_eq};
 ghost use Rattle.config_templates.specs.Answers.{Tells};

@@ -1,6 +1,6 @@
 //! Where preprocessing steps stand in the document, and refusals of them.
 
-ghost use Rattle.std.specs.Prelude.{◌≡◌, ◌++◌, IfOk, codes};
+ghost use Rattle.std.specs.Prelude.{◌≡◌, ◌++◌, IfOk};
 ghost use Rattle.config_templates.specs.Elements.{IsRefusal};
 ghost use Rattle.config_templates.specs.PlacedSteps.{step_path, param_path};
 
