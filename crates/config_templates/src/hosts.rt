@@ -11,8 +11,8 @@ ghost use Rattle.config_templates.specs.Places.{first_fault};
 
 use crate::fault::FlatError;
 use crate::firsts::FirstPlaces;
-use crate::pointers::element;
 use config_read::RawConf;
+use json_form::element;
 use std::alloc::Global;
 use std::convert::AsStr;
 use zbx_types::{Action, ActionCond, Cause, Maintenance, OutOfMemory, Text};

@@ -12,10 +12,10 @@ ghost use Rattle.zbx_types.specs.Operators.{call_pattern};
 
 use crate::fault::FlatError;
 use crate::patterns::{Joining, PatternList};
-use crate::pointers::element;
 use crate::refusals::member_pointer;
 use crate::templates::sources::Source;
 use event_text::patterns_in;
+use json_form::element;
 use std::alloc::Global;
 use std::convert::AsStr;
 use zbx_types::{Call, Cause, Many, OutOfMemory, Tag, Text};
