@@ -1,9 +1,8 @@
 //! The lengths of chains of links.
 
 ghost use Rattle.std.specs.Prelude.{◌≡◌, ◌≤◌, ◌<◌, ℕ, [], length, map, get_or, All, IfOk, IsTrue};
-ghost use Rattle.dependency_graph.specs.Depths.{depths_of, longest};
+ghost use Rattle.dependency_graph.specs.Depths.{depths_of};
 ghost use Rattle.dependency_graph.specs.Tables.{next_depth, AreDepths};
-ghost use Rattle.zbx_types.specs.Ids.{ids_from};
 
 use crate::visits::visit_all;
 use std::alloc::Global;

@@ -1,6 +1,6 @@
 //! Links that lie on a cycle.
 
-ghost use Rattle.std.specs.Prelude.{◌≡◌, ◌≤◌, ◌<◌, [], length, get_or, nat_eq, All, IfOk, IsTrue, IsSome};
+ghost use Rattle.std.specs.Prelude.{◌≡◌, ◌≤◌, ◌<◌, length, get_or, nat_eq, All, IfOk, IsTrue};
 ghost use Rattle.std.specs.List.{list_any};
 ghost use Rattle.dependency_graph.specs.Cycles.{lies_on_cycle, own_on_cycle, first_on_cycle};
 ghost use Rattle.dependency_graph.specs.Tables.{IsClosed, NeverFall};
