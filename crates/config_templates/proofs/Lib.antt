@@ -19,12 +19,10 @@ pub mod LaidOut
 pub mod TextsRead
 pub mod AllLinks
 pub mod FirstFaults
-pub mod Levels
 pub mod LinkFaults
 pub mod LinkLemmas
 pub mod LongKeys
 pub mod Naming
-pub mod Once
 pub mod PlacedElements
 pub mod Ranked
 pub mod Sourced

@@ -6,10 +6,10 @@ use Rattle.std.specs.Option.{option_to_list}
 use Rattle.std.specs.Str.{bytes_eq}
 use Rattle.std.proofs.lemmas.List.Elements.{All-nil, All-cons, All-append, All-map, All-same}
 use Rattle.std.proofs.lemmas.List.Quantifiers.{position-Some}
+use Rattle.dependency_graph.specs.Walks.{walk}
+use Rattle.dependency_graph.proofs.Levels.{walked-still}
 use Rattle.config_read.specs.declared.raw.RawHost.{RawHost}
-use Rattle.config_templates.specs.Walks.{walk}
 use Rattle.config_templates.specs.Links.{template_named, templates_named, links_of}
-use Rattle.config_templates.proofs.Levels.{walked-still}
 
 position-within : {A : Type 0} (p : A → Bool) (xs : List A) (t : ℕ) → position p xs ≡ Some t → t < length xs
 position-within p [] t e = absurd (let no : ⊥ = cc in no)

@@ -2,6 +2,7 @@
 use Rattle.std.proofs.Common.{◌≡◌, ℕ, zero, suc, ◌<◌, ◌≤◌, Bool, true, false, List, [], ◌∷◌, ◌++◌, length, take, refl, sym, ◌∙◌, ap, arith, length-append, inl, inr, subst, Option, Some, None, Result, Ok}
 use Rattle.std.specs.Prelude.{nat_le, min, is_some, if◌then◌else◌, codes}
 use Rattle.std.proofs.lemmas.List.{length-take-le, take-take}
+use Rattle.zbx_types.specs.Limits.{longest_expression}
 use Rattle.zbx_types.specs.Tree.{Tree}
 use Rattle.zbx_types.specs.declared.calls.Call.{Call}
 use Rattle.zbx_types.specs.declared.causes.Cause.TheVariants.{BadExpression}
@@ -14,7 +15,7 @@ use Rattle.expr_parser.proofs.Lists.{way, le_test, le_true, none_some}
 use Rattle.expr_parser.proofs.Places.{viable, not_viable}
 use Rattle.config_templates.specs.Items.{longest_up_to}
 use Rattle.config_templates.specs.Places.{Flaw, refuse}
-use Rattle.config_templates.specs.Reading.{longest_expression, begins_expression, expression_of, expression_end, looking, expression_at}
+use Rattle.config_templates.specs.Reading.{begins_expression, expression_of, expression_end, looking, expression_at}
 use Rattle.config_templates.proofs.KeyFronts.{longest_is}
 
 -- no text is an expression within the limit

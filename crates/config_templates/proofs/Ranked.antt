@@ -9,12 +9,12 @@ use Rattle.std.proofs.lemmas.List.{take_at, drop_at, get_or_past, get_or-map}
 use Rattle.std.proofs.lemmas.List.Elements.{All-nil, All-append, All-head, All-tail, All-take, All-drop, All-same, All-weaker}
 use Rattle.std.proofs.lemmas.List.Folds.{list_any_none}
 use Rattle.zbx_types.specs.declared.causes.Cause.TheVariants.{Cycle}
+use Rattle.dependency_graph.specs.Walks.{once, linked_by, walk, walked}
+use Rattle.dependency_graph.proofs.Once.{All-once_behind}
 use Rattle.config_read.specs.declared.raw.RawHost.{RawHost}
 use Rattle.config_templates.specs.Places.{Placed, placed_from, placed, fault_or, first_fault}
-use Rattle.config_templates.specs.Walks.{once, linked_by, walk, walked}
 use Rattle.config_templates.specs.Links.{template_named, templates_named, links_of, placed_links, cycle_link}
 use Rattle.config_templates.specs.Tables.{Falls}
-use Rattle.config_templates.proofs.Once.{All-once_behind}
 use Rattle.config_templates.proofs.LinkFaults.{link_of, links_from}
 use Rattle.config_templates.proofs.LinkLemmas.{links_of-length}
 use Rattle.config_templates.proofs.FirstFaults.{first_fault-append}

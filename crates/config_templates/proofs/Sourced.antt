@@ -5,10 +5,10 @@ use Rattle.std.specs.Option.{option_to_list}
 use Rattle.std.specs.List.{flat_map}
 use Rattle.std.proofs.lemmas.Grind.{flat_map-append}
 use Rattle.std.proofs.lemmas.List.{take_more, take_all, map_push}
+use Rattle.dependency_graph.specs.Walks.{walk}
 use Rattle.config_read.specs.declared.raw.RawHost.{RawHost}
 use Rattle.config_read.specs.declared.raw.RawConf.{RawConf}
 use Rattle.config_templates.specs.Places.{Placed}
-use Rattle.config_templates.specs.Walks.{walk}
 use Rattle.config_templates.specs.Links.{placed_templates, links_of, templates_named, sources_of}
 use Rattle.config_templates.specs.Sources.{placed_of}
 use Rattle.config_templates.specs.declared.templates.sources.Source.{Source}

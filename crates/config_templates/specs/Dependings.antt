@@ -15,6 +15,7 @@ use Rattle.config_templates.specs.declared.depends.Dependencies.{Dependencies as
 abbrev pub depending_now : Held → Depending
 depending_now d = record { path = element_path d.source (codes "/triggers") d.index; ends = d.ends }
 
+-- the same of several triggers
 abbrev pub dependings_now : List Held → List Depending
 dependings_now ds = map depending_now ds
 

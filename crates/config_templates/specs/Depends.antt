@@ -1,5 +1,6 @@
 -- The triggers that triggers depend on (the Zabbix 6.0 manual, "Trigger dependencies").
-use Rattle.std.specs.Prelude.{ℕ, ◌+◌, ◌==◌, ◌&&◌, if◌then◌else◌, List, [], ◌∷◌, ◌++◌, length, map, flat_map, get_or, position, slice_get, Option, Some, None, option_map, option_and_then, Result, Ok, codes}
+use Rattle.std.specs.Prelude.{ℕ, ◌+◌, ◌==◌, ◌&&◌, if◌then◌else◌, List, [], ◌∷◌, ◌++◌}
+use Rattle.std.specs.Prelude.{length, map, flat_map, get_or, position, slice_get, Option, Some, None, option_map, option_and_then, Result, Ok, codes}
 use Rattle.std.specs.Fmt.{decimal}
 use Rattle.std.specs.Str.{bytes_eq}
 use Rattle.zbx_types.specs.declared.triggers.Trigger.{Trigger}

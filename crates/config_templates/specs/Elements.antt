@@ -15,13 +15,15 @@ use Rattle.config_templates.specs.Answers.{Tells}
 abbrev pub element_path : Source → List ℕ → ℕ → List ℕ
 element_path s list index = (placed_of s).path ++ list ++ codes "/" ++ decimal index
 
--- an item, a trigger and a host at their places
+-- an item of a source at its place
 abbrev pub placed_item : Source → ℕ → RawItem → Placed RawItem
 placed_item s index raw = record { place = index; path = element_path s (codes "/items") index; body = raw }
 
+-- a trigger of a source at its place
 abbrev pub placed_trigger : Source → ℕ → RawTrigger → Placed RawTrigger
 placed_trigger s index raw = record { place = index; path = element_path s (codes "/triggers") index; body = raw }
 
+-- a host of the document at its place
 abbrev pub placed_host : ℕ → RawHost → Placed RawHost
 placed_host place raw = record { place = place; path = codes "/hosts" ++ codes "/" ++ decimal place; body = raw }
 
@@ -29,9 +31,10 @@ placed_host place raw = record { place = place; path = codes "/hosts" ++ codes "
 abbrev pub IsRefusal : List ℕ → Cause → FlatError → Type 0
 IsRefusal path cause e = Tells e (Some (record { path = path; cause = cause }))
 
--- the items and the triggers of a source
+-- the items of a source
 abbrev pub own_items : Source → List (Placed RawItem)
 own_items s = placed ((placed_of s).path ++ codes "/items") s.body.now.items
 
+-- the triggers of a source
 abbrev pub own_triggers : Source → List (Placed RawTrigger)
 own_triggers s = placed ((placed_of s).path ++ codes "/triggers") s.body.now.triggers

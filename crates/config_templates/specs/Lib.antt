@@ -1,5 +1,4 @@
 pub mod Places
-pub mod Walks
 pub mod Links
 pub mod Macros
 pub mod Items

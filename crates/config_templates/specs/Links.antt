@@ -5,11 +5,11 @@ use Rattle.std.specs.List.{list_any}
 use Rattle.std.specs.Str.{bytes_eq}
 use Rattle.zbx_types.specs.declared.causes.Cause.{Cause}
 use Rattle.zbx_types.specs.declared.causes.Cause.TheVariants.{UnknownName, Cycle}
+use Rattle.dependency_graph.specs.Walks.{walk}
 use Rattle.json_form.specs.Faults.{Fault}
 use Rattle.config_read.specs.declared.raw.RawHost.{RawHost}
 use Rattle.config_read.specs.declared.raw.RawConf.{RawConf}
 use Rattle.config_templates.specs.Places.{Placed, placed, first_fault}
-use Rattle.config_templates.specs.Walks.{walk}
 
 -- the place of the template with a name
 abbrev pub template_named : List RawHost → List ℕ → Option ℕ
@@ -28,10 +28,11 @@ pub record Link : Type 0 where
   pub from : ℕ
   pub to : List ℕ
 
--- the templates and the hosts of the document
+-- the templates of the document
 abbrev pub placed_templates : RawConf → List (Placed RawHost)
 placed_templates raw = placed (codes "/templates") raw.templates
 
+-- the hosts of the document
 abbrev pub placed_hosts : RawConf → List (Placed RawHost)
 placed_hosts raw = placed (codes "/hosts") raw.hosts
 

@@ -1,5 +1,6 @@
 -- Masters of dependent items (the Zabbix 6.0 manual, "Dependent items").
-use Rattle.std.specs.Prelude.{ℕ, zero, suc, ◌+◌, ◌-◌, ◌==◌, nat_le, Bool, not, ◌&&◌, List, [], ◌∷◌, ◌++◌, length, take, filter, map, position, find, Option, Some, None, option_map, option_and_then, if◌then◌else◌, Result, Ok, codes}
+use Rattle.std.specs.Prelude.{ℕ, zero, suc, ◌+◌, ◌-◌, ◌==◌, nat_le, Bool, not, ◌&&◌, List, [], ◌∷◌, ◌++◌}
+use Rattle.std.specs.Prelude.{length, take, filter, map, position, find, Option, Some, None, option_map, option_and_then, if◌then◌else◌, Result, Ok, codes}
 use Rattle.std.specs.Option.{option_map_or}
 use Rattle.zbx_types.specs.Ids.{at_id, ids_from}
 use Rattle.zbx_types.specs.Items.{is_trapper_kind}
@@ -15,10 +16,11 @@ use Rattle.config_templates.specs.Places.{Flaw, refuse, unless, each_list, ◌>>
 use Rattle.config_templates.specs.Names.{Named, is_named, named_items}
 use Rattle.config_templates.specs.OwnedItems.{OwnedItem, owned_items, adding, with_each}
 
--- the most dependent items of one master, and the most levels of them under a trapper item
+-- the most dependent items of one master
 abbrev pub most_dependents : ℕ
 most_dependents = 1000
 
+-- the most levels of dependent items under a trapper item
 abbrev pub most_levels : ℕ
 most_levels = 3
 

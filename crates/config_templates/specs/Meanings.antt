@@ -22,10 +22,11 @@ member_path m = element_path m.source.now (codes "/triggers") m.index ++ m.name.
 abbrev pub parsed_now : Parsed → Tree × List Call
 parsed_now p = (tree_of p.expr, p.calls)
 
--- a host and an item that an expression names
+-- a host that an expression names
 abbrev pub host_now : HostReferenced → NamedHost
 host_now h = record { id = h.id; name = h.name }
 
+-- an item that an expression names
 abbrev pub item_now : ItemFound → NamedItem
 item_now i = record { id = i.id; value_type = i.value_type }
 
@@ -33,12 +34,14 @@ item_now i = record { id = i.id; value_type = i.value_type }
 abbrev pub looked_now : LookedAt → Looked
 looked_now l = record { host = l.host; id = l.id; value_type = l.value_type }
 
+-- the same where a call may look at none
 abbrev pub looked_maybe : Option LookedAt → Option Looked
 looked_maybe l = option_map looked_now l
 
--- an expression by its items, and what the expressions of a trigger mean
+-- an expression by its items
 abbrev pub resolved_now : Resolution → Resolved
 resolved_now r = record { tree = tree_of r.expr; calls = r.calls; call_items = r.call_items }
 
+-- what the expressions of a trigger mean
 abbrev pub meant_now : Meaning → Meant
 meant_now m = record { expr = m.expr; recovery_expr = m.recovery_expr; calls = m.calls; recovery_calls = m.recovery_calls; call_items = m.call_items }

@@ -17,10 +17,11 @@ use Rattle.config_templates.specs.Places.{Placed, placed, first_fault}
 abbrev pub unknown_host : List RawHost → List ℕ → Option Cause
 unknown_host hosts name = if is_some (position (λ h. bytes_eq h.name name) hosts) then None else Some UnknownName
 
--- a maintenance and an action at their places
+-- a maintenance at its place
 abbrev pub maintenance_at : ℕ → Maintenance → Placed Maintenance
 maintenance_at place m = record { place = place; path = codes "/maintenances" ++ codes "/" ++ decimal place; body = m }
 
+-- an action at its place
 abbrev pub action_at : ℕ → Action → Placed Action
 action_at place a = record { place = place; path = codes "/actions" ++ codes "/" ++ decimal place; body = a }
 
@@ -28,7 +29,7 @@ action_at place a = record { place = place; path = codes "/actions" ++ codes "/"
 abbrev pub maintained : Placed Maintenance → List (Placed (List ℕ))
 maintained m = placed (m.path ++ codes "/hosts") m.body.hosts
 
--- the host that a condition of an action names
+-- the host that a condition names, where it is one on the host: by its place and its pointer
 abbrev pub host_of : ℕ → List ℕ → ActionCond → List (Placed (List ℕ))
 host_of at path (conditions.Host host) = record { place = at; path = path ++ codes "/host"; body = host } ∷ []
 host_of at path (conditions.Severity op value) = []
@@ -39,6 +40,7 @@ host_of at path (conditions.TagValue test) = []
 host_of at path conditions.Suppressed = []
 host_of at path conditions.NotSuppressed = []
 
+-- the host that a condition of an action names
 abbrev pub host_of_condition : Placed ActionCond → List (Placed (List ℕ))
 host_of_condition c = host_of c.place c.path c.body
 
@@ -46,10 +48,11 @@ host_of_condition c = host_of c.place c.path c.body
 abbrev pub acted : Placed Action → List (Placed (List ℕ))
 acted a = flat_map host_of_condition (placed (a.path ++ codes "/conditions") a.body.conditions)
 
--- those of all maintenances, and those of all actions
+-- the hosts that all maintenances name
 abbrev pub all_maintained : RawConf → List (Placed (List ℕ))
 all_maintained raw = flat_map maintained (placed (codes "/maintenances") raw.maintenances)
 
+-- the hosts that all actions name
 abbrev pub all_acted : RawConf → List (Placed (List ℕ))
 all_acted raw = flat_map acted (placed (codes "/actions") raw.actions)
 

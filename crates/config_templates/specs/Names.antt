@@ -10,6 +10,7 @@ pub record Named : Type 0 where
   pub host : ℕ
   pub name : List ℕ
 
+-- this name, with the id of its host
 abbrev pub named : ℕ → List ℕ → Named
 named host name = record { host = host; name = name }
 
@@ -25,15 +26,18 @@ has_named names host name = list_any (is_named host name) names
 abbrev pub is_keyed : ℕ → List ℕ → Item → Bool
 is_keyed host key i = (i.host == host) && bytes_eq i.key key
 
--- the names of items, and those of triggers as they are written
+-- the name of an item: its key
 abbrev pub named_item : Item → Named
 named_item i = named i.host i.key
 
+-- the names of items
 abbrev pub named_items : List Item → List Named
 named_items items = map named_item items
 
+-- the name of a trigger, as it is written
 abbrev pub named_trigger : Trigger → Named
 named_trigger t = named t.host t.name
 
+-- the names of triggers
 abbrev pub named_triggers : List Trigger → List Named
 named_triggers triggers = map named_trigger triggers

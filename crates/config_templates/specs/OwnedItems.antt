@@ -14,6 +14,7 @@ pub record OwnedItem : Type 0 where
   pub macros : List Macro
   pub item : Placed RawItem
 
+-- an item of the host with this id and these macros
 abbrev pub owned : ℕ → List Macro → Placed RawItem → OwnedItem
 owned host macros item = record { host = host; macros = macros; item = item }
 

@@ -12,13 +12,15 @@ pub record Pattern : Type 0 where
   pub text : List ℕ
   pub path : List ℕ
 
+-- the pattern that a member uses
 abbrev pub used : List ℕ → List ℕ → Pattern
 used text path = record { text = text; path = path }
 
--- the most bytes of a pattern, and the most patterns
+-- the most bytes of a pattern
 abbrev pub longest_pattern : ℕ
 longest_pattern = 255
 
+-- the most patterns
 abbrev pub most_patterns : ℕ
 most_patterns = 128
 

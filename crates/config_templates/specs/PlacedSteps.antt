@@ -6,16 +6,18 @@ use Rattle.config_templates.specs.Places.{Placed}
 use Rattle.config_templates.specs.Elements.{element_path}
 use Rattle.config_templates.specs.declared.step_places.StepPlace.{StepPlace}
 
--- the pointer to a step, and to one of its parameters
+-- the pointer to a step
 abbrev pub step_path : StepPlace → List ℕ
 step_path s = (element_path s.source.now (codes "/items") s.item ++ codes "/steps") ++ codes "/" ++ decimal s.step
 
+-- the pointer to a parameter of a step
 abbrev pub param_path : StepPlace → ℕ → List ℕ
 param_path s param = (step_path s ++ codes "/params") ++ codes "/" ++ decimal param
 
--- a step and a parameter at their places
+-- a step at its place
 abbrev pub placed_step : StepPlace → StepSpec → Placed StepSpec
 placed_step s raw = record { place = s.step; path = step_path s; body = raw }
 
+-- a parameter of a step at its place
 abbrev pub placed_param : StepPlace → ℕ → List ℕ → Placed (List ℕ)
 placed_param s param text = record { place = param; path = param_path s param; body = text }

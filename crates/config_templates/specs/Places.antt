@@ -8,8 +8,8 @@ use Rattle.json_form.specs.Faults.{Fault}
 pub data Flaw : Type 0 where
   refused : (fault : Fault) → Flaw
 
--- one step after the other, up to the first flaw
 infixl 10 ◌>>=◌
+-- one step after the other, up to the first flaw
 abbrev pub ◌>>=◌ : {A B : Type 0} → Result A Flaw → (A → Result B Flaw) → Result B Flaw
 (Ok x) >>= f = f x
 (Err flaw) >>= f = Err flaw

@@ -48,10 +48,11 @@ bad_unless fits = if fits then None else Some BadMember
 abbrev pub is_empty : List ℕ → Bool
 is_empty text = nat_le (length text) 0
 
--- a text is a number, or no bound is given
+-- a text is a number
 abbrev pub is_number : List ℕ → Bool
 is_number text = is_some (read_number text)
 
+-- a text is a number, or no bound is given
 abbrev pub is_bound : List ℕ → Bool
 is_bound text = is_empty text || is_number text
 

@@ -1,5 +1,6 @@
 -- The expression that a text is.
 use Rattle.std.specs.Prelude.{ℕ, nat_le, min, Bool, List, length, Option, Some, None, is_some, if◌then◌else◌, Result, Ok}
+use Rattle.zbx_types.specs.Limits.{longest_expression}
 use Rattle.zbx_types.specs.Tree.{Tree}
 use Rattle.zbx_types.specs.declared.calls.Call.{Call}
 use Rattle.zbx_types.specs.declared.causes.Cause.TheVariants.{BadExpression}
@@ -7,10 +8,6 @@ use Rattle.expr_parser.specs.Grammar.{looks_at_item}
 use Rattle.expr_parser.specs.Machine.{after, start, ends_at}
 use Rattle.config_templates.specs.Items.{longest_up_to}
 use Rattle.config_templates.specs.Places.{Flaw, refuse}
-
--- the most bytes of an expression (this project's own)
-abbrev pub longest_expression : ℕ
-longest_expression = 4096
 
 -- some expression begins with the text
 abbrev pub begins_expression : List ℕ → Bool

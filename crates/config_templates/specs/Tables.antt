@@ -1,12 +1,6 @@
--- What is noted on the way: of a walk the templates that were met, of names their places.
-use Rattle.std.specs.Prelude.{◌≡◌, ℕ, ◌<◌, nat_eq, Bool, false, List, [], length, All, slice_index_or, Option, Some, None, if◌then◌else◌}
-use Rattle.std.specs.List.{list_any}
+-- What is noted on the way: of names their places, of templates their ranks.
+use Rattle.std.specs.Prelude.{ℕ, ◌<◌, Bool, List, [], length, All, slice_index_or, Option, Some, None, if◌then◌else◌}
 use Rattle.std.specs.Option.{option_or}
-
--- a table says of each number below its length whether it is in a list, and the list has no others
-pub record IsTable (met : List Bool) (queue : List ℕ) : Type 0 where
-  pub says : (k : ℕ) → k < length met → slice_index_or met k false ≡ list_any (nat_eq k) queue
-  pub below : All (λ t. t < length met) queue
 
 -- the place of a name with one thing more, which may have the name: the first one counts
 abbrev pub noted : Option ℕ → Bool → ℕ → Option ℕ

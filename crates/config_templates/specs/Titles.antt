@@ -1,16 +1,12 @@
 -- Titles of triggers, and their tags, whose user macros have their values.
 use Rattle.std.specs.Prelude.{ℕ, Bool, ◌==◌, List, length, map, max, if◌then◌else◌}
 use Rattle.std.specs.List.{list_any}
-use Rattle.zbx_types.specs.Limits.{longest_value}
+use Rattle.zbx_types.specs.Limits.{longest_value, longest_title}
 use Rattle.zbx_types.specs.declared.entries.Tag.{Tag}
 use Rattle.macro_text.specs.Expanded.{expanded}
 use Rattle.macro_text.specs.Limited.{whole_front}
 use Rattle.macro_text.specs.declared.macros.Macro.{Macro}
 use Rattle.config_read.specs.declared.raw.RawTrigger.{RawTrigger}
-
--- the most bytes of the name of an event
-abbrev pub longest_title : ℕ
-longest_title = 2048
 
 -- the most bytes that the 255 characters of the value of an event's tag have
 abbrev pub longest_tag_value : ℕ
@@ -36,5 +32,6 @@ title_of macros raw = shown longest_title macros raw.name
 abbrev pub tag_of : List Macro → Tag → Tag
 tag_of macros tag = record { tag = filled macros tag.tag; value = shown longest_tag_value macros tag.value }
 
+-- the tags of a trigger of a host with these macros
 abbrev pub tags_of : List Macro → RawTrigger → List Tag
 tags_of macros raw = map (tag_of macros) raw.tags

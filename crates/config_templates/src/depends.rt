@@ -2,8 +2,9 @@
 
 ghost use Rattle.std.specs.Prelude.{◌≡◌, ℕ, List, get_or, ◌+◌, ◌++◌, ◌∷◌, [], ◌<◌, length, map, Some, None, slice_get, All, IfOk, IfErr, OnOk, codes};
 ghost use Rattle.config_templates.specs.Answers.{Gives, GivesAs, Tells};
-ghost use Rattle.config_templates.specs.Depends.{host_depended, trigger_placed, depend_of, depends_of, depending_of, dependings_from, dependings_of, links_of, depend_path, cyclic, linked, linked_from, all_linked, depending, written_triggers};
-ghost use Rattle.config_templates.specs.Dependings.{depending_now, dependings_now, placed_depend, IsKnown};
+ghost use Rattle.config_templates.specs.Depends.{host_depended, trigger_placed, depend_of, depends_of, depending_of, dependings_from, dependings_of};
+ghost use Rattle.config_templates.specs.Depends.{links_of, depend_path, cyclic, linked, linked_from, all_linked, depending, written_triggers};
+ghost use Rattle.config_templates.specs.Dependings.{dependings_now, placed_depend, IsKnown};
 ghost use Rattle.config_templates.specs.Elements.{element_path, IsRefusal, placed_trigger, placed_host, own_triggers};
 ghost use Rattle.config_templates.specs.Inherited.{Inherits};
 ghost use Rattle.config_templates.specs.Links.{placed_hosts, sources_of};
@@ -17,12 +18,12 @@ use crate::fault::FlatError;
 use crate::firsts::FirstPlaces;
 use crate::inheritance::Inheritance;
 use crate::owned_names::OwnedNames;
-use crate::pointers::element;
 use crate::refusals::element_pointer;
 use crate::templates::links::sources;
 use crate::templates::sources::Source;
 use config_read::{RawConf, RawDepend, RawHost, RawTrigger};
 use dependency_graph::{depths, first_on_cycle};
+use json_form::element;
 use std::alloc::Global;
 use std::convert::AsStr;
 use zbx_types::{Cause, Many, OutOfMemory, Text, Trigger, id_of};
@@ -50,7 +51,7 @@ pub(crate) struct Known<'r, 'l> {
 pub(crate) struct Dependencies<'r> {
     pub source: Source<'r>,
     pub index: usize,
-    pub ends: Many<u32>,
+    pub ends: Many<usize>,
 }
 
 /// The pointer to a member of a dependency of the trigger at an index of a source. The member is named with its `/`.
@@ -101,17 +102,6 @@ fn host_of(known: &Known<'_, '_>, own: u32, name: &Text) -> Result<Option<u32>, 
     }
 }
 
-/// A place that is kept in 32 bits.
-fn kept(place: usize) -> Result<u32, OutOfMemory>
-    ensures { IfOk result (λ kept. kept ≡ place) }
-{
-    if place <= u32::MAX as usize {
-        Ok(place as u32)
-    } else {
-        Err(OutOfMemory)
-    }
-}
-
 /// The place of the trigger of a host with a name.
 #[tactic(auto, using(crate::proofs::Linked::placed_named))]
 fn trigger_of(
@@ -119,14 +109,11 @@ fn trigger_of(
     known: &Known<'_, '_>,
     host: u32,
     name: &Text,
-) -> Result<Option<u32>, OutOfMemory>
+) -> Result<Option<usize>, OutOfMemory>
     requires { IsKnown known.now }
     ensures { IfOk result (λ place. place ≡ trigger_placed known.now.list.now.triggers host name.now) }
 {
-    match known.list.names.place(alloc, host, name.as_str())? {
-        None => Ok(None),
-        Some(place) => Ok(Some(kept(place)?)),
-    }
+    known.list.names.place(alloc, host, name.as_str())
 }
 
 /// The place of the trigger that a dependency names.
@@ -139,7 +126,7 @@ fn depend(
     index: usize,
     at: usize,
     raw: &RawDepend,
-) -> Result<u32, FlatError>
+) -> Result<usize, FlatError>
     requires { IsKnown known.now }
     ensures gives { (before : List ℕ) → Gives result (depend_of known.now.raw.now.hosts known.now.list.now.triggers own before (placed_depend source.now index at raw.now)) }
     ensures within { IfOk result (λ place. place < length known.now.list.now.triggers) }
@@ -158,7 +145,7 @@ fn add_depend(
     alloc: Global,
     known: &Known<'_, '_>,
     own: u32,
-    ends: &mut Many<u32>,
+    ends: &mut Many<usize>,
     source: &Source<'_>,
     index: usize,
     at: usize,
@@ -182,7 +169,7 @@ fn depends(
     source: &Source<'_>,
     index: usize,
     raw: &RawTrigger,
-) -> Result<Many<u32>, FlatError>
+) -> Result<Many<usize>, FlatError>
     requires { IsKnown known.now }
     ensures gives { Gives result (depends_of known.now.raw.now.hosts known.now.list.now.triggers own (placed_trigger source.now index raw.now)) }
     ensures within { IfOk result (λ ends. All (λ t. t < length known.now.list.now.triggers) ends) }
@@ -301,7 +288,7 @@ fn dependings<'r>(
 }
 
 /// For each trigger the places of those that it depends on.
-fn links(alloc: Global, dependings: &[Dependencies<'_>]) -> Result<Vec<Many<u32>>, OutOfMemory>
+fn links(alloc: Global, dependings: &[Dependencies<'_>]) -> Result<Vec<Many<usize>>, OutOfMemory>
     ensures { IfOk result (λ links. links.items ≡ links_of (dependings_now dependings.now)) }
 {
     let mut made = Vec::new(alloc);
@@ -316,7 +303,7 @@ fn links(alloc: Global, dependings: &[Dependencies<'_>]) -> Result<Vec<Many<u32>
 fn acyclic(
     alloc: Global,
     dependings: &[Dependencies<'_>],
-    links: &[Many<u32>],
+    links: &[Many<usize>],
 ) -> Result<(), FlatError>
     requires links { links.now ≡ links_of (dependings_now dependings.now) }
     requires closed { All (λ ends. All (λ t. t < length links.now) ends) links.now }
@@ -336,18 +323,23 @@ fn acyclic(
 }
 
 /// The ids of what stands at some places.
-fn ids(alloc: Global, places: &[u32]) -> Result<Many<u32>, OutOfMemory>
+fn ids(alloc: Global, places: &[usize]) -> Result<Many<u32>, OutOfMemory>
     ensures { IfOk result (λ ids. ids ≡ map (λ place. place + 1) places.now) }
 {
     let mut ids = Many::new(alloc);
     for place in places {
-        ids.push(id_of(*place as usize)?)?;
+        ids.push(id_of(*place)?)?;
     }
     Ok(ids)
 }
 
 /// A trigger with the ids of those that it depends on, and its depth.
-fn linked(alloc: Global, trigger: Trigger, ends: &[u32], depth: u32) -> Result<Trigger, OutOfMemory>
+fn linked(
+    alloc: Global,
+    trigger: Trigger,
+    ends: &[usize],
+    depth: u32,
+) -> Result<Trigger, OutOfMemory>
     ensures { IfOk result (λ made. made ≡ linked trigger ends.now depth) }
 {
     let depends = ids(alloc, ends)?;
@@ -358,7 +350,7 @@ fn linked(alloc: Global, trigger: Trigger, ends: &[u32], depth: u32) -> Result<T
 }
 
 /// The links of what stands at a place.
-fn ends_at(links: &[Many<u32>], place: usize) -> &[u32]
+fn ends_at(links: &[Many<usize>], place: usize) -> &[usize]
     ensures { result.now ≡ get_or links.now place [] }
 {
     match links.get(place) {
@@ -381,7 +373,7 @@ fn depth_at(depths: &[u32], place: usize) -> u32
 fn all_linked(
     alloc: Global,
     triggers: Many<Trigger>,
-    links: &[Many<u32>],
+    links: &[Many<usize>],
     depths: &[u32],
 ) -> Result<Many<Trigger>, OutOfMemory>
     ensures { IfOk result (λ made. made ≡ linked_from links.now depths.now 0 triggers) }

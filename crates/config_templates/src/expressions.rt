@@ -3,8 +3,9 @@
 ghost use Rattle.std.specs.Prelude.{◌≡◌, ◌<◌, ℕ, List, take, length};
 ghost use Rattle.config_templates.specs.Answers.{GivesAs};
 ghost use Rattle.config_templates.specs.Meanings.{member_path, parsed_now};
-ghost use Rattle.config_templates.specs.Reading.{expression_at, longest_expression};
+ghost use Rattle.config_templates.specs.Reading.{expression_at};
 ghost use Rattle.macro_text.specs.Expanded.{expanded};
+ghost use Rattle.zbx_types.specs.Limits.{longest_expression};
 
 use crate::fault::FlatError;
 use crate::refusals::Member;

@@ -1,7 +1,7 @@
 //! Which items the functions of expressions take.
 
 ghost use Rattle.std.specs.Prelude.{◌≡◌};
-ghost use Rattle.config_templates.specs.Functions.{takes_text, operator_in, is_order, is_comparison, is_like, takes, lacks_number};
+ghost use Rattle.config_templates.specs.Functions.{takes_text, operator_in, is_order, is_comparison, takes, lacks_number};
 
 use zbx_types::{Call, Fix, Fun, Operator, ValueType, operator_of};
 

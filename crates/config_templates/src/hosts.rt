@@ -1,6 +1,6 @@
 //! The hosts that maintenances and actions name.
 
-ghost use Rattle.std.specs.Prelude.{◌≡◌, ◌++◌, None, Some, is_some, position, IfOk, IfErr, OnOk, codes};
+ghost use Rattle.std.specs.Prelude.{◌≡◌, ◌++◌, None, is_some, position, IfOk, IfErr, OnOk, codes};
 ghost use Rattle.std.specs.Fmt.{decimal};
 ghost use Rattle.std.specs.Str.{bytes_eq};
 ghost use Rattle.config_templates.specs.Answers.{Tells};
@@ -11,8 +11,8 @@ ghost use Rattle.config_templates.specs.Places.{first_fault};
 
 use crate::fault::FlatError;
 use crate::firsts::FirstPlaces;
-use crate::pointers::element;
 use config_read::RawConf;
+use json_form::element;
 use std::alloc::Global;
 use std::convert::AsStr;
 use zbx_types::{Action, ActionCond, Cause, Maintenance, OutOfMemory, Text};

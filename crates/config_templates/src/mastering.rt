@@ -250,18 +250,18 @@ fn first_crowded(alloc: Global, items: &[Item]) -> Result<Option<u32>, OutOfMemo
 }
 
 /// The place of the item with an id, of so many items.
-fn place_of(alloc: Global, size: usize, id: u32) -> Result<Many<u32>, OutOfMemory>
+fn place_of(alloc: Global, size: usize, id: u32) -> Result<Many<usize>, OutOfMemory>
     ensures { IfOk result (λ made. made ≡ place_of size id) }
 {
     let mut made = Many::new(alloc);
     if 1 <= id && id as usize <= size {
-        made.push(id - 1)?;
+        made.push(id as usize - 1)?;
     }
     Ok(made)
 }
 
 /// For each item the place of its master.
-fn master_links(alloc: Global, items: &[Item]) -> Result<Vec<Many<u32>>, OutOfMemory>
+fn master_links(alloc: Global, items: &[Item]) -> Result<Vec<Many<usize>>, OutOfMemory>
     ensures { IfOk result (λ links. links.items ≡ master_links items.now) }
 {
     let mut links = Vec::new(alloc);

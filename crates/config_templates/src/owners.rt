@@ -1,6 +1,6 @@
 //! Hosts with all that they inherit from.
 
-ghost use Rattle.std.specs.Prelude.{◌≡◌, ◌+◌, ◌<◌, map, Some, slice_get, IfOk, length};
+ghost use Rattle.std.specs.Prelude.{◌≡◌, ◌<◌, map, Some, slice_get, IfOk, length};
 ghost use Rattle.config_templates.specs.Elements.{placed_host};
 ghost use Rattle.config_templates.specs.Inherited.{Inherits};
 ghost use Rattle.config_templates.specs.Links.{placed_hosts};

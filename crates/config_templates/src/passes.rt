@@ -1,6 +1,6 @@
 //! Passes over the items of all hosts, as the document has them.
 
-ghost use Rattle.std.specs.Prelude.{◌≡◌, ◌+◌, ◌<◌, length, map, Some, slice_get, Result};
+ghost use Rattle.std.specs.Prelude.{◌≡◌, ◌<◌, length, map, Some, slice_get, Result};
 ghost use Rattle.config_templates.specs.Answers.{GivesAs};
 ghost use Rattle.config_templates.specs.Elements.{placed_item, placed_host, own_items};
 ghost use Rattle.config_templates.specs.Inherited.{Inherits};

@@ -1,6 +1,6 @@
 //! The patterns of the items' preprocessing steps.
 
-ghost use Rattle.std.specs.Prelude.{◌≡◌, ◌++◌, ◌∷◌, [], codes};
+ghost use Rattle.std.specs.Prelude.{◌++◌, [], codes};
 ghost use Rattle.macro_text.specs.Expanded.{expanded};
 ghost use Rattle.config_templates.specs.Answers.{Gives, GivesAs};
 ghost use Rattle.config_templates.specs.Elements.{placed_item};
@@ -8,7 +8,7 @@ ghost use Rattle.config_templates.specs.Inherited.{Inherits};
 ghost use Rattle.config_templates.specs.OwnedItems.{owned};
 ghost use Rattle.config_templates.specs.Patterns.{used, joined, all_joined};
 ghost use Rattle.config_templates.specs.PlacedSteps.{step_path, placed_step};
-ghost use Rattle.config_templates.specs.StepPatterns.{first_used, used_by, used_by_item, step_patterns};
+ghost use Rattle.config_templates.specs.StepPatterns.{used_by, used_by_item, step_patterns};
 
 use crate::fault::FlatError;
 use crate::inheritance::Inheritance;

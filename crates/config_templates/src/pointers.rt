@@ -5,6 +5,7 @@ ghost use Rattle.std.specs.Fmt.{decimal};
 ghost use Rattle.config_templates.specs.Sources.{list_path};
 
 use crate::templates::sources::Origin;
+use json_form::element;
 use std::alloc::Global;
 use std::convert::AsStr;
 use zbx_types::{OutOfMemory, Text};
@@ -17,13 +18,6 @@ pub(crate) fn list_pointer(origin: Origin) -> &'static str
         Origin::Host => "/hosts",
         Origin::Template => "/templates",
     }
-}
-
-/// The pointer to an element of the list at this pointer, counted from 0.
-pub(crate) fn element(alloc: Global, path: &str, place: usize) -> Result<Text, OutOfMemory>
-    ensures { IfOk result (λ t. t ≡ path.now ++ codes "/" ++ decimal place) }
-{
-    Ok(Text::from(format!(in alloc; "{path}/{place}")?))
 }
 
 /// The pointer to the name of a template, by its place among those of the host or template at a place.

@@ -2,7 +2,7 @@
 
 ghost use Rattle.std.specs.Prelude.{◌≡◌, ◌++◌, [], None, IfOk, codes};
 ghost use Rattle.macro_text.specs.Expanded.{expanded};
-ghost use Rattle.config_templates.specs.Answers.{Gives, GivesAs};
+ghost use Rattle.config_templates.specs.Answers.{Gives};
 ghost use Rattle.config_templates.specs.Elements.{placed_item};
 ghost use Rattle.config_templates.specs.Inherited.{Inherits};
 ghost use Rattle.config_templates.specs.Names.{named_items};

@@ -5,8 +5,9 @@ ghost use Rattle.config_templates.specs.Elements.{element_path, IsRefusal};
 ghost use Rattle.config_templates.specs.Meanings.{member_path};
 
 use crate::fault::FlatError;
-use crate::pointers::{element, list_pointer};
+use crate::pointers::list_pointer;
 use crate::templates::sources::Source;
+use json_form::element;
 use std::alloc::Global;
 use std::convert::AsStr;
 use zbx_types::{Cause, OutOfMemory, Text};

@@ -1,7 +1,8 @@
 //! What is wrong with the parameters of preprocessing steps.
 
 ghost use Rattle.std.specs.Prelude.{◌≡◌, ◌≤◌, length, IfOk};
-ghost use Rattle.config_templates.specs.Prepared.{path_fault, path_cause, bad_unless, is_empty, is_number, is_bound, rises, bounds, longest_heartbeat, is_heartbeat, first_cause, second_cause, param_cause};
+ghost use Rattle.config_templates.specs.Prepared.{path_fault, path_cause, bad_unless, is_empty, is_number, is_bound, rises, bounds};
+ghost use Rattle.config_templates.specs.Prepared.{longest_heartbeat, is_heartbeat, first_cause, second_cause, param_cause};
 ghost use Rattle.json_path.specs.declared.path.PathError.TheVariants.{At};
 ghost use Rattle.zbx_types.specs.Limits.{longest_value};
 ghost use Rattle.zbx_types.specs.Periods.{seconds_up_to};

@@ -1,13 +1,13 @@
 //! Where preprocessing steps stand in the document, and refusals of them.
 
-ghost use Rattle.std.specs.Prelude.{◌≡◌, ◌++◌, IfOk, codes};
+ghost use Rattle.std.specs.Prelude.{◌≡◌, ◌++◌, IfOk};
 ghost use Rattle.config_templates.specs.Elements.{IsRefusal};
 ghost use Rattle.config_templates.specs.PlacedSteps.{step_path, param_path};
 
 use crate::fault::FlatError;
-use crate::pointers::element;
 use crate::refusals::member_pointer;
 use crate::templates::sources::Source;
+use json_form::element;
 use std::alloc::Global;
 use std::convert::AsStr;
 use zbx_types::{Cause, OutOfMemory, Text};

@@ -5,4 +5,3 @@ pub(crate) mod links;
 pub(crate) mod names;
 pub(crate) mod ranks;
 pub(crate) mod sources;
-pub(crate) mod walks;

@@ -7,10 +7,7 @@ ghost use Rattle.config_templates.specs.Titles.{has_brace, filled, shown, title_
 use config_read::RawTrigger;
 use macro_text::{Expansion, Macros, expand_front, expand_within};
 use std::alloc::Global;
-use zbx_types::{LONGEST_VALUE, Many, OutOfMemory, Tag, Text};
-
-/// The most bytes of a title that an event's name shows (this project's own).
-const LONGEST_TITLE: usize = 2048;
+use zbx_types::{LONGEST_TITLE, LONGEST_VALUE, Many, OutOfMemory, Tag, Text};
 
 /// The most bytes of a tag's value that an event shows, which are 255 characters (the Zabbix 6.0 manual, "Tagging").
 const LONGEST_TAG_VALUE: usize = 1020;

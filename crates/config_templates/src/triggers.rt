@@ -1,7 +1,7 @@
 //! The triggers of the flat configuration.
 
 ghost use Rattle.std.specs.Prelude.{◌≡◌, ◌++◌, ◌∷◌, [], ◌<◌, List, length, Some, slice_get, IfOk, OnOk};
-ghost use Rattle.config_templates.specs.Answers.{Gives, GivesAs};
+ghost use Rattle.config_templates.specs.Answers.{GivesAs};
 ghost use Rattle.config_templates.specs.Elements.{placed_trigger, placed_host, own_triggers};
 ghost use Rattle.config_templates.specs.Inherited.{Inherits};
 ghost use Rattle.config_templates.specs.Links.{placed_hosts};

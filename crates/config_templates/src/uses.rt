@@ -1,8 +1,8 @@
 //! The patterns that triggers use.
 
-ghost use Rattle.std.specs.Prelude.{◌≡◌, ◌++◌, ◌<◌, List, codes, map, IfOk, OnOk};
+ghost use Rattle.std.specs.Prelude.{◌≡◌, ◌++◌, ◌<◌, codes, IfOk, OnOk};
 ghost use Rattle.std.specs.Option.{option_to_list};
-ghost use Rattle.config_templates.specs.Answers.{Gives, GivesAs};
+ghost use Rattle.config_templates.specs.Answers.{GivesAs};
 ghost use Rattle.config_templates.specs.Elements.{IsRefusal};
 ghost use Rattle.config_templates.specs.Members.{member_path, trigger_path, users_now};
 ghost use Rattle.config_templates.specs.Patterns.{used, joined};
@@ -12,10 +12,10 @@ ghost use Rattle.zbx_types.specs.Operators.{call_pattern};
 
 use crate::fault::FlatError;
 use crate::patterns::{Joining, PatternList};
-use crate::pointers::element;
 use crate::refusals::member_pointer;
 use crate::templates::sources::Source;
 use event_text::patterns_in;
+use json_form::element;
 use std::alloc::Global;
 use std::convert::AsStr;
 use zbx_types::{Call, Cause, Many, OutOfMemory, Tag, Text};

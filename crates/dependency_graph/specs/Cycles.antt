@@ -1,5 +1,5 @@
 -- Links that lead back to what they are of.
-use Rattle.std.specs.Prelude.{ℕ, ◌+◌, nat_eq, Bool, List, [], ◌∷◌, Option, None, option_map, position, get_or}
+use Rattle.std.specs.Prelude.{ℕ, ◌+◌, nat_eq, Bool, List, [], ◌∷◌, Option, None, option_map, position}
 use Rattle.std.specs.List.{list_any}
 use Rattle.std.specs.Option.{option_or}
 use Rattle.dependency_graph.specs.Walks.{walk}

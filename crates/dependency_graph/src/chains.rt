@@ -1,9 +1,8 @@
 //! The lengths of chains of links.
 
 ghost use Rattle.std.specs.Prelude.{◌≡◌, ◌≤◌, ◌<◌, ℕ, [], length, map, get_or, All, IfOk, IsTrue};
-ghost use Rattle.dependency_graph.specs.Depths.{depths_of, longest};
+ghost use Rattle.dependency_graph.specs.Depths.{depths_of};
 ghost use Rattle.dependency_graph.specs.Tables.{next_depth, AreDepths};
-ghost use Rattle.zbx_types.specs.Ids.{ids_from};
 
 use crate::visits::visit_all;
 use std::alloc::Global;
@@ -20,19 +19,19 @@ fn depth_of(depths: &[u32], thing: usize) -> u32
 }
 
 /// One more than the greatest depth of some things, and 0 of none.
-fn next_depth(depths: &[u32], ends: &[u32]) -> u64
+fn next_depth(depths: &[u32], ends: &[usize]) -> u64
     ensures { result ≡ next_depth depths.now ends.now }
 {
     let mut next = 0;
     for end in ends {
-        next = next.max(u64::from(depth_of(depths, *end as usize)) + 1);
+        next = next.max(u64::from(depth_of(depths, *end)) + 1);
     }
     next
 }
 
 /// Depths of the things, each from those of the things before it in an order. They are right where it has each thing behind
 /// those that it has links to.
-fn along(alloc: Global, links: &[Many<u32>], order: &[usize]) -> Result<Vec<u32>, OutOfMemory> {
+fn along(alloc: Global, links: &[Many<usize>], order: &[usize]) -> Result<Vec<u32>, OutOfMemory> {
     let mut depths = vec![in alloc; 0u32; links.len()]?;
     for thing in order {
         if let Some(ends) = links.get(*thing) {
@@ -46,7 +45,7 @@ fn along(alloc: Global, links: &[Many<u32>], order: &[usize]) -> Result<Vec<u32>
 }
 
 /// Whether each thing is one deeper than the deepest that it has a link to.
-fn follow(links: &[Many<u32>], depths: &[u32]) -> bool
+fn follow(links: &[Many<usize>], depths: &[u32]) -> bool
     ensures { IsTrue result → (k : ℕ) → k < length links.now → get_or depths.now k 0 ≡ next_depth depths.now (get_or links.now k []) }
 {
     for (thing, ends) in links.iter().enumerate() {
@@ -65,7 +64,7 @@ fn none_above(depths: &[u32], most: usize) -> bool
 }
 
 /// Whether these are the depths.
-fn are_depths(links: &[Many<u32>], depths: &[u32]) -> bool
+fn are_depths(links: &[Many<usize>], depths: &[u32]) -> bool
     ensures { IsTrue result → AreDepths links.now depths.now }
 {
     depths.len() == links.len() && follow(links, depths) && none_above(depths, links.len())
@@ -83,7 +82,7 @@ fn kept(length: u64) -> Result<u32, OutOfMemory>
 }
 
 /// The depths among chains of one link more.
-fn longer(alloc: Global, links: &[Many<u32>], depths: &[u32]) -> Result<Many<u32>, OutOfMemory>
+fn longer(alloc: Global, links: &[Many<usize>], depths: &[u32]) -> Result<Many<u32>, OutOfMemory>
     ensures { IfOk result (λ made. made ≡ map (next_depth depths.now) links.now) }
 {
     let mut made = Many::new(alloc);
@@ -95,7 +94,7 @@ fn longer(alloc: Global, links: &[Many<u32>], depths: &[u32]) -> Result<Many<u32
 
 /// The depths, among chains of one link more at each round.
 #[tactic(auto, using(crate::proofs::Settled::by_each))]
-fn by_rounds(alloc: Global, links: &[Many<u32>]) -> Result<Many<u32>, OutOfMemory>
+fn by_rounds(alloc: Global, links: &[Many<usize>]) -> Result<Many<u32>, OutOfMemory>
     ensures { IfOk result (λ made. made ≡ depths_of links.now) }
 {
     let mut depths = Many::from_vec(vec![in alloc; 0u32; links.len()]?);
@@ -111,7 +110,7 @@ fn by_rounds(alloc: Global, links: &[Many<u32>]) -> Result<Many<u32>, OutOfMemor
 /// [`OutOfMemory`] may come on any links, and says nothing of them. `links` has for each thing the places of those that it
 /// has links to. Where no link lies on a cycle, the time is linear in the things and their links.
 #[tactic(auto, using(crate::proofs::Settled::settled_depths))]
-pub fn depths(alloc: Global, links: &[Many<u32>]) -> Result<Many<u32>, OutOfMemory>
+pub fn depths(alloc: Global, links: &[Many<usize>]) -> Result<Many<u32>, OutOfMemory>
     ensures { IfOk result (λ depths. depths ≡ depths_of links.now) }
 {
     let order = visit_all(alloc, links)?.closed;

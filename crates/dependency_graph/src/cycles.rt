@@ -1,6 +1,6 @@
 //! Links that lie on a cycle.
 
-ghost use Rattle.std.specs.Prelude.{◌≡◌, ◌≤◌, ◌<◌, [], length, get_or, nat_eq, All, IfOk, IsTrue, IsSome};
+ghost use Rattle.std.specs.Prelude.{◌≡◌, ◌≤◌, ◌<◌, length, get_or, nat_eq, All, IfOk, IsTrue};
 ghost use Rattle.std.specs.List.{list_any};
 ghost use Rattle.dependency_graph.specs.Cycles.{lies_on_cycle, own_on_cycle, first_on_cycle};
 ghost use Rattle.dependency_graph.specs.Tables.{IsClosed, NeverFall};
@@ -30,15 +30,14 @@ fn number_of(numbers: &[usize], thing: usize) -> usize
 }
 
 /// Whether the numbers of these things aren't below one.
-fn none_below(numbers: &[usize], number: usize, ends: &[u32]) -> bool
+fn none_below(numbers: &[usize], number: usize, ends: &[usize]) -> bool
     ensures { IsTrue result → All (λ t. number ≤ get_or numbers.now t 0) ends.now }
 {
-    ends.iter()
-        .all(|end| number <= number_of(numbers, *end as usize))
+    ends.iter().all(|end| number <= number_of(numbers, *end))
 }
 
 /// Whether no link leads to a thing with a smaller number.
-fn never_fall(links: &[Many<u32>], numbers: &[usize]) -> bool
+fn never_fall(links: &[Many<usize>], numbers: &[usize]) -> bool
     ensures { IsTrue result → NeverFall links.now numbers.now }
 {
     for (thing, ends) in links.iter().enumerate() {
@@ -50,7 +49,7 @@ fn never_fall(links: &[Many<u32>], numbers: &[usize]) -> bool
 }
 
 /// Numbers of the things by which no link leads to a smaller one, and one that lies on no cycle to a greater one.
-fn rising(alloc: Global, links: &[Many<u32>]) -> Result<Vec<usize>, OutOfMemory>
+fn rising(alloc: Global, links: &[Many<usize>]) -> Result<Vec<usize>, OutOfMemory>
     ensures { IfOk result (λ numbers. NeverFall links.now numbers.items) }
 {
     let numbers = visit_all(alloc, links)?.numbers;
@@ -61,11 +60,11 @@ fn rising(alloc: Global, links: &[Many<u32>]) -> Result<Vec<usize>, OutOfMemory>
 }
 
 /// Whether a place is among some.
-fn holds(places: &[u32], place: usize) -> bool
+fn holds(places: &[usize], place: usize) -> bool
     ensures { result ≡ list_any (nat_eq place) places.now }
 {
     for other in places {
-        if place == *other as usize {
+        if place == *other {
             return true;
         }
     }
@@ -76,17 +75,17 @@ fn holds(places: &[u32], place: usize) -> bool
 #[tactic(auto, using(crate::proofs::Rising::off_cycle))]
 fn lies_on_cycle(
     alloc: Global,
-    links: &[Many<u32>],
+    links: &[Many<usize>],
     numbers: &[usize],
     from: usize,
-    end: u32,
+    end: usize,
 ) -> Result<bool, OutOfMemory>
     requires closed { IsClosed links.now }
     requires falls { NeverFall links.now numbers.now }
     requires within { end < length links.now }
     ensures { IfOk result (λ lies. lies ≡ lies_on_cycle links.now from end) }
 {
-    if number_of(numbers, from) < number_of(numbers, end as usize) {
+    if number_of(numbers, from) < number_of(numbers, end) {
         return Ok(false);
     }
     Ok(holds(walk(alloc, links, &[end])?.as_slice(), from))
@@ -95,10 +94,10 @@ fn lies_on_cycle(
 /// The place of the first of a thing's links that lies on a cycle.
 fn own_on_cycle(
     alloc: Global,
-    links: &[Many<u32>],
+    links: &[Many<usize>],
     numbers: &[usize],
     from: usize,
-    ends: &[u32],
+    ends: &[usize],
 ) -> Result<Option<usize>, OutOfMemory>
     requires closed { IsClosed links.now }
     requires falls { NeverFall links.now numbers.now }
@@ -120,7 +119,10 @@ fn own_on_cycle(
 /// `links` has for each thing the places of those that it has links to, and each is the place of a thing. The time is
 /// linear in the things and their links.
 #[tactic(auto, unfolding(crate::specs::Cycles::first_on_cycle))]
-pub fn first_on_cycle(alloc: Global, links: &[Many<u32>]) -> Result<Option<LinkPlace>, OutOfMemory>
+pub fn first_on_cycle(
+    alloc: Global,
+    links: &[Many<usize>],
+) -> Result<Option<LinkPlace>, OutOfMemory>
     requires { IsClosed links.now }
     ensures { IfOk result (λ place. place ≡ first_on_cycle links.now) }
 {

@@ -18,7 +18,7 @@ struct Visit {
 /// What a search has found so far.
 #[derive(Drop)]
 pub(crate) struct Visits<'l> {
-    links: &'l [Many<u32>],
+    links: &'l [Many<usize>],
     /// For each thing 0 where it isn't met yet; where it is, a number up to that of the things, in the order of their
     /// meeting; where its cycles are closed, a greater one, by which things that lie on one cycle have one number.
     pub numbers: Vec<usize>,
@@ -58,7 +58,7 @@ impl Visits<'_> {
     fn next_end(&self, visit: Visit) -> Option<usize> {
         let ends = self.links.get(visit.thing)?;
         let end = ends.as_slice().get(visit.done)?;
-        Some(*end as usize)
+        Some(*end)
     }
 
     /// Goes past the next link of a thing on the way, whose end is met.
@@ -140,7 +140,7 @@ impl Visits<'_> {
 }
 
 /// Searches from each thing that isn't met, in time linear in the things and their links.
-pub(crate) fn visit_all(alloc: Global, links: &[Many<u32>]) -> Result<Visits<'_>, OutOfMemory> {
+pub(crate) fn visit_all(alloc: Global, links: &[Many<usize>]) -> Result<Visits<'_>, OutOfMemory> {
     let mut visits = Visits {
         links,
         numbers: vec![in alloc; 0usize; links.len()]?,

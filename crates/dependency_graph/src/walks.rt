@@ -8,22 +8,26 @@ use std::alloc::Global;
 use zbx_types::{Many, OutOfMemory};
 
 /// Puts a place at the end of the queue, unless it is in the queue.
-fn meet(met: &mut Vec<bool>, queue: &mut Many<u32>, place: u32) -> Result<(), OutOfMemory>
+fn meet(met: &mut Vec<bool>, queue: &mut Many<usize>, place: usize) -> Result<(), OutOfMemory>
     requires within { place < length met.old.items }
     requires table { IsTable met.old.items queue.old }
     ensures queue { OnOk result (queue.new ≡ queue.old ++ once_behind queue.old (place ∷ [])) }
     ensures table { OnOk result (IsTable met.new.items queue.new) }
     ensures size { length met.new.items ≡ length met.old.items }
 {
-    if !met[place as usize] {
-        met[place as usize] = true;
+    if !met[place] {
+        met[place] = true;
         queue.push(place)?;
     }
     Ok(())
 }
 
 /// Puts places at the end of the queue, each that isn't in it yet.
-fn meet_all(met: &mut Vec<bool>, queue: &mut Many<u32>, places: &[u32]) -> Result<(), OutOfMemory>
+fn meet_all(
+    met: &mut Vec<bool>,
+    queue: &mut Many<usize>,
+    places: &[usize],
+) -> Result<(), OutOfMemory>
     requires within { All (λ t. t < length met.old.items) places.now }
     requires table { IsTable met.old.items queue.old }
     ensures queue { OnOk result (queue.new ≡ queue.old ++ once_behind queue.old places.now) }
@@ -38,9 +42,9 @@ fn meet_all(met: &mut Vec<bool>, queue: &mut Many<u32>, places: &[u32]) -> Resul
 
 /// Puts what those in the queue from a place on have links to at its end, each that isn't in it yet.
 fn meet_linked(
-    links: &[Many<u32>],
+    links: &[Many<usize>],
     met: &mut Vec<bool>,
-    queue: &mut Many<u32>,
+    queue: &mut Many<usize>,
     start: usize,
 ) -> Result<(), OutOfMemory>
     requires closed { IsClosed links.now }
@@ -53,7 +57,7 @@ fn meet_linked(
     let end = queue.len();
     for at in start..end {
         let place = queue.as_slice()[at];
-        meet_all(met, queue, links[place as usize].as_slice())?;
+        meet_all(met, queue, links[place].as_slice())?;
     }
     Ok(())
 }
@@ -61,7 +65,11 @@ fn meet_linked(
 /// These things and all that they lead to, level by level, each once where it is first met. Things go by their places, and
 /// `links` has for each thing those that it has links to. The time grows with the number of things and of the links that
 /// are met.
-pub fn walk(alloc: Global, links: &[Many<u32>], places: &[u32]) -> Result<Many<u32>, OutOfMemory>
+pub fn walk(
+    alloc: Global,
+    links: &[Many<usize>],
+    places: &[usize],
+) -> Result<Many<usize>, OutOfMemory>
     requires closed { IsClosed links.now }
     requires within { All (λ t. t < length links.now) places.now }
     ensures walk { IfOk result (λ made. made ≡ walk links.now places.now) }

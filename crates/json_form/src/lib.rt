@@ -13,6 +13,7 @@
 //! Object, At     an object; a member or an element      BadMember
 //! Names          the names that are taken               Duplicate
 //! list, distinct, sequence                              what the elements refuse
+//! element        the pointer to an element of a list
 //! ```
 //!
 //! ```text
@@ -36,4 +37,5 @@ pub use listed::{Element, Following, Named, Texts, distinct, distinct_beside, li
 pub use names::Names;
 pub use parsing::parse;
 pub use places::{At, Object};
+pub use pointers::element;
 pub use wording::Words;

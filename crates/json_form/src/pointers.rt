@@ -39,7 +39,7 @@ pub(crate) fn below(alloc: Global, path: &str, name: &str) -> Result<Text, OutOf
 }
 
 /// The pointer to an element of the list at this pointer, counted from 0.
-pub(crate) fn element(alloc: Global, path: &str, index: usize) -> Result<Text, OutOfMemory>
+pub fn element(alloc: Global, path: &str, index: usize) -> Result<Text, OutOfMemory>
     ensures { IfOk result (λ t. t ≡ path.now ++ codes "/" ++ decimal index) }
 {
     Ok(Text::from(format!(in alloc; "{path}/{index}")?))

@@ -9,7 +9,7 @@ use std::test::Fail;
 use zbx_types::{Many, OutOfMemory};
 
 /// Links as `1,2 2 -`: a word for each thing, `-` where it has none.
-fn links(alloc: Global, text: &str) -> Result<Vec<Many<u32>>, OutOfMemory> {
+fn links(alloc: Global, text: &str) -> Result<Vec<Many<usize>>, OutOfMemory> {
     let mut made = Vec::new(alloc);
     for word in text.split(' ') {
         made.push(ends(alloc, word)?)?;
@@ -17,7 +17,7 @@ fn links(alloc: Global, text: &str) -> Result<Vec<Many<u32>>, OutOfMemory> {
     Ok(made)
 }
 
-fn ends(alloc: Global, word: &str) -> Result<Many<u32>, OutOfMemory> {
+fn ends(alloc: Global, word: &str) -> Result<Many<usize>, OutOfMemory> {
     let mut made = Many::new(alloc);
     for end in word.split(',') {
         if let Ok(end) = end.parse() {
@@ -28,14 +28,14 @@ fn ends(alloc: Global, word: &str) -> Result<Many<u32>, OutOfMemory> {
 }
 
 /// Whether all of these are below a number.
-fn all_below(ends: &[u32], size: usize) -> bool
+fn all_below(ends: &[usize], size: usize) -> bool
     ensures { IsTrue result → All (λ t. t < size) ends.now }
 {
-    ends.iter().all(|end| (*end as usize) < size)
+    ends.iter().all(|end| *end < size)
 }
 
 /// Whether each link leads to one of the things.
-fn is_closed(links: &[Many<u32>]) -> bool
+fn is_closed(links: &[Many<usize>]) -> bool
     ensures { IsTrue result → IsClosed links.now }
 {
     let size = links.len();

@@ -4,16 +4,16 @@ ghost use Rattle.std.specs.Prelude.{◌≡◌, ◌∷◌, [], nat_eq, Some, None
 ghost use Rattle.std.specs.List.{list_any};
 ghost use Rattle.config_templates.specs.Answers.{Tells};
 ghost use Rattle.config_templates.specs.Places.{placed, first_fault};
-ghost use Rattle.config_templates.specs.Walks.{walk};
 ghost use Rattle.config_templates.specs.Links.{links_of, templates_named, cycle_link, placed_links};
 ghost use Rattle.config_templates.specs.Sources.{placed_of};
+ghost use Rattle.dependency_graph.specs.Walks.{walk};
 
 use crate::fault::FlatError;
 use crate::templates::links::refused;
 use crate::templates::names::Names;
 use crate::templates::ranks::{falls, ranks_of};
 use crate::templates::sources::{Origin, Source};
-use crate::templates::walks::walk;
+use dependency_graph::walk;
 use std::alloc::Global;
 use zbx_types::{Cause, Many, OutOfMemory, Text};
 

@@ -12,8 +12,8 @@ use crate::pointers::link_pointer;
 use crate::templates::cycles::acyclic;
 use crate::templates::names::Names;
 use crate::templates::sources::{Origin, Source};
-use crate::templates::walks::walk;
 use config_read::{RawConf, RawHost};
+use dependency_graph::walk;
 use std::alloc::Global;
 use zbx_types::{Cause, Many, OutOfMemory};
 

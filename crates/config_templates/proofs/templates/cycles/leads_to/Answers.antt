@@ -2,7 +2,7 @@ use Rattle.std.proofs.Common.{[], ◌++◌, ap, sym, ◌∙◌}
 use Rattle.std.specs.Prelude.{nat_eq}
 use Rattle.std.specs.List.{list_any}
 use Rattle.std.specs.Option.{option_to_list}
-use Rattle.config_templates.specs.Walks.{walk}
+use Rattle.dependency_graph.specs.Walks.{walk}
 use Rattle.config_templates.specs.Links.{links_of}
 use Rattle.config_templates.proofs.LinkLemmas.{links_of-closed, walk-nil}
 use Rattle.config_templates.proofs.templates.cycles.leads_to.Goals as goal
