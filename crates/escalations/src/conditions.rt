@@ -5,7 +5,9 @@ ghost use Rattle.zbx_types.specs.Groups.{groups_of};
 ghost use Rattle.zbx_types.specs.Tags.{joined};
 ghost use Rattle.escalations.specs.Conditions.{compares, holds, fits, is_matched};
 
-use zbx_types::{Action, ActionCond, Conf, Matching, Moment, Rec, SeverityOp, Text, has_tag, is_same};
+use zbx_types::{
+    Action, ActionCond, Conf, Matching, Moment, Rec, SeverityOp, Text, has_tag, is_same,
+};
 
 /// A problem at a moment.
 #[derive(Clone, Copy)]

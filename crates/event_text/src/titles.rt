@@ -5,7 +5,7 @@ ghost use Rattle.zbx_types.specs.declared.entries.Tag.{Tag};
 ghost use Rattle.pattern_set.specs.Filling.{filled_of};
 ghost use Rattle.event_text.specs.Cuts.{cut, Adds, Goes};
 ghost use Rattle.event_text.specs.Forms.{pattern_of, patterns_of};
-ghost use Rattle.event_text.specs.Titles.{held_text, held_at, item_text, macro_text, expanded, name_of, event_tag, event_tags, HasPatterns, HasTitlePatterns, HasTagPatterns};
+ghost use Rattle.event_text.specs.Titles.{held_at, item_text, macro_text, expanded, name_of, event_tag, event_tags, HasPatterns, HasTitlePatterns, HasTagPatterns};
 
 use crate::braces::{split_at, split_brace};
 use crate::fronts::{Front, Limit};
