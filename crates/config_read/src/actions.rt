@@ -1,10 +1,10 @@
 //! Actions.
 
-ghost use Rattle.std.specs.Prelude.{◌≡◌, []};
 ghost use Rattle.json_form.specs.Faults.{Gives};
 ghost use Rattle.json_form.specs.Places.{place_of, object_of, given_or};
 ghost use Rattle.config_read.specs.Ranges.{step_duration_of, operation_duration_of};
-ghost use Rattle.config_read.specs.Actions.{action_cond_kind, severity_op, severity_of, action_cond_parts, action_cond_of, action_conds_of, recipients_of, sending_of, steps_of, operation_of, recovery_of, occasion_of, pace_of, work_of, action_of, actions_of};
+ghost use Rattle.config_read.specs.Actions.{action_cond_kind, severity_op, severity_of, action_cond_parts, action_cond_of, action_conds_of, recipients_of};
+ghost use Rattle.config_read.specs.Actions.{sending_of, steps_of, operation_of, recovery_of, occasion_of, pace_of, work_of, action_of, actions_of};
 
 use crate::naming::{Form, new_name};
 use crate::ranges::{one_to_16, operation_duration, step_duration};

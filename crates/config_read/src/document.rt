@@ -1,6 +1,6 @@
 //! The whole document.
 
-ghost use Rattle.std.specs.Prelude.{◌≡◌, ◌≤ℤ◌, pos, negsuc, IfOk};
+ghost use Rattle.std.specs.Prelude.{◌≤ℤ◌, pos, negsuc, IfOk};
 ghost use Rattle.serde_json.specs.View.{view};
 ghost use Rattle.json_form.specs.Faults.{Gives};
 ghost use Rattle.json_form.specs.Places.{place_of, object_of};

@@ -1,6 +1,6 @@
 //! User macros, templates and hosts.
 
-ghost use Rattle.std.specs.Prelude.{◌≡◌, ◌++◌, [], map, IfOk};
+ghost use Rattle.std.specs.Prelude.{◌≡◌, ◌++◌, map, IfOk};
 ghost use Rattle.json_form.specs.Faults.{Gives};
 ghost use Rattle.json_form.specs.Places.{place_of, object_of};
 ghost use Rattle.config_read.specs.Hosts.{macro_of, macros_of, templates_of, content_of, template_of, host_of, name_of, thousand_of, hosts_of};

@@ -1,6 +1,5 @@
 //! Items.
 
-ghost use Rattle.std.specs.Prelude.{◌≡◌};
 ghost use Rattle.json_form.specs.Faults.{Gives};
 ghost use Rattle.json_form.specs.Places.{place_of, object_of};
 ghost use Rattle.config_read.specs.Hosts.{master_of, source_of, item_of};

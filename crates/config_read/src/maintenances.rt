@@ -1,9 +1,9 @@
 //! Maintenances.
 
-ghost use Rattle.std.specs.Prelude.{◌≡◌, []};
 ghost use Rattle.json_form.specs.Faults.{Gives};
 ghost use Rattle.json_form.specs.Places.{place_of, object_of, number_between};
-ghost use Rattle.config_read.specs.Maintenances.{period_kind, plain_tag_op, seconds, daytime_of, once_of, daily_of, weekly_of, monthly_of, period_parts, period_of, periods_of, tag_test_of, tags_of, span_of, scope_of, tests_of, maintenance_of, maintenances_of};
+ghost use Rattle.config_read.specs.Maintenances.{period_kind, plain_tag_op, seconds, daytime_of, once_of, daily_of, weekly_of, monthly_of, period_parts, period_of};
+ghost use Rattle.config_read.specs.Maintenances.{periods_of, tag_test_of, tags_of, span_of, scope_of, tests_of, maintenance_of, maintenances_of};
 
 use crate::naming::{Form, new_name};
 use crate::ranges::{length, one_to_16};

@@ -1,6 +1,5 @@
 //! Triggers.
 
-ghost use Rattle.std.specs.Prelude.{◌≡◌, []};
 ghost use Rattle.json_form.specs.Faults.{Gives};
 ghost use Rattle.json_form.specs.Places.{place_of, object_of, given_or, number_between};
 ghost use Rattle.config_read.specs.Triggers.{tag_of, depend_of, unused_text, recovery_text, recovery_of, closing_of, tags_of, links_of, trigger_of, triggers_of};

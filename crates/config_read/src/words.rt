@@ -1,6 +1,5 @@
 //! The words of items and triggers.
 
-ghost use Rattle.std.specs.Prelude.{◌≡◌};
 ghost use Rattle.config_read.specs.Words.{item_kind, value_type, step_kind, on_fail, recovery_mode, matching, tag_op};
 
 use json_form::Words;

@@ -37,10 +37,11 @@ due_records_of conf trigger problem steps now =
 abbrev pub first_records_of : Conf → ℕ → Rec → ℕ → List Rec
 first_records_of conf trigger problem now = due_records_of conf trigger problem [] now
 
--- the same, where the trigger is the one that has the names of the problem's trigger and host
+-- what the next steps of all actions make, for the trigger that has the names of the problem's trigger and host
 abbrev pub due_records : Conf → Rec → List Rec → ℕ → List Rec
 due_records conf problem steps now = due_records_of conf (trigger_of conf problem) problem steps now
 
+-- what the first steps of all actions make, for the same trigger
 abbrev pub first_records : Conf → Rec → ℕ → List Rec
 first_records conf problem now = due_records conf problem [] now
 

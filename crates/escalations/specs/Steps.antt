@@ -1,6 +1,7 @@
 -- The steps of an action's escalation (the Zabbix 6.0 manual, "Escalations"; the moment of a step is this project's own).
-use Rattle.std.specs.Prelude.{ℕ, ◌+◌, ◌*◌, ◌==◌, nat_le, min, Bool, true, ◌&&◌, ◌||◌, List, bytes_eq, map, filter, filter_map, Option, Some, None, unwrap_or, if◌then◌else◌}
+use Rattle.std.specs.Prelude.{ℕ, ◌+◌, ◌==◌, nat_le, min, Bool, true, ◌&&◌, ◌||◌, List, bytes_eq, map, filter, filter_map, Option, Some, None, unwrap_or, if◌then◌else◌}
 use Rattle.std.specs.List.{list_any, reduce}
+use Rattle.zbx_types.specs.Moments.{seconds_after}
 use Rattle.zbx_types.specs.Records.{same_event}
 use Rattle.zbx_types.specs.declared.actions.Action.{Action}
 use Rattle.zbx_types.specs.declared.actions.Operation.{Operation}
@@ -63,7 +64,7 @@ number_behind (Some ran) = ran.step + 1
 -- that step is due: the first at once, another where the one before it ran as long ago as it lasts
 abbrev pub is_due : Action → ℕ → Option Ran → Bool
 is_due action now None = true
-is_due action now (Some ran) = nat_le (ran.moment + duration_of action ran.step * 1000000000) now
+is_due action now (Some ran) = nat_le (seconds_after (duration_of action ran.step) ran.moment) now
 
 -- the step behind the last one that ran, where the action has it and it is due
 unfoldable pub step_due : Action → ℕ → Option Ran → Option ℕ

@@ -1,11 +1,13 @@
 //! Conditions of actions.
 
-ghost use Rattle.std.specs.Prelude.{◌≡◌, bytes_eq};
+ghost use Rattle.std.specs.Prelude.{◌≡◌};
 ghost use Rattle.zbx_types.specs.Groups.{groups_of};
 ghost use Rattle.zbx_types.specs.Tags.{joined};
 ghost use Rattle.escalations.specs.Conditions.{compares, holds, fits, is_matched};
 
-use zbx_types::{Action, ActionCond, Conf, Matching, Moment, Rec, SeverityOp, Text, has_tag};
+use zbx_types::{
+    Action, ActionCond, Conf, Matching, Moment, Rec, SeverityOp, Text, has_tag, is_same,
+};
 
 /// A problem at a moment.
 #[derive(Clone, Copy)]
@@ -29,13 +31,6 @@ fn compares(op: SeverityOp, severity: u32, value: u32) -> bool
         SeverityOp::Le => severity <= value,
         SeverityOp::Eq => severity == value,
     }
-}
-
-/// Whether two texts are the same.
-fn is_same(one: &Text, other: &Text) -> bool
-    ensures { result ≡ bytes_eq one.now other.now }
-{
-    one.as_bytes() == other.as_bytes()
 }
 
 /// Whether a condition holds of a problem, whose host is in these groups.

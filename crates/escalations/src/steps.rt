@@ -1,8 +1,8 @@
 //! The steps of an action's escalation.
 
-ghost use Rattle.std.specs.Prelude.{◌≡◌, nat_le, min, map, filter, Some, None, if◌then◌else◌};
+ghost use Rattle.std.specs.Prelude.{◌≡◌, min, map, filter, Some, None, if◌then◌else◌};
 ghost use Rattle.std.specs.List.{list_any, reduce};
-ghost use Rattle.escalations.specs.Steps.{goes_to, has_step, step_exists, operations_of, lasts, duration_of, ran_of, with_first, later, last_step, step_due};
+ghost use Rattle.escalations.specs.Steps.{goes_to, has_step, step_exists, lasts, duration_of, ran_of, with_first, later, last_step, step_due};
 
 use zbx_types::{Action, EventId, Moment, Operation, Rec, Text};
 

@@ -18,11 +18,12 @@ Leaves (Characters most) (Characters left) made = char_count made + left ≡ mos
 Leaves (Bytes most) (Characters left) made = ⊥
 Leaves (Characters most) (Bytes left) made = ⊥
 
--- a front is on the way to a text cut at a limit: nothing is left and it is that, or what is to come makes it the text
+-- a made text is on the way to a text cut at a limit: nothing is left and it is that, or what is to come completes it
 abbrev pub Arrives : Limit → Option Limit → List ℕ → List ℕ → List ℕ → Type 0
 Arrives limit None made more whole = made ≡ cut limit whole
 Arrives limit (Some left) made more whole = (made ++ more ≡ whole) × Leaves limit left made
 
+-- a front is on the way to a text cut at a limit, where this is to come
 abbrev pub IsOnTheWay : Limit → Front → List ℕ → List ℕ → Type 0
 IsOnTheWay limit front more whole = Arrives limit front.left front.made more whole
 

@@ -56,11 +56,12 @@ joined made r = (made ++ r.0, r.1)
 abbrev pub closed_by : List ℕ → List ℕ × List ℕ → Option (List ℕ × List ℕ)
 closed_by mark r = option_map (λ after. (r.0, after)) (behind mark r.1)
 
--- an argument that begins here: in quotes where there is a text behind a quote, or up to the mark
+-- an argument up to a mark: in quotes where there is a text behind a quote, or as it is written
 abbrev pub argument_from : List ℕ → List ℕ → Option (List ℕ) → Option (List ℕ × List ℕ)
 argument_from mark text None = up_to mark text
 argument_from mark text (Some rest) = option_and_then (closed_by mark) (unquoted rest)
 
+-- an argument that begins here, up to a mark
 abbrev pub argument_at : List ℕ → List ℕ → Option (List ℕ × List ℕ)
 argument_at mark text = argument_from mark text (behind (codes "\"") text)
 
@@ -76,10 +77,11 @@ with_output place pattern text = option_map (λ r. (Filled place pattern r.0, r.
 unfoldable pub with_pattern : ℕ → List ℕ → Option (Macro × List ℕ)
 with_pattern place text = option_and_then (λ r. with_output place r.0 r.1) (argument (codes ",") text)
 
--- the number of an item macro, and what stands behind the parenthesis that opens its arguments
+-- an item macro whose number is read: that number, and what stands behind the parenthesis that opens its arguments
 abbrev pub filled_arguments : ℕ × List ℕ → Option (ℕ × List ℕ)
 filled_arguments r = option_map (λ arguments. (r.0, arguments)) (behind (codes ".regsub(") r.1)
 
+-- the number of an item macro behind a `{`, and what stands behind the parenthesis that opens its arguments
 abbrev pub filled_name : List ℕ → Option (ℕ × List ℕ)
 filled_name text = option_and_then filled_arguments (option_and_then item_at (behind (codes "{") text))
 
@@ -99,13 +101,15 @@ host_at text = option_map (λ after. (Host, after)) (behind (codes "HOST.NAME}")
 unfoldable pub macro_at : List ℕ → Option (Macro × List ℕ)
 macro_at text = option_or (option_or (host_at text) (value_at text)) (filled_at text)
 
--- the pieces of a title or of a tag's value: bytes that stay, and macros
+-- a macro as a piece of a text, and what follows it
 abbrev pub piece_from : Macro × List ℕ → (ℕ ⊎ Macro) × List ℕ
 piece_from r = (inr r.0, r.1)
 
+-- the macro behind a `{` as a piece, and what follows it
 abbrev pub macro_piece_at : List ℕ → Option ((ℕ ⊎ Macro) × List ℕ)
 macro_piece_at text = option_map piece_from (macro_at text)
 
+-- the pieces of a title or of a tag's value: bytes that stay, and macros
 abbrev pub pieces_of : List ℕ → List (ℕ ⊎ Macro)
 pieces_of text = pieces_in inl macro_piece_at text
 
@@ -115,6 +119,7 @@ pattern_of (Filled place pattern output) = pattern ∷ []
 pattern_of Host = []
 pattern_of (Item place) = []
 
+-- the pattern of a piece, where it is a macro that has one
 abbrev pub piece_patterns : ℕ ⊎ Macro → List (List ℕ)
 piece_patterns (inl byte) = []
 piece_patterns (inr found) = pattern_of found

@@ -24,7 +24,7 @@ is_problem (Recovery event by now cause) = false
 is_problem (Step event action step now) = false
 is_problem (Message event action step recipient subject body) = false
 
--- the name of a problem's event, its severity, and when it began; of other records nothing and 0
+-- the name of a problem's event; of other records nothing
 abbrev pub event_name : Rec → List ℕ
 event_name (Problem event now severity suppressed host trigger name tags) = name
 event_name (Failure number host key why) = []
@@ -32,6 +32,7 @@ event_name (Recovery event by now cause) = []
 event_name (Step event action step now) = []
 event_name (Message event action step recipient subject body) = []
 
+-- the severity of a problem; of other records 0
 abbrev pub severity_of : Rec → ℕ
 severity_of (Problem event now severity suppressed host trigger name tags) = severity
 severity_of (Failure number host key why) = 0
@@ -39,6 +40,7 @@ severity_of (Recovery event by now cause) = 0
 severity_of (Step event action step now) = 0
 severity_of (Message event action step recipient subject body) = 0
 
+-- when a problem began; of other records 0
 abbrev pub began_at : Rec → ℕ
 began_at (Problem event now severity suppressed host trigger name tags) = now
 began_at (Failure number host key why) = 0
@@ -52,17 +54,19 @@ severity_name severity =
     if severity == 0 then codes "Not classified" else if severity == 1 then codes "Information" else if severity == 2 then codes "Warning"
     else if severity == 3 then codes "Average" else if severity == 4 then codes "High" else codes "Disaster"
 
--- a number in two digits, and in four
+-- a number in two digits
 abbrev pub two_digits : ℕ → List ℕ
 two_digits n = digit_at n 10 ∷ digit_at n 1 ∷ []
 
+-- a number in four digits
 abbrev pub four_digits : ℕ → List ℕ
 four_digits n = digit_at n 1000 ∷ digit_at n 100 ∷ digit_at n 10 ∷ digit_at n 1 ∷ []
 
--- YYYY.MM.DD and HH:MM:SS of a clock
+-- the date of a clock, YYYY.MM.DD
 abbrev pub date_of : Clock → List ℕ
 date_of clock = four_digits clock.year ++ codes "." ++ two_digits clock.month ++ codes "." ++ two_digits clock.day
 
+-- the time of day of a clock, HH:MM:SS
 abbrev pub time_of : Clock → List ℕ
 time_of clock = two_digits clock.hour ++ codes ":" ++ two_digits clock.minute ++ codes ":" ++ two_digits clock.second
 
@@ -78,10 +82,11 @@ shown_at conf moment = clock_at (offset_of conf) (pos (moment / 1000000000))
 abbrev pub tag_text : Tag → List ℕ
 tag_text tag = if length tag.value == 0 then tag.tag else tag.tag ++ codes ":" ++ tag.value
 
--- tags with a comma and a blank between each two
+-- a tag behind another one: a comma, a blank and the tag
 abbrev pub further_tag : Tag → List ℕ
 further_tag tag = codes ", " ++ tag_text tag
 
+-- tags with a comma and a blank between each two
 abbrev pub tags_text : List Tag → List ℕ
 tags_text [] = []
 tags_text (tag ∷ more) = tag_text tag ++ flat_map further_tag more

@@ -4,10 +4,11 @@ use Rattle.std.proofs.Common.{inl, inr}
 use Rattle.std.specs.Fmt.{take_chars}
 use Rattle.std.specs.List.{flat_map}
 use Rattle.std.specs.Option.{option_map_or}
+use Rattle.zbx_types.specs.Hosts.{host_name as name_of_host}
 use Rattle.zbx_types.specs.Ids.{at_id}
+use Rattle.zbx_types.specs.Limits.{longest_title}
 use Rattle.zbx_types.specs.Written.{written}
 use Rattle.zbx_types.specs.declared.conf.Conf.{Conf}
-use Rattle.zbx_types.specs.declared.conf.Host.{Host as ConfHost}
 use Rattle.zbx_types.specs.declared.entries.Held.{Held}
 use Rattle.zbx_types.specs.declared.entries.Held.TheVariants.{Number, Words}
 use Rattle.zbx_types.specs.declared.entries.Tag.{Tag}
@@ -18,10 +19,7 @@ use Rattle.event_text.specs.Forms.{pieces_of, patterns_of}
 use Rattle.event_text.specs.declared.macros.Macro.{Macro}
 use Rattle.event_text.specs.declared.macros.Macro.TheVariants.{Host, Item, Filled}
 
--- the most bytes of a name, and the most characters of a tag's value
-abbrev pub longest_name : ℕ
-longest_name = 2048
-
+-- the most characters of a tag's value
 abbrev pub longest_value : ℕ
 longest_value = 255
 
@@ -55,11 +53,11 @@ expanded host values text = flat_map (piece_text host values) (pieces_of text)
 
 -- the name of a trigger's host
 abbrev pub host_name : Conf → Trigger → List ℕ
-host_name conf trigger = option_map_or (λ (host : ConfHost). host.name) (at_id conf.hosts trigger.host) []
+host_name conf trigger = name_of_host (at_id conf.hosts trigger.host)
 
 -- the name of a trigger's events
 abbrev pub title_of : Conf → List (Option Held) → Trigger → List ℕ
-title_of conf values trigger = whole_front longest_name (expanded (host_name conf trigger) values trigger.title)
+title_of conf values trigger = whole_front longest_title (expanded (host_name conf trigger) values trigger.title)
 
 -- the name of the events of the trigger with an id; empty where there is none
 abbrev pub name_of : Conf → ℕ → List (Option Held) → List ℕ
@@ -81,10 +79,11 @@ event_tags conf id values = option_map_or (tags_with conf values) (at_id conf.tr
 abbrev pub HasPatterns : List (List ℕ) → List ℕ → Type 0
 HasPatterns patterns text = All (λ pattern. Contains patterns pattern) (patterns_of text)
 
--- the patterns of a trigger's title are among these, and those of its tags' values
+-- the patterns of a trigger's title are among these
 abbrev pub HasTitlePatterns : List (List ℕ) → Conf → ℕ → Type 0
 HasTitlePatterns patterns conf id = IfSome (at_id conf.triggers id) (λ trigger. HasPatterns patterns trigger.title)
 
+-- the patterns of the values of a trigger's tags are among these
 abbrev pub HasTagPatterns : List (List ℕ) → Conf → ℕ → Type 0
 HasTagPatterns patterns conf id =
     IfSome (at_id conf.triggers id) (λ trigger. All (λ (tag : Tag). HasPatterns patterns tag.value) trigger.tags)

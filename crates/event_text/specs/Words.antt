@@ -46,6 +46,7 @@ is_told recovered Time = true
 is_told recovered Host = true
 is_told recovered Trigger = true
 
+-- a macro and what follows it, where the macro stands for something
 abbrev pub told : Option ℕ → Word × List ℕ → Option (Word × List ℕ)
 told recovered r = if is_told recovered r.0 then Some r else None
 

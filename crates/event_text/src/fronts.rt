@@ -1,6 +1,6 @@
 //! Texts that are made up to a limit.
 
-ghost use Rattle.std.specs.Prelude.{◌≡◌, ◌++◌, ◌≤◌, ◌<◌, ℕ, List, length, take, OnOk, is_none, if◌then◌else◌};
+ghost use Rattle.std.specs.Prelude.{◌≡◌, ◌<◌, ℕ, List, take, OnOk, is_none, if◌then◌else◌};
 ghost use Rattle.std.specs.Fmt.{is_char_start, char_count, take_chars};
 ghost use Rattle.std.specs.Str.{IsCharBoundary};
 ghost use Rattle.event_text.specs.Cuts.{Keeps, IsOnTheWay, Adds};

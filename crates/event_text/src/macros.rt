@@ -1,9 +1,10 @@
 //! The macros of names of events and of values of tags.
 
-ghost use Rattle.std.specs.Prelude.{◌≡◌, ◌∷◌, ◌<◌, ◌≤◌, IfOk, length, option_map, option_and_then};
+ghost use Rattle.std.specs.Prelude.{◌≡◌, ◌<◌, IfOk, length, option_map, option_and_then};
 ghost use Rattle.std.specs.Option.{option_or};
 ghost use Rattle.zbx_types.specs.Blanks.{without_front};
-ghost use Rattle.event_text.specs.Forms.{digit_place, place_with, place_of, item_name, item_at, unquoted, closed_by, argument_at, argument, with_output, with_pattern, filled_name, filled_at, value_at, host_at, macro_at};
+ghost use Rattle.event_text.specs.Forms.{digit_place, place_with, place_of, item_name, item_at, unquoted, closed_by, argument_at, argument};
+ghost use Rattle.event_text.specs.Forms.{with_output, with_pattern, filled_name, filled_at, value_at, host_at, macro_at};
 
 use crate::braces::{ascii_first, behind};
 use crate::quotes::{unquoted, up_to};

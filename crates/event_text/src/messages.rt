@@ -3,9 +3,10 @@
 ghost use Rattle.std.specs.Prelude.{◌≡◌, ◌++◌, ◌∷◌, ◌≤◌, [], IfOk, OnOk, length};
 ghost use Rattle.std.specs.List.{flat_map};
 ghost use Rattle.std.specs.Option.{option_map_or};
-ghost use Rattle.zbx_types.specs.Records.{host_of, tags_of};
+ghost use Rattle.zbx_types.specs.Records.{host_of};
 ghost use Rattle.event_text.specs.Lines.{event_text_of};
-ghost use Rattle.event_text.specs.Messages.{is_problem, event_name, severity_of, began_at, severity_name, tag_text, further_tag, tags_text, date_of, time_of, shown_at, word_text, resolved, message_of};
+ghost use Rattle.event_text.specs.Messages.{is_problem, event_name, severity_of, began_at, severity_name, tag_text, further_tag};
+ghost use Rattle.event_text.specs.Messages.{tags_text, date_of, time_of, shown_at, word_text, resolved, message_of};
 
 use crate::braces::split_at;
 use crate::clocks::{put_date, put_time, shown_at};

@@ -5,7 +5,7 @@ ghost use Rattle.zbx_types.specs.declared.entries.Tag.{Tag};
 ghost use Rattle.pattern_set.specs.Filling.{filled_of};
 ghost use Rattle.event_text.specs.Cuts.{cut, Adds, Goes};
 ghost use Rattle.event_text.specs.Forms.{pattern_of, patterns_of};
-ghost use Rattle.event_text.specs.Titles.{held_text, held_at, item_text, macro_text, expanded, host_name, name_of, event_tag, event_tags, HasPatterns, HasTitlePatterns, HasTagPatterns};
+ghost use Rattle.event_text.specs.Titles.{held_at, item_text, macro_text, expanded, name_of, event_tag, event_tags, HasPatterns, HasTitlePatterns, HasTagPatterns};
 
 use crate::braces::{split_at, split_brace};
 use crate::fronts::{Front, Limit};
@@ -13,10 +13,7 @@ use crate::macros::{Macro, macro_at};
 use pattern_set::Patterns;
 use std::alloc::Global;
 use std::convert::AsStr;
-use zbx_types::{Conf, Held, Many, OutOfMemory, Tag, Text, Trigger, by_id};
-
-/// The most bytes of a name.
-const LONGEST_NAME: usize = 2048;
+use zbx_types::{Conf, Held, LONGEST_TITLE, Many, OutOfMemory, Tag, Text, by_id};
 
 /// The most characters of a tag's value.
 const LONGEST_VALUE: usize = 255;
@@ -193,16 +190,6 @@ fn expand(
     Ok(front.into_text())
 }
 
-/// The name of a trigger's host.
-fn host_name<'a>(conf: &'a Conf, trigger: &Trigger) -> &'a str
-    ensures { result.now ≡ host_name conf.now trigger.now }
-{
-    match by_id(conf.hosts.as_slice(), trigger.host) {
-        Some(host) => host.name.as_str(),
-        None => "",
-    }
-}
-
 /// The name of the events of a trigger: its title with its macros replaced, and then the longest front of whole
 /// characters within 2,048 bytes (the Zabbix 6.0 manual, "Supported macros"; the limit is this project's own). Empty
 /// where no trigger has the id.
@@ -227,11 +214,11 @@ pub fn name(
     match by_id(conf.triggers.as_slice(), trigger) {
         Some(found) => expand(
             alloc,
-            host_name(conf, found),
+            conf.host_name(found.host),
             values,
             patterns,
             &found.title,
-            Limit::Bytes(LONGEST_NAME),
+            Limit::Bytes(LONGEST_TITLE),
         ),
         None => Ok(Text::new(alloc)),
     }
@@ -291,7 +278,7 @@ pub fn tags(
     match by_id(conf.triggers.as_slice(), trigger) {
         Some(found) => tags_with(
             alloc,
-            host_name(conf, found),
+            conf.host_name(found.host),
             values,
             patterns,
             found.tags.as_slice(),

@@ -9,8 +9,8 @@ pub record Fault : Type 0 where
   pub path : List ℕ
   pub cause : Cause
 
--- one reading after another, up to the first fault
 infixl 10 ◌>>=◌
+-- one reading after another, up to the first fault
 abbrev pub ◌>>=◌ : {A B : Type 0} → Result A Fault → (A → Result B Fault) → Result B Fault
 (Ok x) >>= f = f x
 (Err e) >>= f = Err e

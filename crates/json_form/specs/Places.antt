@@ -40,11 +40,12 @@ spot path d = record { path = path; value = Some d }
 abbrev pub nowhere : Place
 nowhere = record { path = []; value = None }
 
--- the place of a member
+-- the place of the member of an object with a name
 unfoldable pub member_of : Object → List ℕ → Place
 member_of o name = record { path = o.path ++ codes "/" ++ escaped name; value = get name o.value }
 
 infixl 12 ◌▸◌
+-- that place, as it is written between an object and a name
 abbrev pub ◌▸◌ : Object → List ℕ → Place
 o ▸ name = member_of o name
 

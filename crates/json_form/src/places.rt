@@ -1,7 +1,7 @@
 //! Places of a document, and the plain values at them.
 
-ghost use Rattle.std.specs.Prelude.{◌≡◌, ◌≤ℤ◌, ◌≤◌, List, ℕ, IfOk, OnErr, ◌++◌, ◌∷◌, [], option_map};
-ghost use Rattle.serde_json.specs.View.{view, items_view};
+ghost use Rattle.std.specs.Prelude.{◌≡◌, ◌≤ℤ◌, ◌≤◌, IfOk, OnErr, ◌++◌, ◌∷◌, [], option_map};
+ghost use Rattle.serde_json.specs.View.{view};
 ghost use Rattle.json_form.specs.Faults.{Gives, GivesAs};
 ghost use Rattle.json_form.specs.Places.{place_of, object_of, spot, ◌▸◌, IsRefusal, word, free, an_object, text, truth, number_between, whole_between, given_or};
 ghost use Rattle.json_form.specs.Lists.{elements, match_items, at_most, not_empty};

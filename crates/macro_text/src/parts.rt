@@ -1,6 +1,6 @@
 //! Texts part by part.
 
-ghost use Rattle.std.specs.Prelude.{◌≡◌, ◌<◌, length};
+ghost use Rattle.std.specs.Prelude.{◌<◌, length};
 ghost use Rattle.macro_text.specs.Parts.{IsFront};
 
 use crate::references::{plain_len, reference_len};

@@ -1,6 +1,6 @@
 //! Outputs that name groups.
 
-ghost use Rattle.std.specs.Prelude.{◌≡◌, ◌<◌, ◌≤◌, ◌+◌, ◌++◌, ℕ, Some, IfOk, MatchOption, length};
+ghost use Rattle.std.specs.Prelude.{◌≡◌, ◌<◌, ◌≤◌, ◌+◌, ◌++◌, Some, IfOk, MatchOption, length};
 ghost use Rattle.regex.specs.Strings.{captures_span, captures_haystack};
 ghost use Rattle.pattern_set.specs.Filling.{names_in_front, text_of, texts_of, filled_by, at_most, GoesOn};
 

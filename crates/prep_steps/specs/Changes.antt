@@ -18,11 +18,12 @@ previous memory = if memory.there then read_number memory.value else None
 abbrev pub with_number : ℕ → ℤ → Outcome → StepDone
 with_number time z outcome = record { outcome = outcome; memory = marked time (written z) }
 
--- the change from the previous number, of which the first number has none
+-- the change of a number from the previous one; the first number has none and is discarded
 abbrev pub change_from : Option ℤ → ℤ → Outcome
 change_from None z = Discard
 change_from (Some before) z = result_of (difference_of z before)
 
+-- the simple change of the number that a value writes, without which the step fails
 abbrev pub changed_number : StepMemory → ℕ → Option ℤ → StepDone
 changed_number memory time None = kept memory no_number
 changed_number memory time (Some z) = with_number time z (change_from (previous memory) z)
@@ -49,6 +50,7 @@ rate_from (Some before) memory time z =
     else if int_lt z before then with_number time z Discard
     else with_number time z (result_of (rate before z (time - memory.time)))
 
+-- the change per second of the number that a value writes, without which the step fails
 abbrev pub rated_number : StepMemory → ℕ → Option ℤ → StepDone
 rated_number memory time None = kept memory no_number
 rated_number memory time (Some z) = rate_from (previous memory) memory time z

@@ -13,10 +13,11 @@ use Rattle.prep_steps.specs.Outcomes.{passed}
 use Rattle.prep_steps.specs.declared.outcome.Outcome.{Outcome}
 use Rattle.prep_steps.specs.declared.outcome.Outcome.TheVariants.{Fail}
 
--- the words of truth, and the others
+-- the words for what is true
 abbrev pub true_words : List (List ℕ)
 true_words = codes "true" ∷ codes "t" ∷ codes "yes" ∷ codes "y" ∷ codes "on" ∷ codes "up" ∷ codes "running" ∷ codes "enabled" ∷ codes "available" ∷ codes "ok" ∷ codes "master" ∷ []
 
+-- the words for what isn't true
 abbrev pub false_words : List (List ℕ)
 false_words = codes "false" ∷ codes "f" ∷ codes "no" ∷ codes "n" ∷ codes "off" ∷ codes "down" ∷ codes "unused" ∷ codes "disabled" ∷ codes "unavailable" ∷ codes "err" ∷ codes "slave" ∷ []
 

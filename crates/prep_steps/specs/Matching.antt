@@ -20,17 +20,19 @@ output_of (Some output) = passed output
 unfoldable pub extracted : List ℕ → List ℕ → List ℕ → Outcome
 extracted pattern output value = output_of (filled_of pattern value output)
 
--- a value passes where there is a match, and where there is none
+-- a value passes where there is a match
 abbrev pub wanted : Option Match → List ℕ → Outcome
 wanted found value = if is_some found then passed value else Fail (codes "no match")
 
+-- a value passes where there is no match
 abbrev pub unwanted : Option Match → List ℕ → Outcome
 unwanted found value = if is_some found then Fail (codes "match") else passed value
 
--- the match of a regular expression, and that of none (the Zabbix 6.0 manual, "Preprocessing details")
+-- the test that a regular expression matches (the Zabbix 6.0 manual, "Preprocessing details")
 unfoldable pub matched : List ℕ → List ℕ → Outcome
 matched pattern value = wanted (leftmost pattern value) value
 
+-- the test that a regular expression doesn't match (the Zabbix 6.0 manual, "Preprocessing details")
 unfoldable pub not_matched : List ℕ → List ℕ → Outcome
 not_matched pattern value = unwanted (leftmost pattern value) value
 

@@ -12,10 +12,11 @@ use Rattle.prep_steps.specs.declared.outcome.Outcome.TheVariants.{Fail}
 unfoldable pub number_of : List ℕ → Option ℤ
 number_of value = read_number (unpadded value)
 
--- the text of the failure of a value that is no number, and its outcome
+-- the text of the failure of a value that is no number
 abbrev pub not_a_number : List ℕ
 not_a_number = codes "not a number"
 
+-- the outcome of a value that is no number
 abbrev pub no_number : Outcome
 no_number = Fail not_a_number
 

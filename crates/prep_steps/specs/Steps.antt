@@ -2,7 +2,8 @@
 use Rattle.std.specs.Prelude.{ℕ, Bool, true, false, List}
 use Rattle.zbx_types.specs.declared.steps.StepSpec.{StepSpec}
 use Rattle.zbx_types.specs.declared.steps.StepKind.{StepKind}
-use Rattle.zbx_types.specs.declared.steps.StepKind.TheVariants.{Regex, Replace, Trim, LTrim, RTrim, JsonPath, Multiplier, SimpleChange, ChangePerSecond, BoolToDecimal, OctalToDecimal, HexToDecimal, InRange, Matches, NotMatches, JsonError, RegexError, Throttle, ThrottleHeartbeat}
+use Rattle.zbx_types.specs.declared.steps.StepKind.TheVariants.{Regex, Replace, Trim, LTrim, RTrim, JsonPath, Multiplier, SimpleChange, ChangePerSecond, BoolToDecimal, OctalToDecimal}
+use Rattle.zbx_types.specs.declared.steps.StepKind.TheVariants.{HexToDecimal, InRange, Matches, NotMatches, JsonError, RegexError, Throttle, ThrottleHeartbeat}
 use Rattle.prep_steps.specs.Changes.{changed, rated}
 use Rattle.prep_steps.specs.Digits.{bool_to_decimal, octal_to_decimal, hex_to_decimal}
 use Rattle.prep_steps.specs.Matching.{extracted, matched, not_matched, checked}

@@ -16,11 +16,11 @@ without_first drops (c ∷ cs) = if drops c then without_first drops cs else c �
 abbrev pub without_last : (ℕ → Bool) → List ℕ → List ℕ
 without_last drops cs = reverse (without_first drops (reverse cs))
 
--- the left trim and the right trim: a text without the characters of a set at one end
--- (the Zabbix 6.0 manual, "Preprocessing details")
+-- the left trim: a text without the characters of a set at its front (the Zabbix 6.0 manual, "Preprocessing details")
 unfoldable pub trimmed_left : List ℕ → List ℕ → List ℕ
 trimmed_left set text = encode_utf8_all (without_first (is_among set) (chars text))
 
+-- the right trim: a text without the characters of a set at its end (the Zabbix 6.0 manual, "Preprocessing details")
 unfoldable pub trimmed_right : List ℕ → List ℕ → List ℕ
 trimmed_right set text = encode_utf8_all (without_last (is_among set) (chars text))
 

@@ -4,7 +4,8 @@ ghost use Rattle.std.specs.Prelude.{◌≡◌, ◌≤◌, ◌^◌, ◌-◌, IfOk
 ghost use Rattle.std.specs.Char.{digit_value};
 ghost use Rattle.std.specs.Str.{str_eq_ignore_ascii_case};
 ghost use Rattle.std.specs.Str.Parse.{digits_value};
-ghost use Rattle.prep_steps.specs.Digits.{true_words, false_words, is_one_of, truth, truth_of, bool_to_decimal, all_of_radix, number_in_radix, in_decimal, octal_to_decimal, without_hex_sign, hex_to_decimal};
+ghost use Rattle.prep_steps.specs.Digits.{true_words, false_words, is_one_of, truth, truth_of, bool_to_decimal, all_of_radix};
+ghost use Rattle.prep_steps.specs.Digits.{number_in_radix, in_decimal, octal_to_decimal, without_hex_sign, hex_to_decimal};
 
 use crate::numbering::no_number;
 use crate::outcome::{Outcome, fail, pass};
