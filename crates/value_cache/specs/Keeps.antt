@@ -13,11 +13,12 @@ use Rattle.zbx_types.specs.declared.conf.Conf.{Conf}
 use Rattle.zbx_types.specs.declared.triggers.Trigger.{Trigger}
 use Rattle.value_cache.specs.declared.keeping.Keep.{Keep}
 
--- the n of a range `#n`, and the seconds of a period
+-- the n of a range `#n`, and 0 of a period
 abbrev pub count_in : Range → ℕ
 count_in (Count n) = n
 count_in (Period p) = 0
 
+-- the seconds of a period, and 0 of a range `#n`
 abbrev pub seconds_in : Range → ℕ
 seconds_in (Count n) = 0
 seconds_in (Period p) = p
@@ -48,10 +49,11 @@ least_count DayOfMonth = 1
 abbrev pub most_seconds : ℕ
 most_seconds = 4294967295
 
--- what a call asks for: so many values, and those of so many seconds before now
+-- a call asks for the latest values, so many of them
 abbrev pub count_asked : Call → ℕ
 count_asked call = max (least_count call.fun) (count_in call.range)
 
+-- and for those of so many seconds before now
 abbrev pub period_asked : Call → ℕ
 period_asked call = min (call.shift + seconds_in call.range) most_seconds
 
@@ -72,10 +74,11 @@ abbrev pub greatest : (Call → ℕ) → List Call → ℕ
 greatest asked [] = 0
 greatest asked (call ∷ calls) = max (asked call) (greatest asked calls)
 
--- the widest that calls ask for, and that or more
+-- the widest that calls ask for
 abbrev pub widest : List Call → Keep
 widest calls = record { count = greatest count_asked calls; period = greatest period_asked calls }
 
+-- what is to be kept, or the widest that calls ask for where that is more
 abbrev pub widened : Keep → List Call → Keep
 widened keep calls = record {
   count = max keep.count (greatest count_asked calls);
