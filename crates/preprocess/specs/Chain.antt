@@ -32,7 +32,7 @@ made_by JsonError step memory value time =
     kept memory (json_checked (found_in (json_in value) (path_in (parameter step.params 0))) value)
 made_by _ step memory value time = done_of step memory value time
 
--- what a step of any kind makes of it
+-- what a step makes of a value that came at a moment, with its memory before it
 unfoldable pub step_done : StepSpec → StepMemory → List ℕ → ℕ → StepDone
 step_done step memory value time = made_by step.kind step memory value time
 
@@ -68,7 +68,7 @@ abbrev pub unreached : List StepSpec → ℕ → (ℕ → StepMemory) → List S
 unreached [] k memory = []
 unreached (step ∷ steps) k memory = memory k ∷ unreached steps (k + 1) memory
 
--- what steps remember where a value goes on, and else what they did
+-- what steps remember where a value goes on to them, and what they remember where none does
 abbrev pub where_on : (List ℕ → List StepMemory) → List StepMemory → Outcome → List StepMemory
 where_on f rest (Value value) = f value
 where_on f rest Discard = rest

@@ -64,7 +64,7 @@ stored_at visits id = stored_of (visit_at visits id)
 abbrev pub kept_after : ℕ → Option Visit → Kept → Kept
 kept_after now visit kept = kept_with now (stored_of visit) kept
 
--- what its steps remember behind a visit, if there is one
+-- what an item's steps remember behind a visit, if there is one
 abbrev pub marks_after : Option Visit → List StepMemory → List StepMemory
 marks_after None marks = marks
 marks_after (Some v) marks = v.marks

@@ -33,7 +33,7 @@ ways_for patterns item = map (way_for patterns) item.steps
 abbrev pub HasPattern : List (List ℕ) → StepSpec → Type 0
 HasPattern patterns step = has_pattern step.kind ≡ true → Contains patterns (parameter step.params 0)
 
--- the same of some steps
+-- the pattern of each of some steps that has one is among these
 abbrev pub HavePatterns : List (List ℕ) → List StepSpec → Type 0
 HavePatterns patterns steps = All (HasPattern patterns) steps
 

@@ -64,7 +64,7 @@ close_all (e ∷ es) = Close (e ∷ es)
 abbrev pub on_true : Trigger → List Open → Bool → Verdict
 on_true trigger os is_value = if makes_new trigger os is_value then New else Nothing
 
--- and where it is 0
+-- the verdict where the problem expression is 0
 abbrev pub on_zero : Trigger → List Open → Option ℤ → List Tag → Verdict
 on_zero trigger os r tags = if lets_close trigger.recovery r then close_all (closing trigger tags os) else Nothing
 
@@ -77,7 +77,7 @@ freely trigger os (Some p) r tags is_value = if int_eq p (pos 0) then on_zero tr
 abbrev pub verdict_over : Trigger → Bool → List Open → Option ℤ → Option ℤ → List Tag → Bool → Verdict
 verdict_over trigger held os p r tags is_value = if held then Nothing else freely trigger os p r tags is_value
 
--- the same of the trigger that there is, and nothing where there is none
+-- the same of the trigger that an id has, and nothing where there is none
 abbrev pub verdict_by : Option Trigger → Bool → List Open → Option ℤ → Option ℤ → List Tag → Bool → Verdict
 verdict_by None held os p r tags is_value = Nothing
 verdict_by (Some trigger) held os p r tags is_value = verdict_over trigger held os p r tags is_value
