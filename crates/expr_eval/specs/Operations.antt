@@ -1,18 +1,10 @@
 -- Operators over values, each a number of millionths or unknown.
-use Rattle.std.specs.Prelude.{Bool, true, false, not, ◌&&◌, ◌||◌, Option, Some, None, if◌then◌else◌, ℤ, pos, int_lt, int_le}
+use Rattle.std.specs.Prelude.{Bool, true, false, not, ◌&&◌, ◌||◌, Option, Some, None, if◌then◌else◌, ℤ, int_lt, int_le}
 use Rattle.std.specs.Ordering.{int_eq}
 use Rattle.std.specs.Option.{option_map}
-use Rattle.zbx_types.specs.Arithmetic.{sum_of, difference_of, product_of, quotient_of}
+use Rattle.zbx_types.specs.Arithmetic.{truth, is_true, sum_of, difference_of, product_of, quotient_of}
 use Rattle.zbx_types.specs.declared.expr.Op.{Op}
 use Rattle.zbx_types.specs.declared.expr.Op.TheVariants.{Or, And, Eq, Ne, Lt, Le, Gt, Ge, Add, Sub, Mul, Div}
-
--- 1 for what holds, and 0 for what doesn't
-abbrev pub truth : Bool → ℤ
-truth holds = if holds then pos 1000000 else pos 0
-
--- a number other than 0 is true
-abbrev pub is_true : ℤ → Bool
-is_true z = not (int_eq z (pos 0))
 
 -- `not`: of an unknown operand unknown
 unfoldable pub negation_of : Option ℤ → Option ℤ

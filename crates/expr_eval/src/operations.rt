@@ -1,22 +1,9 @@
 //! Operators over values, of which each may be unknown.
 
-ghost use Rattle.std.specs.Prelude.{◌≡◌, Some};
-ghost use Rattle.expr_eval.specs.Operations.{truth, is_true, negation_of, or_of, and_of, operation};
+ghost use Rattle.std.specs.Prelude.{◌≡◌};
+ghost use Rattle.expr_eval.specs.Operations.{negation_of, or_of, and_of, operation};
 
 use zbx_types::{Fix, Op};
-
-/// 1 for what holds, and 0 for what doesn't.
-fn truth(holds: bool) -> Option<Fix>
-    ensures { result ≡ Some (truth holds) }
-{
-    Fix::of_raw(if holds { 1_000_000 } else { 0 })
-}
-
-fn is_true(number: Fix) -> bool
-    ensures { result ≡ is_true number }
-{
-    number.raw() != 0
-}
 
 /// `not`: 1 for 0, and 0 for any other number. None stands for an unknown value, here and in the result (the Zabbix 6.0
 /// manual, "Trigger expression", "Unknown operands in expressions").
@@ -24,7 +11,7 @@ fn is_true(number: Fix) -> bool
 pub fn negation(operand: Option<Fix>) -> Option<Fix>
     ensures { result ≡ negation_of operand }
 {
-    truth(!is_true(operand?))
+    Some(Fix::truth(!operand?.is_true()))
 }
 
 #[tactic(auto, unfolding(crate::specs::Operations::or_of))]
@@ -32,9 +19,17 @@ fn or(left: Option<Fix>, right: Option<Fix>) -> Option<Fix>
     ensures { result ≡ or_of left right }
 {
     match (left, right) {
-        (Some(a), Some(b)) => truth(is_true(a) || is_true(b)),
-        (Some(a), None) => if is_true(a) { truth(true) } else { None },
-        (None, Some(b)) => if is_true(b) { truth(true) } else { None },
+        (Some(a), Some(b)) => Some(Fix::truth(a.is_true() || b.is_true())),
+        (Some(a), None) => if a.is_true() {
+            Some(Fix::truth(true))
+        } else {
+            None
+        },
+        (None, Some(b)) => if b.is_true() {
+            Some(Fix::truth(true))
+        } else {
+            None
+        },
         (None, None) => None,
     }
 }
@@ -44,9 +39,17 @@ fn and(left: Option<Fix>, right: Option<Fix>) -> Option<Fix>
     ensures { result ≡ and_of left right }
 {
     match (left, right) {
-        (Some(a), Some(b)) => truth(is_true(a) && is_true(b)),
-        (Some(a), None) => if is_true(a) { None } else { truth(false) },
-        (None, Some(b)) => if is_true(b) { None } else { truth(false) },
+        (Some(a), Some(b)) => Some(Fix::truth(a.is_true() && b.is_true())),
+        (Some(a), None) => if a.is_true() {
+            None
+        } else {
+            Some(Fix::truth(false))
+        },
+        (None, Some(b)) => if b.is_true() {
+            None
+        } else {
+            Some(Fix::truth(false))
+        },
         (None, None) => None,
     }
 }
@@ -60,12 +63,12 @@ pub fn operation(op: Op, left: Option<Fix>, right: Option<Fix>) -> Option<Fix>
     match op {
         Op::Or => or(left, right),
         Op::And => and(left, right),
-        Op::Eq => truth(left? == right?),
-        Op::Ne => truth(left? != right?),
-        Op::Lt => truth(left? < right?),
-        Op::Le => truth(left? <= right?),
-        Op::Gt => truth(left? > right?),
-        Op::Ge => truth(left? >= right?),
+        Op::Eq => Some(Fix::truth(left? == right?)),
+        Op::Ne => Some(Fix::truth(left? != right?)),
+        Op::Lt => Some(Fix::truth(left? < right?)),
+        Op::Le => Some(Fix::truth(left? <= right?)),
+        Op::Gt => Some(Fix::truth(left? > right?)),
+        Op::Ge => Some(Fix::truth(left? >= right?)),
         Op::Add => left?.add(right?),
         Op::Sub => left?.sub(right?),
         Op::Mul => left?.mul(right?),

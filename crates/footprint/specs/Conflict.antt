@@ -22,5 +22,6 @@ conflict_by feet (Value now item time value) (Tick later) = true
 conflict_by feet (Config now text) b = true
 conflict_by feet (Tick now) b = true
 
+-- two entries conflict by the feet of a configuration
 abbrev pub conflict_of : Conf → Entry → Entry → Bool
 conflict_of conf a b = conflict_by (feet_of conf) a b

@@ -11,11 +11,12 @@ use Rattle.zbx_types.specs.declared.rules.Rule.{Rule}
 use Rattle.zbx_types.specs.declared.triggers.Trigger.{Trigger}
 use Rattle.footprint.specs.Rows.{row_at, those, is_one}
 
--- the master item of an item, and the items of a trigger's calls, 0 among them; none where it isn't there
+-- the master item of an item, and 0 where it isn't there
 abbrev pub master_by : Option Item → ℕ
 master_by None = 0
 master_by (Some item) = item.master
 
+-- the items of a trigger's calls, 0 among them, and none where it isn't there
 abbrev pub calls_by : Option Trigger → List ℕ
 calls_by None = []
 calls_by (Some trigger) = trigger.call_items
@@ -30,47 +31,53 @@ chain conf (suc fuel) id =
 abbrev pub is_under : Conf → ℕ → ℕ → Bool
 is_under conf item i = is_one conf.items item && has_id (chain conf (length conf.items) i) item
 
+-- the item and those that depend on it, rising
 abbrev pub under_of : Conf → ℕ → List ℕ
 under_of conf item = those conf.items (is_under conf item)
 
--- the items of a trigger: those that its calls look at
+-- an item is one that the calls of a trigger look at
 abbrev pub is_of : Conf → ℕ → ℕ → Bool
 is_of conf t i = has_id (calls_by (at_id conf.triggers t)) i
 
+-- the items of a trigger, rising
 abbrev pub items_of : Conf → ℕ → List ℕ
 items_of conf t = those conf.items (is_of conf t)
 
--- the triggers over an item or a dependent of it
+-- a trigger is over an item or a dependent of it
 abbrev pub is_over : Conf → ℕ → ℕ → Bool
 is_over conf item t = list_any (λ i. is_of conf t i) (under_of conf item)
 
+-- the triggers over an item or a dependent of it, rising
 abbrev pub over_of : Conf → ℕ → List ℕ
 over_of conf item = those conf.triggers (is_over conf item)
 
--- The foot's items: the item, its dependents, and the items of the triggers over them
+-- an item is one of the foot's: the item, a dependent, or an item of the triggers over them
 abbrev pub foot_has_item : Conf → ℕ → ℕ → Bool
 foot_has_item conf item i = is_under conf item i || list_any (λ t. is_of conf t i) (over_of conf item)
 
--- its triggers: those over them, with all their masters
+-- a trigger is one of the foot's: one over them, or a master of such a one
 abbrev pub foot_has_trigger : Conf → ℕ → ℕ → Bool
 foot_has_trigger conf item u = list_any (λ t. (t == u) || is_master conf t u) (over_of conf item)
 
+-- the foot's triggers, rising
 abbrev pub foot_triggers : Conf → ℕ → List ℕ
 foot_triggers conf item = those conf.triggers (foot_has_trigger conf item)
 
--- a rule's reach holds a trigger, by their ids
+-- a rule's reach holds a trigger, where both are there
 abbrev pub reach_by : Option Rule → Option Trigger → Bool
 reach_by None trigger = false
 reach_by (Some rule) None = false
 reach_by (Some rule) (Some trigger) = in_reach rule trigger
 
+-- a rule's reach holds a trigger, by their ids
 abbrev pub is_reached : Conf → ℕ → ℕ → Bool
 is_reached conf rule u = reach_by (at_id conf.correlations rule) (at_id conf.triggers u)
 
--- its marks: the rules whose reach holds one of these triggers
+-- a rule is one of the foot's marks: its reach holds one of these triggers
 abbrev pub foot_has_mark : Conf → ℕ → ℕ → Bool
 foot_has_mark conf item rule = list_any (λ u. is_reached conf rule u) (foot_triggers conf item)
 
+-- the foot's marks, rising
 abbrev pub foot_marks : Conf → ℕ → List ℕ
 foot_marks conf item = those conf.correlations (foot_has_mark conf item)
 
@@ -90,13 +97,14 @@ pub record FootTables : Type 0 where
   pub marks : List (List ℕ)
   pub met_marks : List (List ℕ)
 
--- the feet of the values of each item, as rising ids
+-- feet of the values of each item, as rising ids
 pub record Footing : Type 0 where
   pub items : ℕ → List ℕ
   pub triggers : ℕ → List ℕ
   pub marks : ℕ → List ℕ
   pub met_marks : ℕ → List ℕ
 
+-- the feet of the values of each item, by a configuration
 abbrev pub feet_of : Conf → Footing
 feet_of conf = record {
   items = λ item. those conf.items (foot_has_item conf item);

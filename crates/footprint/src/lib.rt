@@ -32,4 +32,5 @@ mod tables;
 
 pub use feet::Feet;
 pub use reach::in_reach;
+pub use rows::settled;
 pub use tables::chain;

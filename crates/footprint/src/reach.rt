@@ -1,12 +1,14 @@
 //! Reaches of rules: which triggers a rule of global correlation can be about.
 
-ghost use Rattle.std.specs.Prelude.{◌≡◌, option_copied, bytes_eq, IfOk};
-ghost use Rattle.std.specs.List.{list_any, list_all};
+ghost use Rattle.std.specs.Prelude.{◌≡◌, option_copied, IfOk};
+ghost use Rattle.std.specs.List.{list_all};
 ghost use Rattle.zbx_types.specs.Reach.{asks_for_value, old_name, new_name, has_name, reaches, in_reach};
 ghost use Rattle.footprint.specs.Reaches.{reached_from};
 
 use std::alloc::Global;
-use zbx_types::{Many, Matching, OutOfMemory, Rule, RuleCond, Tag, TagOp, Text, Trigger, id_of};
+use zbx_types::{
+    Many, Matching, OutOfMemory, Rule, RuleCond, Tag, TagOp, Text, Trigger, has_tag, id_of,
+};
 
 /// Whether an operator holds of some value, so that the tag has to be there.
 fn asks_for_value(op: TagOp) -> bool
@@ -56,18 +58,6 @@ fn has_name(tags: &[Tag], name: Option<&Text>) -> bool
         None => true,
         Some(name) => has_tag(tags, name),
     }
-}
-
-/// Whether some tag has a name.
-fn has_tag(tags: &[Tag], name: &Text) -> bool
-    ensures { result ≡ list_any (λ tag. bytes_eq tag.tag name.now) tags.now }
-{
-    for tag in tags {
-        if tag.tag == *name {
-            return true;
-        }
-    }
-    false
 }
 
 /// Whether a trigger with these tags can be the old side of conditions.

@@ -33,12 +33,9 @@ fn risen(alloc: Global, ids: &[u32], count: usize) -> Result<Many<u32>, OutOfMem
     Ok(row)
 }
 
-/// Those ids of a list that were found, rising.
-pub(crate) fn settled<T>(
-    alloc: Global,
-    found: Vec<u32>,
-    all: &[T],
-) -> Result<Many<u32>, OutOfMemory>
+/// Those ids of a list that were found, each once, rising; what is no id of the list is left out. [`OutOfMemory`] where
+/// there is no room for them.
+pub fn settled<T>(alloc: Global, found: Vec<u32>, all: &[T]) -> Result<Many<u32>, OutOfMemory>
     ensures { IfOk result (λ row. row ≡ those all.now (has_id found.items)) }
 {
     let mut ids = found;

@@ -1,19 +1,19 @@
 -- Functions of neighbouring values (the Zabbix 6.0 manual, "History functions").
-use Rattle.std.specs.Prelude.{ℕ, ◌==◌, length, ℤ, int_lt, int_le, Bool, true, not, List, count_by, codes, bytes_eq, Option, None, option_and_then, if◌then◌else◌}
+use Rattle.std.specs.Prelude.{ℕ, ◌==◌, length, ℤ, int_lt, int_le, Bool, true, not, List, count_by, codes, bytes_eq, Option, Some, None, option_and_then, if◌then◌else◌}
 use Rattle.std.specs.Ordering.{int_eq}
 use Rattle.std.specs.List.{list_all}
-use Rattle.zbx_types.specs.Arithmetic.{difference_of}
+use Rattle.zbx_types.specs.Arithmetic.{truth, difference_of}
 use Rattle.zbx_types.specs.declared.entries.Stored.{Stored}
 use Rattle.zbx_types.specs.declared.entries.Held.{Held}
 use Rattle.zbx_types.specs.declared.entries.Held.TheVariants.{Number, Words}
-use Rattle.history_functions.specs.Values.{neighbours, nth_last, truth, whole}
+use Rattle.history_functions.specs.Values.{neighbours, nth_last, whole}
 use Rattle.history_functions.specs.declared.changes.Counted.{Counted}
 use Rattle.history_functions.specs.declared.changes.Counted.TheVariants.{Every, Rises, Falls}
 
 -- a later value less an earlier one; of texts 0 where they are equal, else 1
 abbrev pub change_between : Held → Held → Option ℤ
 change_between (Number later) (Number earlier) = difference_of later earlier
-change_between (Words later) (Words earlier) = truth (not (bytes_eq later earlier))
+change_between (Words later) (Words earlier) = Some (truth (not (bytes_eq later earlier)))
 change_between (Number later) (Words earlier) = None
 change_between (Words later) (Number earlier) = None
 
@@ -66,8 +66,8 @@ all_fall strict zs = list_all (λ pair. may_rise strict pair.1 pair.0) (neighbou
 
 -- `monoinc`: whether they rise; of no number unknown
 abbrev pub monoinc_of : List ℕ → List ℤ → Option ℤ
-monoinc_of mode zs = if length zs == 0 then None else truth (all_rise (is_strict mode) zs)
+monoinc_of mode zs = if length zs == 0 then None else Some (truth (all_rise (is_strict mode) zs))
 
 -- `monodec`: whether they fall
 abbrev pub monodec_of : List ℕ → List ℤ → Option ℤ
-monodec_of mode zs = if length zs == 0 then None else truth (all_fall (is_strict mode) zs)
+monodec_of mode zs = if length zs == 0 then None else Some (truth (all_fall (is_strict mode) zs))

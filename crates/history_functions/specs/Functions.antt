@@ -2,7 +2,8 @@
 use Rattle.std.specs.Prelude.{ℕ, ℤ, List, Option, None}
 use Rattle.zbx_types.specs.declared.calls.Call.{Call}
 use Rattle.zbx_types.specs.declared.calls.Fun.{Fun}
-use Rattle.zbx_types.specs.declared.calls.Fun.TheVariants.{Last, First, Min, Max, Avg, Sum, Change, Count, Find, NoData, Percentile, ChangeCount, MonoInc, MonoDec, Now, Time, Date, DayOfWeek, DayOfMonth}
+use Rattle.zbx_types.specs.declared.calls.Fun.TheVariants.{Last, First, Min, Max, Avg, Sum, Change, Count, Find, NoData}
+use Rattle.zbx_types.specs.declared.calls.Fun.TheVariants.{Percentile, ChangeCount, MonoInc, MonoDec, Now, Time, Date, DayOfWeek, DayOfMonth}
 use Rattle.zbx_types.specs.declared.entries.Stored.{Stored}
 use Rattle.history_functions.specs.Values.{numbers}
 use Rattle.history_functions.specs.Numbers.{last_of, first_of, min_of, max_of, avg_of, sum_of_numbers}

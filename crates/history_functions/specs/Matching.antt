@@ -2,6 +2,7 @@
 use Rattle.std.specs.Prelude.{ℕ, ◌==◌, ℤ, int_lt, int_le, Bool, true, false, not, List, length, count_by, bytes_eq, Option, Some, None, is_some, if◌then◌else◌}
 use Rattle.std.specs.Ordering.{int_eq}
 use Rattle.std.specs.List.{list_any}
+use Rattle.zbx_types.specs.Arithmetic.{truth}
 use Rattle.zbx_types.specs.Operators.{operator_of, pattern_of}
 use Rattle.zbx_types.specs.Suffixes.{read_suffixed}
 use Rattle.zbx_types.specs.Texts.{contains}
@@ -11,7 +12,7 @@ use Rattle.zbx_types.specs.declared.entries.Held.{Held}
 use Rattle.zbx_types.specs.declared.entries.Held.TheVariants.{Number, Words}
 use Rattle.pattern_set.specs.Patterns.{leftmost}
 use Rattle.pattern_set.specs.Places.{place_of}
-use Rattle.history_functions.specs.Values.{truth, whole}
+use Rattle.history_functions.specs.Values.{whole}
 use Rattle.zbx_types.specs.declared.operators.Operator.{Operator}
 use Rattle.zbx_types.specs.declared.operators.Operator.TheVariants.{Any, Unwritten, Eq, Ne, Gt, Ge, Lt, Le, Like, Regexp, Iregexp, Other}
 
@@ -89,7 +90,7 @@ count_of op arg window = whole (count_matching (operator_of op arg) arg window)
 
 -- `find`: whether one matches; of no value unknown
 abbrev pub find_of : List ℕ → List ℕ → List Stored → Option ℤ
-find_of op arg window = if length window == 0 then None else truth (any_matches (operator_of op arg) arg window)
+find_of op arg window = if length window == 0 then None else Some (truth (any_matches (operator_of op arg) arg window))
 
 -- the place of a pattern among patterns, 0 where there is none
 abbrev pub pattern_place : Option (List ℕ) → List (List ℕ) → ℕ

@@ -1,5 +1,5 @@
 -- The values of a window, which stand oldest first.
-use Rattle.std.specs.Prelude.{ℕ, ◌+◌, ◌-◌, ◌*◌, ℤ, pos, Bool, List, [], ◌∷◌, Option, Some, if◌then◌else◌, drop, length}
+use Rattle.std.specs.Prelude.{ℕ, ◌+◌, ◌-◌, ◌*◌, ℤ, pos, List, [], ◌∷◌, Option, drop, length}
 use Rattle.std.specs.List.{zip}
 use Rattle.zbx_types.specs.Arithmetic.{in_range}
 use Rattle.zbx_types.specs.Ids.{at_id}
@@ -24,10 +24,6 @@ neighbours xs = zip xs (drop 1 xs)
 -- the n-th from the end, where 1 is the last
 abbrev pub nth_last : {A : Type 0} → ℕ → List A → Option A
 nth_last n xs = at_id xs (length xs + 1 - n)
-
--- 1 for what holds, and 0 for what doesn't
-abbrev pub truth : Bool → Option ℤ
-truth holds = Some (if holds then pos 1000000 else pos 0)
 
 -- a whole number, where it is in range
 abbrev pub whole : ℕ → Option ℤ

@@ -3,7 +3,6 @@
 ghost use Rattle.std.specs.Prelude.{◌≡◌};
 ghost use Rattle.history_functions.specs.Absence.{awaited, nodata_of};
 
-use crate::values::truth;
 use zbx_types::{Fix, Moment, Range, Stored};
 
 /// Whether a period is over since the first Tick.
@@ -14,7 +13,7 @@ fn awaited(seconds: u32, now: Moment, first_tick: Option<Moment>) -> Option<Fix>
         None => None,
         Some(tick) => {
             if now.is_past(tick, seconds) {
-                truth(true)
+                Some(Fix::truth(true))
             } else {
                 None
             }
@@ -32,7 +31,7 @@ pub(crate) fn nodata(
     ensures { result ≡ nodata_of range window.now now first_tick }
 {
     match window {
-        [_, ..] => truth(false),
+        [_, ..] => Some(Fix::truth(false)),
         [] => match range {
             Range::Count(_) => None,
             Range::Period(seconds) => awaited(seconds, now, first_tick),

@@ -1,10 +1,11 @@
 //! Functions of neighbouring values.
 
 ghost use Rattle.std.specs.Prelude.{◌≡◌};
-ghost use Rattle.history_functions.specs.Changes.{change_between, change_of, counted_by, number_counts, counts, changes, changecount_of, may_rise, is_strict, all_rise, all_fall, monoinc_of, monodec_of};
+ghost use Rattle.history_functions.specs.Changes.{change_between, change_of, counted_by, number_counts, counts, changes, changecount_of};
+ghost use Rattle.history_functions.specs.Changes.{may_rise, is_strict, all_rise, all_fall, monoinc_of, monodec_of};
 
-use crate::values::{nth_last, same_text, truth, whole};
-use zbx_types::{Fix, Held, Stored};
+use crate::values::{nth_last, whole};
+use zbx_types::{Fix, Held, Stored, same_text};
 
 /// What `changecount` counts.
 #[derive(Clone, Copy)]
@@ -24,7 +25,7 @@ fn change_between(later: &Held, earlier: &Held) -> Option<Fix>
     match (later, earlier) {
         (Held::Number(later), Held::Number(earlier)) => later.sub(*earlier),
         (Held::Words(later), Held::Words(earlier)) => {
-            truth(!same_text(later.as_bytes(), earlier.as_bytes()))
+            Some(Fix::truth(!same_text(later.as_bytes(), earlier.as_bytes())))
         }
         (Held::Number(_), Held::Words(_)) => None,
         (Held::Words(_), Held::Number(_)) => None,
@@ -144,7 +145,7 @@ pub(crate) fn monoinc(mode: &[u8], numbers: &[Fix]) -> Option<Fix>
     if numbers.is_empty() {
         None
     } else {
-        truth(all_rise(is_strict(mode), numbers))
+        Some(Fix::truth(all_rise(is_strict(mode), numbers)))
     }
 }
 
@@ -155,6 +156,6 @@ pub(crate) fn monodec(mode: &[u8], numbers: &[Fix]) -> Option<Fix>
     if numbers.is_empty() {
         None
     } else {
-        truth(all_fall(is_strict(mode), numbers))
+        Some(Fix::truth(all_fall(is_strict(mode), numbers)))
     }
 }

@@ -7,11 +7,11 @@ ghost use Rattle.zbx_types.specs.Suffixes.{read_suffixed};
 ghost use Rattle.zbx_types.specs.Written.{written};
 ghost use Rattle.history_functions.specs.Matching.{is_found, comparison, compares, number_matches, text_matches, matches, count_matching, any_matches, count_of, find_of};
 
-use crate::values::{same_text, truth, whole};
+use crate::values::whole;
 use pattern_set::{Matcher, Patterns};
 use std::alloc::Global;
 use std::convert::AsStr;
-use zbx_types::{Fix, Held, Operator, OutOfMemory, Stored, Text, operator_of};
+use zbx_types::{Fix, Held, Operator, OutOfMemory, Stored, Text, operator_of, same_text};
 
 /// What values are tested for.
 #[derive(Clone, Copy)]
@@ -216,5 +216,6 @@ pub(crate) fn find(
     }
     let test = prepared(op, arg);
     let mut matcher = patterns.matcher(alloc, place)?;
-    Ok(truth(any_matches(alloc, &test, &mut matcher, window)?))
+    let any = any_matches(alloc, &test, &mut matcher, window)?;
+    Ok(Some(Fix::truth(any)))
 }

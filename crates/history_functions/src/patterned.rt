@@ -7,37 +7,7 @@ ghost use Rattle.history_functions.specs.Matching.{pattern_place};
 
 use pattern_set::Patterns;
 use std::alloc::Global;
-use zbx_types::{Call, Fun, OutOfMemory, Text, operator_of, pattern_of};
-
-/// The pattern of a call, where it has one.
-#[tactic(auto, unfolding(zbx_types::specs::Operators::call_pattern))]
-fn call_pattern(alloc: Global, call: &Call) -> Result<Option<Text>, OutOfMemory>
-    ensures { IfOk result (λ pattern. pattern ≡ call_pattern call.now) }
-{
-    match call.fun {
-        Fun::Count | Fun::Find => {
-            let operator = operator_of(call.op.as_bytes(), call.arg.as_bytes());
-            pattern_of(alloc, operator, &call.arg)
-        }
-        Fun::Last
-        | Fun::First
-        | Fun::Min
-        | Fun::Max
-        | Fun::Avg
-        | Fun::Sum
-        | Fun::Change
-        | Fun::NoData
-        | Fun::Percentile
-        | Fun::ChangeCount
-        | Fun::MonoInc
-        | Fun::MonoDec
-        | Fun::Now
-        | Fun::Time
-        | Fun::Date
-        | Fun::DayOfWeek
-        | Fun::DayOfMonth => Ok(None),
-    }
-}
+use zbx_types::{Call, OutOfMemory};
 
 /// The place of a call's pattern among patterns, for [`value_at`](crate::value_at): found once, it serves at each
 /// evaluation. It is the place of the argument of `count` or `find` with the operator `regexp`, and with `iregexp` that of
@@ -48,7 +18,7 @@ pub fn pattern_place(alloc: Global, call: &Call, patterns: &Patterns) -> Result<
     ensures place { IfOk result (λ place. place ≡ pattern_place (call_pattern call.now) patterns.now) }
     ensures there { IfSome (call_pattern call.now) (Contains patterns.now) → IfOk result (λ place. at_id patterns.now place ≡ call_pattern call.now) }
 {
-    match call_pattern(alloc, call)? {
+    match call.pattern(alloc)? {
         Some(pattern) => Ok(patterns.find(&pattern)),
         None => Ok(0),
     }

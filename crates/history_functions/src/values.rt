@@ -1,8 +1,8 @@
 //! The values of a window.
 
-ghost use Rattle.std.specs.Prelude.{◌≡◌, bytes_eq, IfOk};
+ghost use Rattle.std.specs.Prelude.{◌≡◌, IfOk};
 ghost use Rattle.std.specs.Option.{option_copied};
-ghost use Rattle.history_functions.specs.Values.{numbers, nth_last, truth, whole};
+ghost use Rattle.history_functions.specs.Values.{numbers, nth_last, whole};
 
 use std::alloc::Global;
 use zbx_types::{Fix, Held, Many, OutOfMemory, Stored};
@@ -30,20 +30,6 @@ pub(crate) fn nth_last<T>(items: &[T], n: u32) -> Option<&T>
     }
     let place = items.len().checked_sub(n as usize)?;
     items.get(place)
-}
-
-/// Whether two texts have the same bytes.
-pub(crate) fn same_text(a: &[u8], b: &[u8]) -> bool
-    ensures { result ≡ bytes_eq a.now b.now }
-{
-    a == b
-}
-
-/// 1 for what holds, and 0 for what doesn't.
-pub(crate) fn truth(holds: bool) -> Option<Fix>
-    ensures { result ≡ truth holds }
-{
-    Fix::of_raw(if holds { 1_000_000 } else { 0 })
 }
 
 /// A whole number.

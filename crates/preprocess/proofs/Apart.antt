@@ -3,13 +3,14 @@ use Rattle.std.proofs.Common.{◌≡◌, ◌≢◌, ◌≤◌, ◌+◌, ◌-◌,
 use Rattle.std.specs.Prelude.{⊤}
 use Rattle.std.specs.List.{cons_option, AllByRecursion}
 use Rattle.zbx_types.specs.Ids.{at_id}
+use Rattle.zbx_types.specs.Items.{is_trapper_item}
 use Rattle.zbx_types.specs.declared.conf.Conf.{Conf}
 use Rattle.zbx_types.specs.declared.items.Item.{Item}
 use Rattle.preprocess.specs.Chains.{dependents_of, dependents_from, is_dependent, depends_on}
 use Rattle.preprocess.specs.Visits.{Arrival, visited, visit_of, visits_of, result_of}
 use Rattle.preprocess.specs.Draft.{AreApart, IsOther}
 use Rattle.preprocess.specs.declared.visit.Visit.{Visit}
-use Rattle.preprocess.specs.Walks.{takes, takes_by}
+use Rattle.preprocess.specs.Walks.{takes}
 use Rattle.preprocess.proofs.Visiting.{Memory, found, each_dependent, both, visits_is, first_refused}
 
 -- the master of an item
@@ -181,7 +182,7 @@ found_at conf memory arrival x v e = go (result_of conf memory arrival x) e
 pub visits_apart : (conf : Conf) (memory : Memory) (arrival : Arrival) → AreApart (visits_of conf memory arrival)
 visits_apart conf memory arrival = go (takes conf arrival.item) refl
   where
-    free_by : (o : Option Item) → takes_by o ≡ true → depends_by o ≡ false
+    free_by : (o : Option Item) → is_trapper_item o ≡ true → depends_by o ≡ false
     free_by None t = refl
     free_by (Some item) t = rw t refl
 

@@ -6,7 +6,7 @@ use Rattle.zbx_types.specs.declared.conf.Conf.{Conf}
 use Rattle.zbx_types.specs.declared.items.Item.{Item}
 use Rattle.preprocess.specs.Chains.{dependents_of}
 use Rattle.preprocess.specs.Visits.{Arrival, chained_by, visit_of, visited, visits_of}
-use Rattle.preprocess.specs.Walks.{own_visit, given, with_text, walk, takes, takes_by}
+use Rattle.preprocess.specs.Walks.{own_visit, given, with_text, walk, takes}
 use Rattle.preprocess.specs.Draft.{visit_at}
 use Rattle.preprocess.specs.declared.chain.Chained.{Chained}
 use Rattle.preprocess.specs.declared.visit.Visit.{Visit}

@@ -3,13 +3,13 @@ use Rattle.std.proofs.Common.{◌≡◌, ◌≤◌, ◌+◌, ◌-◌, ◌==◌, 
 use Rattle.std.proofs.lemmas.List.Elements.{filter_map-append}
 use Rattle.std.specs.List.{cons_option, AllByRecursion}
 use Rattle.zbx_types.specs.Ids.{at_id}
-use Rattle.zbx_types.specs.Items.{is_trapper_kind}
+use Rattle.zbx_types.specs.Items.{is_trapper_kind, is_trapper_item}
 use Rattle.zbx_types.specs.declared.conf.Conf.{Conf}
 use Rattle.zbx_types.specs.declared.items.Item.{Item}
 use Rattle.prep_steps.specs.declared.memory.StepMemory.{StepMemory}
 use Rattle.preprocess.specs.Chains.{dependents_of, dependents_from, is_dependent, depends_on}
 use Rattle.preprocess.specs.Visits.{Arrival, chained_by, text_of, came_by, came, result_of, visited, visit_of, visits_of}
-use Rattle.preprocess.specs.Walks.{walk, given, with_text, takes, takes_by}
+use Rattle.preprocess.specs.Walks.{walk, given, with_text, takes}
 use Rattle.preprocess.specs.declared.visit.Visit.{Visit}
 use Rattle.preprocess.proofs.Rows.{at_suc}
 
@@ -184,12 +184,12 @@ pub first_taken : (conf : Conf) (memory : Memory) (arrival : Arrival) → takes 
     → walk conf memory arrival.time arrival.number (length conf.items - 1) arrival.item arrival.value ≡ visits_of conf memory arrival
 first_taken conf memory arrival h = go (at_id conf.items arrival.item) refl h
   where
-    go : (o : Option Item) → at_id conf.items arrival.item ≡ o → takes_by o ≡ true → walk conf memory arrival.time arrival.number (length conf.items - 1) arrival.item arrival.value ≡ visits_of conf memory arrival
+    go : (o : Option Item) → at_id conf.items arrival.item ≡ o → is_trapper_item o ≡ true → walk conf memory arrival.time arrival.number (length conf.items - 1) arrival.item arrival.value ≡ visits_of conf memory arrival
     go None e t = absurd (true≢false (sym t))
     go (Some item) e t = walk_first conf memory arrival item e t
 
 pub first_refused : (conf : Conf) (memory : Memory) (arrival : Arrival) → takes conf arrival.item ≡ false → [] ≡ visits_of conf memory arrival
-first_refused conf memory arrival h = no_visits conf memory arrival (λ t. true≢false (sym t.2 ∙ sym (ap takes_by t.1) ∙ h))
+first_refused conf memory arrival h = no_visits conf memory arrival (λ t. true≢false (sym t.2 ∙ sym (ap is_trapper_item t.1) ∙ h))
 
 pub visits_is : (conf : Conf) (memory : Memory) (arrival : Arrival) → visits_of conf memory arrival ≡ filter_map (found conf memory arrival) (visited conf (length conf.items - 1) arrival.item)
 unfolding visits_of

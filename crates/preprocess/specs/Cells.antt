@@ -26,6 +26,7 @@ pub record AreSame (one other : Cells) : Type 0 where
 abbrev pub empty : Keep → Kept
 empty keep = record { keep = keep; values = [] }
 
+-- no step of an item has a mark yet
 abbrev pub no_marks : Item → List StepMemory
 no_marks item = map (λ step. unmarked) item.steps
 

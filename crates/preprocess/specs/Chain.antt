@@ -24,7 +24,7 @@ use Rattle.preprocess.specs.declared.ended.Ended.{Ended}
 use Rattle.preprocess.specs.declared.ended.Ended.TheVariants.{Stored, Discarded, Failed}
 use Rattle.preprocess.specs.declared.chain.Chained.{Chained}
 
--- what a step of any kind makes of a value that came at a moment, with its memory before it
+-- what a step of this kind makes of a value that came at a moment, with its memory before it
 abbrev pub made_by : StepKind → StepSpec → StepMemory → List ℕ → ℕ → StepDone
 made_by JsonPath step memory value time =
     kept memory (selected (found_in (json_in value) (path_in (parameter step.params 0))))
@@ -32,6 +32,7 @@ made_by JsonError step memory value time =
     kept memory (json_checked (found_in (json_in value) (path_in (parameter step.params 0))) value)
 made_by _ step memory value time = done_of step memory value time
 
+-- what a step makes of a value that came at a moment, with its memory before it
 unfoldable pub step_done : StepSpec → StepMemory → List ℕ → ℕ → StepDone
 step_done step memory value time = made_by step.kind step memory value time
 
@@ -44,6 +45,7 @@ on_failure on_fail.Discard k text why = Discard
 on_failure on_fail.Value k text why = Value text
 on_failure on_fail.Error k text why = Fail text
 
+-- what comes of an outcome at the step with this number: of a failure what the step says
 abbrev pub settled : StepSpec → ℕ → Outcome → Outcome
 settled step k (Value value) = Value value
 settled step k Discard = Discard
@@ -66,6 +68,7 @@ abbrev pub unreached : List StepSpec → ℕ → (ℕ → StepMemory) → List S
 unreached [] k memory = []
 unreached (step ∷ steps) k memory = memory k ∷ unreached steps (k + 1) memory
 
+-- what steps remember where a value goes on to them, and what they remember where none does
 abbrev pub where_on : (List ℕ → List StepMemory) → List StepMemory → Outcome → List StepMemory
 where_on f rest (Value value) = f value
 where_on f rest Discard = rest
@@ -79,16 +82,18 @@ marks_of (step ∷ steps) k memory value time =
     ∷ where_on (λ v. marks_of steps (k + 1) memory v time) (unreached steps (k + 1) memory)
     (settled step k (step_done step (memory k) value time).outcome)
 
--- the last reading of a number item: its value is the number that the text writes between blanks, and its text that
--- number written (this project's own)
+-- the end at a number item: its value is the number that the text writes between blanks, and its text that number
+-- written (this project's own)
 abbrev pub number_ended : Option ℤ → Ended
 number_ended None = Failed (codes "value: not a number")
 number_ended (Some z) = Stored (NumberHeld z) (written z)
 
+-- the last reading of a text, by the type of its item's values
 abbrev pub read_as : ValueType → List ℕ → Ended
 read_as Number text = number_ended (number_of text)
 read_as Words text = Stored (WordsHeld text) text
 
+-- how a chain ends with an outcome
 abbrev pub ended_as : ValueType → Outcome → Ended
 ended_as type (Value text) = read_as type text
 ended_as type Discard = Discarded

@@ -2,9 +2,9 @@
 use Rattle.std.specs.Prelude.{◌≢◌, ◌<◌, ℕ, ◌==◌, List, [], ◌∷◌, filter_map, Option, Some, None, IfSome, if◌then◌else◌}
 use Rattle.std.specs.Prelude.{⊤}
 use Rattle.std.specs.List.{AllByRecursion}
+use Rattle.zbx_types.specs.Hosts.{host_name}
 use Rattle.zbx_types.specs.Ids.{at_id}
 use Rattle.zbx_types.specs.declared.conf.Conf.{Conf}
-use Rattle.zbx_types.specs.declared.conf.Host.{Host}
 use Rattle.zbx_types.specs.declared.entries.Rec.{Rec}
 use Rattle.zbx_types.specs.declared.entries.Rec.TheVariants.{Failure}
 use Rattle.zbx_types.specs.declared.entries.Stored.{Stored}
@@ -26,11 +26,12 @@ abbrev pub AreApart : List Visit → Type 0
 AreApart [] = ⊤
 AreApart (v ∷ visits) = IsOther v.item visits × AreApart visits
 
--- what a cell keeps, whatever room it has
+-- what contracts see of what a cell keeps, whatever room it has
 pub record Kept : Type 0 where
   pub keep : Keep
   pub values : List Stored
 
+-- what a cell keeps
 abbrev pub kept_of : CellView → Kept
 kept_of cell = record { keep = cell.keep; values = cell.values }
 
@@ -59,23 +60,21 @@ stored_of (Some v) = stored_by v.outcome
 abbrev pub stored_at : List Visit → ℕ → Option Stored
 stored_at visits id = stored_of (visit_at visits id)
 
--- what an item's cell keeps, and what its steps remember, behind a visit, if there is one
+-- what an item's cell keeps behind a visit, if there is one
 abbrev pub kept_after : ℕ → Option Visit → Kept → Kept
 kept_after now visit kept = kept_with now (stored_of visit) kept
 
+-- what an item's steps remember behind a visit, if there is one
 abbrev pub marks_after : Option Visit → List StepMemory → List StepMemory
 marks_after None marks = marks
 marks_after (Some v) marks = v.marks
 
--- the Failure record of a visit that failed
-abbrev pub name_of : Option Host → List ℕ
-name_of None = []
-name_of (Some host) = host.name
-
+-- the Failure record of an item, where it is there
 abbrev pub failure_by : Conf → ℕ → List ℕ → Option Item → Option Rec
 failure_by conf number why None = None
-failure_by conf number why (Some item) = Some (Failure number (name_of (at_id conf.hosts item.host)) item.key why)
+failure_by conf number why (Some item) = Some (Failure number (host_name (at_id conf.hosts item.host)) item.key why)
 
+-- the Failure record of a visit that failed
 abbrev pub failure_of : Conf → ℕ → Visit → Outcome → Option Rec
 failure_of conf number v (outcome.Stored stored) = None
 failure_of conf number v outcome.Discarded = None

@@ -29,6 +29,7 @@ marks_behind conf (t ∷ log) id =
     (marks_behind conf log id))
     (at_id conf.items id) []
 
+-- what one step of an item remembers behind a log, by its number
 abbrev pub memory_behind : Conf → List Taken → ℕ → ℕ → StepMemory
 memory_behind conf log id k = memory_at (marks_behind conf log id) k
 
@@ -36,6 +37,7 @@ memory_behind conf log id k = memory_at (marks_behind conf log id) k
 abbrev pub visit_behind : Conf → List Taken → Taken → ℕ → Option Visit
 visit_behind conf log t id = visit_at (visits_of conf (memory_behind conf log) t.arrival) id
 
+-- a value that is stored at a moment, if there is one
 abbrev pub insert_of : ℕ → Option Stored → List Insert
 insert_of now None = []
 insert_of now (Some stored) = record { stored = stored; now = now } ∷ []

@@ -5,6 +5,7 @@ use Rattle.zbx_types.specs.declared.entries.Stored.{Stored}
 use Rattle.preprocess.specs.Draft.{Kept, kept_with}
 use Rattle.preprocess.specs.Rows.{with_row}
 
+-- what cells keep with one more value of an item that keeps this, if it has a cell
 abbrev pub kept_row : ℕ → Stored → ℕ → List Kept → Option Kept → List Kept
 kept_row now stored id rows None = rows
 kept_row now stored id rows (Some kept) = with_row rows id (kept_with now (Some stored) kept)

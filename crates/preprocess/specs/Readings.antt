@@ -18,6 +18,7 @@ json_found (inr refuted) = None
 unfoldable pub json_in : List ℕ → Option Json
 json_in text = json_found (is_text_or_not text)
 
+-- the path that a text is, from a decision whether it is one
 abbrev pub path_found : {text : List ℕ} → IsPathText text ⊎ (IsPathText text → ⊥) → Option Path
 path_found (inl (path, is)) = Some path
 path_found (inr refuted) = None

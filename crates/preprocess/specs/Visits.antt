@@ -33,12 +33,13 @@ abbrev pub chained_by : (ℕ → StepMemory) → ℕ → Option Item → Option 
 chained_by memory time None came = None
 chained_by memory time (Some item) came = option_map (λ value. chain_of item memory value time) came
 
--- the text that goes to the dependents of an item: that of the value that it stores
+-- the text of the value that a chain ends with, if it is stored
 abbrev pub ended_text : Ended → Option (List ℕ)
 ended_text (Stored held text) = Some text
 ended_text Discarded = None
 ended_text (Failed why) = None
 
+-- the text that goes to the dependents of an item: that of the value that it stores
 abbrev pub text_of : Option Chained → Option (List ℕ)
 text_of None = None
 text_of (Some chained) = ended_text chained.end
@@ -70,12 +71,13 @@ unfoldable pub visited : Conf → ℕ → ℕ → List ℕ
 visited conf zero id = id ∷ []
 visited conf (suc down) id = id ∷ flat_map (visited conf down) (dependents_of conf id)
 
--- what a visit leaves of a chain: what the item stores is of the value's moment, and has the entry's number
+-- what comes of the end of a chain: what the item stores is of the value's moment, and has the entry's number
 abbrev pub outcome_of : ℕ → ℕ → Ended → Outcome
 outcome_of time number (Stored held text) = outcome.Stored (record { time = time; number = number; value = held })
 outcome_of time number Discarded = outcome.Discarded
 outcome_of time number (Failed why) = outcome.Failed why
 
+-- the visit of an item whose chain made this
 abbrev pub visit_of : ℕ → ℕ → ℕ → Chained → Visit
 visit_of time number id chained = record { item = id; outcome = outcome_of time number chained.end; marks = chained.marks }
 

@@ -1,10 +1,9 @@
 -- The same visits as they are made: a value is carried down to the dependents.
-use Rattle.std.specs.Prelude.{ℕ, zero, suc, Bool, false, List, [], ◌++◌, flat_map, Option, Some, None, option_map}
+use Rattle.std.specs.Prelude.{ℕ, zero, suc, Bool, List, [], ◌++◌, flat_map, Option, Some, None, option_map}
 use Rattle.std.specs.Prelude.{option_to_list}
 use Rattle.zbx_types.specs.Ids.{at_id}
-use Rattle.zbx_types.specs.Items.{is_trapper_kind}
+use Rattle.zbx_types.specs.Items.{is_trapper_item}
 use Rattle.zbx_types.specs.declared.conf.Conf.{Conf}
-use Rattle.zbx_types.specs.declared.items.Item.{Item}
 use Rattle.prep_steps.specs.declared.memory.StepMemory.{StepMemory}
 use Rattle.preprocess.specs.Chains.{dependents_of}
 use Rattle.preprocess.specs.Visits.{chained_by, text_of, visit_of}
@@ -19,6 +18,7 @@ own_visit conf memory time number id value =
 abbrev pub given : Conf → (ℕ → ℕ → StepMemory) → ℕ → ℕ → List ℕ → Option (List ℕ)
 given conf memory time id value = text_of (chained_by (memory id) time (at_id conf.items id) (Some value))
 
+-- what comes of a text, where there is one
 abbrev pub with_text : (List ℕ → List Visit) → Option (List ℕ) → List Visit
 with_text f None = []
 with_text f (Some text) = f text
@@ -36,10 +36,6 @@ unfoldable pub walk_below : Conf → (ℕ → ℕ → StepMemory) → ℕ → �
 walk_below conf memory time number zero ids value = []
 walk_below conf memory time number (suc down) ids value = flat_map (λ d. walk conf memory time number down d value) ids
 
--- an item takes the values of entries
-abbrev pub takes_by : Option Item → Bool
-takes_by None = false
-takes_by (Some item) = is_trapper_kind item.kind
-
+-- an item takes the values of entries, by its id
 abbrev pub takes : Conf → ℕ → Bool
-takes conf id = takes_by (at_id conf.items id)
+takes conf id = is_trapper_item (at_id conf.items id)

@@ -33,12 +33,14 @@ ways_for patterns item = map (way_for patterns) item.steps
 abbrev pub HasPattern : List (List ℕ) → StepSpec → Type 0
 HasPattern patterns step = has_pattern step.kind ≡ true → Contains patterns (parameter step.params 0)
 
+-- the pattern of each of some steps that has one is among these
 abbrev pub HavePatterns : List (List ℕ) → List StepSpec → Type 0
 HavePatterns patterns steps = All (HasPattern patterns) steps
 
--- a step has no pattern, and none of an item's has
+-- a step has no pattern
 abbrev pub is_plain : StepSpec → Bool
 is_plain step = not (has_pattern step.kind)
 
+-- no step of an item has a pattern
 abbrev pub are_plain : Item → Bool
 are_plain item = list_all is_plain item.steps

@@ -3,9 +3,8 @@
 ghost use Rattle.std.specs.Prelude.{◌≡◌, IfOk, OnOk, map, option_copied};
 ghost use Rattle.preprocess.specs.Cells.{AreSame, Becomes, prepared_of};
 ghost use Rattle.preprocess.specs.Chains.{AreChainsOf};
-ghost use Rattle.preprocess.specs.Draft.{AreApart, HaveRoom, kept_of, name_of, failure_of, failures_of, stored_at};
+ghost use Rattle.preprocess.specs.Draft.{AreApart, HaveRoom, kept_of, failure_of, failures_of, stored_at};
 ghost use Rattle.preprocess.specs.Visits.{ArePatternsOf};
-ghost use Rattle.zbx_types.specs.Ids.{at_id};
 
 use crate::cells::{Cells, reserve_at};
 use crate::chains::Chains;
@@ -13,7 +12,6 @@ use crate::putting::put;
 use crate::visit::{Outcome, Visit, visits};
 use pattern_set::Patterns;
 use std::alloc::Global;
-use std::convert::AsStr;
 use value_cache::ItemCell;
 use zbx_types::{Conf, Many, Moment, OutOfMemory, Rec, Stored, Text, by_id};
 
@@ -46,16 +44,6 @@ impl Draft {
     }
 }
 
-/// The name of a host by its id.
-fn name_of(conf: &Conf, host: u32) -> &str
-    ensures { result.now ≡ name_of (at_id conf.now.hosts host) }
-{
-    match by_id(conf.hosts.as_slice(), host) {
-        Some(host) => host.name.as_str(),
-        None => "",
-    }
-}
-
 /// The Failure record of a visit that failed.
 fn failure_of(
     alloc: Global,
@@ -73,7 +61,7 @@ fn failure_of(
     };
     Ok(Some(Rec::Failure {
         number,
-        host: Text::of(alloc, name_of(conf, item.host))?,
+        host: Text::of(alloc, conf.host_name(item.host))?,
         key: item.key.copy(alloc)?,
         why: why.copy(alloc)?,
     }))

@@ -1,6 +1,7 @@
 -- The entries that a claim goes over.
 use Rattle.std.proofs.Common.{◌≡◌, ◌<◌, ◌≤◌, ◌+◌, ◌-◌, ◌∙◌, ℕ, zero, suc, Bool, true, false, cond, ◌&&◌, ◌||◌, List, [], ◌∷◌, length, get_or, drop, refl, sym, ap, arith, add-one}
 use Rattle.std.specs.Prelude.{nat_lt}
+use Rattle.std.proofs.Math.Bool.{or_assoc}
 use Rattle.std.proofs.Math.Seq.{drop-cons}
 use Rattle.std.proofs.lemmas.Bool.{lt-ltb}
 use mathlib.Core.Path.{fun_ext}
@@ -13,7 +14,7 @@ use Rattle.syncer_gate.specs.declared.marks.Mark.TheVariants.{Pending, Applied, 
 use Rattle.syncer_gate.specs.Marks.{is_pending, is_open}
 use Rattle.syncer_gate.specs.Window.{AreDone, AreWaiting}
 use Rattle.syncer_gate.specs.Chosen.{opens, conflicts_with, picked}
-use Rattle.syncer_gate.proofs.AnyLemmas.{or_false, or_assoc, drop_past}
+use Rattle.syncer_gate.proofs.AnyLemmas.{or_false, drop_past}
 
 -- one more mark and entry
 opens_step : (marks : List Mark) (entries : List Numbered) (p : ℕ) (m : Mark) (e : Numbered) → p < length marks → length entries ≡ length marks → get_or marks p Pending ≡ m → e ≡ get_or entries p e

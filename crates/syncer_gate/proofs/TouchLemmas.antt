@@ -1,5 +1,6 @@
 -- What entries touch.
 use Rattle.std.proofs.Common.{◌≡◌, ◌∙◌, ℕ, ◌==◌, Bool, true, false, not, ◌&&◌, ◌||◌, List, [], refl, sym, ap, eqb-true}
+use Rattle.std.proofs.Math.Bool.{or_assoc}
 use Rattle.std.specs.List.{list_any}
 use Rattle.zbx_types.specs.Masters.{has_id}
 use Rattle.zbx_types.specs.declared.entries.Entry.{Entry}
@@ -10,7 +11,7 @@ use Rattle.footprint.specs.Conflict.{feet_meet}
 use Rattle.syncer_gate.specs.declared.stamps.Stamps.{Stamps}
 use Rattle.syncer_gate.specs.declared.touched.Touched.{Touched}
 use Rattle.syncer_gate.specs.Stamped.{is_stamped, meets_value, meets, TouchesValue, Touches}
-use Rattle.syncer_gate.proofs.AnyLemmas.{or_assoc, or_pairs, any_never, any_alike, any_either, meet_is, meet_one}
+use Rattle.syncer_gate.proofs.AnyLemmas.{or_pairs, any_never, any_alike, any_either, meet_is, meet_one}
 
 -- an empty set holds none of these ids
 holds_none : (s : Stamps) (ids : List ℕ) → ((x : ℕ) → is_stamped s x ≡ false) → list_any (is_stamped s) ids ≡ false

@@ -1,6 +1,7 @@
 //! Claims: which entries are pending, in work, or applied.
 
-ghost use Rattle.std.specs.Prelude.{◌≡◌, ◌≢◌, ◌<◌, ◌≤◌, ◌+◌, ◌++◌, ◌^◌, ◌↔◌, ℕ, true, List, [], false, length, map, get_or, replicate, is_some, IfOk, IfSome, OnOk, OnErr};
+ghost use Rattle.std.specs.Prelude.{◌≡◌, ◌≢◌, ◌<◌, ◌≤◌, ◌+◌, ◌++◌, ◌^◌, ◌↔◌, ℕ, true, false, List, []};
+ghost use Rattle.std.specs.Prelude.{length, map, get_or, replicate, is_some, IfOk, IfSome, OnOk, OnErr};
 ghost use Rattle.std.specs.List.{list_any};
 ghost use Rattle.zbx_types.specs.Masters.{has_id};
 ghost use Rattle.zbx_types.specs.declared.entries.Numbered.{Numbered};

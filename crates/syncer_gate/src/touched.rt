@@ -4,7 +4,6 @@ ghost use Rattle.std.specs.Prelude.{◌≡◌, ◌==◌, ◌||◌, ◌&&◌, ℕ
 ghost use Rattle.zbx_types.specs.Masters.{has_id};
 ghost use Rattle.zbx_types.specs.declared.entries.Entry.{Entry};
 ghost use Rattle.footprint.specs.Feet.{Footing, told_by};
-ghost use Rattle.footprint.specs.Conflict.{conflict_by};
 
 use crate::stamps::Stamps;
 use footprint::Feet;

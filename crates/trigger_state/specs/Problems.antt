@@ -45,6 +45,7 @@ action_of (Problem event now severity suppressed host trigger name tags) = []
 action_of (Recovery event by now cause) = []
 action_of (Message event action step recipient subject body) = []
 
+-- two steps are of one action
 abbrev pub same_action : Rec → Rec → Bool
 same_action a b = bytes_eq (action_of a) (action_of b)
 

@@ -3,6 +3,7 @@
 use Rattle.std.specs.Prelude.{ℕ, Bool, true, false, not, ◌&&◌, ◌||◌, List, [], ◌∷◌, map, filter, Option, Some, None, if◌then◌else◌, ℤ, pos}
 use Rattle.std.specs.Ordering.{int_eq}
 use Rattle.std.specs.List.{list_any}
+use Rattle.zbx_types.specs.Arithmetic.{is_true}
 use Rattle.zbx_types.specs.Ids.{at_id}
 use Rattle.zbx_types.specs.Masters.{masters_of}
 use Rattle.zbx_types.specs.Records.{tags_of}
@@ -18,6 +19,7 @@ use Rattle.trigger_state.specs.declared.answer.Verdict.{Verdict}
 use Rattle.trigger_state.specs.declared.answer.Verdict.TheVariants.{Nothing, New, Close}
 use Rattle.trigger_state.specs.declared.problems.Open.{Open}
 
+-- a list is empty
 abbrev pub is_none : {A : Type 0} → List A → Bool
 is_none [] = true
 is_none (x ∷ xs) = false
@@ -30,15 +32,15 @@ some_open opens ids = list_any (λ id. not (is_none (opens id))) ids
 abbrev pub is_held : Conf → (ℕ → List Open) → ℕ → Bool
 is_held conf opens id = some_open opens (masters_of conf id)
 
--- known and not 0
-abbrev pub is_true : Option ℤ → Bool
-is_true None = false
-is_true (Some z) = not (int_eq z (pos 0))
+-- a value is known and not 0
+abbrev pub is_known_true : Option ℤ → Bool
+is_known_true None = false
+is_known_true (Some z) = is_true z
 
 -- a trigger whose problem expression is 0 recovers, where its recovery expression has this value
 abbrev pub lets_close : RecoveryMode → Option ℤ → Bool
 lets_close modes.Expression r = true
-lets_close modes.RecoveryExpression r = is_true r
+lets_close modes.RecoveryExpression r = is_known_true r
 lets_close modes.Nothing r = false
 
 -- a trigger whose problem expression is true makes a problem
@@ -58,10 +60,11 @@ abbrev pub close_all : List EventId → Verdict
 close_all [] = Nothing
 close_all (e ∷ es) = Close (e ∷ es)
 
--- where the problem expression is true, and where it is 0
+-- the verdict where the problem expression is true
 abbrev pub on_true : Trigger → List Open → Bool → Verdict
 on_true trigger os is_value = if makes_new trigger os is_value then New else Nothing
 
+-- the verdict where the problem expression is 0
 abbrev pub on_zero : Trigger → List Open → Option ℤ → List Tag → Verdict
 on_zero trigger os r tags = if lets_close trigger.recovery r then close_all (closing trigger tags os) else Nothing
 
@@ -74,6 +77,7 @@ freely trigger os (Some p) r tags is_value = if int_eq p (pos 0) then on_zero tr
 abbrev pub verdict_over : Trigger → Bool → List Open → Option ℤ → Option ℤ → List Tag → Bool → Verdict
 verdict_over trigger held os p r tags is_value = if held then Nothing else freely trigger os p r tags is_value
 
+-- the same of the trigger that an id has, and nothing where there is none
 abbrev pub verdict_by : Option Trigger → Bool → List Open → Option ℤ → Option ℤ → List Tag → Bool → Verdict
 verdict_by None held os p r tags is_value = Nothing
 verdict_by (Some trigger) held os p r tags is_value = verdict_over trigger held os p r tags is_value

@@ -1,10 +1,9 @@
 //! What a trigger does where it is evaluated.
 
-ghost use Rattle.std.specs.Prelude.{◌≡◌, ℤ, map, filter, IfOk};
+ghost use Rattle.std.specs.Prelude.{◌≡◌, IfOk};
 ghost use Rattle.zbx_types.specs.Masters.{DepthsFall};
 ghost use Rattle.trigger_state.specs.Cells.{opens_in};
-ghost use Rattle.trigger_state.specs.Problems.{event_in};
-ghost use Rattle.trigger_state.specs.Verdicts.{is_true, some_open, lets_close, makes_new, is_closed_by, closing, close_all, on_true, on_zero, verdict_over, verdict_of};
+ghost use Rattle.trigger_state.specs.Verdicts.{is_known_true, some_open, lets_close, is_closed_by, closing, close_all, on_true, on_zero, verdict_over, verdict_of};
 
 use crate::answer::Verdict;
 use crate::cells::TriggerCells;
@@ -30,12 +29,12 @@ pub fn held_by<O: Opens>(masters: &[u32], opens: &O) -> bool
 }
 
 /// Whether the value of an expression is known and not 0.
-fn is_true(value: Option<Fix>) -> bool
-    ensures { result ≡ is_true value }
+fn is_known_true(value: Option<Fix>) -> bool
+    ensures { result ≡ is_known_true value }
 {
     match value {
         None => false,
-        Some(number) => number.raw() != 0,
+        Some(number) => number.is_true(),
     }
 }
 
@@ -45,7 +44,7 @@ fn lets_close(mode: RecoveryMode, r: Option<Fix>) -> bool
 {
     match mode {
         RecoveryMode::Expression => true,
-        RecoveryMode::RecoveryExpression => is_true(r),
+        RecoveryMode::RecoveryExpression => is_known_true(r),
         RecoveryMode::Nothing => false,
     }
 }

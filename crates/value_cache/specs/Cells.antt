@@ -1,6 +1,7 @@
 -- What the cell of an item stands for.
-use Rattle.std.specs.Prelude.{◌≡◌, ℕ, ◌+◌, ◌*◌, ◌≤◌, nat_lt, not, Bool, List, ◌++◌, take, Option, slice_get}
+use Rattle.std.specs.Prelude.{◌≡◌, ℕ, ◌+◌, ◌≤◌, nat_lt, not, Bool, List, ◌++◌, take, Option, slice_get}
 use Rattle.std.specs.List.{filter}
+use Rattle.zbx_types.specs.Moments.{seconds_after}
 use Rattle.zbx_types.specs.declared.calls.Range.{Range}
 use Rattle.zbx_types.specs.declared.calls.Range.TheVariants.{Count, Period}
 use Rattle.zbx_types.specs.declared.entries.Stored.{Stored}
@@ -17,7 +18,7 @@ pub record CellView : Type 0 where
 
 -- whether a value is of the period that is kept
 unfoldable pub is_young : Keep → ℕ → Stored → Bool
-is_young keep now s = nat_lt now (s.time + keep.period * 1000000000)
+is_young keep now s = nat_lt now (seconds_after keep.period s.time)
 
 -- what is to be kept at a moment (this project's own): the values of the period, and the latest `count` of the others
 unfoldable pub trim : Keep → ℕ → List Stored → List Stored

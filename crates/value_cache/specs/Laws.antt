@@ -30,11 +30,12 @@ abbrev pub IsRising : List Insert → Type 0
 IsRising [] = ⊤
 IsRising (insert ∷ before) = (last_now before ≤ insert.now) × IsRising before
 
--- the values of a cell that trims at each insert, and the history of all that came in
+-- the values of a cell that trims at each insert
 abbrev pub kept_of : Keep → List Insert → List Stored
 kept_of keep [] = []
 kept_of keep (insert ∷ before) = trim keep insert.now (placed insert.stored (kept_of keep before))
 
+-- the history of all that came in
 abbrev pub history_of : List Insert → List Stored
 history_of [] = []
 history_of (insert ∷ before) = placed insert.stored (history_of before)

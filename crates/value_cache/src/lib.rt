@@ -40,4 +40,4 @@ mod windows;
 
 pub use beside::Window;
 pub use cell::ItemCell;
-pub use keeping::{Keep, keeps};
+pub use keeping::{Keep, keeps, seconds_in};
