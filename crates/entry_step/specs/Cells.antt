@@ -9,7 +9,8 @@ use Rattle.zbx_types.specs.declared.entries.Numbered.{Numbered}
 use Rattle.zbx_types.specs.declared.entries.Rec.{Rec}
 use Rattle.zbx_types.specs.declared.entries.Stored.{Stored}
 use Rattle.footprint.specs.Feet.{feet_of, is_reached}
-use Rattle.entry_step.specs.Log.{moment_of, tick_with, first_tick}
+use Rattle.zbx_types.specs.Entries.{moment_of}
+use Rattle.entry_step.specs.Log.{tick_with, first_tick}
 use Rattle.entry_step.specs.Occasions.{occasion_of}
 use Rattle.prep_steps.specs.declared.memory.StepMemory.{StepMemory}
 use Rattle.preprocess.specs.Ways.{memory_at}

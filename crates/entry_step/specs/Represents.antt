@@ -8,7 +8,8 @@ use Rattle.zbx_types.specs.declared.entries.Rec.{Rec}
 use Rattle.zbx_types.specs.declared.triggers.Trigger.{Trigger}
 use Rattle.event_correlation.specs.Laws.{HasTagsOf}
 use Rattle.entry_step.specs.Each.{Each}
-use Rattle.entry_step.specs.Log.{moment_of, IsFitting}
+use Rattle.zbx_types.specs.Entries.{moment_of}
+use Rattle.entry_step.specs.Log.{IsFitting}
 use Rattle.trigger_state.specs.Problems.{home, event_in}
 use Rattle.prep_steps.specs.declared.memory.StepMemory.{StepMemory}
 use Rattle.preprocess.specs.Chains.{listed}

@@ -2,7 +2,8 @@
 
 ghost use Rattle.std.specs.Prelude.{◌≡◌, ◌<◌, ◌++◌, ◌∷◌, [], length, List, IfOk, OnOk};
 ghost use Rattle.zbx_types.specs.declared.entries.Numbered.{Numbered};
-ghost use Rattle.entry_step.specs.Log.{log_of, moment_of};
+ghost use Rattle.zbx_types.specs.Entries.{moment_of};
+ghost use Rattle.entry_step.specs.Log.{log_of};
 ghost use Rattle.intake_journal.specs.declared.format.Group.{Group};
 ghost use Rattle.intake_front.specs.Intake.{with_group};
 ghost use Rattle.intake_front.specs.Fronted.{numbered_of};
