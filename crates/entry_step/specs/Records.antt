@@ -1,13 +1,13 @@
 -- The records that entries make.
 use Rattle.std.specs.Prelude.{ℕ, ◌==◌, Bool, false, true, ◌&&◌, List, [], ◌∷◌, ◌++◌, filter, flat_map, map, Option, Some, None, is_some, if◌then◌else◌, ℤ}
 use Rattle.std.specs.List.{list_any}
+use Rattle.zbx_types.specs.Hosts.{host_name}
 use Rattle.zbx_types.specs.Ids.{at_id}
 use Rattle.zbx_types.specs.Operators.{is_dated}
 use Rattle.zbx_types.specs.Trees.{tree_of}
 use Rattle.zbx_types.specs.declared.calls.Fun.{Fun}
 use Rattle.zbx_types.specs.declared.calls.Fun.TheVariants.{NoData}
 use Rattle.zbx_types.specs.declared.conf.Conf.{Conf}
-use Rattle.zbx_types.specs.declared.conf.Host.{Host}
 use Rattle.zbx_types.specs.declared.expr.Expr.{Expr}
 use Rattle.zbx_types.specs.declared.triggers.Trigger.{Trigger}
 use Rattle.zbx_types.specs.declared.entries.EventId.{EventId}
@@ -41,10 +41,6 @@ use Rattle.trigger_state.specs.declared.answer.Verdict.{Verdict}
 use Rattle.trigger_state.specs.declared.answer.Verdict.TheVariants.{Nothing, New, Close}
 use Rattle.trigger_state.specs.declared.problems.Open.{Open}
 use Rattle.entry_step.specs.declared.occasions.Occasion.{Occasion}
-
-abbrev pub host_name : Option Host → List ℕ
-host_name None = []
-host_name (Some host) = host.name
 
 -- the Problem record of a trigger at an entry, at which its events show these values. It is suppressed where its trigger is,
 -- at this moment and for its own tags.
