@@ -39,9 +39,11 @@ CellOf (ItemKey item) = ItemCell
 CellOf (TriggerKey id) = List Open
 CellOf TickKey = Option ℕ
 
+-- the cells: each key has one
 abbrev pub Cells : Type 0
 Cells = (k : Key) → CellOf k
 
+-- the open problems of the trigger with an id
 abbrev pub opens_in : Cells → ℕ → List Open
 opens_in c id = c (TriggerKey id)
 
@@ -82,6 +84,7 @@ unfoldable pub records_at : Conf → Cells → ℕ → Entry → List Rec
 records_at conf c number entry =
     judged_at conf c number entry ++ due_at conf entry (grown conf (opens_in c) (judged_at conf c number entry))
 
+-- the records that an entry makes over cells, with its own number
 abbrev pub records : Conf → Cells → Numbered → List Rec
 records conf c e = records_at conf c e.number e.entry
 

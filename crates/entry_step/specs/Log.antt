@@ -25,7 +25,7 @@ is_config (Config now text) = true
 is_config (Value now item time value) = false
 is_config (Tick now) = false
 
--- an item takes values from senders
+-- there is an item, and it takes values from senders
 abbrev pub is_trapper : Option Item → Bool
 is_trapper None = false
 is_trapper (Some item) = takes_values item

@@ -6,6 +6,7 @@ use Rattle.zbx_types.specs.Entries.{moment_of}
 use Rattle.entry_step.specs.Log.{tick_with}
 use Rattle.entry_step.specs.declared.occasions.Occasion.{Occasion}
 
+-- an entry is a Value
 abbrev pub is_value : Entry → Bool
 is_value (Config now text) = false
 is_value (Value now item time value) = true

@@ -95,10 +95,11 @@ verdict_records conf number now values id trigger all Nothing = []
 verdict_records conf number now values id trigger all New = begun_records conf number now all id (problem_of conf number now values id trigger)
 verdict_records conf number now values id trigger all (Close events) = flat_map (closed_records conf number now causes.Expression (all id)) events
 
--- the value of an expression over the values of the calls, and of one that a trigger may not have
+-- the value of an expression over the values of the calls
 abbrev pub expression_value : (ℕ → Option ℤ) → Expr → Option ℤ
 expression_value calls expr = value_over calls (tree_of expr)
 
+-- the value of an expression that a trigger may not have
 abbrev pub recovery_value : (ℕ → Option ℤ) → Option Expr → Option ℤ
 recovery_value calls None = None
 recovery_value calls (Some expr) = expression_value calls expr
@@ -109,6 +110,7 @@ judged_by conf occasion seen all id trigger =
     verdict_records conf occasion.number occasion.now seen.values id trigger all
     (verdict_of conf all id (expression_value seen.calls trigger.expr) (recovery_value seen.calls trigger.recovery_expr) (event_tags conf id seen.values) occasion.is_value)
 
+-- the records of the verdict on the trigger with an id, over these histories. No trigger: none.
 abbrev pub records_by : Conf → Occasion → (ℕ → List Stored) → (ℕ → List Open) → ℕ → Option Trigger → List Rec
 records_by conf occasion items all id None = []
 records_by conf occasion items all id (Some trigger) = judged_by conf occasion (seen_in items occasion conf.utc_offset trigger) all id trigger

@@ -39,6 +39,7 @@ AllAtHome conf id os = Each (λ o. home conf (event_in o) ≡ id) os
 abbrev pub IsTagged : Conf → ℕ → Rec → Type 0
 IsTagged conf id problem = (trigger : Trigger) × (at_id conf.triggers id ≡ Some trigger) × HasTagsOf trigger problem
 
+-- each open problem has the names of the tags of the trigger with this id
 abbrev pub AllTagged : Conf → ℕ → List Open → Type 0
 AllTagged conf id os = Each (λ o. IsTagged conf id o.problem) os
 

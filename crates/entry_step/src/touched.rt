@@ -1,11 +1,11 @@
 //! The ids of what is in the feet of some entries.
 
-ghost use Rattle.std.specs.Prelude.{◌≡◌, ◌++◌, ◌||◌, ◌&&◌, ℕ, Bool, IfOk, OnOk};
-ghost use Rattle.std.specs.List.{list_any, flat_map};
+ghost use Rattle.std.specs.Prelude.{◌≡◌, ◌++◌, ◌||◌, ℕ, IfOk, OnOk};
+ghost use Rattle.std.specs.List.{list_any};
 ghost use Rattle.zbx_types.specs.Ids.{ids_from};
 ghost use Rattle.zbx_types.specs.Masters.{has_id};
-ghost use Rattle.footprint.specs.Rows.{those, is_one};
-ghost use Rattle.footprint.specs.Feet.{feet_of, is_reached};
+ghost use Rattle.footprint.specs.Rows.{those};
+ghost use Rattle.footprint.specs.Feet.{is_reached};
 ghost use Rattle.entry_step.specs.Cells.{ItemKey, TriggerKey, touches};
 ghost use Rattle.entry_step.specs.Laws.{any_touches};
 ghost use Rattle.entry_step.specs.Touched.{IsFound};

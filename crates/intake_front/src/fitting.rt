@@ -1,6 +1,6 @@
 //! Whether the entries that a journal kept fit a configuration.
 
-ghost use Rattle.std.specs.Prelude.{◌≡◌, ◌≤◌, ℕ, true, false, IsTrue, ◌↔◌, MatchBool, List};
+ghost use Rattle.std.specs.Prelude.{◌≡◌, true, false, IsTrue, ◌↔◌, MatchBool, List};
 ghost use Rattle.entry_step.specs.Log.{Fits, IsFitting, is_config, is_trapper};
 ghost use Rattle.zbx_types.specs.Ids.{at_id};
 ghost use Rattle.zbx_types.specs.declared.entries.Numbered.{Numbered};

@@ -1,6 +1,6 @@
 //! The intake of a run, without its journal.
 
-ghost use Rattle.std.specs.Prelude.{◌≡◌, ◌≤◌, ◌<◌, ◌++◌, ◌+◌, ◌^◌, length, IfOk, OnOk, OnErr};
+ghost use Rattle.std.specs.Prelude.{◌≡◌, ◌≤◌, ◌<◌, length};
 ghost use Rattle.std.specs.Option.{option_map};
 ghost use Rattle.intake_front.specs.Intake.{resumed, half_minute, half_with, last_tick};
 ghost use Rattle.entry_step.specs.Log.{log_of, last_moment};

@@ -1,6 +1,6 @@
 //! What becomes of asked values.
 
-ghost use Rattle.std.specs.Prelude.{◌≡◌, ◌≤◌, ◌++◌, ◌&&◌, length, min, not, false, All, IfOk, OnOk, option_and_then, option_copied};
+ghost use Rattle.std.specs.Prelude.{◌≡◌, ◌++◌, ◌&&◌, not, false, All, IfOk, OnOk, option_and_then, option_copied};
 ghost use Rattle.maintenance.specs.Force.{is_in_force};
 ghost use Rattle.maintenance.specs.Suppression.{is_collected};
 ghost use Rattle.entry_step.specs.Names.{host_named, item_keyed};
