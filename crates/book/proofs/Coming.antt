@@ -5,7 +5,8 @@ use Rattle.zbx_types.specs.declared.conf.Conf.{Conf}
 use Rattle.zbx_types.specs.declared.entries.Numbered.{Numbered}
 use Rattle.zbx_types.specs.declared.entries.Rec.{Rec}
 use Rattle.entry_step.specs.Each.{Each, In, EachPair}
-use Rattle.entry_step.specs.Log.{moment_of, last_moment, IsFitting, Suits}
+use Rattle.zbx_types.specs.Entries.{moment_of}
+use Rattle.entry_step.specs.Log.{last_moment, IsFitting, Suits}
 use Rattle.entry_step.specs.Records.{replay}
 use Rattle.entry_step.specs.Cells.{Cells, ItemKey, touches, records, after, seen_of, look, StandFor}
 use Rattle.entry_step.specs.Laws.{Apart}

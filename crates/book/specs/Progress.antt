@@ -116,8 +116,8 @@ pub record IsSingle (p : ProgressView) (gate : Gate) (batch : Batch) (n : ℕ) :
   pub pending : get_or p.gate.marks (n - 1) Pending ≡ Pending
   pub after : map (ended batch.id Applied) gate.marks ≡ set p.gate.marks (n - 1) Applied
 
--- What a claim leaves, whatever cells and records there are: the work goes on, the batch is open, given back it leaves the
--- marks as they were, and its entries come to the cells.
+-- What a claim leaves: the work goes on, the batch is open, given back it leaves the marks as they were, and its entries
+-- come to the cells.
 pub record HasClaimed (conf : Conf) (p : ProgressView) (gate : Gate) (batch : Batch) : Type 0 where
   pub going : IsGoing conf (record p { gate = gate })
   pub opened : IsOpenBatch gate batch
@@ -125,6 +125,7 @@ pub record HasClaimed (conf : Conf) (p : ProgressView) (gate : Gate) (batch : Ba
   pub single : (n : ℕ) → batch.numbers ≡ n ∷ [] → IsSingle p gate batch n
   pub ready : AreReady conf p.cells p.entries batch.numbers
 
+-- whatever cells and records there are, a claim of the batch leads from one gate to the other
 abbrev pub IsClaim : Conf → List Numbered → Gate → Gate → Batch → Type 0
 IsClaim conf entries before gate batch = (held : CellsView) (made : List (List Rec)) → IsGoing conf (record { entries = entries; gate = before; cells = held; made = made })
     → HasClaimed conf (record { entries = entries; gate = before; cells = held; made = made }) gate batch

@@ -1,6 +1,6 @@
 //! All entries are worked out by one thread, whose steps nobody reads.
 
-ghost use Rattle.std.specs.Prelude.{◌≡◌, ◌<◌, ℕ, length, OnOk};
+ghost use Rattle.std.specs.Prelude.{◌≡◌, ◌<◌, length, OnOk};
 ghost use Rattle.book.specs.Book.{AreApplied, StayApplied};
 
 use crate::names::StartName;

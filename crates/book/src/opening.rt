@@ -1,8 +1,6 @@
 //! The entries with which a run begins are worked out, and their lines made.
 
-ghost use Rattle.std.specs.Prelude.{◌≡◌, ◌<◌, ◌++◌, ℕ, List, length, drop, IfOk, OnOk};
-ghost use Rattle.zbx_types.specs.declared.entries.Rec.{Rec};
-ghost use Rattle.event_text.specs.Lines.{lines_of};
+ghost use Rattle.std.specs.Prelude.{◌≡◌, ◌<◌, length, drop, IfOk};
 ghost use Rattle.entry_step.specs.Log.{log_of};
 ghost use Rattle.entry_step.specs.Records.{replay};
 ghost use Rattle.book.specs.Entries.{IsWholeLog};

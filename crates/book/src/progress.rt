@@ -1,6 +1,6 @@
 //! How far the work on the entries is: the entries themselves, where each of them stands, the cells, and the records kept.
 
-ghost use Rattle.std.specs.Prelude.{◌≡◌, ◌≢◌, ◌≤◌, ◌<◌, ◌+◌, ◌++◌, [], ◌∷◌, ℕ, true, false, length, map, replicate, get_or, IfOk, IfErr, IfSome, OnOk, OnErr, Some, None, take};
+ghost use Rattle.std.specs.Prelude.{◌≡◌, ◌≢◌, ◌≤◌, ◌<◌, ◌+◌, ◌++◌, [], ℕ, true, false, length, map, replicate, get_or, IfOk, IfErr, IfSome, OnOk, OnErr, Some, None, take};
 ghost use Rattle.std.specs.Option.{option_map};
 ghost use Rattle.footprint.specs.Feet.{feet_of};
 ghost use Rattle.entry_step.specs.Log.{log_of};
@@ -11,7 +11,7 @@ ghost use Rattle.syncer_gate.specs.declared.marks.Mark.{Mark};
 ghost use Rattle.syncer_gate.specs.declared.marks.Mark.TheVariants as Mark;
 ghost use Rattle.std.specs.Vec.{vec_len, vec_capacity};
 ghost use Rattle.book.specs.Entries.{IsWholeLog};
-ghost use Rattle.book.specs.Progress.{IsGoing, entries_with, HasInputs, IsOneMore};
+ghost use Rattle.book.specs.Progress.{IsGoing, HasInputs, IsOneMore};
 ghost use Rattle.syncer_gate.specs.Marks.{is_open, is_pending, reopened};
 ghost use Rattle.std.specs.List.{list_any};
 

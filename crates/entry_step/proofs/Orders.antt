@@ -14,7 +14,8 @@ use Rattle.zbx_types.specs.Reach.{in_reach}
 use Rattle.zbx_types.specs.declared.rules.Rule.{Rule}
 use Rattle.footprint.specs.Feet.{under_of, is_of, over_of, reach_by, is_reached, feet_of}
 use Rattle.entry_step.specs.Each.{Each, In, EachPair}
-use Rattle.entry_step.specs.Log.{moment_of, first_tick}
+use Rattle.zbx_types.specs.Entries.{moment_of}
+use Rattle.entry_step.specs.Log.{first_tick}
 use Rattle.prep_steps.specs.declared.memory.StepMemory.{StepMemory}
 use Rattle.preprocess.specs.Ways.{memory_at}
 use Rattle.preprocess.specs.Draft.{visit_at, stored_at, stored_of as stored_by, marks_after, failures_of}

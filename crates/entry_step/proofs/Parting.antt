@@ -19,7 +19,8 @@ use Rattle.entry_step.specs.Each.{Each, In}
 use Rattle.entry_step.specs.Kept.{roomless, Keeps}
 use Rattle.entry_step.specs.Cells.{Key, ItemKey, TriggerKey, TickKey, ItemCell, Cells, CellOf, memory_in, touches, look, StandFor, after}
 use Rattle.entry_step.specs.Laws.{Agree, IsLocal, Copies, any_touches, cells_done, records_done, put_over}
-use Rattle.entry_step.specs.Log.{IsFitting, Suits, log_of, moment_of}
+use Rattle.zbx_types.specs.Entries.{moment_of}
+use Rattle.entry_step.specs.Log.{IsFitting, Suits, log_of}
 use Rattle.entry_step.specs.Records.{triggers_at}
 use Rattle.entry_step.specs.Represents.{CellsView, problems_at, AllAtHome, AllTagged, IsTidy, Represents, Holds, ComesAfter}
 use Rattle.entry_step.specs.Parts.{PartView, row_with, item_row, cell_in, marks_in, problems_in, IsPartOf, IsSame, IsReplaced, AllCome, evaluations, IsWorkable, WorksOut, IsCounted}

@@ -32,7 +32,8 @@ use Rattle.entry_step.specs.declared.changes.Row.{Row}
 use Rattle.footprint.specs.Rows.{is_in, is_one}
 use Rattle.footprint.specs.Feet.{over_of, feet_of}
 use Rattle.entry_step.specs.Each.{Each}
-use Rattle.entry_step.specs.Log.{moment_of, last_moment, tick_with, first_tick, IsFitting, Suits}
+use Rattle.zbx_types.specs.Entries.{moment_of}
+use Rattle.entry_step.specs.Log.{last_moment, tick_with, first_tick, IsFitting, Suits}
 use Rattle.entry_step.specs.Occasions.{occasion_of}
 use Rattle.entry_step.specs.History.{visits_at, stored_of, marks_of, memory_of, with_stored, history_of}
 use Rattle.entry_step.specs.Kept.{Keeps, roomless, Sees, IsCalled, SeesFor, CameIn}

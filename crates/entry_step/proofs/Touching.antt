@@ -3,6 +3,7 @@ use Rattle.std.proofs.Common.{◌≡◌, ℕ, ◌+◌, ◌<◌, ◌≤◌, ◌==
 use Rattle.std.specs.List.{list_any}
 use Rattle.std.proofs.lemmas.List.{drop_more, drop_all}
 use Rattle.std.proofs.lemmas.List.Folds.{list_any-append}
+use Rattle.std.proofs.Math.Bool.{or_assoc}
 use Rattle.zbx_types.specs.Ids.{ids_from}
 use Rattle.zbx_types.specs.Masters.{has_id}
 use Rattle.zbx_types.specs.declared.conf.Conf.{Conf}
@@ -25,10 +26,6 @@ or_true false = refl
 or_nil : (b : Bool) → (b || false) ≡ b
 or_nil true = refl
 or_nil false = refl
-
-or_assoc : (a b c : Bool) → ((a || b) || c) ≡ (a || (b || c))
-or_assoc true b c = refl
-or_assoc false b c = refl
 
 turned : (a b : ℕ) → (a == b) ≡ (b == a)
 turned a b = go (a == b) refl (b == a) refl

@@ -9,7 +9,8 @@ use Rattle.zbx_types.specs.declared.entries.Numbered.{Numbered}
 use Rattle.zbx_types.specs.declared.entries.Rec.{Rec}
 use Rattle.zbx_types.specs.declared.entries.Stored.{Stored}
 use Rattle.footprint.specs.Feet.{feet_of, is_reached}
-use Rattle.entry_step.specs.Log.{moment_of, tick_with, first_tick}
+use Rattle.zbx_types.specs.Entries.{moment_of}
+use Rattle.entry_step.specs.Log.{tick_with, first_tick}
 use Rattle.entry_step.specs.Occasions.{occasion_of}
 use Rattle.prep_steps.specs.declared.memory.StepMemory.{StepMemory}
 use Rattle.preprocess.specs.Ways.{memory_at}
@@ -38,9 +39,11 @@ CellOf (ItemKey item) = ItemCell
 CellOf (TriggerKey id) = List Open
 CellOf TickKey = Option ℕ
 
+-- the cells: each key has one
 abbrev pub Cells : Type 0
 Cells = (k : Key) → CellOf k
 
+-- the open problems of the trigger with an id
 abbrev pub opens_in : Cells → ℕ → List Open
 opens_in c id = c (TriggerKey id)
 
@@ -81,6 +84,7 @@ unfoldable pub records_at : Conf → Cells → ℕ → Entry → List Rec
 records_at conf c number entry =
     judged_at conf c number entry ++ due_at conf entry (grown conf (opens_in c) (judged_at conf c number entry))
 
+-- the records that an entry makes over cells, with its own number
 abbrev pub records : Conf → Cells → Numbered → List Rec
 records conf c e = records_at conf c e.number e.entry
 

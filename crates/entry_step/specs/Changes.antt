@@ -58,7 +58,7 @@ abbrev pub changed : List Open → Change → List Open
 changed os (change.Add one) = os ++ one ∷ []
 changed os (change.Leave all) = all
 
--- what an outcome adds, and the rows behind it. No outcome: nothing changes.
+-- the records that an outcome adds. No outcome: none.
 abbrev pub outcome_records : Option Outcome → List Rec
 outcome_records None = []
 outcome_records (Some o) = o.records
@@ -68,6 +68,7 @@ abbrev pub with_all : List (List Open) → List Fresh → List (List Open)
 with_all rows [] = rows
 with_all rows (f ∷ fs) = with_all (with_row rows f.id f.opens) fs
 
+-- the rows behind the outcome of the trigger with an id. No outcome: nothing changes.
 abbrev pub outcome_rows : List (List Open) → ℕ → Option Outcome → List (List Open)
 outcome_rows rows id None = rows
 outcome_rows rows id (Some o) = with_all (with_row rows id (changed (problems_at rows id) o.change)) o.others

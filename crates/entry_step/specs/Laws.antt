@@ -61,11 +61,12 @@ abbrev pub Insertion : Type 0
 Insertion = (conf : Conf) (newer : List Numbered) (e : Numbered) (older : List Numbered) → Each (λ a. Apart conf e a) newer
     → SameOut conf e newer older × ((c : Cells) → StandFor conf c (newer ++ older) → InPlace conf newer e older c)
 
--- the cells behind these entries, the oldest first, and the records of each
+-- the cells behind these entries, the oldest first
 abbrev pub cells_done : Conf → Cells → List Numbered → Cells
 cells_done conf c [] = c
 cells_done conf c (e ∷ es) = cells_done conf (after conf c e) es
 
+-- the records of each of these entries, the oldest first
 abbrev pub records_done : Conf → Cells → List Numbered → List (List Rec)
 records_done conf c [] = []
 records_done conf c (e ∷ es) = records conf c e ∷ records_done conf (after conf c e) es

@@ -1,11 +1,11 @@
 -- Logs of numbered entries. A log has the newest entry first.
-use Rattle.std.specs.Prelude.{◌≡◌, ◌≤◌, ◌<◌, ℕ, ◌+◌, ◌==◌, Bool, true, false, ◌&&◌, List, [], ◌∷◌, length, reverse, Option, Some, None}
+use Rattle.std.specs.Prelude.{◌≡◌, ◌≤◌, ◌<◌, ℕ, ◌+◌, ◌==◌, Bool, true, false, List, [], ◌∷◌, length, reverse, Option, Some, None}
 use Rattle.std.specs.Option.{option_or}
+use Rattle.zbx_types.specs.Entries.{moment_of}
 use Rattle.zbx_types.specs.Ids.{at_id}
+use Rattle.zbx_types.specs.Items.{takes_values}
 use Rattle.zbx_types.specs.declared.conf.Conf.{Conf}
 use Rattle.zbx_types.specs.declared.items.Item.{Item}
-use Rattle.zbx_types.specs.declared.items.ItemKind.{ItemKind}
-use Rattle.zbx_types.specs.declared.items.ItemKind.TheVariants as kinds
 use Rattle.zbx_types.specs.declared.entries.Entry.{Entry}
 use Rattle.zbx_types.specs.declared.entries.Entry.TheVariants.{Config, Value, Tick}
 use Rattle.zbx_types.specs.declared.entries.Numbered.{Numbered}
@@ -14,30 +14,21 @@ use Rattle.zbx_types.specs.declared.entries.Numbered.{Numbered}
 abbrev pub log_of : List Numbered → List Numbered
 log_of entries = reverse entries
 
--- the moment at which an entry was taken
-abbrev pub moment_of : Entry → ℕ
-moment_of (Config now text) = now
-moment_of (Value now item time value) = now
-moment_of (Tick now) = now
-
 -- the moment of a log's newest entry, or moment 0
 abbrev pub last_moment : List Numbered → ℕ
 last_moment [] = 0
 last_moment (e ∷ log) = moment_of e.entry
 
+-- an entry is a Config
 abbrev pub is_config : Entry → Bool
 is_config (Config now text) = true
 is_config (Value now item time value) = false
 is_config (Tick now) = false
 
--- an item takes values from senders
+-- there is an item, and it takes values from senders
 abbrev pub is_trapper : Option Item → Bool
 is_trapper None = false
-is_trapper (Some item) = is_trapper_kind item.kind && item.enabled
-  where
-    is_trapper_kind : ItemKind → Bool
-    is_trapper_kind kinds.Trapper = true
-    is_trapper_kind kinds.Dependent = false
+is_trapper (Some item) = takes_values item
 
 -- a value is of an enabled trapper item, and isn't later than the moment at which it was taken
 abbrev pub IsFitting : Conf → Entry → Type 0

@@ -1,6 +1,7 @@
 -- Open problems by the names of their trigger, over all records.
 use Rattle.std.specs.Prelude.{◌≡◌, ℕ, ◌&&◌, Bool, true, false, not, List, map, filter, Some}
 use Rattle.std.specs.List.{list_any}
+use Rattle.zbx_types.specs.Hosts.{host_name}
 use Rattle.zbx_types.specs.Ids.{at_id}
 use Rattle.zbx_types.specs.declared.conf.Conf.{Conf}
 use Rattle.zbx_types.specs.declared.triggers.Trigger.{Trigger}
@@ -11,7 +12,7 @@ use Rattle.std.specs.Str.{bytes_eq}
 use Rattle.entry_step.specs.Log.{IsRising}
 use Rattle.zbx_types.specs.Records.{event_of}
 use Rattle.trigger_state.specs.Problems.{recovers, open_of}
-use Rattle.entry_step.specs.Records.{host_name, replay}
+use Rattle.entry_step.specs.Records.{replay}
 
 -- a record is a Problem with these names of host and trigger
 abbrev pub is_named : List ℕ → List ℕ → Rec → Bool

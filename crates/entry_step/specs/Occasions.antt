@@ -2,9 +2,11 @@
 use Rattle.std.specs.Prelude.{ℕ, Bool, true, false, Option}
 use Rattle.zbx_types.specs.declared.entries.Entry.{Entry}
 use Rattle.zbx_types.specs.declared.entries.Entry.TheVariants.{Config, Value, Tick}
-use Rattle.entry_step.specs.Log.{moment_of, tick_with}
+use Rattle.zbx_types.specs.Entries.{moment_of}
+use Rattle.entry_step.specs.Log.{tick_with}
 use Rattle.entry_step.specs.declared.occasions.Occasion.{Occasion}
 
+-- an entry is a Value
 abbrev pub is_value : Entry → Bool
 is_value (Config now text) = false
 is_value (Value now item time value) = true

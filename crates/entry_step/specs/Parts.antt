@@ -29,16 +29,19 @@ abbrev pub row_with : {A : Type 0} → (A → ℕ) → List A → ℕ → Option
 row_with id_of [] id = None
 row_with id_of (row ∷ rows) id = if id_of row == id then Some row else row_with id_of rows id
 
+-- a part's row of the item with an id
 abbrev pub item_row : PartView → ℕ → Option ItemRow
 item_row part id = row_with (λ row. row.id) part.items id
 
--- the copy of an item's cell, of what its steps remember, and of a trigger's open problems
+-- the copy of an item's cell, whatever room it has
 abbrev pub cell_in : PartView → ℕ → Option CellView
 cell_in part id = option_map (λ row. roomless row.cell) (item_row part id)
 
+-- the copy of what an item's steps remember
 abbrev pub marks_in : PartView → ℕ → Option (List StepMemory)
 marks_in part id = option_map (λ row. row.marks) (item_row part id)
 
+-- the copy of a trigger's open problems
 abbrev pub problems_in : PartView → ℕ → Option (List Open)
 problems_in part id = option_map (λ row. row.problems) (row_with (λ row. row.id) part.triggers id)
 

@@ -24,5 +24,6 @@ abbrev pub nodes_of : Option Expr → List Node
 nodes_of None = []
 nodes_of (Some expr) = flat (tree_of expr) []
 
+-- the nodes of a trigger's recovery expression
 abbrev pub recovery_plan_of : Trigger → List Node
 recovery_plan_of trigger = nodes_of trigger.recovery_expr

@@ -1,13 +1,13 @@
 -- The records that entries make.
 use Rattle.std.specs.Prelude.{ℕ, ◌==◌, Bool, false, true, ◌&&◌, List, [], ◌∷◌, ◌++◌, filter, flat_map, map, Option, Some, None, is_some, if◌then◌else◌, ℤ}
 use Rattle.std.specs.List.{list_any}
+use Rattle.zbx_types.specs.Hosts.{host_name}
 use Rattle.zbx_types.specs.Ids.{at_id}
 use Rattle.zbx_types.specs.Operators.{is_dated}
 use Rattle.zbx_types.specs.Trees.{tree_of}
 use Rattle.zbx_types.specs.declared.calls.Fun.{Fun}
 use Rattle.zbx_types.specs.declared.calls.Fun.TheVariants.{NoData}
 use Rattle.zbx_types.specs.declared.conf.Conf.{Conf}
-use Rattle.zbx_types.specs.declared.conf.Host.{Host}
 use Rattle.zbx_types.specs.declared.expr.Expr.{Expr}
 use Rattle.zbx_types.specs.declared.triggers.Trigger.{Trigger}
 use Rattle.zbx_types.specs.declared.entries.EventId.{EventId}
@@ -41,10 +41,6 @@ use Rattle.trigger_state.specs.declared.answer.Verdict.{Verdict}
 use Rattle.trigger_state.specs.declared.answer.Verdict.TheVariants.{Nothing, New, Close}
 use Rattle.trigger_state.specs.declared.problems.Open.{Open}
 use Rattle.entry_step.specs.declared.occasions.Occasion.{Occasion}
-
-abbrev pub host_name : Option Host → List ℕ
-host_name None = []
-host_name (Some host) = host.name
 
 -- the Problem record of a trigger at an entry, at which its events show these values. It is suppressed where its trigger is,
 -- at this moment and for its own tags.
@@ -99,10 +95,11 @@ verdict_records conf number now values id trigger all Nothing = []
 verdict_records conf number now values id trigger all New = begun_records conf number now all id (problem_of conf number now values id trigger)
 verdict_records conf number now values id trigger all (Close events) = flat_map (closed_records conf number now causes.Expression (all id)) events
 
--- the value of an expression over the values of the calls, and of one that a trigger may not have
+-- the value of an expression over the values of the calls
 abbrev pub expression_value : (ℕ → Option ℤ) → Expr → Option ℤ
 expression_value calls expr = value_over calls (tree_of expr)
 
+-- the value of an expression that a trigger may not have
 abbrev pub recovery_value : (ℕ → Option ℤ) → Option Expr → Option ℤ
 recovery_value calls None = None
 recovery_value calls (Some expr) = expression_value calls expr
@@ -113,6 +110,7 @@ judged_by conf occasion seen all id trigger =
     verdict_records conf occasion.number occasion.now seen.values id trigger all
     (verdict_of conf all id (expression_value seen.calls trigger.expr) (recovery_value seen.calls trigger.recovery_expr) (event_tags conf id seen.values) occasion.is_value)
 
+-- the records of the verdict on the trigger with an id, over these histories. No trigger: none.
 abbrev pub records_by : Conf → Occasion → (ℕ → List Stored) → (ℕ → List Open) → ℕ → Option Trigger → List Rec
 records_by conf occasion items all id None = []
 records_by conf occasion items all id (Some trigger) = judged_by conf occasion (seen_in items occasion conf.utc_offset trigger) all id trigger

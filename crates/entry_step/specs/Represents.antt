@@ -8,7 +8,8 @@ use Rattle.zbx_types.specs.declared.entries.Rec.{Rec}
 use Rattle.zbx_types.specs.declared.triggers.Trigger.{Trigger}
 use Rattle.event_correlation.specs.Laws.{HasTagsOf}
 use Rattle.entry_step.specs.Each.{Each}
-use Rattle.entry_step.specs.Log.{moment_of, IsFitting}
+use Rattle.zbx_types.specs.Entries.{moment_of}
+use Rattle.entry_step.specs.Log.{IsFitting}
 use Rattle.trigger_state.specs.Problems.{home, event_in}
 use Rattle.prep_steps.specs.declared.memory.StepMemory.{StepMemory}
 use Rattle.preprocess.specs.Chains.{listed}
@@ -38,6 +39,7 @@ AllAtHome conf id os = Each (λ o. home conf (event_in o) ≡ id) os
 abbrev pub IsTagged : Conf → ℕ → Rec → Type 0
 IsTagged conf id problem = (trigger : Trigger) × (at_id conf.triggers id ≡ Some trigger) × HasTagsOf trigger problem
 
+-- each open problem has the names of the tags of the trigger with this id
 abbrev pub AllTagged : Conf → ℕ → List Open → Type 0
 AllTagged conf id os = Each (λ o. IsTagged conf id o.problem) os
 

@@ -26,5 +26,6 @@ pub record SomeTaken (conf : Conf) (c : Cells) (es : List Numbered) (next : Cell
   pub all : taken ++ rest ≡ es
   pub represented : Represents conf next (cells_done conf c taken)
 
+-- whatever cells the kept ones represent, some of the entries that come to them are taken
 abbrev pub AreSteppedTo : Conf → CellsView → List Numbered → CellsView → Type 0
 AreSteppedTo conf held es next = (c : Cells) → Represents conf held c → AllCome conf c es → SomeTaken conf c es next

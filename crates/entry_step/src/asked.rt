@@ -12,17 +12,8 @@ ghost use Rattle.entry_step.specs.Asked.{places_of, IsAsked, AreAsked, ArePlaced
 use crate::packed::{Packed, pack};
 use pattern_set::Patterns;
 use std::alloc::Global;
-use zbx_types::{Call, Conf, Many, OutOfMemory, Range, Trigger};
-
-/// The seconds of a period.
-fn seconds_in(range: Range) -> u32
-    ensures { result ≡ seconds_in range }
-{
-    match range {
-        Range::Count(_) => 0,
-        Range::Period(period) => period,
-    }
-}
+use value_cache::seconds_in;
+use zbx_types::{Call, Conf, Many, OutOfMemory, Trigger};
 
 /// Whether the shift and the period of a call can be counted.
 fn is_counted(call: &Call) -> bool

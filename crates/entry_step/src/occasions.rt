@@ -1,7 +1,7 @@
 //! The occasions on which triggers are evaluated.
 
 ghost use Rattle.std.specs.Prelude.{◌≡◌};
-ghost use Rattle.entry_step.specs.Log.{moment_of, tick_with};
+ghost use Rattle.entry_step.specs.Log.{tick_with};
 ghost use Rattle.entry_step.specs.Occasions.{is_value, occasion_of};
 
 use zbx_types::{Entry, Moment, Numbered};
@@ -17,17 +17,6 @@ pub(crate) struct Occasion {
     pub(crate) is_value: bool,
     /// The moment of the first Tick up to and with it.
     pub(crate) tick: Option<Moment>,
-}
-
-/// The moment at which an entry was taken.
-fn moment_of(entry: &Entry) -> Moment
-    ensures { result ≡ moment_of entry.now }
-{
-    match entry {
-        Entry::Config { now, .. } => *now,
-        Entry::Value { now, .. } => *now,
-        Entry::Tick { now } => *now,
-    }
 }
 
 fn is_value(entry: &Entry) -> bool
@@ -56,7 +45,7 @@ pub(crate) fn occasion_of(first: Option<Moment>, entry: &Numbered) -> Occasion
 {
     Occasion {
         number: entry.number,
-        now: moment_of(&entry.entry),
+        now: entry.entry.moment(),
         is_value: is_value(&entry.entry),
         tick: tick_with(first, &entry.entry),
     }

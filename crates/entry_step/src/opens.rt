@@ -6,7 +6,7 @@ ghost use Rattle.entry_step.specs.Represents.{problems_at};
 
 use std::alloc::Global;
 use trigger_state::{Open, Opens, absorb_into};
-use zbx_types::{Conf, Many, OutOfMemory, Rec, by_id};
+use zbx_types::{Conf, Many, OutOfMemory, Rec, by_id, copy_records};
 
 /// The open problems of the trigger with an id.
 #[tactic(auto, unfolding(crate::specs::Represents::problems_at))]
@@ -33,24 +33,13 @@ impl<'a> Opens for Looked<'a> {
     }
 }
 
-/// Copies of steps.
-fn copies_of_steps(alloc: Global, steps: &[Rec]) -> Result<Many<Rec>, OutOfMemory>
-    ensures { IfOk result (λ made. made ≡ steps.now) }
-{
-    let mut made = Many::new(alloc);
-    for step in steps {
-        made.push(step.copy(alloc)?)?;
-    }
-    Ok(made)
-}
-
 /// A copy of an open problem.
 fn copied(alloc: Global, one: &Open) -> Result<Open, OutOfMemory>
     ensures { IfOk result (λ made. made ≡ one.now) }
 {
     Ok(Open {
         problem: one.problem.copy(alloc)?,
-        steps: copies_of_steps(alloc, one.steps.as_slice())?,
+        steps: copy_records(alloc, one.steps.as_slice())?,
         depth: one.depth,
     })
 }

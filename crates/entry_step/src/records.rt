@@ -6,7 +6,7 @@ ghost use Rattle.zbx_types.specs.declared.conf.Conf.{Conf};
 ghost use Rattle.zbx_types.specs.Ids.{at_id};
 ghost use Rattle.zbx_types.specs.Records.{same_event};
 ghost use Rattle.trigger_state.specs.Problems.{home, event_in};
-ghost use Rattle.entry_step.specs.Records.{host_name, problem_of, recovery_of, begun_with, begun_records, closed_records, ruled_records, last_records, verdict_records};
+ghost use Rattle.entry_step.specs.Records.{problem_of, recovery_of, begun_with, begun_records, closed_records, ruled_records, last_records, verdict_records};
 ghost use Rattle.entry_step.specs.Each.{Each};
 ghost use Rattle.entry_step.specs.Represents.{problems_at};
 ghost use Rattle.entry_step.specs.Changes.{outcome_records, outcome_rows, EachClosed, judged, Serve, AreTidy, Absorbed};
@@ -30,18 +30,8 @@ use maintenance::suppressed;
 use std::alloc::Global;
 use trigger_state::{Open, Verdict, verdict_over};
 use zbx_types::{
-    Cause2, Conf, EventId, Fix, Held, Many, Moment, OutOfMemory, Rec, Tag, Text, Trigger, by_id,
+    Cause2, Conf, EventId, Fix, Held, Many, Moment, OutOfMemory, Rec, Tag, Text, Trigger,
 };
-
-/// A copy of a host's name, empty where there is no host with this id.
-fn host_name(alloc: Global, conf: &Conf, id: u32) -> Result<Text, OutOfMemory>
-    ensures { IfOk result (λ name. name ≡ host_name (at_id conf.now.hosts id)) }
-{
-    match by_id(conf.hosts.as_slice(), id) {
-        None => Ok(Text::new(alloc)),
-        Some(host) => host.name.copy(alloc),
-    }
-}
 
 /// The Problem record of a trigger at an entry.
 #[tactic(auto, unfolding(crate::specs::Records::problem_of))]
@@ -67,7 +57,7 @@ fn problem_of(
         now,
         severity: trigger.severity,
         suppressed,
-        host: host_name(alloc, conf, trigger.host)?,
+        host: Text::of(alloc, conf.host_name(trigger.host))?,
         trigger: trigger.name.copy(alloc)?,
         name: ready.name_of(alloc, id, values)?,
         tags,

@@ -1,6 +1,6 @@
 //! The triggers that a Tick evaluates.
 
-ghost use Rattle.std.specs.Prelude.{◌≡◌, filter, IfOk};
+ghost use Rattle.std.specs.Prelude.{◌≡◌, IfOk};
 ghost use Rattle.std.specs.List.{list_any};
 ghost use Rattle.zbx_types.specs.Ids.{at_id};
 ghost use Rattle.entry_step.specs.Records.{is_timed, is_timed_trigger, timed_triggers};

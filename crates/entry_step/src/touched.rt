@@ -1,42 +1,19 @@
 //! The ids of what is in the feet of some entries.
 
-ghost use Rattle.std.specs.Prelude.{◌≡◌, ◌++◌, ◌||◌, ◌&&◌, ℕ, Bool, IfOk, OnOk};
-ghost use Rattle.std.specs.List.{list_any, flat_map};
+ghost use Rattle.std.specs.Prelude.{◌≡◌, ◌++◌, ◌||◌, ℕ, IfOk, OnOk};
+ghost use Rattle.std.specs.List.{list_any};
 ghost use Rattle.zbx_types.specs.Ids.{ids_from};
 ghost use Rattle.zbx_types.specs.Masters.{has_id};
-ghost use Rattle.footprint.specs.Rows.{risen, those, is_one};
-ghost use Rattle.footprint.specs.Feet.{feet_of, is_reached};
+ghost use Rattle.footprint.specs.Rows.{those};
+ghost use Rattle.footprint.specs.Feet.{is_reached};
 ghost use Rattle.entry_step.specs.Cells.{ItemKey, TriggerKey, touches};
 ghost use Rattle.entry_step.specs.Laws.{any_touches};
 ghost use Rattle.entry_step.specs.Touched.{IsFound};
 
 use crate::index::Ready;
+use footprint::settled;
 use std::alloc::Global;
 use zbx_types::{Entry, Many, Numbered, OutOfMemory, id_of};
-
-/// Those of ascending ids that rise, each once, from 1 to a count.
-fn risen(alloc: Global, ids: &[u32], count: usize) -> Result<Many<u32>, OutOfMemory>
-    ensures { IfOk result (λ row. row ≡ risen count 0 ids.now) }
-{
-    let mut row = Many::new(alloc);
-    let mut last = 0;
-    for id in ids {
-        if last < *id && *id as usize <= count {
-            row.push(*id)?;
-            last = *id;
-        }
-    }
-    Ok(row)
-}
-
-/// Those ids of a list that were found, rising.
-fn settled<T>(alloc: Global, found: Vec<u32>, all: &[T]) -> Result<Many<u32>, OutOfMemory>
-    ensures { IfOk result (λ row. row ≡ those all.now (has_id found.items)) }
-{
-    let mut ids = found;
-    ids.sort()?;
-    risen(alloc, ids.as_slice(), all.len())
-}
 
 /// Adds the ids of all items of a list.
 fn find_all<T>(found: &mut Vec<u32>, all: &[T]) -> Result<(), OutOfMemory>

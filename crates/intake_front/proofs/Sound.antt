@@ -7,6 +7,7 @@ use Rattle.std.proofs.lemmas.Bool.{ne_eqb}
 use Rattle.std.proofs.lemmas.List.Elements.{All-nil, All-cons, All-head, All-tail, All-append}
 use Rattle.std.proofs.lemmas.List.Concat.{flat_map-cons}
 use Rattle.zbx_types.specs.Ids.{at_id}
+use Rattle.zbx_types.specs.Items.{is_trapper_kind, is_trapper_item}
 use Rattle.zbx_types.specs.Limits.{longest_value}
 use Rattle.zbx_types.specs.declared.conf.Conf.{Conf}
 use Rattle.zbx_types.specs.declared.items.Item.{Item}
@@ -26,10 +27,11 @@ use Rattle.sender_json.specs.declared.asked.Clock.TheVariants as clock
 use Rattle.sender_json.specs.declared.request.Request.{Request}
 use Rattle.sender_json.specs.declared.request.Request.TheVariants as request
 use Rattle.sender_json.specs.Requests.{request_of}
-use Rattle.entry_step.specs.Log.{log_of, last_moment, moment_of, is_config, is_trapper, IsFitting, IsFull, Fits}
+use Rattle.zbx_types.specs.Entries.{moment_of}
+use Rattle.entry_step.specs.Log.{log_of, last_moment, is_config, is_trapper, IsFitting, IsFull, Fits}
 use Rattle.maintenance.specs.Suppression.{is_collected}
 use Rattle.entry_step.specs.Names.{host_named, item_keyed}
-use Rattle.intake_front.specs.Taking.{clocked, valued, keyed, hosted, taken_of, entry_in, group_of, is_enabled_host, is_enabled_item, is_trapper_kind, is_trapper_item}
+use Rattle.intake_front.specs.Taking.{clocked, valued, keyed, hosted, taken_of, entry_in, group_of, is_enabled_host, is_enabled_item}
 use Rattle.intake_front.specs.Intake.{Limits, Intake, numbered_from, with_group, is_due, half_minute, ticks_at, answered_values, answered_request, turned, kept_with, ticked, values_offered, behind_tick, tick_offered, offered, refused, numbered_behind, stop_of, handled, start, IsSound}
 use Rattle.zbx_types.specs.declared.memory.OutOfMemory.{OutOfMemory}
 use Rattle.intake_front.specs.declared.answer.Answer.{Answer}

@@ -3,7 +3,8 @@ use Rattle.std.specs.Prelude.{◌≡◌, ◌≤◌, ℕ, true, false, List, [], 
 use Rattle.zbx_types.specs.declared.conf.Conf.{Conf}
 use Rattle.zbx_types.specs.declared.entries.Entry.{Entry}
 use Rattle.zbx_types.specs.declared.entries.Numbered.{Numbered}
-use Rattle.entry_step.specs.Log.{log_of, moment_of, is_config, IsFitting, Fits}
+use Rattle.zbx_types.specs.Entries.{moment_of}
+use Rattle.entry_step.specs.Log.{log_of, is_config, IsFitting, Fits}
 use Rattle.intake_journal.specs.declared.format.Group.{Group}
 use Rattle.intake_front.specs.Intake.{numbered_from}
 use Rattle.intake_front.specs.Fronted.{numbered_of}

@@ -2,12 +2,11 @@
 use Rattle.std.specs.Prelude.{◌≡◌, ℕ, nat_le, min, Bool, true, false, not, ◌&&◌, List, [], ◌∷◌, length, Option, Some, None, Result, Ok, Err, if◌then◌else◌, option_and_then}
 use Rattle.std.specs.List.{flat_map}
 use Rattle.zbx_types.specs.Ids.{at_id}
+use Rattle.zbx_types.specs.Items.{is_trapper_item}
 use Rattle.zbx_types.specs.Limits.{longest_value}
 use Rattle.zbx_types.specs.declared.conf.Conf.{Conf}
 use Rattle.zbx_types.specs.declared.conf.Host.{Host}
 use Rattle.zbx_types.specs.declared.items.Item.{Item}
-use Rattle.zbx_types.specs.declared.items.ItemKind.{ItemKind}
-use Rattle.zbx_types.specs.declared.items.ItemKind.TheVariants as kinds
 use Rattle.zbx_types.specs.declared.entries.Entry.{Entry}
 use Rattle.zbx_types.specs.declared.entries.Entry.TheVariants.{Value}
 use Rattle.sender_json.specs.declared.asked.Asked.{Asked}
@@ -27,16 +26,6 @@ is_enabled_host (Some host) = host.enabled
 abbrev pub is_enabled_item : Option Item → Bool
 is_enabled_item None = false
 is_enabled_item (Some item) = item.enabled
-
--- items of this kind take values from senders
-abbrev pub is_trapper_kind : ItemKind → Bool
-is_trapper_kind kinds.Trapper = true
-is_trapper_kind kinds.Dependent = false
-
--- there is an item, and it takes values from senders
-abbrev pub is_trapper_item : Option Item → Bool
-is_trapper_item None = false
-is_trapper_item (Some item) = is_trapper_kind item.kind
 
 -- at this moment no maintenance keeps the values of any host out
 abbrev pub AllCollected : Conf → ℕ → Type 0

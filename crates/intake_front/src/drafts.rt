@@ -1,6 +1,6 @@
 //! What an event makes before its groups are offered: entries and replies.
 
-ghost use Rattle.std.specs.Prelude.{◌≡◌, ◌≤◌, ◌<◌, ◌++◌, ◌+◌, ◌^◌, [], length, All, IfOk};
+ghost use Rattle.std.specs.Prelude.{◌≡◌, ◌<◌, All, IfOk};
 ghost use Rattle.intake_journal.specs.Bytes.{HasShortValue};
 ghost use Rattle.intake_front.specs.Intake.{ticks_at, is_due, only, replying, counting, answered_values, answered_request, turned, stop_of, stopping};
 

@@ -1,13 +1,13 @@
 //! Whether the entries that a journal kept fit a configuration.
 
-ghost use Rattle.std.specs.Prelude.{◌≡◌, ◌≤◌, ℕ, true, false, IsTrue, ◌↔◌, MatchBool, List};
-ghost use Rattle.entry_step.specs.Log.{Fits, IsFitting, is_config, is_trapper, moment_of};
+ghost use Rattle.std.specs.Prelude.{◌≡◌, true, false, IsTrue, ◌↔◌, MatchBool, List};
+ghost use Rattle.entry_step.specs.Log.{Fits, IsFitting, is_config, is_trapper};
 ghost use Rattle.zbx_types.specs.Ids.{at_id};
 ghost use Rattle.zbx_types.specs.declared.entries.Numbered.{Numbered};
 ghost use Rattle.intake_front.specs.Misfit.{IsFirstMisfit, FitsBehind, reached, log_with};
 
 use intake_journal::Group;
-use zbx_types::{Conf, Entry, ItemKind, Moment, by_id};
+use zbx_types::{Conf, Entry, Moment, by_id};
 
 /// The place of the first group whose entries don't fit a configuration, or None where all fit: the first entry alone is a
 /// Config, no moment falls, and each value is of an enabled trapper item and no later than its moment. Whether the item's
@@ -33,17 +33,9 @@ fn group_fits(conf: &Conf, last: &mut Option<Moment>, entries: &[Entry]) -> bool
         if !entry_fits(conf, *last, entry) {
             return false;
         }
-        *last = Some(moment_of(entry));
+        *last = Some(entry.moment());
     }
     true
-}
-
-fn moment_of(entry: &Entry) -> Moment
-    ensures { result ≡ moment_of entry.now }
-{
-    match entry {
-        Entry::Config { now, .. } | Entry::Value { now, .. } | Entry::Tick { now } => *now,
-    }
 }
 
 fn is_config(entry: &Entry) -> bool
@@ -60,10 +52,7 @@ fn is_trapper(conf: &Conf, item: u32) -> bool
     ensures { result ≡ is_trapper (at_id conf.now.items item) }
 {
     match by_id(conf.items.as_slice(), item) {
-        Some(item) => match item.kind {
-            ItemKind::Trapper => item.enabled,
-            ItemKind::Dependent => false,
-        },
+        Some(item) => item.takes_values(),
         None => false,
     }
 }
@@ -89,7 +78,7 @@ fn entry_fits(conf: &Conf, last: Option<Moment>, entry: &Entry) -> bool
 {
     let follows = match last {
         None => is_config(entry),
-        Some(last) => !is_config(entry) && last <= moment_of(entry),
+        Some(last) => !is_config(entry) && last <= entry.moment(),
     };
     follows && is_fitting(conf, entry)
 }

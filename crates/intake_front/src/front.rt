@@ -1,9 +1,8 @@
 //! The intake of a run over its journal.
 
-ghost use Rattle.zbx_types.specs.declared.conf.Conf.{Conf};
 ghost use Rattle.outside.specs.declared.event.WireEvent.{WireEvent};
 ghost use Rattle.intake_front.specs.Intake.{Intake};
-ghost use Rattle.std.specs.Prelude.{List, ◌⊎◌, ◌≡◌, ◌≢◌, ◌≤◌, ◌<◌, ℕ, ◌++◌, ◌+◌, ◌^◌, [], ◌∷◌, length, Some, None, Err, is_some, IsTrue, IfSome, IfOk, IfErr, OnOk, OnErr};
+ghost use Rattle.std.specs.Prelude.{List, ◌⊎◌, ◌≡◌, ◌≢◌, ◌≤◌, ◌<◌, ℕ, ◌++◌, ◌+◌, [], ◌∷◌, length, Some, None, Err, is_some, IsTrue, IfSome, IfOk, IfErr, OnOk, OnErr};
 ghost use Rattle.outside.specs.Causes.{Rose};
 ghost use Rattle.outside.specs.Disk.{LeavesOnly};
 ghost use Rattle.entry_step.specs.Log.{log_of, IsFull, Fits};

@@ -1,9 +1,9 @@
 //! The intake of a run, without its journal.
 
-ghost use Rattle.std.specs.Prelude.{◌≡◌, ◌≤◌, ◌<◌, ◌++◌, ◌+◌, ◌^◌, length, IfOk, OnOk, OnErr};
+ghost use Rattle.std.specs.Prelude.{◌≡◌, ◌≤◌, ◌<◌, length};
 ghost use Rattle.std.specs.Option.{option_map};
 ghost use Rattle.intake_front.specs.Intake.{resumed, half_minute, half_with, last_tick};
-ghost use Rattle.entry_step.specs.Log.{log_of, last_moment, moment_of};
+ghost use Rattle.entry_step.specs.Log.{log_of, last_moment};
 
 use std::alloc::Global;
 use std::marker::Model;
@@ -32,20 +32,12 @@ impl Model for Held {
     ghost invariant = { λ h. h.groups ≤ length h.entries.items };
 }
 
-fn moment_of(entry: &Entry) -> Moment
-    ensures { result ≡ moment_of entry.now }
-{
-    match entry {
-        Entry::Config { now, .. } | Entry::Value { now, .. } | Entry::Tick { now } => *now,
-    }
-}
-
 /// The moment of the last entry, or moment 0.
 fn last_moment(entries: &[Numbered]) -> Moment
     ensures { result ≡ last_moment (log_of entries.now) }
 {
     match entries.last() {
-        Some(last) => moment_of(&last.entry),
+        Some(last) => last.entry.moment(),
         None => Moment::zero(),
     }
 }

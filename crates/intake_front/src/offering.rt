@@ -1,6 +1,6 @@
 //! Events that are taken: their groups are staged, and their answers held back.
 
-ghost use Rattle.std.specs.Prelude.{◌≡◌, ◌≢◌, ◌≤◌, ◌+◌, [], length, All, Option, Some, None, MatchResult, OnOk, OnErr, IfOk};
+ghost use Rattle.std.specs.Prelude.{◌≡◌, ◌≢◌, ◌+◌, [], All, Option, Some, None, MatchResult};
 ghost use Rattle.intake_journal.specs.Bytes.{HasShortValue};
 ghost use Rattle.intake_journal.specs.declared.state.State.TheVariants as state;
 ghost use Rattle.intake_front.specs.Intake.{Intake, ticked, handled, offered};

@@ -1,6 +1,6 @@
 //! The intake of a run that begins or goes on.
 
-ghost use Rattle.std.specs.Prelude.{◌≡◌, ◌≢◌, ◌≤◌, ◌<◌, ℕ, ◌++◌, ◌+◌, ◌^◌, [], ◌∷◌, length, All, false, Some, None, is_some, IsTrue, IfSome, IfOk, IfErr, OnOk};
+ghost use Rattle.std.specs.Prelude.{◌≡◌, ◌≢◌, ◌≤◌, ◌<◌, ℕ, ◌+◌, ◌^◌, [], ◌∷◌, All, false, Some, None, is_some, IsTrue, IfSome, IfOk, IfErr, OnOk};
 ghost use Rattle.outside.specs.Causes.{Rose};
 ghost use Rattle.outside.specs.Disk.{LeavesOnly};
 ghost use Rattle.intake_journal.specs.Block.{entries_with_all, bytes_with_all, passes_with_all};

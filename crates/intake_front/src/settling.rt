@@ -1,9 +1,9 @@
 //! What an event enters of its groups, and what it is answered with.
 
-ghost use Rattle.std.specs.Prelude.{◌≡◌, ◌≤◌, ◌<◌, ◌++◌, ◌+◌, ◌^◌, ◌||◌, [], ◌∷◌, length, is_some, Option, OnOk, IfOk};
+ghost use Rattle.std.specs.Prelude.{◌≡◌, ◌≤◌, ◌<◌, ◌++◌, ◌+◌, ◌^◌, ◌||◌, [], length, is_some, Option, OnOk, IfOk};
 ghost use Rattle.std.specs.Vec.{vec_len, vec_capacity};
 ghost use Rattle.entry_step.specs.Log.{tick_of};
-ghost use Rattle.intake_front.specs.Intake.{numbered_from, with_group, half_minute};
+ghost use Rattle.intake_front.specs.Intake.{numbered_from, with_group};
 ghost use Rattle.intake_front.specs.Staging.{groups_in, fault_at, settled};
 ghost use Rattle.intake_front.specs.Waiting.{has_tick};
 ghost use Rattle.intake_front.specs.declared.answer.Stop.{Stop};

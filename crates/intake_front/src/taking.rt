@@ -1,10 +1,11 @@
 //! What becomes of asked values.
 
-ghost use Rattle.std.specs.Prelude.{◌≡◌, ◌≤◌, ◌++◌, ◌&&◌, length, min, not, false, All, IfOk, OnOk, option_and_then, option_copied};
+ghost use Rattle.std.specs.Prelude.{◌≡◌, ◌++◌, ◌&&◌, not, false, All, IfOk, OnOk, option_and_then, option_copied};
 ghost use Rattle.maintenance.specs.Force.{is_in_force};
 ghost use Rattle.maintenance.specs.Suppression.{is_collected};
 ghost use Rattle.entry_step.specs.Names.{host_named, item_keyed};
-ghost use Rattle.intake_front.specs.Taking.{is_enabled_host, is_enabled_item, is_trapper_item, AllCollected, clocked, valued, keyed, hosted, taken_of, entry_in, group_of};
+ghost use Rattle.zbx_types.specs.Items.{is_trapper_item};
+ghost use Rattle.intake_front.specs.Taking.{is_enabled_host, is_enabled_item, AllCollected, clocked, valued, keyed, hosted, taken_of, entry_in, group_of};
 ghost use Rattle.intake_journal.specs.Bytes.{HasShortValue};
 
 use crate::collection::Collection;
@@ -14,8 +15,8 @@ use maintenance::{collects, in_force};
 use sender_json::{Asked, Clock};
 use std::alloc::Global;
 use zbx_types::{
-    Conf, Entry, Host, Item, ItemKind, LONGEST_VALUE, Maintenance, Many, Moment, OutOfMemory, Text,
-    by_id, id_of,
+    Conf, Entry, Host, Item, LONGEST_VALUE, Maintenance, Many, Moment, OutOfMemory, Text, by_id,
+    id_of,
 };
 
 fn asked_host(ready: &Ready, name: &Option<Text>) -> Option<u32>
@@ -58,10 +59,7 @@ fn is_trapper_item(item: Option<&Item>) -> bool
     ensures { result ≡ is_trapper_item (option_copied item.entry) }
 {
     match item {
-        Some(item) => match item.kind {
-            ItemKind::Trapper => true,
-            ItemKind::Dependent => false,
-        },
+        Some(item) => item.kind.is_trapper(),
         None => false,
     }
 }

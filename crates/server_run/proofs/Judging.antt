@@ -9,7 +9,8 @@ use Rattle.std.proofs.lemmas.Grind.{flat_map-append}
 use Rattle.zbx_types.specs.declared.conf.Conf.{Conf}
 use Rattle.zbx_types.specs.declared.entries.Entry.{Entry}
 use Rattle.zbx_types.specs.declared.entries.Numbered.{Numbered}
-use Rattle.entry_step.specs.Log.{log_of, moment_of, Fits}
+use Rattle.zbx_types.specs.Entries.{moment_of}
+use Rattle.entry_step.specs.Log.{log_of, Fits}
 use Rattle.intake_journal.specs.declared.format.Group.{Group}
 use Rattle.intake_front.specs.Intake.{numbered_from, with_group}
 use Rattle.intake_front.specs.Fronted.{numbered_of}

@@ -28,5 +28,5 @@ loop-entry-preserved c log is fits =
     let step = take_next es i e c.loop-entry-test.true c.entry-item.is in
     let behind = subst (λ o. FitsBehind conf o e) so_far.1 (c.if-not-entry_fits.ensures.0 refl) in (
       subst (λ (l : List Entry). Fits conf (log_with log l)) (sym step) (step_fits conf log (take i es) e so_far.0 behind),
-      ap Some c.moment_of.ensures ∙ sym (step_reached log (take i es) e) ∙ ap (λ (l : List Entry). reached (log_with log l)) (sym step),
+      ap Some c.moment.ensures ∙ sym (step_reached log (take i es) e) ∙ ap (λ (l : List Entry). reached (log_with log l)) (sym step),
     )
