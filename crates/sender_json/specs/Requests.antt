@@ -66,10 +66,12 @@ abbrev pub all_asked : Items → List Asked
 all_asked no_items = []
 all_asked (item d ds) = asked_of d ∷ all_asked ds
 
+-- the name of a request, where it has one, is `sender data`
 abbrev pub is_sender_data : Option (List ℕ) → Bool
 is_sender_data None = false
 is_sender_data (Some name) = bytes_eq name (codes "sender data")
 
+-- the request with the values of these elements, or another request where there is no list of them
 abbrev pub values_or_other : Option Items → Request
 values_or_other None = Other
 values_or_other (Some ds) = Values (all_asked ds)
@@ -80,6 +82,7 @@ sender_request d =
     if is_sender_data (option_and_then as_str (get (codes "request") d))
     then values_or_other (option_and_then as_array (get (codes "data") d)) else Other
 
+-- the request that a body is, told by the JSON value that it is, if it is one
 abbrev pub request_of_json : Option Data → Request
 request_of_json None = NotJson
 request_of_json (Some d) = sender_request d

@@ -10,10 +10,6 @@ use Rattle.wire_mio.specs.Adapters.{risen}
 abbrev pub longest_piece : ℕ
 longest_piece = 65536
 
--- at most so many connections are there at once
-abbrev pub most_connections : ℕ
-most_connections = 128
-
 -- a wire: the events that stand in its queue, the latest connection of which it has told, how many connections are
 -- there, whether it listens, and its counts
 pub record Standing : Type 0 where

@@ -1,7 +1,7 @@
 //! The connections that are there.
 
-ghost use Rattle.std.specs.Prelude.{◌≡◌, ◌≤◌, ◌<◌, ◌+◌, false, true, nat_lt, not, IfSome};
-ghost use Rattle.wire_mio.specs.Queues.{most_connections};
+ghost use Rattle.std.specs.Prelude.{◌≡◌, ◌≤◌, ◌<◌, false, true, nat_lt, IfSome};
+ghost use Rattle.zbx_types.specs.Limits.{most_connections};
 
 use mio::net::TcpStream;
 use std::alloc::Global;
@@ -9,10 +9,7 @@ use std::collections::{HashMap, VecDeque};
 use std::marker::Model;
 use std::net::Shutdown;
 use std::time::{Duration, Instant};
-use zbx_types::OutOfMemory;
-
-/// At most so many connections are there at once.
-pub(crate) const MOST_CONNECTIONS: usize = 128;
+use zbx_types::{MOST_CONNECTIONS, OutOfMemory};
 
 /// How many seconds a connection stays that has ended or was closed.
 const PARTING: u64 = 10;
@@ -66,7 +63,7 @@ pub(crate) struct Connections {
 impl Model for Connections {
     ghost use Rattle.std.specs.Prelude.{ℕ, ◌≤◌};
     ghost use Rattle.std.specs.HashMap.{hash_map_len};
-    ghost use Rattle.wire_mio.specs.Queues.{most_connections};
+    ghost use Rattle.zbx_types.specs.Limits.{most_connections};
 
     ghost Value = { ℕ };
 

@@ -1,6 +1,6 @@
 //! Disks over files.
 
-ghost use Rattle.std.specs.Prelude.{◌≡◌, ◌≤◌, length, Some, None, is_some, IfOk, OnOk, IfSome};
+ghost use Rattle.std.specs.Prelude.{◌≡◌, ◌≤◌, length, Some, None, IfOk};
 ghost use Rattle.outside.specs.Causes.{HasCause};
 ghost use Rattle.wire_mio.specs.Adapters.{FailsAsFile, faults_behind};
 

@@ -1,7 +1,8 @@
 //! The sockets of a wire, and what they bring.
 
 ghost use Rattle.std.specs.Prelude.{◌≡◌, ◌<◌, length};
-ghost use Rattle.wire_mio.specs.Queues.{IsTold, most_connections, longest_piece};
+ghost use Rattle.zbx_types.specs.Limits.{most_connections};
+ghost use Rattle.wire_mio.specs.Queues.{IsTold, longest_piece};
 
 use crate::clock::moment;
 use crate::connections::{Connections, Peer, Stage};

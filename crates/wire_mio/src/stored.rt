@@ -1,6 +1,6 @@
 //! Files as a disk uses them.
 
-ghost use Rattle.std.specs.Prelude.{◌≡◌, ◌≤◌, ℕ, length, IfOk, OnOk};
+ghost use Rattle.std.specs.Prelude.{◌≡◌, ◌≤◌, ℕ, length, IfOk};
 ghost use Rattle.wire_mio.specs.Adapters.{CountsFailed};
 
 use outside::Tally;

@@ -2,10 +2,11 @@
 
 ghost use Rattle.std.specs.Prelude.{◌≡◌, ◌≤◌, ◌+◌, [], None, IfOk, IsErrOf, false, is_some, not, length, ◌==◌};
 ghost use Rattle.outside.specs.Causes.{HasCause};
-ghost use Rattle.outside.specs.Events.{Gives, CountsGiven, HasNextCause, Sends, Closes};
+ghost use Rattle.outside.specs.Events.{Gives, CountsGiven, HasNextCause, Sends};
 ghost use Rattle.outside.specs.declared.event.Trouble.TheVariants as trouble;
 ghost use Rattle.wire_mio.specs.Adapters.{faults_behind};
-ghost use Rattle.wire_mio.specs.Queues.{MayFollow, GivesFirst, LeavesQueue, told_behind, failed_behind, most_connections};
+ghost use Rattle.wire_mio.specs.Queues.{MayFollow, GivesFirst, LeavesQueue, told_behind, failed_behind};
+ghost use Rattle.zbx_types.specs.Limits.{most_connections};
 
 use crate::connections::Connections;
 use crate::queue::Queue;
