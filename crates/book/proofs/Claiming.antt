@@ -13,7 +13,7 @@ use Rattle.footprint.specs.Feet.{Footing, feet_of}
 use Rattle.footprint.specs.Conflict.{conflict_by}
 use Rattle.zbx_types.specs.declared.entries.Entry.{Entry}
 use Rattle.entry_step.specs.Each.{In}
-use Rattle.entry_step.specs.Cells.{Cells, after, look, StandFor}
+use Rattle.entry_step.specs.Cells.{Cells, after, look, AreCellsOf}
 use Rattle.entry_step.specs.Represents.{CellsView, Represents, StepsTo, Holds as HoldsLog}
 use Rattle.entry_step.specs.Laws.{cells_done, records_done}
 use Rattle.entry_step.specs.Parts.{AllCome, PartView, IsPartOf, IsSame, IsWorkable, IsReplaced, WorksOut}
@@ -32,7 +32,7 @@ use Rattle.book.specs.Entries.{IsWholeLog}
 use Rattle.book.specs.Schedule.{Worked, batch_in, keeping, worked, begin_worked}
 use Rattle.book.specs.Progress.{ProgressView, made_at, worked_of, IsGoing, entries_with, entry_at, AreHere, AreWithin, AreReady, AreOutputs, IsKept, IsWorkedIn, HasClaimed, IsSingle, IsClaim, IsOrder}
 use Rattle.book.proofs.Places.{Rises}
-use Rattle.book.proofs.Scheduled.{Stands, stepped, batch_comes, begins}
+use Rattle.book.proofs.Scheduled.{IsConsistent, stepped, batch_comes, begins}
 use Rattle.book.proofs.Going.{full_rises, whole_numbers, whole_offered, whole_suits, stands_of, HasCome, going_of, offers_stand, gate_going}
 use Rattle.book.proofs.Batches.{AreAmong, all_among, within_ones, with_at, numbers_at, open_within, open_entries, set_made, same_part, here_at, at_here}
 
@@ -90,7 +90,7 @@ has_claimed conf p gate batch limit going some is alike step = record {
     numbers : List ℕ
     numbers = chosen (feet_of conf) p.gate p.entries limit
 
-    stands : Stands conf (worked_of p going.cells)
+    stands : IsConsistent conf (worked_of p going.cells)
     stands = stands_of conf p going
 
     next : IsGoing conf (record p { gate = gate })
@@ -274,7 +274,7 @@ pub new_going : (conf : Conf) (entries : List Numbered) (before gate : Gate) (he
     → before ≡ record { first = 1; marks = []; next = 1 } → gate ≡ record { first = 1; marks = replicate (length entries) Pending; next = 1 }
     → ((old more : List Numbered) → core_of (old ++ more) gate ≡ offered more (core_of old before)) → made ≡ replicate (length entries) []
     → IsGoing conf (record { entries = entries; gate = gate; cells = held; made = made })
-unfolding StandFor
+unfolding AreCellsOf
 new_going conf entries before gate held made whole holds old is core rows =
     going_of conf (record (begin_worked conf) { core = offered entries start }) entries gate held made
     (offers_stand conf entries (begin_worked conf) (begins conf) (subst Rises (sym (append-nil (reverse entries))) (full_rises (reverse entries) whole.full)))

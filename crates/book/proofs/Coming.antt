@@ -8,7 +8,7 @@ use Rattle.entry_step.specs.Each.{Each, In, EachPair}
 use Rattle.zbx_types.specs.Entries.{moment_of}
 use Rattle.entry_step.specs.Log.{last_moment, IsFitting, Suits}
 use Rattle.entry_step.specs.Records.{replay}
-use Rattle.entry_step.specs.Cells.{Cells, ItemKey, touches, records, after, seen_of, look, StandFor}
+use Rattle.entry_step.specs.Cells.{Cells, ItemKey, touches, records, after, seen_of, look, AreCellsOf}
 use Rattle.entry_step.specs.Laws.{Apart}
 use Rattle.entry_step.specs.Represents.{ComesAfter}
 use Rattle.entry_step.specs.Parts.{AllCome}
@@ -47,8 +47,8 @@ seen_before conf done (e ∷ log) i now early = go (done e) refl (seen_before co
     go true d ih = here (touches conf e.entry (ItemKey i)) refl d ih
     go false d ih = ih
 
-seen_is : (conf : Conf) (cells : Cells) (log : List Numbered) (i : ℕ) → StandFor conf cells log → (cells (ItemKey i)).seen ≡ seen_of conf log i
-unfolding StandFor look
+seen_is : (conf : Conf) (cells : Cells) (log : List Numbered) (i : ℕ) → AreCellsOf conf cells log → (cells (ItemKey i)).seen ≡ seen_of conf log i
+unfolding AreCellsOf look
 seen_is conf cells log i stand = ap (λ x. (x (ItemKey i)).seen) stand
 
 module _ (conf : Conf) (log : List Numbered) (rises : Rises log) (suits : Suits conf log) where

@@ -22,7 +22,7 @@ use Rattle.syncer_gate.specs.Gate.{Gate, mark_of, with_ended}
 use Rattle.syncer_gate.specs.Core.{Core, passes, Holds, core_of}
 use Rattle.book.specs.Schedule.{is_applied, Worked}
 use Rattle.book.specs.Progress.{ProgressView, worked_of, IsGoing, HasClaimed, IsSingle, IsOneMore}
-use Rattle.book.proofs.Scheduled.{Stands, order_of, same_done}
+use Rattle.book.proofs.Scheduled.{IsConsistent, order_of, same_done}
 use Rattle.book.proofs.Going.{whole_numbers, stands_of, gate_going}
 
 passed_reopened : (late early : Mark) → passes (reopened late) (reopened early) ≡ true → passes late early ≡ true
@@ -66,7 +66,7 @@ core_reopened entries gate = ap over (fun_ext (λ n. go (nat_lt n gate.first) (n
     go true k = refl
     go false k = get_or-map reopened gate.marks k Pending
 
-stands_reopened : (conf : Conf) (w : Worked) → Stands conf w → Stands conf (record w { core = reopened_core w.core })
+stands_reopened : (conf : Conf) (w : Worked) → IsConsistent conf w → IsConsistent conf (record w { core = reopened_core w.core })
 unfolding reopened_core
 stands_reopened conf w stands = record {
   holds = record {

@@ -11,7 +11,7 @@ use Rattle.zbx_types.specs.declared.entries.Rec.{Rec}
 use Rattle.footprint.specs.Feet.{feet_of}
 use Rattle.entry_step.specs.Each.{Each, In}
 use Rattle.entry_step.specs.Log.{log_of, IsFull, Suits}
-use Rattle.entry_step.specs.Cells.{Cells, StandFor}
+use Rattle.entry_step.specs.Cells.{Cells, AreCellsOf}
 use Rattle.entry_step.specs.Represents.{CellsView, Represents}
 use Rattle.entry_step.proofs.Members.{each_from}
 use Rattle.syncer_gate.specs.Gate.{Gate, AreOffered, AreAlike}
@@ -21,7 +21,7 @@ use Rattle.book.specs.Entries.{IsWholeLog}
 use Rattle.book.specs.Schedule.{is_applied, Worked, worked, Facts}
 use Rattle.book.specs.Progress.{ProgressView, made_at, worked_of, IsGoing}
 use Rattle.book.proofs.Places.{Rises, in_of, in_right, older_below}
-use Rattle.book.proofs.Scheduled.{Stands, order_of, stepped}
+use Rattle.book.proofs.Scheduled.{IsConsistent, order_of, stepped}
 
 -- numbers of a full log
 pub number_within : (log : List Numbered) → IsFull log → (y : Numbered) → In y log → (0 < y.number) × (y.number ≤ length log)
@@ -59,7 +59,7 @@ pub whole_suits : (conf : Conf) (entries : List Numbered) → IsWholeLog conf en
 whole_suits conf entries whole = whole.fits.1
 
 -- the facts behind steps
-pub stands_of : (conf : Conf) (p : ProgressView) (going : IsGoing conf p) → Stands conf (worked_of p going.cells)
+pub stands_of : (conf : Conf) (p : ProgressView) (going : IsGoing conf p) → IsConsistent conf (worked_of p going.cells)
 stands_of conf p going = record {
   holds = going.known;
   rises = full_rises (reverse p.entries) going.whole.full;
@@ -76,7 +76,7 @@ pub record HasCome (conf : Conf) (w : Worked) (entries : List Numbered) (gate : 
   pub represented : Represents conf held w.cells
   pub kept : (n : ℕ) → 0 < n → made_at made n ≡ w.made n
 
-pub going_of : (conf : Conf) (w : Worked) (entries : List Numbered) (gate : Gate) (held : CellsView) (made : List (List Rec)) → Stands conf w → HasCome conf w entries gate held made
+pub going_of : (conf : Conf) (w : Worked) (entries : List Numbered) (gate : Gate) (held : CellsView) (made : List (List Rec)) → IsConsistent conf w → HasCome conf w entries gate held made
     → IsGoing conf (record { entries = entries; gate = gate; cells = held; made = made })
 going_of conf w entries gate held made stands come = record {
   whole = come.whole;
@@ -88,7 +88,7 @@ going_of conf w entries gate held made stands come = record {
   represented = come.represented;
   facts = record {
     order = subst (InOrder (feet_of conf)) (sym come.core) stands.holds.order;
-    stand = subst (λ (c : Core). StandFor conf w.cells (filter (λ e. is_applied (c.status e.number)) c.log)) (sym come.core) stands.done.stand;
+    stand = subst (λ (c : Core). AreCellsOf conf w.cells (filter (λ e. is_applied (c.status e.number)) c.log)) (sym come.core) stands.done.stand;
     kept = λ newer older e split d.
         come.kept e.number (number_within (reverse entries) come.whole.full e (subst (In e) (sym split) (in_right newer (e ∷ older) e (inl refl)))).0
         ∙ stands.done.kept newer older e (sym (ap (λ (c : Core). c.log) come.core) ∙ split) (sym (ap (λ (c : Core). is_applied (c.status e.number)) come.core) ∙ d);
@@ -96,7 +96,7 @@ going_of conf w entries gate held made stands come = record {
 }
 
 -- entries that are offered, one after another
-pub offers_stand : (conf : Conf) (more : List Numbered) (w : Worked) → Stands conf w → Rises (reverse more ++ w.core.log) → Stands conf (record w { core = offered more w.core })
+pub offers_stand : (conf : Conf) (more : List Numbered) (w : Worked) → IsConsistent conf w → Rises (reverse more ++ w.core.log) → IsConsistent conf (record w { core = offered more w.core })
 offers_stand conf [] w stands rises = stands
 offers_stand conf (e ∷ more) w stands rises =
     let r : Rises (reverse more ++ e ∷ w.core.log) = subst Rises (ap (λ es. es ++ w.core.log) (reverse-cons e more) ∙ append_assoc (reverse more) (e ∷ []) w.core.log) rises in
@@ -113,7 +113,7 @@ more_going conf p more gate made going whole first size core rows same =
     (record { whole = whole; first = first ∙ going.first; size = size; rows = rows; core = core; represented = going.represented; kept = λ n l. same n })
 
 -- a step that touches neither cells nor records
-pub gate_going : (conf : Conf) (p : ProgressView) (going : IsGoing conf p) (gate : Gate) (core : Core) → Stands conf (record (worked_of p going.cells) { core = core }) → AreAlike p.gate gate → core_of p.entries gate ≡ core
+pub gate_going : (conf : Conf) (p : ProgressView) (going : IsGoing conf p) (gate : Gate) (core : Core) → IsConsistent conf (record (worked_of p going.cells) { core = core }) → AreAlike p.gate gate → core_of p.entries gate ≡ core
     → IsGoing conf (record p { gate = gate })
 gate_going conf p going gate core stands alike is =
     going_of conf (record (worked_of p going.cells) { core = core }) p.entries gate p.cells p.made stands

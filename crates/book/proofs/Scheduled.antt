@@ -12,7 +12,7 @@ use Rattle.entry_step.specs.Each.{Each, In, EachPair}
 use Rattle.entry_step.specs.Log.{Suits}
 use Rattle.entry_step.specs.Parts.{AllCome}
 use Rattle.entry_step.specs.Records.{out_of, replay}
-use Rattle.entry_step.specs.Cells.{Cells, StandFor}
+use Rattle.entry_step.specs.Cells.{Cells, AreCellsOf}
 use Rattle.entry_step.specs.Laws.{Apart}
 use Rattle.entry_step.proofs.Members.{each_from}
 use Rattle.entry_step.proofs.Meeting.{conflict_is_meeting}
@@ -31,7 +31,7 @@ abbrev pub applied_by : (ℕ → Mark) → ℕ → Bool
 applied_by status n = is_applied (status n)
 
 -- what holds behind each step
-pub record Stands (conf : Conf) (w : Worked) : Type 0 where
+pub record IsConsistent (conf : Conf) (w : Worked) : Type 0 where
   pub holds : Holds (feet_of conf) w.core
   pub rises : Rises w.core.log
   pub done : Done conf w.core.log (applied_by w.core.status) w.cells w.made
@@ -91,7 +91,7 @@ claimed_applied s id numbers pending n = go (has_id numbers n) refl
     go true e = sym (ap is_applied (pending n e))
     go false e = refl
 
-module _ (conf : Conf) (w : Worked) (stands : Stands conf w) where
+module _ (conf : Conf) (w : Worked) (stands : IsConsistent conf w) where
   -- a new entry isn't applied
   new_waits : (e : Numbered) → IsAllowed (feet_of conf) w.core (Offer e) → is_applied (w.core.status e.number) ≡ false
   new_waits e above = pending_waits (w.core.status e.number) (go (is_pending (w.core.status e.number)) refl)
@@ -100,13 +100,13 @@ module _ (conf : Conf) (w : Worked) (stands : Stands conf w) where
       go true q = refl
       go false q = let k = stands.holds.known e.number q in let l = above k.0 k.1 in let z = k.2 in absurd (omega arith)
 
-  offered : (e : Numbered) → IsAllowed (feet_of conf) w.core (Offer e) → Stands conf (worked conf w (Offer e))
+  offered : (e : Numbered) → IsAllowed (feet_of conf) w.core (Offer e) → IsConsistent conf (worked conf w (Offer e))
   offered e above = record {
     holds = next;
     rises = (each_from (λ y. y.number < e.number) w.core.log (λ y i. above y (is_in w.core.log y i)), stands.rises);
     done = record {
       order = order_of conf (happens w.core (Offer e)) next;
-      stand = subst (StandFor conf w.cells) (ap (λ b. cond b (e ∷ part) part) (sym (new_waits e above))) stands.done.stand;
+      stand = subst (AreCellsOf conf w.cells) (ap (λ b. cond b (e ∷ part) part) (sym (new_waits e above))) stands.done.stand;
       kept = kept;
     };
   }
@@ -159,7 +159,7 @@ module _ (conf : Conf) (w : Worked) (stands : Stands conf w) where
   batch_waits : (id : ℕ) (x : Numbered) → In x (batch_in w.core id) → applied_by w.core.status x.number ≡ false
   batch_waits id x i = taken_waits id (w.core.status x.number) (of_batch id x i).1
 
-  applied : (id : ℕ) → Stands conf (worked conf w (Apply id))
+  applied : (id : ℕ) → IsConsistent conf (worked conf w (Apply id))
   applied id = record {
     holds = each_step (feet_of conf) w.core (Apply id) stands.holds tt;
     rises = stands.rises;
@@ -180,7 +180,7 @@ module _ (conf : Conf) (w : Worked) (stands : Stands conf w) where
       (batch_rises id)
       (batch_free id)
 
-  pub stepped : (step : Step) → IsAllowed (feet_of conf) w.core step → Stands conf (worked conf w step)
+  pub stepped : (step : Step) → IsAllowed (feet_of conf) w.core step → IsConsistent conf (worked conf w step)
   stepped (Offer e) allowed = offered e allowed
   stepped (Claim id numbers) allowed = record {
     holds = each_step (feet_of conf) w.core (Claim id numbers) stands.holds allowed;
@@ -194,7 +194,7 @@ module _ (conf : Conf) (w : Worked) (stands : Stands conf w) where
     done = same_done conf w.core.log w.core.status (λ n. ended id Pending (w.core.status n)) w.cells w.made (λ n. given_applied id (w.core.status n)) stands.done;
   }
 
-all_stepped : (conf : Conf) (steps : List Step) (w : Worked) → AreAllowed (feet_of conf) w.core steps → Stands conf w → Stands conf (worked_all conf w steps)
+all_stepped : (conf : Conf) (steps : List Step) (w : Worked) → AreAllowed (feet_of conf) w.core steps → IsConsistent conf w → IsConsistent conf (worked_all conf w steps)
 all_stepped conf [] w allowed stands = stands
 all_stepped conf (step ∷ steps) w allowed stands = all_stepped conf steps (worked conf w step) (still step allowed.1) (stepped conf w stands step allowed.0)
   where
@@ -204,15 +204,15 @@ all_stepped conf (step ∷ steps) w allowed stands = all_stepped conf steps (wor
     still (Apply id) a = a
     still (GiveBack id) a = a
 
-pub begins : (conf : Conf) → Stands conf (begin_worked conf)
-unfolding StandFor
+pub begins : (conf : Conf) → IsConsistent conf (begin_worked conf)
+unfolding AreCellsOf
 begins conf = record {
   holds = record { order = λ y e i. absurd i; known = λ n q. absurd (cc) };
   rises = tt;
   done = record { order = λ y e i. absurd i; stand = refl; kept = λ newer older e split d. absurd (cc) };
 }
 
-pub stands_all : (conf : Conf) (steps : List Step) → AreAllowed (feet_of conf) start steps → Stands conf (worked_all conf (begin_worked conf) steps)
+pub stands_all : (conf : Conf) (steps : List Step) → AreAllowed (feet_of conf) start steps → IsConsistent conf (worked_all conf (begin_worked conf) steps)
 stands_all conf steps allowed = all_stepped conf steps (begin_worked conf) allowed (begins conf)
 
 pub every_schedule_holds : EveryScheduleFacts

@@ -5,7 +5,7 @@ use Rattle.zbx_types.specs.declared.entries.Numbered.{Numbered}
 use Rattle.zbx_types.specs.declared.entries.Rec.{Rec}
 use Rattle.entry_step.specs.Each.{Each, In, EachPair}
 use Rattle.entry_step.specs.Records.{out_of, replay}
-use Rattle.entry_step.specs.Cells.{Cells, records, after, look, StandFor}
+use Rattle.entry_step.specs.Cells.{Cells, records, after, look, AreCellsOf}
 use Rattle.entry_step.specs.Laws.{Apart, InPlace, cells_done, records_done, PassedApart}
 use Rattle.entry_step.proofs.Members.{each_from, each_at, each_filter, filter-append}
 use Rattle.entry_step.proofs.Orders.{insertion, applied_part}
@@ -16,7 +16,7 @@ use Rattle.book.proofs.Places.{Rises, in_left, in_right, filter_cong, split_at, 
 -- older one that isn't
 pub record Done (conf : Conf) (log : List Numbered) (done : ℕ → Bool) (cells : Cells) (made : ℕ → List Rec) : Type 0 where
   pub order : (y e : Numbered) → In y log → In e log → y.number < e.number → done e.number ≡ true → done y.number ≡ false → Apart conf y e
-  pub stand : StandFor conf cells (filter (λ e. done e.number) log)
+  pub stand : AreCellsOf conf cells (filter (λ e. done e.number) log)
   pub kept : (newer older : List Numbered) (e : Numbered) → log ≡ newer ++ e ∷ older → done e.number ≡ true → made e.number ≡ out_of conf older e e.entry (replay conf older)
 
 -- one more number
@@ -72,8 +72,8 @@ abbrev pub kept_also : (ℕ → List Rec) → ℕ → List Rec → ℕ → List 
 kept_also made k rs n = cond (n == k) rs (made n)
 
 -- what the search finds in a log stands for it
-look_stands : (conf : Conf) (log : List Numbered) → StandFor conf (look conf log (replay conf log)) log
-unfolding StandFor
+look_stands : (conf : Conf) (log : List Numbered) → AreCellsOf conf (look conf log (replay conf log)) log
+unfolding AreCellsOf
 look_stands conf log = refl
 
 -- what isn't done behind the first of some entries isn't that one, nor one of lower number than all of them
@@ -103,7 +103,7 @@ module _ (conf : Conf) (log : List Numbered) (rises : Rises log) where
 
     -- no newer one that is done conflicts with it, so it joins in its place
     in_place : (newer older : List Numbered) → log ≡ newer ++ x ∷ older → InPlace conf (filter (λ e. done e.number) newer) x (filter (λ e. done e.number) older) cells
-    in_place newer older split = (insertion conf (filter (λ e. done e.number) newer) x (filter (λ e. done e.number) older) apart).1 cells (subst (StandFor conf cells) before holds.stand)
+    in_place newer older split = (insertion conf (filter (λ e. done e.number) newer) x (filter (λ e. done e.number) older) apart).1 cells (subst (AreCellsOf conf cells) before holds.stand)
       where
         apart : Each (λ a. Apart conf x a) (filter (λ e. done e.number) newer)
         apart =
@@ -167,8 +167,8 @@ module _ (conf : Conf) (log : List Numbered) (rises : Rises log) where
         (filter_cong (λ e. next e.number) (λ e. done e.number) newer (λ y i. also_other done x.number y.number (λ q. let l = newer_above newer x older (rises_at newer older split) y i in omega arith)))
         (filter_cong (λ e. next e.number) (λ e. done e.number) older (λ y i. also_other done x.number y.number (λ q. let l = older_below newer x older (rises_at newer older split) y i in omega arith))))
 
-    stand_next : StandFor conf (after conf cells x) (filter (λ e. next e.number) log)
-    stand_next = let r = split_at log x here in subst (StandFor conf (after conf cells x)) (part_next r.0 r.1 r.2) (in_place r.0 r.1 r.2).stand
+    stand_next : AreCellsOf conf (after conf cells x) (filter (λ e. next e.number) log)
+    stand_next = let r = split_at log x here in subst (AreCellsOf conf (after conf cells x)) (part_next r.0 r.1 r.2) (in_place r.0 r.1 r.2).stand
 
     kept_next : (newer older : List Numbered) (e : Numbered) → log ≡ newer ++ e ∷ older → next e.number ≡ true → kept_also made x.number (records conf cells x) e.number ≡ out_of conf older e e.entry (replay conf older)
     kept_next newer older e split d = go (e.number == x.number) refl d

@@ -6,7 +6,7 @@ use Rattle.zbx_types.specs.declared.entries.Rec.{Rec}
 use Rattle.footprint.specs.Feet.{feet_of}
 use Rattle.entry_step.specs.Each.{Each}
 use Rattle.entry_step.specs.Records.{out_of, replay}
-use Rattle.entry_step.specs.Cells.{Cells, look, StandFor}
+use Rattle.entry_step.specs.Cells.{Cells, look, AreCellsOf}
 use Rattle.entry_step.specs.Laws.{cells_done, records_done}
 use Rattle.syncer_gate.specs.declared.marks.Mark.{Mark}
 use Rattle.syncer_gate.specs.declared.marks.Mark.TheVariants.{Pending, Applied, Taken}
@@ -64,7 +64,7 @@ has_applied w e = is_applied (w.core.status e.number)
 -- entry are those that it makes in its place in one thread's replay.
 pub record Facts (conf : Conf) (w : Worked) : Type 0 where
   pub order : InOrder (feet_of conf) w.core
-  pub stand : StandFor conf w.cells (filter (has_applied w) w.core.log)
+  pub stand : AreCellsOf conf w.cells (filter (has_applied w) w.core.log)
   pub kept : (newer older : List Numbered) (e : Numbered) → w.core.log ≡ newer ++ e ∷ older → has_applied w e ≡ true
       → w.made e.number ≡ out_of conf older e e.entry (replay conf older)
 

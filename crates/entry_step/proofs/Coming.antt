@@ -6,7 +6,7 @@ use Rattle.zbx_types.specs.declared.conf.Conf.{Conf}
 use Rattle.zbx_types.specs.declared.items.Item.{Item}
 use Rattle.zbx_types.specs.declared.entries.Stored.{Stored}
 use Rattle.prep_steps.specs.declared.memory.StepMemory.{StepMemory}
-use Rattle.value_cache.specs.Cells.{CellView, StandsFor, trim}
+use Rattle.value_cache.specs.Cells.{CellView, IsCellOf, trim}
 use Rattle.value_cache.specs.Histories.{placed, IsOrdered}
 use Rattle.value_cache.specs.Keeps.{keep_of}
 use Rattle.value_cache.proofs.Orders.{ordered_placed}
@@ -53,7 +53,7 @@ pub roomless_same : (a b : List CellView) → map kept_of a ≡ map kept_of b �
 roomless_same a b e = roomless_of a ∙ ap (map of_kept) e ∙ sym (roomless_of b)
 
 -- two cells that keep the same stand for the same
-pub stands_same : (one other : CellView) (seen : ℕ) (history : List Stored) → kept_of other ≡ kept_of one → StandsFor one seen history → StandsFor other seen history
+pub stands_same : (one other : CellView) (seen : ℕ) (history : List Stored) → kept_of other ≡ kept_of one → IsCellOf one seen history → IsCellOf other seen history
 stands_same one other seen history e stands = record {
   ordered = stands.ordered;
   kept = λ now m. ap (λ (k : Kept). trim k.keep now k.values) e ∙ stands.kept now m ∙ sym (ap (λ (k : Kept). trim k.keep now history) e);

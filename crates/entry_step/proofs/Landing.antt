@@ -19,7 +19,7 @@ use Rattle.event_text.specs.Titles.{event_tags}
 use Rattle.zbx_types.specs.declared.entries.Held.{Held}
 use Rattle.entry_step.specs.Records.{problem_of, closed_records, ruled, ruled_records, last_records, begun_with, verdict_records, expression_value, recovery_value, records_by, evaluated}
 use Rattle.entry_step.specs.Changes.{outcome_records, outcome_rows, EachClosed, judged, AreTidy, Absorbed}
-use Rattle.entry_step.specs.declared.changes.Outcome.{Outcome}
+use Rattle.entry_step.specs.declared.changes.TriggerOutcome.{TriggerOutcome}
 use Rattle.trigger_state.specs.Verdicts.{some_open, is_held, lets_close, makes_new, is_closed_by, closing, close_all, verdict_over, verdict_by}
 use Rattle.trigger_state.specs.declared.answer.Verdict.{Verdict}
 use Rattle.trigger_state.specs.declared.answer.Verdict.TheVariants.{Nothing, New, Close}
@@ -131,7 +131,7 @@ module _ (P : EventId → Type 0) where
       go false b false = tt
 
 -- what the outcome of a verdict makes of the rows
-pub settled_rows : {E : Type 0} (result : Result (Option Outcome) E) (conf : Conf) (rows : List (List Open)) (id : ℕ) (trigger : Trigger) (held : Bool) (os : List Open) (p r : Option ℤ) (tags : List Tag) (is_value : Bool) (v : Verdict)
+pub settled_rows : {E : Type 0} (result : Result (Option TriggerOutcome) E) (conf : Conf) (rows : List (List Open)) (id : ℕ) (trigger : Trigger) (held : Bool) (os : List Open) (p r : Option ℤ) (tags : List Tag) (is_value : Bool) (v : Verdict)
     → v ≡ verdict_over trigger held os p r tags is_value → os ≡ problems_at rows id
     → IfOk result (λ made. EachClosed (λ e. home conf e ≡ id) v → length rows ≡ length conf.triggers → Absorbed conf rows (outcome_records made) (outcome_rows rows id made))
     → IfOk result (λ made. AreTidy conf rows → Absorbed conf rows (outcome_records made) (outcome_rows rows id made))

@@ -26,7 +26,7 @@ use Rattle.entry_step.specs.Order.{order}
 use Rattle.entry_step.specs.Due.{due_at}
 use Rattle.trigger_state.specs.Problems.{absorbed_all}
 use Rattle.entry_step.specs.Records.{evaluated, phase, has_call, triggers_at, failures_at, out_of, replay}
-use Rattle.entry_step.specs.Cells.{Key, ItemKey, TriggerKey, TickKey, CellOf, ItemCell, Cells, opens_in, memory_in, touches, item_after, histories_after, judged_at, records_at, records, after, look, StandFor}
+use Rattle.entry_step.specs.Cells.{Key, ItemKey, TriggerKey, TickKey, CellOf, ItemCell, Cells, opens_in, memory_in, touches, item_after, histories_after, judged_at, records_at, records, after, look, AreCellsOf}
 use Rattle.entry_step.specs.Represents.{IsTidy}
 use Rattle.entry_step.specs.Laws.{Agree, IsLocal, IsConfined, Apart, AreTidyCells, Locality, SameOut, Insertion, cells_done, records_done, any_touches, BatchOnACopy, PassedApart, AppliedPart}
 use Rattle.entry_step.proofs.Members.{or_left, or_right, and_left, and_right, any_elim, each_filter, or_false_left, or_false_right, each_at, any_intro, true_or_false}
@@ -294,12 +294,12 @@ inserts conf (a ∷ newer) e older apart =
       cells = diamond conf a e ae c tidy ∙ ap (λ x. after conf x a) ih.cells;
     }
 
-stand_is : (conf : Conf) (c : Cells) (log : List Numbered) → StandFor conf c log → c ≡ cells_of conf log
-unfolding StandFor
+stand_is : (conf : Conf) (c : Cells) (log : List Numbered) → AreCellsOf conf c log → c ≡ cells_of conf log
+unfolding AreCellsOf
 stand_is conf c log h = h ∙ sym (cells_are conf log)
 
-is_stand : (conf : Conf) (c : Cells) (log : List Numbered) → c ≡ cells_of conf log → StandFor conf c log
-unfolding StandFor
+is_stand : (conf : Conf) (c : Cells) (log : List Numbered) → c ≡ cells_of conf log → AreCellsOf conf c log
+unfolding AreCellsOf
 is_stand conf c log h = h ∙ cells_are conf log
 
 pub are_tidy : AreTidyCells

@@ -17,7 +17,7 @@ use Rattle.preprocess.specs.Rows.{with_row}
 use Rattle.preprocess.proofs.Logs.{at_map}
 use Rattle.entry_step.specs.Each.{Each, In}
 use Rattle.entry_step.specs.Kept.{roomless, Keeps}
-use Rattle.entry_step.specs.Cells.{Key, ItemKey, TriggerKey, TickKey, ItemCell, Cells, CellOf, memory_in, touches, look, StandFor, after}
+use Rattle.entry_step.specs.Cells.{Key, ItemKey, TriggerKey, TickKey, ItemCell, Cells, CellOf, memory_in, touches, look, AreCellsOf, after}
 use Rattle.entry_step.specs.Laws.{Agree, IsLocal, Copies, any_touches, cells_done, records_done, put_over}
 use Rattle.zbx_types.specs.Entries.{moment_of}
 use Rattle.entry_step.specs.Log.{IsFitting, Suits, log_of}
@@ -460,11 +460,11 @@ module _ (conf : Conf) (es : List Numbered) (part copied back : PartView) (s fir
         trigger id false e = sym (untouched (TriggerKey id) e ∙ ap (λ b. cond b (c (TriggerKey id)) (look conf [] [] (TriggerKey id))) e)
 
 blank_of : (conf : Conf) (s : CellsView) → Holds conf s [] → Represents conf s (look conf [] [])
-unfolding StandFor
+unfolding AreCellsOf
 blank_of conf s h = subst (Represents conf s) h.stand h.represented
 
 holds_blank : (conf : Conf) (s : CellsView) → Represents conf s (look conf [] []) → Holds conf s []
-unfolding StandFor
+unfolding AreCellsOf
 holds_blank conf s r = record { cells = look conf [] []; stand = refl; represented = r }
 
 module _ (conf : Conf) (es : List Numbered) (part copied back : PartView) (s first : CellsView) (holds : Holds conf s []) (copy : IsCopy copied part) (in_place : IsReplaced s copied first) (taken : IsTaken s copied back) where
@@ -496,7 +496,7 @@ suits_older conf (e ∷ newer) older h = suits_older conf newer older h.0
 onto : (e : Numbered) (es log : List Numbered) → reverse (e ∷ es) ++ log ≡ reverse es ++ e ∷ log
 onto e es log = ap (λ xs. xs ++ log) (reverse-append (e ∷ []) es) ∙ append_assoc (reverse es) (e ∷ []) log
 
-pub all_come : (conf : Conf) (es log : List Numbered) (c : Cells) → StandFor conf c log → Suits conf (reverse es ++ log) → AllCome conf c es
+pub all_come : (conf : Conf) (es log : List Numbered) (c : Cells) → AreCellsOf conf c log → Suits conf (reverse es ++ log) → AllCome conf c es
 all_come conf [] log c stand h = tt
 all_come conf (e ∷ es) log c stand h =
     let all : Suits conf (reverse es ++ e ∷ log) = subst (Suits conf) (onto e es log) h in

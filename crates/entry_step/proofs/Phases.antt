@@ -17,7 +17,7 @@ use Rattle.entry_step.specs.Each.{Each}
 use Rattle.entry_step.specs.Changes.{with_row, with_all, outcome_records, outcome_rows, IsAbsorbed, has_fresh, AreTidy, Absorbed, Runs}
 use Rattle.entry_step.specs.declared.changes.Fresh.{Fresh}
 use Rattle.trigger_state.specs.declared.problems.Open.{Open}
-use Rattle.entry_step.specs.declared.changes.Outcome.{Outcome}
+use Rattle.entry_step.specs.declared.changes.TriggerOutcome.{TriggerOutcome}
 use Rattle.entry_step.proofs.Items.{at_zero, at_suc, slice_get_set_same, slice_get_set_other}
 use Rattle.entry_step.proofs.Problems.{open_append, absorbed_append, home_all}
 use Rattle.entry_step.specs.declared.occasions.Occasion.{Occasion}
@@ -129,7 +129,7 @@ pub run_none : (conf : Conf) (one : (ℕ → List Open) → ℕ → List Rec) (r
 run_none conf one rows made e = record { records = e; changes = λ id. ap (absorbed_all conf id (problems_at rows id)) (sym e); size = refl }
 
 -- One trigger more, as the loop has it
-pub run_more : (conf : Conf) (occasion : Occasion) (items : ℕ → List Stored) (before rows next : List (List Open)) (ids : List ℕ) (k id : ℕ) (made more : List Rec) (o : Option Outcome)
+pub run_more : (conf : Conf) (occasion : Occasion) (items : ℕ → List Stored) (before rows next : List (List Open)) (ids : List ℕ) (k id : ℕ) (made more : List Rec) (o : Option TriggerOutcome)
     → k < length ids → id ≡ get_or ids k 0 → outcome_records o ≡ evaluated conf occasion items (problems_at rows) id
     → (AreTidy conf rows → Absorbed conf rows (outcome_records o) (outcome_rows rows id o))
     → more ≡ made ++ outcome_records o → next ≡ outcome_rows rows id o

@@ -20,8 +20,8 @@ use Rattle.std.specs.Str.{bytes_eq}
 use Rattle.std.specs.List.{cons_option}
 use Rattle.preprocess.specs.Draft.{failure_by, failure_of, failures_of}
 use Rattle.preprocess.specs.declared.visit.Visit.{Visit}
-use Rattle.preprocess.specs.declared.visit.Outcome.{Outcome}
-use Rattle.preprocess.specs.declared.visit.Outcome.TheVariants as outcome
+use Rattle.preprocess.specs.declared.visit.ItemOutcome.{ItemOutcome}
+use Rattle.preprocess.specs.declared.visit.ItemOutcome.TheVariants as outcome
 use Rattle.entry_step.proofs.Visited.{Memory}
 use Rattle.entry_step.specs.History.{visits_at, memory_of, history_of}
 use Rattle.entry_step.specs.Order.{level, by_depth, above_depths, order}
@@ -366,7 +366,7 @@ failures_quiet conf memory number entry = go (visits_at conf memory number entry
     by rest h None why = h
     by rest h (Some item) why = ((tt, h.0), (tt, h.1))
 
-    one : (v : Visit) (rest : List Rec) → AreQuiet number rest → (o : Outcome) → AreQuiet number (cons_option (failure_of conf number v o) rest)
+    one : (v : Visit) (rest : List Rec) → AreQuiet number rest → (o : ItemOutcome) → AreQuiet number (cons_option (failure_of conf number v o) rest)
     one v rest h (outcome.Stored s) = h
     one v rest h outcome.Discarded = h
     one v rest h (outcome.Failed why) = by rest h (at_id conf.items v.item) why

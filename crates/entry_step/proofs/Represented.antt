@@ -22,8 +22,8 @@ use Rattle.preprocess.specs.Cells.{no_marks, AreNew}
 use Rattle.preprocess.specs.Laws.{marks_behind, kept_behind, HoldLog}
 use Rattle.preprocess.specs.declared.cells.Cells.{Cells as ItemCells}
 use Rattle.preprocess.specs.declared.visit.Visit.{Visit}
-use Rattle.preprocess.specs.declared.visit.Outcome.{Outcome}
-use Rattle.preprocess.specs.declared.visit.Outcome.TheVariants as outcome
+use Rattle.preprocess.specs.declared.visit.ItemOutcome.{ItemOutcome}
+use Rattle.preprocess.specs.declared.visit.ItemOutcome.TheVariants as outcome
 use Rattle.preprocess.proofs.Logs.{at_map, hold_nothing}
 use Rattle.trigger_state.specs.Problems.{home, event_in, absorbed_all, grown, open_of}
 use Rattle.trigger_state.specs.declared.problems.Open.{Open}
@@ -39,7 +39,7 @@ use Rattle.entry_step.specs.History.{visits_at, stored_of, marks_of, memory_of, 
 use Rattle.entry_step.specs.Kept.{Keeps, roomless, Sees, IsCalled, SeesFor, CameIn}
 use Rattle.entry_step.specs.Due.{by_making, due_for, due_over, due_at}
 use Rattle.entry_step.specs.Records.{evaluated, phase, timed_triggers, triggers_at, failures_at, judged_of, out_of, replay}
-use Rattle.entry_step.specs.Cells.{Key, ItemKey, TriggerKey, TickKey, ItemCell, Cells, opens_in, memory_in, touches, item_after, histories_after, judged_at, records_at, records, after, seen_of, look, StandFor}
+use Rattle.entry_step.specs.Cells.{Key, ItemKey, TriggerKey, TickKey, ItemCell, Cells, opens_in, memory_in, touches, item_after, histories_after, judged_at, records_at, records, after, seen_of, look, AreCellsOf}
 use Rattle.entry_step.specs.Represents.{CellsView, problems_at, AllAtHome, IsTidy, Represents, Holds, ComesAfter, StepsTo}
 use Rattle.entry_step.specs.Changes.{with_rows, put_back, AreTidy, Runs, RunsOver, Absorbed, TakesIn, TakesTick}
 use Rattle.entry_step.proofs.Members.{or_left, or_right, each_append, each_from, each_sub}
@@ -84,7 +84,7 @@ failures_tagged conf memory number entry = quiet_tagged conf (failures_of conf n
     by v rest h None why = h
     by v rest h (Some item) why = (tt, h)
 
-    one : (v : Visit) (rest : List Rec) → Each IsQuiet rest → (o : Outcome) → Each IsQuiet (cons_option (failure_of conf number v o) rest)
+    one : (v : Visit) (rest : List Rec) → Each IsQuiet rest → (o : ItemOutcome) → Each IsQuiet (cons_option (failure_of conf number v o) rest)
     one v rest h (outcome.Stored s) = h
     one v rest h outcome.Discarded = h
     one v rest h (outcome.Failed why) = by v rest h (at_id conf.items v.item) why
@@ -144,7 +144,7 @@ failures_land conf memory number entry = go (visits_at conf memory number entry)
     by v rest h None why = h
     by v rest h (Some item) why = (λ id e. refl, h)
 
-    one : (v : Visit) (rest : List Rec) → LandIn conf (λ id. false) rest → (o : Outcome) → LandIn conf (λ id. false) (cons_option (failure_of conf number v o) rest)
+    one : (v : Visit) (rest : List Rec) → LandIn conf (λ id. false) rest → (o : ItemOutcome) → LandIn conf (λ id. false) (cons_option (failure_of conf number v o) rest)
     one v rest h (outcome.Stored s) = h
     one v rest h outcome.Discarded = h
     one v rest h (outcome.Failed why) = by v rest h (at_id conf.items v.item) why
@@ -360,8 +360,8 @@ seen_by conf (e ∷ log) i h = go (touches conf e.entry (ItemKey i)) (seen_by co
     go true k = omega arith
     go false k = let m = h.1 in omega arith
 
-pub comes_after : (conf : Conf) (c : Cells) (log : List Numbered) (e : Numbered) → StandFor conf c log → Suits conf (e ∷ log) → ComesAfter conf c e
-unfolding StandFor look
+pub comes_after : (conf : Conf) (c : Cells) (log : List Numbered) (e : Numbered) → AreCellsOf conf c log → Suits conf (e ∷ log) → ComesAfter conf c e
+unfolding AreCellsOf look
 comes_after conf c log e stand h id t =
     let k = seen_by conf log id h.0 in
     let m = h.1 in
@@ -402,8 +402,8 @@ after_is conf log rs e = fun_ext go
     go TickKey = refl
 
 -- One entry over cells that stand for a log
-pub one_entry : (conf : Conf) (c : Cells) (log : List Numbered) (e : Numbered) → StandFor conf c log → (records conf c e ≡ out_of conf log e e.entry (replay conf log)) × StandFor conf (after conf c e) (e ∷ log)
-unfolding StandFor
+pub one_entry : (conf : Conf) (c : Cells) (log : List Numbered) (e : Numbered) → AreCellsOf conf c log → (records conf c e ≡ out_of conf log e e.entry (replay conf log)) × AreCellsOf conf (after conf c e) (e ∷ log)
+unfolding AreCellsOf
 one_entry conf c log e h = (ap (λ x. records conf x e) h ∙ records_are conf log (replay conf log) e, ap (λ x. after conf x e) h ∙ after_is conf log (replay conf log) e)
 
 pub steps_out : (conf : Conf) (held next : CellsView) (e : Numbered) (made : List Rec) → StepsTo conf held e made next → (log : List Numbered) → Holds conf held log → Suits conf (e ∷ log)
@@ -433,7 +433,7 @@ length_replicated (suc n) x = ap suc (length_replicated n x)
 
 pub holds_nothing : (conf : Conf) (made : ItemCells) (problems : List (List Open)) → AreNew conf made → problems ≡ replicate (length conf.triggers) []
     → Holds conf (record { items = map roomless made.cells.items; memories = made.memories.items; problems = problems; tick = None }) []
-unfolding StandFor look marks_of Rattle.preprocess.specs.Laws.marks_behind
+unfolding AreCellsOf look marks_of Rattle.preprocess.specs.Laws.marks_behind
 holds_nothing conf made problems new none = record {
   cells = look conf [] [];
   stand = refl;

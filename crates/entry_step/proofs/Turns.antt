@@ -8,7 +8,7 @@ use Rattle.zbx_types.specs.declared.entries.Stored.{Stored}
 use Rattle.value_cache.specs.Cells.{CellView}
 use Rattle.trigger_state.specs.declared.problems.Open.{Open}
 use Rattle.entry_step.specs.declared.occasions.Occasion.{Occasion}
-use Rattle.entry_step.specs.declared.changes.Outcome.{Outcome}
+use Rattle.entry_step.specs.declared.changes.TriggerOutcome.{TriggerOutcome}
 use Rattle.entry_step.specs.Each.{Each, In}
 use Rattle.entry_step.specs.Kept.{SeesFor}
 use Rattle.entry_step.specs.Records.{evaluated}
@@ -30,7 +30,7 @@ take_last xs y = let l : length xs < length (xs ++ y ∷ []) = below xs in take_
     below (z ∷ zs) = let ih = below zs in omega (arith, ih)
 
 -- one trigger more
-pub run_on : (conf : Conf) (occasion : Occasion) (cells : List CellView) (stored : ℕ → Option Stored) (rows next : List (List Open)) (id : ℕ) (made more : List Rec) (o : Option Outcome)
+pub run_on : (conf : Conf) (occasion : Occasion) (cells : List CellView) (stored : ℕ → Option Stored) (rows next : List (List Open)) (id : ℕ) (made more : List Rec) (o : Option TriggerOutcome)
     → ((items : ℕ → List Stored) → SeesFor conf cells stored occasion.now items id → outcome_records o ≡ evaluated conf occasion items (problems_at rows) id)
     → (AreTidy conf rows → Absorbed conf rows (outcome_records o) (outcome_rows rows id o))
     → more ≡ made ++ outcome_records o → next ≡ outcome_rows rows id o → (asked : Bool) → asked ≡ true → RunsOn conf occasion cells stored asked id made rows more next

@@ -106,5 +106,5 @@ look conf log rs (TriggerKey id) = open_of conf rs id
 look conf log rs TickKey = first_tick log
 
 -- cells stand for a log: they are what the search finds in it and in its records
-unfoldable pub StandFor : Conf → Cells → List Numbered → Type 0
-StandFor conf c log = c ≡ look conf log (replay conf log)
+unfoldable pub AreCellsOf : Conf → Cells → List Numbered → Type 0
+AreCellsOf conf c log = c ≡ look conf log (replay conf log)

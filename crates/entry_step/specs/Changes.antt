@@ -33,7 +33,7 @@ use Rattle.entry_step.specs.declared.changes.Change.{Change}
 use Rattle.entry_step.specs.declared.changes.Change.TheVariants as change
 use Rattle.entry_step.specs.declared.changes.Fresh.{Fresh}
 use Rattle.entry_step.specs.declared.changes.Row.{Row}
-use Rattle.entry_step.specs.declared.changes.Outcome.{Outcome}
+use Rattle.entry_step.specs.declared.changes.TriggerOutcome.{TriggerOutcome}
 
 -- the rows with another one at an id, where there is one
 unfoldable pub with_row : List (List Open) → ℕ → List Open → List (List Open)
@@ -59,7 +59,7 @@ changed os (change.Add one) = os ++ one ∷ []
 changed os (change.Leave all) = all
 
 -- the records that an outcome adds. No outcome: none.
-abbrev pub outcome_records : Option Outcome → List Rec
+abbrev pub outcome_records : Option TriggerOutcome → List Rec
 outcome_records None = []
 outcome_records (Some o) = o.records
 
@@ -69,7 +69,7 @@ with_all rows [] = rows
 with_all rows (f ∷ fs) = with_all (with_row rows f.id f.opens) fs
 
 -- the rows behind the outcome of the trigger with an id. No outcome: nothing changes.
-abbrev pub outcome_rows : List (List Open) → ℕ → Option Outcome → List (List Open)
+abbrev pub outcome_rows : List (List Open) → ℕ → Option TriggerOutcome → List (List Open)
 outcome_rows rows id None = rows
 outcome_rows rows id (Some o) = with_all (with_row rows id (changed (problems_at rows id) o.change)) o.others
 

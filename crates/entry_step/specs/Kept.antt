@@ -5,7 +5,7 @@ use Rattle.zbx_types.specs.declared.conf.Conf.{Conf}
 use Rattle.zbx_types.specs.declared.triggers.Trigger.{Trigger}
 use Rattle.zbx_types.specs.declared.entries.Stored.{Stored}
 use Rattle.prep_steps.specs.declared.memory.StepMemory.{StepMemory}
-use Rattle.value_cache.specs.Cells.{CellView, StandsFor}
+use Rattle.value_cache.specs.Cells.{CellView, IsCellOf}
 use Rattle.value_cache.specs.Keeps.{keep_of}
 use Rattle.preprocess.specs.Draft.{kept_of, visit_at, stored_at, kept_after, marks_after}
 use Rattle.preprocess.specs.declared.draft.Draft.{Draft}
@@ -16,7 +16,7 @@ use Rattle.entry_step.specs.History.{with_stored}
 -- what is kept of the item with an id stands for its history from a moment on; where nothing is kept, there is none
 abbrev pub Keeps : Conf → ℕ → ℕ → List Stored → Option CellView → Type 0
 Keeps conf id seen history None = history ≡ []
-Keeps conf id seen history (Some cell) = (cell.keep ≡ keep_of conf id) × StandsFor cell seen history
+Keeps conf id seen history (Some cell) = (cell.keep ≡ keep_of conf id) × IsCellOf cell seen history
 
 -- the values that are still to come, as a look-up of items: those of a draft, if there is one
 abbrev pub still_to_come : Option Draft → ℕ → Option Stored

@@ -7,7 +7,7 @@ use Rattle.zbx_types.specs.declared.entries.Rec.{Rec}
 use Rattle.footprint.specs.Conflict.{conflict_of}
 use Rattle.entry_step.specs.Each.{Each, EachPair}
 use Rattle.entry_step.specs.Records.{out_of, replay}
-use Rattle.entry_step.specs.Cells.{Key, TickKey, CellOf, Cells, touches, records, after, StandFor}
+use Rattle.entry_step.specs.Cells.{Key, TickKey, CellOf, Cells, touches, records, after, AreCellsOf}
 use Rattle.entry_step.specs.Represents.{IsTidy}
 
 -- two families of cells agree on the foot of an entry, and have the same first Tick
@@ -35,7 +35,7 @@ ConflictIsMeeting = (conf : Conf) (a b : Numbered)
 
 -- cells that stand for a log are tidy
 abbrev pub AreTidyCells : Type 0
-AreTidyCells = (conf : Conf) (c : Cells) (log : List Numbered) → StandFor conf c log → IsTidy conf c
+AreTidyCells = (conf : Conf) (c : Cells) (log : List Numbered) → AreCellsOf conf c log → IsTidy conf c
 
 -- Locality: an entry's records and changes are a function of the entry, the configuration, the first Tick and the cells of
 -- its foot, and nothing else changes.
@@ -53,13 +53,13 @@ SameOut conf e (a ∷ newer) older =
 -- for the log with it
 pub record InPlace (conf : Conf) (newer : List Numbered) (e : Numbered) (older : List Numbered) (c : Cells) : Type 0 where
   pub its_records : records conf c e ≡ out_of conf older e e.entry (replay conf older)
-  pub its_changes : (d : Cells) → StandFor conf d older → (k : Key) → touches conf e.entry k ≡ true → after conf c e k ≡ after conf d e k
-  pub stand : StandFor conf (after conf c e) (newer ++ e ∷ older)
+  pub its_changes : (d : Cells) → AreCellsOf conf d older → (k : Key) → touches conf e.entry k ≡ true → after conf c e k ≡ after conf d e k
+  pub stand : AreCellsOf conf (after conf c e) (newer ++ e ∷ older)
 
 -- Insertion: an entry that conflicts with no newer one joins in its place.
 abbrev pub Insertion : Type 0
 Insertion = (conf : Conf) (newer : List Numbered) (e : Numbered) (older : List Numbered) → Each (λ a. Apart conf e a) newer
-    → SameOut conf e newer older × ((c : Cells) → StandFor conf c (newer ++ older) → InPlace conf newer e older c)
+    → SameOut conf e newer older × ((c : Cells) → AreCellsOf conf c (newer ++ older) → InPlace conf newer e older c)
 
 -- the cells behind these entries, the oldest first
 abbrev pub cells_done : Conf → Cells → List Numbered → Cells
@@ -98,5 +98,5 @@ PassedApart conf applied e older = applied e ≡ true → applied older ≡ fals
 -- makes the records that it makes over the whole log.
 abbrev pub AppliedPart : Type 0
 AppliedPart = (conf : Conf) (applied : Numbered → Bool) (older : List Numbered) (e : Numbered) → EachPair (PassedApart conf applied) older
-    → Each (λ y. applied y ≡ false → Apart conf y e) older → (c : Cells) → StandFor conf c (filter applied older)
+    → Each (λ y. applied y ≡ false → Apart conf y e) older → (c : Cells) → AreCellsOf conf c (filter applied older)
     → records conf c e ≡ out_of conf older e e.entry (replay conf older)

@@ -16,7 +16,7 @@ use Rattle.preprocess.specs.Chains.{listed}
 use Rattle.value_cache.specs.Cells.{CellView}
 use Rattle.value_cache.specs.Histories.{IsOrdered}
 use Rattle.entry_step.specs.Kept.{Keeps}
-use Rattle.entry_step.specs.Cells.{Cells, ItemKey, TriggerKey, TickKey, opens_in, touches, records, after, StandFor}
+use Rattle.entry_step.specs.Cells.{Cells, ItemKey, TriggerKey, TickKey, opens_in, touches, records, after, AreCellsOf}
 use Rattle.trigger_state.specs.declared.problems.Open.{Open}
 
 -- the cells of the items, what their steps remember and the open problems of each trigger, in the order of ids, and the
@@ -66,7 +66,7 @@ pub record Represents (conf : Conf) (held : CellsView) (c : Cells) : Type 0 wher
 -- what a run keeps represents the cells that stand for a log
 pub record Holds (conf : Conf) (held : CellsView) (log : List Numbered) : Type 0 where
   pub cells : Cells
-  pub stand : StandFor conf cells log
+  pub stand : AreCellsOf conf cells log
   pub represented : Represents conf held cells
 
 -- an entry isn't before the last moment that each item of its foot has seen

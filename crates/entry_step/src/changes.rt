@@ -27,7 +27,7 @@ pub(crate) struct Fresh {
 
 /// What a trigger adds, how its open problems change with that, and what other triggers have then.
 #[derive(Drop)]
-pub(crate) struct Outcome {
+pub(crate) struct TriggerOutcome {
     pub(crate) records: Many<Rec>,
     pub(crate) change: Change,
     pub(crate) others: Many<Fresh>,
@@ -153,14 +153,14 @@ impl Draft {
         alloc: Global,
         problems: &mut Vec<Many<Open>>,
         id: u32,
-        outcome: Option<Outcome>,
+        outcome: Option<TriggerOutcome>,
     ) -> Result<(), OutOfMemory>
         ensures records { OnOk result (self.new.records ≡ self.old.records ++ outcome_records outcome) }
         ensures rows { OnOk result (problems.new.items ≡ outcome_rows problems.old.items id outcome) }
         ensures same { put_back problems.new.items self.new.taken ≡ put_back problems.old.items self.old.taken }
     {
         if let Some(outcome) = outcome {
-            let Outcome {
+            let TriggerOutcome {
                 records,
                 change,
                 others,

@@ -17,7 +17,7 @@ ghost use Rattle.entry_step.specs.Seen.{shown_values};
 ghost use Rattle.entry_step.specs.Plans.{plan_of, recovery_plan_of};
 
 use crate::calls::Calls;
-use crate::changes::{Change, Outcome};
+use crate::changes::{Change, TriggerOutcome};
 use crate::evaluation::{plan_value, recovery_value};
 use crate::index::Ready;
 use crate::opens::{absorbed_row, problems_at};
@@ -216,7 +216,7 @@ fn begin(
     id: u32,
     trigger: &Trigger,
     problems: &[Many<Open>],
-) -> Result<Outcome, OutOfMemory>
+) -> Result<TriggerOutcome, OutOfMemory>
     requires { at_id ready.now.triggers id ≡ Some trigger.now }
     ensures records { IfOk result (λ made. made.records ≡ begun_records ready.now number now (problems_at problems.now) id (problem_of ready.now number now values.now id trigger.now)) }
     ensures rows { IfOk result (λ made. length problems.now ≡ length ready.now.triggers → Absorbed ready.now problems.now made.records (outcome_rows problems.now id (Some made))) }
@@ -226,7 +226,7 @@ fn begin(
     let closes = ruled(alloc, ready, id, &problem, problems)?;
     let records = begun(alloc, conf, number, now, problems, id, &problem, &closes)?;
     if records.len() == 1 {
-        return Ok(Outcome {
+        return Ok(TriggerOutcome {
             records,
             change: Change::Add(Open {
                 problem,
@@ -245,7 +245,7 @@ fn begin(
         records.as_slice(),
     )?;
     let others = others_of(alloc, conf, id, problems, old, records.as_slice())?;
-    Ok(Outcome {
+    Ok(TriggerOutcome {
         records,
         change: Change::Leave(all),
         others,
@@ -261,14 +261,14 @@ fn end(
     id: u32,
     problems: &[Many<Open>],
     events: &[EventId],
-) -> Result<Outcome, OutOfMemory>
+) -> Result<TriggerOutcome, OutOfMemory>
     ensures records { IfOk result (λ made. made.records ≡ flat_map (closed_records conf.now number now Cause2.Expression (problems_at problems.now id)) events.now) }
     ensures rows { IfOk result (λ made. Each (λ e. home conf.now e ≡ id) events.now → length problems.now ≡ length conf.now.triggers → Absorbed conf.now problems.now made.records (outcome_rows problems.now id (Some made))) }
 {
     let opens = problems_at(problems, id);
     let records = closings(alloc, conf, number, now, opens, events)?;
     let all = absorbed_row(alloc, conf, id, opens, records.as_slice())?;
-    Ok(Outcome {
+    Ok(TriggerOutcome {
         records,
         change: Change::Leave(all),
         others: Many::new(alloc),
@@ -282,7 +282,7 @@ fn settled(
     calls: &Calls,
     problems: &[Many<Open>],
     verdict: &Verdict,
-) -> Result<Option<Outcome>, OutOfMemory>
+) -> Result<Option<TriggerOutcome>, OutOfMemory>
     requires { at_id calls.now.ready.now.triggers calls.now.id ≡ Some calls.now.trigger.now }
     ensures records { IfOk result (λ made. (items : ℕ → List Stored) → Shown calls.now items → outcome_records made ≡ verdict_records calls.now.ready.now calls.now.occasion.number calls.now.occasion.now (shown_values items calls.now.occasion.now calls.now.trigger.now) calls.now.id calls.now.trigger.now (problems_at problems.now) verdict.now) }
     ensures rows { IfOk result (λ made. EachClosed (λ e. home calls.now.ready.now e ≡ calls.now.id) verdict.now → length problems.now ≡ length calls.now.ready.now.triggers → Absorbed calls.now.ready.now problems.now (outcome_records made) (outcome_rows problems.now calls.now.id made)) }
@@ -339,7 +339,7 @@ pub(crate) fn judge(
     recovery: &[Node],
     held: bool,
     problems: &[Many<Open>],
-) -> Result<Option<Outcome>, OutOfMemory>
+) -> Result<Option<TriggerOutcome>, OutOfMemory>
     requires there { at_id calls.now.ready.now.triggers calls.now.id ≡ Some calls.now.trigger.now }
     requires plan { plan.now ≡ plan_of calls.now.trigger.now }
     requires recovery { recovery.now ≡ recovery_plan_of calls.now.trigger.now }

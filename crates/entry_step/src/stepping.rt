@@ -21,7 +21,7 @@ ghost use Rattle.entry_step.specs.Index.{triggers_under};
 use crate::call_values::values_of;
 use crate::calls::Calls;
 use crate::cells::Cells;
-use crate::changes::{Draft, Outcome, put_back};
+use crate::changes::{Draft, TriggerOutcome, put_back};
 use crate::due::run_due;
 use crate::index::Ready;
 use crate::occasions::{Occasion, occasion_of};
@@ -71,7 +71,7 @@ fn outcome_of(
     occasion: &Occasion,
     coming: &Option<preprocess::Draft>,
     id: u32,
-) -> Result<Option<Outcome>, OutOfMemory>
+) -> Result<Option<TriggerOutcome>, OutOfMemory>
     ensures records { IfOk result (λ made. (histories : ℕ → List Stored) → SeesFor ready.now items.now (still_to_come coming.now) occasion.entry.now.now histories id → outcome_records made ≡ evaluated ready.now occasion.entry.now histories (problems_at problems.now) id) }
     ensures rows { IfOk result (λ made. AreTidy ready.now problems.now → Absorbed ready.now problems.now (outcome_records made) (outcome_rows problems.now id made)) }
 {

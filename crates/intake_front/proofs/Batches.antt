@@ -12,7 +12,7 @@ use Rattle.intake_journal.specs.Settled.{Journaled}
 use Rattle.intake_journal.proofs.Staged.{more_long}
 use Rattle.intake_front.specs.Intake.{Intake, Handled, numbered_from, numbered_behind, with_group, kept_with, ticked}
 use Rattle.intake_front.specs.Fronted.{all_of, staged_with}
-use Rattle.intake_front.specs.Staging.{Stands, groups_in}
+use Rattle.intake_front.specs.Staging.{FollowsBlock, groups_in}
 use Rattle.intake_front.specs.Waiting.{has_tick, HasFirst, IsBatch, first_with, FirstBy, IsTaken}
 use Rattle.intake_front.specs.declared.answer.Answer.{Answer}
 use Rattle.intake_front.specs.declared.batch.Batch.{Batch}
@@ -85,7 +85,7 @@ pub record IsEntered {D : Type 0} (journal : Journaled D) (after : List (List En
   pub bytes : j.bytes ≡ journal.at + length (opened_bytes after) + 1
   pub groups : j.groups ≡ i.groups + (groups_in ticks + groups_in group)
 
-module _ {D : Type 0} (journal : Journaled D) (block after : List (List Entry)) (i j : Intake) (ticks group : List Entry) (stands : Stands journal block i)
+module _ {D : Type 0} (journal : Journaled D) (block after : List (List Entry)) (i j : Intake) (ticks group : List Entry) (stands : FollowsBlock journal block i)
     (staged : after ≡ staged_with (staged_with block ticks) group) (is : IsEntered journal after i j ticks group) where
   entered_is : j ≡ kept_with (ticked i ticks) group
   entered_is =
@@ -157,7 +157,7 @@ tick_more [] b = refl
 tick_more (e ∷ a) b = grind (arith, tick_more a b)
 
 -- an event that entered two groups was taken
-pub taken_by : {D : Type 0} (journal : Journaled D) (i j : Intake) (b c : Batch) (ticks group : List Entry) (says : ℕ → Handled) (now : Answer) (fault : Option Answer) → Stands journal b.block i → IsBatch i b
+pub taken_by : {D : Type 0} (journal : Journaled D) (i j : Intake) (b c : Batch) (ticks group : List Entry) (says : ℕ → Handled) (now : Answer) (fault : Option Answer) → FollowsBlock journal b.block i → IsBatch i b
     → c.block ≡ staged_with (staged_with b.block ticks) group → Says i ticks group says now fault → IsEntered journal c.block i j ticks group
     → c.answers.items ≡ b.answers.items ++ now ∷ [] → c.first ≡ first_with b.first (length b.answers.items) fault → c.mark ≡ b.mark → c.is_ticked ≡ (b.is_ticked || has_tick ticks || has_tick group)
     → IsTaken i j b c says now.stop

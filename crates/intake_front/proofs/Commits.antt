@@ -10,7 +10,7 @@ use Rattle.intake_journal.specs.Settled.{Journaled}
 use Rattle.intake_journal.specs.declared.state.State.TheVariants.{Ready, Broken}
 use Rattle.intake_front.specs.Intake.{Intake, numbered_behind, with_group}
 use Rattle.intake_front.specs.Fronted.{HasJournaled, HasRoom, KeepsEither, all_of}
-use Rattle.intake_front.specs.Staging.{Stands, IsWritten}
+use Rattle.intake_front.specs.Staging.{FollowsBlock, IsWritten}
 use Rattle.intake_front.specs.Waiting.{mark_of, back_to, has_tick, HasFirst, IsBatch, IsWaiting}
 use Rattle.intake_front.specs.declared.batch.Batch.{Batch}
 use Rattle.intake_front.specs.declared.batch.Mark.{Mark}
@@ -50,7 +50,7 @@ module _ {D : Type 0} (bytes : D → Option (List ℕ)) (images : D → List ℕ
       }
 
   -- an intake stands behind the journal and what waits
-  pub stands_of : (journal : Journaled D) (i : Intake) (b : Batch) → IsWaiting bytes images journal i b → journal.state ≡ Ready → Stands journal b.block i
+  pub stands_of : (journal : Journaled D) (i : Intake) (b : Batch) → IsWaiting bytes images journal i b → journal.state ≡ Ready → FollowsBlock journal b.block i
   stands_of journal i b is ready =
       let has = is.journaled ready in
       let kept = take b.mark.kept i.entries in

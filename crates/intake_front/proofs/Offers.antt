@@ -10,7 +10,7 @@ use Rattle.intake_journal.specs.Settled.{Journaled}
 use Rattle.intake_journal.proofs.Staged.{count-push, more_long}
 use Rattle.intake_front.specs.Intake.{Intake, Handled, numbered_from, numbered_behind, with_group, bytes_with, refused_at, refused, kept_with, ticked, stopping, values_offered, behind_tick, tick_offered, offered}
 use Rattle.intake_front.specs.Fronted.{limits_of, staged_with}
-use Rattle.intake_front.specs.Staging.{refused_by, Stands, IsStagedAs, fault_at, settled}
+use Rattle.intake_front.specs.Staging.{refused_by, FollowsBlock, IsStagedAs, fault_at, settled}
 use Rattle.intake_front.specs.declared.answer.Answer.{Answer}
 use Rattle.intake_front.specs.declared.answer.Stop.{Stop}
 use Rattle.intake_front.specs.declared.answer.Stop.TheVariants as stop
@@ -30,7 +30,7 @@ choice true entries bytes entries' bytes' fails e b = cc
 choice false entries bytes entries' bytes' fails e b = refl
 
 -- a group is refused where the journal hasn't room for it, or the disk refuses it
-pub refused_is : {D : Type 0} (journal : Journaled D) (block : List (List Entry)) (i : Intake) (s : ℕ) (e : Entry) (es : List Entry) → Stands journal block i
+pub refused_is : {D : Type 0} (journal : Journaled D) (block : List (List Entry)) (i : Intake) (s : ℕ) (e : Entry) (es : List Entry) → FollowsBlock journal block i
     → refused (limits_of journal s) i (e ∷ es) ≡ or_fault (i.groups + 1 == s) (refused_by journal block (e ∷ es))
 unfolding refused_at
 refused_is journal block i s e es is =
@@ -42,7 +42,7 @@ refused_is journal block i s e es is =
     ∙ choice (passes_with_all journal more) _ _ _ _ (i.groups + 1 == s) refl refl
 
 -- with no disk that refuses one, a group for which there is room is kept
-pub accepted : {D : Type 0} (journal : Journaled D) (block : List (List Entry)) (i : Intake) (group : List Entry) → Stands journal block i → refused_by journal block group ≡ None
+pub accepted : {D : Type 0} (journal : Journaled D) (block : List (List Entry)) (i : Intake) (group : List Entry) → FollowsBlock journal block i → refused_by journal block group ≡ None
     → refused (limits_of journal 0) i group ≡ None
 accepted journal block i [] is room = refl
 accepted journal block i (e ∷ es) is room =
@@ -50,13 +50,13 @@ accepted journal block i (e ∷ es) is room =
     refused_is journal block i 0 e es is ∙ ap (or_fault (i.groups + 1 == 0)) room ∙ ap (λ (b : Bool). if b then Some stop.DiskFault else None) later
 
 -- whatever the disk does, a group for which there is none isn't
-pub refused_full : {D : Type 0} (journal : Journaled D) (block : List (List Entry)) (i : Intake) (s : ℕ) (group : List Entry) (full : Stop) → Stands journal block i → refused_by journal block group ≡ Some full
+pub refused_full : {D : Type 0} (journal : Journaled D) (block : List (List Entry)) (i : Intake) (s : ℕ) (group : List Entry) (full : Stop) → FollowsBlock journal block i → refused_by journal block group ≡ Some full
     → refused (limits_of journal s) i group ≡ Some full
 refused_full journal block i s [] full is room = absurd (cc)
 refused_full journal block i s (e ∷ es) full is room = refused_is journal block i s e es is ∙ ap (or_fault (i.groups + 1 == s)) room
 
 -- the next group, where the disk refuses it
-pub faulted : {D : Type 0} (journal : Journaled D) (block : List (List Entry)) (i : Intake) (e : Entry) (es : List Entry) → Stands journal block i → refused_by journal block (e ∷ es) ≡ None
+pub faulted : {D : Type 0} (journal : Journaled D) (block : List (List Entry)) (i : Intake) (e : Entry) (es : List Entry) → FollowsBlock journal block i → refused_by journal block (e ∷ es) ≡ None
     → refused (limits_of journal (i.groups + 1)) i (e ∷ es) ≡ Some stop.DiskFault
 faulted journal block i e es is room =
     refused_is journal block i (i.groups + 1) e es is ∙ ap (or_fault (i.groups + 1 == i.groups + 1)) room ∙ ap (λ (b : Bool). if b then Some stop.DiskFault else None) (eq-eqb (i.groups + 1) (i.groups + 1) refl)
@@ -70,7 +70,7 @@ never_fault journal block (e ∷ es) is = one_of (passes_with_all journal (block
     one_of true n m same = absurd (cc)
     one_of false n m same = absurd (cc)
 
-pub stands_ticked : {D : Type 0} (journal : Journaled D) (block : List (List Entry)) (i : Intake) (ticks : List Entry) → Stands journal block i → Stands journal (staged_with block ticks) (ticked i ticks)
+pub stands_ticked : {D : Type 0} (journal : Journaled D) (block : List (List Entry)) (i : Intake) (ticks : List Entry) → FollowsBlock journal block i → FollowsBlock journal (staged_with block ticks) (ticked i ticks)
 stands_ticked journal block i [] is = is
 stands_ticked journal block i (e ∷ es) is =
     let group = e ∷ es in
@@ -95,7 +95,7 @@ front_numbered entries a b =
     let n = length entries + 1 in
     ap (λ (k : ℕ). take k (numbered_from n (a ++ b))) (sym (length_numbered n a)) ∙ ap (take (length (numbered_from n a))) (numbered-append n a b) ∙ take-append_seam (numbered_from n a) (numbered_from (n + length a) b)
 
-module _ {D : Type 0} (journal : Journaled D) (block : List (List Entry)) (i : Intake) (is : Stands journal block i) (ticks : List Entry) (made : Draft) (last : Option Stop) where
+module _ {D : Type 0} (journal : Journaled D) (block : List (List Entry)) (i : Intake) (is : FollowsBlock journal block i) (ticks : List Entry) (made : Draft) (last : Option Stop) where
   -- both groups are kept
   pub all_kept : refused_by journal block ticks ≡ None → refused_by journal (staged_with block ticks) made.group ≡ None
       → offered (limits_of journal 0) i ticks made last ≡ record {
@@ -136,7 +136,7 @@ abbrev pub FaultIs : Intake → Handled → Handled → List Entry → List Entr
 FaultIs i now fault ticks group None = (fault ≡ now) × (ticks ≡ []) × (group ≡ [])
 FaultIs i now fault ticks group (Some a) = (fault ≡ record { intake = i; answer = a }) × (a.stop ≡ Some stop.DiskFault) × (0 < length ticks + length group)
 
-module _ {D : Type 0} (journal : Journaled D) (block : List (List Entry)) (i : Intake) (is : Stands journal block i) where
+module _ {D : Type 0} (journal : Journaled D) (block : List (List Entry)) (i : Intake) (is : FollowsBlock journal block i) where
   tick_faulted : (t : Entry) (ts : List Entry) (made : Draft) (last : Option Stop) → refused_by journal block (t ∷ ts) ≡ None
       → offered (limits_of journal (i.groups + 1)) i (t ∷ ts) made last ≡ record { intake = i; answer = stopping stop.DiskFault }
   unfolding offered
@@ -176,7 +176,7 @@ pub record Says (i : Intake) (ticks group : List Entry) (says : ℕ → Handled)
   pub fault_is : FaultIs i (says 0) (says (i.groups + 1)) ticks group fault
   pub goes_on : now.stop ≢ Some stop.DiskFault
 
-module _ {D : Type 0} (journal : Journaled D) (block : List (List Entry)) (i : Intake) (is : Stands journal block i) (ticks : List Entry) (made : Draft) (last : Option Stop)
+module _ {D : Type 0} (journal : Journaled D) (block : List (List Entry)) (i : Intake) (is : FollowsBlock journal block i) (ticks : List Entry) (made : Draft) (last : Option Stop)
     (after : List (List Entry)) (added : List Numbered) where
   abbrev Settles : Staged → Type 0
   Settles s =

@@ -13,7 +13,7 @@ use Rattle.wire_core.specs.declared.turn.Turn.{Turn}
 use Rattle.intake_journal.specs.Settled.{Journaled}
 use Rattle.intake_front.specs.Intake.{Intake, Handled, ticks_at, turned, stop_of, come_to, offered, handled, with_group}
 use Rattle.intake_front.specs.Fronted.{limits_of, all_of}
-use Rattle.intake_front.specs.Staging.{Stands}
+use Rattle.intake_front.specs.Staging.{FollowsBlock}
 use Rattle.intake_front.specs.Waiting.{HasFirst, IsBatch, FirstBy, IsTaken, IsLeft}
 use Rattle.intake_front.specs.declared.answer.Answer.{Answer}
 use Rattle.intake_front.specs.declared.answer.Stop.{Stop}
@@ -39,7 +39,7 @@ pub record IsAs (i j : Intake) : Type 0 where
   pub tick : j.tick ≡ i.tick
   pub groups : j.groups ≡ i.groups
 
-pub stands_as : {D : Type 0} (journal : Journaled D) (block : List (List Entry)) (i j : Intake) → IsAs i j → Stands journal block i → Stands journal block j
+pub stands_as : {D : Type 0} (journal : Journaled D) (block : List (List Entry)) (i j : Intake) → IsAs i j → FollowsBlock journal block i → FollowsBlock journal block j
 stands_as journal block i j as_i is = record { count = is.count ∙ sym (ap (λ (es : List Numbered). length es) as_i.entries); size_is = is.size_is ∙ sym as_i.bytes }
 
 first_as : (i j : Intake) (mark : Mark) (block : List (List Entry)) (answers : List Answer) (first : Option First) → IsAs i j → HasFirst i mark block answers first → HasFirst j mark block answers first

@@ -47,14 +47,14 @@ record IsTakenAt (conf : Conf) (now : ℕ) (e : Entry) : Type 0 where
   fitting : IsFitting conf e
 
 -- entries that are sound at a moment
-record Stand (conf : Conf) (now : ℕ) (entries : List Numbered) : Type 0 where
+record EntriesSoundAt (conf : Conf) (now : ℕ) (entries : List Numbered) : Type 0 where
   full : IsFull (log_of entries)
   fits : Fits conf (log_of entries)
   moments : last_moment (log_of entries) ≤ now
   begun : 0 < length entries
 
-stand_one : (conf : Conf) (now : ℕ) (entries : List Numbered) (e : Entry) → Stand conf now entries → IsTakenAt conf now e
-    → Stand conf now (entries ++ record { number = length entries + 1; entry = e } ∷ [])
+stand_one : (conf : Conf) (now : ℕ) (entries : List Numbered) (e : Entry) → EntriesSoundAt conf now entries → IsTakenAt conf now e
+    → EntriesSoundAt conf now (entries ++ record { number = length entries + 1; entry = e } ∷ [])
 stand_one conf now entries e s t =
     let one : Numbered = record { number = length entries + 1; entry = e } in
     let log : log_of (entries ++ one ∷ []) ≡ one ∷ log_of entries = reverse-append entries (one ∷ []) in
@@ -70,8 +70,8 @@ stand_one conf now entries e s t =
       begun = omega (arith, length-append entries (one ∷ []));
     }
 
-stand_group : (conf : Conf) (now : ℕ) (entries : List Numbered) (group : List Entry) → Stand conf now entries → All (IsTakenAt conf now) group
-    → Stand conf now (with_group entries group)
+stand_group : (conf : Conf) (now : ℕ) (entries : List Numbered) (group : List Entry) → EntriesSoundAt conf now entries → All (IsTakenAt conf now) group
+    → EntriesSoundAt conf now (with_group entries group)
 stand_group conf now entries [] s all = rw append-nil s
 stand_group conf now entries (e ∷ rest) s all =
     let P : Entry → Type 0 = IsTakenAt conf now in
@@ -79,7 +79,7 @@ stand_group conf now entries (e ∷ rest) s all =
     let more = stand_group conf now (entries ++ one ∷ []) rest (stand_one conf now entries e s (All-head P e rest all)) (All-tail P e rest all) in
     let next : length (entries ++ one ∷ []) + 1 ≡ length entries + 1 + 1 = omega (arith, length-append entries (one ∷ [])) in
     let joined : (entries ++ one ∷ []) ++ numbered_from (length entries + 1 + 1) rest ≡ with_group entries (e ∷ rest) = append_assoc entries (one ∷ []) _ in
-    subst (Stand conf now) (ap (λ n. (entries ++ one ∷ []) ++ numbered_from n rest) next ∙ joined) more
+    subst (EntriesSoundAt conf now) (ap (λ n. (entries ++ one ∷ []) ++ numbered_from n rest) next ∙ joined) more
 
 -- what a refusal leaves out needs no proof
 unless : (P : Entry → Type 0) (b : Bool) (cause : ValueRefusal) (r : Result Entry ValueRefusal) → (b ≡ false → All P (entry_in r)) → All P (entry_in (if b then Err cause else r))
@@ -159,32 +159,32 @@ module _ (conf : Conf) (now : ℕ) where
   tick_fits false = All-nil (IsTakenAt conf now)
 
 -- an intake that has reached a moment, with entries that are sound then
-record Standing (conf : Conf) (now : ℕ) (i : Intake) : Type 0 where
+record SoundAt (conf : Conf) (now : ℕ) (i : Intake) : Type 0 where
   reached : i.now ≡ now
-  entries : Stand conf now i.entries
+  entries : EntriesSoundAt conf now i.entries
 
 module _ (conf : Conf) (now : ℕ) where
-  kept_stands : (i : Intake) (group : List Entry) → Standing conf now i → All (IsTakenAt conf now) group → Standing conf now (kept_with i group)
+  kept_stands : (i : Intake) (group : List Entry) → SoundAt conf now i → All (IsTakenAt conf now) group → SoundAt conf now (kept_with i group)
   kept_stands i [] s all = s
   kept_stands i (e ∷ es) s all = record { reached = s.reached; entries = stand_group conf now i.entries (e ∷ es) s.entries all }
 
-  ticked_stands : (i : Intake) (ticks : List Entry) → Standing conf now i → All (IsTakenAt conf now) ticks → Standing conf now (ticked i ticks)
+  ticked_stands : (i : Intake) (ticks : List Entry) → SoundAt conf now i → All (IsTakenAt conf now) ticks → SoundAt conf now (ticked i ticks)
   ticked_stands i [] s all = s
   ticked_stands i (e ∷ es) s all = record { reached = s.reached; entries = stand_group conf now i.entries (e ∷ es) s.entries all }
 
-  values_stand : (i : Intake) (ticks : List Numbered) (made : Draft) (last o : Option Stop) → Standing conf now i → All (IsTakenAt conf now) made.group
-      → Standing conf now (values_offered i ticks made last o).intake
+  values_stand : (i : Intake) (ticks : List Numbered) (made : Draft) (last o : Option Stop) → SoundAt conf now i → All (IsTakenAt conf now) made.group
+      → SoundAt conf now (values_offered i ticks made last o).intake
   values_stand i ticks made last None s all = kept_stands i made.group s all
   values_stand i ticks made last (Some reason) s all = s
 
-  tick_stands : (limits : Limits) (i : Intake) (ticks : List Entry) (made : Draft) (last o : Option Stop) → Standing conf now i → All (IsTakenAt conf now) ticks → All (IsTakenAt conf now) made.group
-      → Standing conf now (tick_offered limits i ticks made last o).intake
+  tick_stands : (limits : Limits) (i : Intake) (ticks : List Entry) (made : Draft) (last o : Option Stop) → SoundAt conf now i → All (IsTakenAt conf now) ticks → All (IsTakenAt conf now) made.group
+      → SoundAt conf now (tick_offered limits i ticks made last o).intake
   unfolding behind_tick
   tick_stands limits i ticks made last None s all behind = values_stand (ticked i ticks) (numbered_behind i.entries ticks) made last (refused limits (ticked i ticks) made.group) (ticked_stands i ticks s all) behind
   tick_stands limits i ticks made last (Some reason) s all behind = s
 
-  offered_stands : (limits : Limits) (i : Intake) (ticks : List Entry) (made : Draft) (last : Option Stop) → Standing conf now i → All (IsTakenAt conf now) ticks → All (IsTakenAt conf now) made.group
-      → Standing conf now (offered limits i ticks made last).intake
+  offered_stands : (limits : Limits) (i : Intake) (ticks : List Entry) (made : Draft) (last : Option Stop) → SoundAt conf now i → All (IsTakenAt conf now) ticks → All (IsTakenAt conf now) made.group
+      → SoundAt conf now (offered limits i ticks made last).intake
   unfolding offered
   offered_stands limits i ticks made last s all behind = tick_stands limits i ticks made last (refused limits i ticks) s all behind
 
@@ -202,7 +202,7 @@ pub sound_handled : (limits : Limits) (conf : Conf) (i : Intake) (e : WireEvent)
 unfolding handled
 sound_handled limits conf i e s =
     let now = max i.now (moment_at e) in
-    let begun : Stand conf now i.entries = let before = s.moments in record { full = s.full; fits = s.fits; moments = omega arith; begun = s.begun } in
+    let begun : EntriesSoundAt conf now i.entries = let before = s.moments in record { full = s.full; fits = s.fits; moments = omega arith; begun = s.begun } in
     let t = turn_of i.peers now e in
     let all = offered_stands conf now limits _ (ticks_at i.tick now) (turned conf now t) (stop_of e) (record { reached = refl; entries = begun }) (tick_fits conf now (is_due i.tick (half_minute now))) (turned_fits conf now t) in
     record { full = all.entries.full; fits = all.entries.fits; moments = omega (arith, all.reached, all.entries.moments); begun = all.entries.begun }

@@ -32,7 +32,7 @@ groups_in [] = 0
 groups_in (e ∷ es) = 1
 
 -- an intake stands behind a journal with the groups of a block
-pub record Stands {D : Type 0} (journal : Journaled D) (block : List (List Entry)) (i : Intake) : Type 0 where
+pub record FollowsBlock {D : Type 0} (journal : Journaled D) (block : List (List Entry)) (i : Intake) : Type 0 where
   pub count : journal.entries + count_all block ≡ length i.entries
   pub size_is : journal.at + length (opened_bytes block) + 1 ≡ i.bytes
 

@@ -5,7 +5,7 @@ ghost use Rattle.intake_journal.specs.Bytes.{HasShortValue};
 ghost use Rattle.intake_journal.specs.declared.state.State.TheVariants as state;
 ghost use Rattle.intake_front.specs.Intake.{Intake, ticked, handled, offered};
 ghost use Rattle.intake_front.specs.Fronted.{HasRoom, limits_of};
-ghost use Rattle.intake_front.specs.Staging.{Stands, IsOffered};
+ghost use Rattle.intake_front.specs.Staging.{FollowsBlock, IsOffered};
 ghost use Rattle.intake_front.specs.Waiting.{IsBatch, IsWaiting, IsTaken, IsLeft};
 ghost use Rattle.intake_front.specs.declared.answer.Stop.TheVariants as stop;
 
@@ -47,7 +47,7 @@ fn offer<D: Disk>(
     requires short_ticks { All HasShortValue ticks }
     requires short_values { All HasShortValue draft.group }
     requires last { last ≢ Some stop.DiskFault }
-    requires stands { Stands journal.now batch.old.block held.old }
+    requires stands { FollowsBlock journal.now batch.old.block held.old }
     requires batch { IsBatch held.old batch.old }
     ensures taken { MatchResult result (IsTaken held.old held.new batch.old batch.new (λ s. offered (limits_of journal.now s) held.old ticks draft last)) (λ _. IsLeft held.old held.new batch.old batch.new) }
     ensures room { HasRoom journal.now batch.old.block → HasRoom journal.now batch.new.block }
@@ -90,7 +90,7 @@ pub(crate) fn receive<D: Disk>(
     collection: &mut Collection<'_>,
     event: &WireEvent,
 ) -> Result<Option<Stop>, OutOfMemory>
-    requires stands { Stands journal.now batch.old.block held.old }
+    requires stands { FollowsBlock journal.now batch.old.block held.old }
     requires batch { IsBatch held.old batch.old }
     ensures taken { MatchResult result (IsTaken held.old held.new batch.old batch.new (λ s. handled (limits_of journal.now s) collection.old held.old event.now)) (λ _. IsLeft held.old held.new batch.old batch.new) }
     ensures same { collection.new ≡ collection.old }

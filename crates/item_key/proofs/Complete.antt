@@ -1,11 +1,11 @@
 -- The machine takes each key of the grammar.
 use Rattle.std.proofs.Common.{◌≡◌, ℕ, List, [], ◌∷◌, ◌++◌, refl, ap, sym, ◌∙◌, append_assoc, Option, Some, Bool, true, false, ◌==◌, if◌then◌else◌}
-use Rattle.item_key.specs.declared.places.Within.{Within}
-use Rattle.item_key.specs.declared.places.Within.TheVariants.{Before, Bare, Quoted as InQuoted, Escaped, Behind}
+use Rattle.item_key.specs.declared.places.InParameter.{InParameter}
+use Rattle.item_key.specs.declared.places.InParameter.TheVariants.{Before, Bare, Quoted as InQuoted, Escaped, Behind}
 use Rattle.item_key.specs.declared.places.Place.{Place}
 use Rattle.item_key.specs.declared.places.Place.TheVariants.{Start, Name, Param, Listed, Closed, Done}
-use Rattle.item_key.specs.declared.places.Turn.{Turn}
-use Rattle.item_key.specs.declared.places.Turn.TheVariants.{Stay, Comma, Close, Open}
+use Rattle.item_key.specs.declared.places.ByteEffect.{ByteEffect}
+use Rattle.item_key.specs.declared.places.ByteEffect.TheVariants.{Stay, Comma, Close, Open}
 use Rattle.item_key.specs.Machine.{turn, outer, inner, step, ends_at, place_of}
 use Rattle.item_key.specs.Grammar.{is_name_byte, is_bare, begins_bare, Quoted, IsPlain, nothing, bare, quoted, AreMany, last, more, IsParam, one, list, IsKeyText, name, with_params}
 use Rattle.byte_grammar.specs.Bytes.{Each, is_space}
@@ -13,8 +13,8 @@ use Rattle.byte_grammar.specs.Runs.{run}
 use Rattle.byte_grammar.proofs.Runs.{joined, stays, byte_on, run_end}
 
 -- the place of a parameter, in the key or in a list
-abbrev Steps : (Within → Place) → (Turn → Option Place) → Type 0
-Steps P O = ((w : Within) (b : ℕ) → step (P w) b ≡ O (turn w b)) × ((w : Within) → O (Stay w) ≡ Some (P w))
+abbrev Steps : (InParameter → Place) → (ByteEffect → Option Place) → Type 0
+Steps P O = ((w : InParameter) (b : ℕ) → step (P w) b ≡ O (turn w b)) × ((w : InParameter) → O (Stay w) ≡ Some (P w))
 
 param_steps : Steps Param outer
 param_steps = (λ w b. refl, λ w. refl)
@@ -22,7 +22,7 @@ param_steps = (λ w b. refl, λ w. refl)
 listed_steps : Steps Listed inner
 listed_steps = (λ w b. refl, λ w. refl)
 
-abbrev in_quotes : ℕ → Within
+abbrev in_quotes : ℕ → InParameter
 in_quotes before = if before == 92 then Escaped else InQuoted
 
 stay_if : (c : Bool) → (if c then Stay Escaped else Stay InQuoted) ≡ Stay (if c then Escaped else InQuoted)
@@ -66,11 +66,11 @@ bare_begins b h = at (b == 32) (b == 34) (b == 91) (b == 44) (b == 93) h
 regroup : (s y : List ℕ) → s ++ 34 ∷ y ≡ (s ++ 34 ∷ []) ++ y
 regroup s y = sym (append_assoc s (34 ∷ []) y)
 
-module _ (P : Within → Place) (O : Turn → Option Place) (on : Steps P O) where
-  one_step : (w v : Within) (b : ℕ) (bs : List ℕ) → turn w b ≡ Stay v → run step (Some (P w)) (b ∷ bs) ≡ run step (Some (P v)) bs
+module _ (P : InParameter → Place) (O : ByteEffect → Option Place) (on : Steps P O) where
+  one_step : (w v : InParameter) (b : ℕ) (bs : List ℕ) → turn w b ≡ Stay v → run step (Some (P w)) (b ∷ bs) ≡ run step (Some (P v)) bs
   one_step w v b bs e = byte_on step (P w) (P v) b bs (on.0 w b ∙ ap O e ∙ on.1 v)
 
-  each_stays : (w : Within) (t : ℕ → Bool) → ((b : ℕ) → t b ≡ true → turn w b ≡ Stay w) → (x : List ℕ) → Each t x → run step (Some (P w)) x ≡ Some (P w)
+  each_stays : (w : InParameter) (t : ℕ → Bool) → ((b : ℕ) → t b ≡ true → turn w b ≡ Stay w) → (x : List ℕ) → Each t x → run step (Some (P w)) x ≡ Some (P w)
   each_stays w t h x e = stays step (P w) t (λ b g. on.0 w b ∙ ap O (h b g) ∙ on.1 w) x e
 
   quoted_run : (s : List ℕ) (before : ℕ) → Quoted before s → run step (Some (P (in_quotes before))) (s ++ 34 ∷ []) ≡ Some (P Behind)

@@ -1,6 +1,6 @@
 -- Places in the words of the grammar: each can be completed, and a byte without a next place has no key.
 use Rattle.std.proofs.Common.{◌≡◌, ℕ, List, [], ◌∷◌, ◌++◌, refl, ap, sym, ◌∙◌, Option, Some, None, true, false}
-use Rattle.item_key.specs.declared.places.Within.TheVariants.{Before, Bare, Quoted, Escaped, Behind}
+use Rattle.item_key.specs.declared.places.InParameter.TheVariants.{Before, Bare, Quoted, Escaped, Behind}
 use Rattle.item_key.specs.declared.places.Place.{Place}
 use Rattle.item_key.specs.declared.places.Place.TheVariants.{Start, Name, Param, Listed, Closed, Done}
 use Rattle.item_key.specs.Machine.{step, ends, ends_at, place_of, finish}

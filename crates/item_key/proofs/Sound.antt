@@ -4,12 +4,12 @@ use Rattle.std.proofs.lemmas.Bool.Decides.{nat_tests}
 use Rattle.byte_grammar.specs.Bytes.{Each, is_space}
 use Rattle.byte_grammar.specs.Runs.{run, move}
 use Rattle.byte_grammar.proofs.Bytes.{each_none, each_snoc}
-use Rattle.item_key.specs.declared.places.Within.{Within}
-use Rattle.item_key.specs.declared.places.Within.TheVariants.{Before, Bare, Quoted as InQuoted, Escaped, Behind}
+use Rattle.item_key.specs.declared.places.InParameter.{InParameter}
+use Rattle.item_key.specs.declared.places.InParameter.TheVariants.{Before, Bare, Quoted as InQuoted, Escaped, Behind}
 use Rattle.item_key.specs.declared.places.Place.{Place}
 use Rattle.item_key.specs.declared.places.Place.TheVariants.{Start, Name, Param, Listed, Closed, Done}
-use Rattle.item_key.specs.declared.places.Turn.{Turn}
-use Rattle.item_key.specs.declared.places.Turn.TheVariants.{Stay, Comma, Close, Open, Wrong}
+use Rattle.item_key.specs.declared.places.ByteEffect.{ByteEffect}
+use Rattle.item_key.specs.declared.places.ByteEffect.TheVariants.{Stay, Comma, Close, Open, Wrong}
 use Rattle.item_key.specs.Machine.{turn, outer, inner, step, ends, ends_at, place_of}
 use Rattle.item_key.specs.Grammar.{is_name_byte, is_bare, begins_bare, Quoted, IsPlain, nothing, bare, quoted, AreMany, last, more, IsParam, one, list, IsKeyText, name, with_params}
 
@@ -17,7 +17,7 @@ snoc : (q : List ℕ) (b : ℕ) (r : List ℕ) → q ++ b ∷ r ≡ (q ++ b ∷ 
 snoc q b r = sym (append_assoc q (b ∷ []) r)
 
 -- a parameter without a list, so far
-abbrev PlainIn : Within → List ℕ → Type 0
+abbrev PlainIn : InParameter → List ℕ → Type 0
 PlainIn Before p = Each is_space p
 PlainIn Bare p = (bs : List ℕ) → Each is_bare bs → IsPlain (p ++ bs)
 PlainIn InQuoted p = (before : ℕ) → (before == 92) ≡ false → (s y : List ℕ) → Quoted before s → Each is_space y → IsPlain (p ++ (s ++ 34 ∷ y))
@@ -34,7 +34,7 @@ split : {A : Type 0} (c : Bool) (a b s : A) → (if c then a else b) ≡ s → (
 split true a b s h = inl (refl, h)
 split false a b s h = inr (refl, h)
 
-plain_whole : (w : Within) (p : List ℕ) (b : ℕ) (t : Turn) → (t ≡ Comma) ⊎ (t ≡ Close) → PlainIn w p → turn w b ≡ t → IsPlain p
+plain_whole : (w : InParameter) (p : List ℕ) (b : ℕ) (t : ByteEffect) → (t ≡ Comma) ⊎ (t ≡ Close) → PlainIn w p → turn w b ≡ t → IsPlain p
 unfolding Each
 plain_whole Before p b t k w h = nothing p w
 plain_whole Bare p b t k w h = moved (p ++ []) p (append-nil p) (w [] tt)
@@ -59,13 +59,13 @@ plain_whole Escaped p b t k w h = absurd (none (b == 92) k h)
 bare_of : (b : ℕ) → (b == 32) ≡ false → (b == 34) ≡ false → (b == 91) ≡ false → (b == 44) ≡ false → (b == 93) ≡ false → begins_bare b ≡ true
 bare_of b p q r c d = rw (p, q, r, c, d) refl
 
-stay_is : (v w : Within) (p : List ℕ) → PlainIn v p → Stay v ≡ Stay w → PlainIn w p
-stay_is v w p h e = let c : v ≡ w = cc in subst (λ (z : Within). PlainIn z p) c h
+stay_is : (v w : InParameter) (p : List ℕ) → PlainIn v p → Stay v ≡ Stay w → PlainIn w p
+stay_is v w p h e = let c : v ≡ w = cc in subst (λ (z : InParameter). PlainIn z p) c h
 
-differs : {A : Type 0} (t v : Turn) → (t ≡ v → ⊥) → t ≡ v → A
+differs : {A : Type 0} (t v : ByteEffect) → (t ≡ v → ⊥) → t ≡ v → A
 differs t v h e = absurd (h e)
 
-turn_split : (c : Bool) (a b s : Turn) → (if c then a else b) ≡ s → ((c ≡ true) × (a ≡ s)) ⊎ ((c ≡ false) × (b ≡ s))
+turn_split : (c : Bool) (a b s : ByteEffect) → (if c then a else b) ≡ s → ((c ≡ true) × (a ≡ s)) ⊎ ((c ≡ false) × (b ≡ s))
 turn_split true a b s h = inl (refl, h)
 turn_split false a b s h = inr (refl, h)
 
@@ -86,7 +86,7 @@ either_way : (c : Bool) → (if c then true else true) ≡ true
 either_way true = refl
 either_way false = refl
 
-plain_stay : (w v : Within) (p : List ℕ) (b : ℕ) → PlainIn w p → turn w b ≡ Stay v → PlainIn v (p ++ b ∷ [])
+plain_stay : (w v : InParameter) (p : List ℕ) (b : ℕ) → PlainIn w p → turn w b ≡ Stay v → PlainIn v (p ++ b ∷ [])
 unfolding Each Quoted
 plain_stay Before v p b h e = elim (turn_split (b == 32) _ _ _ e) [
   | inl z ↦ stay_is Before v (p ++ b ∷ []) (each_snoc is_space p b h z.0) z.1
@@ -133,21 +133,21 @@ plain_stay Behind v p b h e = elim (turn_split (b == 32) _ _ _ e) [
   ]
 ]
 
-comma_byte : (w : Within) (b : ℕ) → turn w b ≡ Comma → b ≡ 44
+comma_byte : (w : InParameter) (b : ℕ) → turn w b ≡ Comma → b ≡ 44
 comma_byte Before b h = grind (arith, nat_tests)
 comma_byte Bare b h = grind (arith, nat_tests)
 comma_byte InQuoted b h = grind (arith, nat_tests)
 comma_byte Escaped b h = grind (arith, nat_tests)
 comma_byte Behind b h = grind (arith, nat_tests)
 
-close_byte : (w : Within) (b : ℕ) → turn w b ≡ Close → b ≡ 93
+close_byte : (w : InParameter) (b : ℕ) → turn w b ≡ Close → b ≡ 93
 close_byte Before b h = grind (arith, nat_tests)
 close_byte Bare b h = grind (arith, nat_tests)
 close_byte InQuoted b h = grind (arith, nat_tests)
 close_byte Escaped b h = grind (arith, nat_tests)
 close_byte Behind b h = grind (arith, nat_tests)
 
-open_byte : (w : Within) (p : List ℕ) (b : ℕ) → PlainIn w p → turn w b ≡ Open → (b ≡ 91) × Each is_space p
+open_byte : (w : InParameter) (p : List ℕ) (b : ℕ) → PlainIn w p → turn w b ≡ Open → (b ≡ 91) × Each is_space p
 open_byte Before p b k h = (grind (arith, nat_tests), k)
 open_byte Bare p b k h = absurd (grind (arith, nat_tests))
 open_byte InQuoted p b k h = absurd (grind (arith, nat_tests))
@@ -187,7 +187,7 @@ no_place w h = absurd cc
 longer : (q a p : List ℕ) (b : ℕ) → q ≡ a ++ p → q ++ b ∷ [] ≡ a ++ (p ++ b ∷ [])
 longer q a p b e = ap (λ (v : List ℕ). v ++ b ∷ []) e ∙ append_assoc a p (b ∷ [])
 
-in_param : (w : Within) (q : List ℕ) (b : ℕ) (s : Place) → WithinKey (Param w) q → (t : Turn) → turn w b ≡ t → outer t ≡ Some s → WithinKey s (q ++ b ∷ [])
+in_param : (w : InParameter) (q : List ℕ) (b : ℕ) (s : Place) → WithinKey (Param w) q → (t : ByteEffect) → turn w b ≡ t → outer t ≡ Some s → WithinKey s (q ++ b ∷ [])
 in_param w q b s h (Stay v) e g = as_place (Param v) s (q ++ b ∷ []) (h.0, h.1 ++ b ∷ [], longer q h.0 h.1 b h.2, h.3, plain_stay w v h.1 b h.4 e) g
 in_param w q b s h Comma e g = as_place (Param Before) s (q ++ b ∷ [])
     (h.0 ++ (h.1 ++ 44 ∷ []), [], ap (λ (c : ℕ). q ++ c ∷ []) (comma_byte w b e) ∙ longer q h.0 h.1 44 h.2 ∙ sym (append-nil (h.0 ++ (h.1 ++ 44 ∷ []))), params_comma h.0 h.1 h.3 (one (plain_whole w h.1 b Comma (inl refl) h.4 e)), (each_none is_space)) g
@@ -204,7 +204,7 @@ in_param w q b s h Open e g = let o = open_byte w h.1 b h.4 e in as_place (Liste
 ) g
 in_param w q b s h Wrong e g = no_place s g
 
-in_list : (w : Within) (q : List ℕ) (b : ℕ) (s : Place) → WithinKey (Listed w) q → (t : Turn) → turn w b ≡ t → inner t ≡ Some s → WithinKey s (q ++ b ∷ [])
+in_list : (w : InParameter) (q : List ℕ) (b : ℕ) (s : Place) → WithinKey (Listed w) q → (t : ByteEffect) → turn w b ≡ t → inner t ≡ Some s → WithinKey s (q ++ b ∷ [])
 in_list w q b s h (Stay v) e g = as_place (Listed v) s (q ++ b ∷ []) (h.0, h.1, h.2 ++ b ∷ [], longer q h.0 (h.1 ++ h.2) b h.3 ∙ ap (λ (v : List ℕ). h.0 ++ v) (append_assoc h.1 h.2 (b ∷ [])), h.4, h.5, plain_stay w v h.2 b h.6 e) g
 in_list w q b s h Comma e g = as_place (Listed Before) s (q ++ b ∷ [])
     (h.0, h.1 ++ (h.2 ++ 44 ∷ []), [], ap (λ (c : ℕ). q ++ c ∷ []) (comma_byte w b e) ∙ longer q h.0 (h.1 ++ h.2) 44 h.3 ∙ ap (λ (v : List ℕ). h.0 ++ v) (append_assoc h.1 h.2 (44 ∷ []) ∙ sym (append-nil (h.1 ++ (h.2 ++ 44 ∷ [])))), h.4, items_comma h.1 h.2 h.5 (plain_whole w h.2 b Comma (inl refl) h.6 e), (each_none is_space)) g

@@ -3,15 +3,15 @@ use Rattle.std.specs.Prelude.{ℕ, List, [], ◌∷◌, ◌++◌, ◌≤◌, ◌
 use Rattle.std.specs.Prelude.{length, IsTrue, if◌then◌else◌}
 use Rattle.byte_grammar.specs.Runs.{run}
 use Rattle.item_key.specs.Grammar.{is_name_byte}
-use Rattle.item_key.specs.declared.places.Within.{Within}
-use Rattle.item_key.specs.declared.places.Within.TheVariants.{Before, Bare, Quoted, Escaped, Behind}
+use Rattle.item_key.specs.declared.places.InParameter.{InParameter}
+use Rattle.item_key.specs.declared.places.InParameter.TheVariants.{Before, Bare, Quoted, Escaped, Behind}
 use Rattle.item_key.specs.declared.places.Place.{Place}
 use Rattle.item_key.specs.declared.places.Place.TheVariants.{Start, Name, Param, Listed, Closed, Done}
-use Rattle.item_key.specs.declared.places.Turn.{Turn}
-use Rattle.item_key.specs.declared.places.Turn.TheVariants.{Stay, Comma, Close, Open, Wrong}
+use Rattle.item_key.specs.declared.places.ByteEffect.{ByteEffect}
+use Rattle.item_key.specs.declared.places.ByteEffect.TheVariants.{Stay, Comma, Close, Open, Wrong}
 
 -- what a byte does to a parameter
-abbrev pub turn : Within → ℕ → Turn
+abbrev pub turn : InParameter → ℕ → ByteEffect
 turn Before b =
     if b == 32 then Stay Before else if b == 34 then Stay Quoted else if b == 91 then Open else if b == 44 then Comma
     else if b == 93 then Close else Stay Bare
@@ -21,7 +21,7 @@ turn Escaped b = if b == 92 then Stay Escaped else Stay Quoted
 turn Behind b = if b == 32 then Stay Behind else if b == 44 then Comma else if b == 93 then Close else Wrong
 
 -- where that leads in the parameters of a key
-abbrev pub outer : Turn → Option Place
+abbrev pub outer : ByteEffect → Option Place
 outer (Stay w) = Some (Param w)
 outer Comma = Some (Param Before)
 outer Close = Some Done
@@ -29,7 +29,7 @@ outer Open = Some (Listed Before)
 outer Wrong = None
 
 -- where that leads in a list
-abbrev pub inner : Turn → Option Place
+abbrev pub inner : ByteEffect → Option Place
 inner (Stay w) = Some (Listed w)
 inner Comma = Some (Listed Before)
 inner Close = Some Closed
@@ -64,7 +64,7 @@ abbrev pub place_of : List ℕ → Option Place
 place_of text = run step (Some Start) text
 
 -- what completes a key in a parameter, up to the bracket behind it
-abbrev pub finish_parameter : Within → List ℕ
+abbrev pub finish_parameter : InParameter → List ℕ
 finish_parameter Before = 93 ∷ []
 finish_parameter Bare = 93 ∷ []
 finish_parameter Quoted = 34 ∷ 93 ∷ []

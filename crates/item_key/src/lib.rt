@@ -29,7 +29,7 @@
 mod places;
 mod reading;
 
-pub use places::{Place, Within, may_end, next};
+pub use places::{InParameter, Place, may_end, next};
 pub use reading::read;
 
 #[cfg(test)]

@@ -7,7 +7,7 @@ ghost use Rattle.item_key.specs.Meaning.{GoesOn, TellsKeys, Completes};
 
 /// A place in a parameter.
 #[derive(Clone, Copy)]
-pub enum Within {
+pub enum InParameter {
     /// Nothing of it has come but spaces.
     Before,
     /// In one without quotes and brackets.
@@ -23,8 +23,8 @@ pub enum Within {
 /// What a byte does to a parameter: it belongs to it, ends it by a comma or by a bracket, opens a list, or has no
 /// place in it.
 #[derive(Clone, Copy)]
-enum Turn {
-    Stay(Within),
+enum ByteEffect {
+    Stay(InParameter),
     Comma,
     Close,
     Open,
@@ -39,9 +39,9 @@ pub enum Place {
     /// In the name, which may end here.
     Name,
     /// In a parameter.
-    Param(Within),
+    Param(InParameter),
     /// In a parameter of a list.
-    Listed(Within),
+    Listed(InParameter),
     /// Behind the bracket that ended a list.
     Closed,
     /// Behind the bracket that ended the key.
@@ -59,59 +59,59 @@ fn is_name(byte: u8) -> bool
         || byte == b'.'
 }
 
-fn turned(within: Within, byte: u8) -> Turn
+fn turned(within: InParameter, byte: u8) -> ByteEffect
     ensures { result ≡ turn within byte }
 {
     match within {
-        Within::Before => {
+        InParameter::Before => {
             if byte == b' ' {
-                Turn::Stay(Within::Before)
+                ByteEffect::Stay(InParameter::Before)
             } else if byte == b'"' {
-                Turn::Stay(Within::Quoted)
+                ByteEffect::Stay(InParameter::Quoted)
             } else if byte == b'[' {
-                Turn::Open
+                ByteEffect::Open
             } else if byte == b',' {
-                Turn::Comma
+                ByteEffect::Comma
             } else if byte == b']' {
-                Turn::Close
+                ByteEffect::Close
             } else {
-                Turn::Stay(Within::Bare)
+                ByteEffect::Stay(InParameter::Bare)
             }
         }
-        Within::Bare => {
+        InParameter::Bare => {
             if byte == b',' {
-                Turn::Comma
+                ByteEffect::Comma
             } else if byte == b']' {
-                Turn::Close
+                ByteEffect::Close
             } else {
-                Turn::Stay(Within::Bare)
+                ByteEffect::Stay(InParameter::Bare)
             }
         }
-        Within::Quoted => {
+        InParameter::Quoted => {
             if byte == b'"' {
-                Turn::Stay(Within::Behind)
+                ByteEffect::Stay(InParameter::Behind)
             } else if byte == b'\\' {
-                Turn::Stay(Within::Escaped)
+                ByteEffect::Stay(InParameter::Escaped)
             } else {
-                Turn::Stay(Within::Quoted)
+                ByteEffect::Stay(InParameter::Quoted)
             }
         }
-        Within::Escaped => {
+        InParameter::Escaped => {
             if byte == b'\\' {
-                Turn::Stay(Within::Escaped)
+                ByteEffect::Stay(InParameter::Escaped)
             } else {
-                Turn::Stay(Within::Quoted)
+                ByteEffect::Stay(InParameter::Quoted)
             }
         }
-        Within::Behind => {
+        InParameter::Behind => {
             if byte == b' ' {
-                Turn::Stay(Within::Behind)
+                ByteEffect::Stay(InParameter::Behind)
             } else if byte == b',' {
-                Turn::Comma
+                ByteEffect::Comma
             } else if byte == b']' {
-                Turn::Close
+                ByteEffect::Close
             } else {
-                Turn::Wrong
+                ByteEffect::Wrong
             }
         }
     }
@@ -132,32 +132,32 @@ fn stepped(place: Place, byte: u8) -> Option<Place>
             if is_name(byte) {
                 Some(Place::Name)
             } else if byte == b'[' {
-                Some(Place::Param(Within::Before))
+                Some(Place::Param(InParameter::Before))
             } else {
                 None
             }
         }
         Place::Param(within) => {
             match turned(within, byte) {
-                Turn::Stay(now) => Some(Place::Param(now)),
-                Turn::Comma => Some(Place::Param(Within::Before)),
-                Turn::Close => Some(Place::Done),
-                Turn::Open => Some(Place::Listed(Within::Before)),
-                Turn::Wrong => None,
+                ByteEffect::Stay(now) => Some(Place::Param(now)),
+                ByteEffect::Comma => Some(Place::Param(InParameter::Before)),
+                ByteEffect::Close => Some(Place::Done),
+                ByteEffect::Open => Some(Place::Listed(InParameter::Before)),
+                ByteEffect::Wrong => None,
             }
         }
         Place::Listed(within) => {
             match turned(within, byte) {
-                Turn::Stay(now) => Some(Place::Listed(now)),
-                Turn::Comma => Some(Place::Listed(Within::Before)),
-                Turn::Close => Some(Place::Closed),
-                Turn::Open => None,
-                Turn::Wrong => None,
+                ByteEffect::Stay(now) => Some(Place::Listed(now)),
+                ByteEffect::Comma => Some(Place::Listed(InParameter::Before)),
+                ByteEffect::Close => Some(Place::Closed),
+                ByteEffect::Open => None,
+                ByteEffect::Wrong => None,
             }
         }
         Place::Closed => {
             if byte == b',' {
-                Some(Place::Param(Within::Before))
+                Some(Place::Param(InParameter::Before))
             } else if byte == b']' {
                 Some(Place::Done)
             } else {

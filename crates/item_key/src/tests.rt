@@ -45,7 +45,7 @@ fn a_key_has_at_most_2048_bytes(rt: HostRuntime) -> Result<(), Fail> {
 #[test]
 fn a_space_has_no_place_behind_a_list(rt: HostRuntime) -> Result<(), Fail> {
     assert!(rt; next(Place::Closed, b' ').is_none());
-    assert!(rt; next(Place::Param(Within::Behind), b' ').is_some());
+    assert!(rt; next(Place::Param(InParameter::Behind), b' ').is_some());
     assert!(rt; may_end(Place::Done) && !may_end(Place::Closed));
     Ok(())
 }

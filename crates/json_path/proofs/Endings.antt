@@ -14,8 +14,8 @@ use Rattle.json_path.specs.declared.path.Selector.{Selector}
 use Rattle.json_path.specs.declared.path.Selector.TheVariants.{Names, Indexes, Slice, All, Where}
 use Rattle.json_path.specs.declared.conditions.Checking.{Checking}
 use Rattle.json_path.specs.declared.conditions.Checking.TheVariants as at
-use Rattle.json_path.specs.declared.brackets.Within.{Within}
-use Rattle.json_path.specs.declared.brackets.Within.TheVariants as within
+use Rattle.json_path.specs.declared.brackets.InBrackets.{InBrackets}
+use Rattle.json_path.specs.declared.brackets.InBrackets.TheVariants as within
 use Rattle.json_path.specs.declared.places.Place.{Place}
 use Rattle.json_path.specs.declared.places.Place.TheVariants.{Start, Behind, Point, Points, Name, Inside, Call, Called}
 use Rattle.json_path.specs.declared.places.State.{State}
@@ -101,10 +101,10 @@ condition_done (at.Numbered ns op n) u k =
 condition_done (at.Compared c) u k = compared c
 
 -- a whole selector
-abbrev Chooses : Within → Type 0
+abbrev Chooses : InBrackets → Type 0
 Chooses m = (s : Selector) × (said m ≡ Some s)
 
-whole : (m : Within) (s : Selector) → said m ≡ Some s → Leads choose_step m Chooses
+whole : (m : InBrackets) (s : Selector) → said m ≡ Some s → Leads choose_step m Chooses
 whole m s e = here choose_step m Chooses (s, e)
 
 in_quote : (ns : List (List ℕ)) (q : Quotation) → IsSpelt q.spelling → Leads choose_step (within.Quote ns q) Chooses
@@ -118,7 +118,7 @@ check_done m u k =
     (by_byte choose_step (within.Condition l.state) (within.Whole (Where c)) Chooses 41 (ap (λ z. open_choice (condition_goes z)) (condition_met l.state c l.fact.1)) (whole (within.Whole (Where c)) (Where c) refl))
 
 -- from each state of a selector some bytes lead to a whole one
-selector_done : (m : Within) (u : List ℕ) → ChoicePast m u → Leads choose_step m Chooses
+selector_done : (m : InBrackets) (u : List ℕ) → ChoicePast m u → Leads choose_step m Chooses
 selector_done within.Before u k = by_byte choose_step within.Before (within.Whole All) Chooses 42 refl (whole (within.Whole All) All refl)
 selector_done (within.Quote ns q) u k = in_quote ns q k.4.spelt
 selector_done (within.Named ns) u k = whole (within.Named ns) (Names ns) refl

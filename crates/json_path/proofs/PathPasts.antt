@@ -7,7 +7,7 @@ use Rattle.json_path.specs.declared.path.Segment.{Segment}
 use Rattle.json_path.specs.declared.path.Selector.TheVariants.{Names, All}
 use Rattle.json_path.specs.declared.path.Function.{Function}
 use Rattle.json_path.specs.declared.path.Function.TheVariants.{Length, First, Min, Max, Sum, Avg}
-use Rattle.json_path.specs.declared.brackets.Within.TheVariants as within
+use Rattle.json_path.specs.declared.brackets.InBrackets.TheVariants as within
 use Rattle.json_path.specs.declared.brackets.Chosen.{Chosen}
 use Rattle.json_path.specs.declared.places.Place.{Place}
 use Rattle.json_path.specs.declared.places.Place.TheVariants.{Start, Behind, Point, Points, Name, Inside, Call, Called}

@@ -7,8 +7,8 @@ use Rattle.json_path.specs.declared.path.Segment.{Segment}
 use Rattle.json_path.specs.declared.path.Selector.TheVariants.{Names, All}
 use Rattle.json_path.specs.declared.path.Function.{Function}
 use Rattle.json_path.specs.declared.path.Function.TheVariants.{Length, First, Min, Max, Sum, Avg}
-use Rattle.json_path.specs.declared.brackets.Within.{Within}
-use Rattle.json_path.specs.declared.brackets.Within.TheVariants as within
+use Rattle.json_path.specs.declared.brackets.InBrackets.{InBrackets}
+use Rattle.json_path.specs.declared.brackets.InBrackets.TheVariants as within
 use Rattle.json_path.specs.declared.brackets.Chosen.{Chosen}
 use Rattle.json_path.specs.declared.brackets.Chosen.TheVariants as chosen
 use Rattle.json_path.specs.declared.places.Place.{Place}
@@ -103,7 +103,7 @@ star_run : (ss : List Segment) (deep : Bool) → step (state ss (pointed deep)) 
 star_run ss false = refl
 star_run ss true = refl
 
-pub inside_on : (ss : List Segment) (deep : Bool) (m r : Within) (b : ℕ) → choose_step m b ≡ Some r → step (state ss (Inside deep m)) b ≡ Some (state ss (Inside deep r))
+pub inside_on : (ss : List Segment) (deep : Bool) (m r : InBrackets) (b : ℕ) → choose_step m b ≡ Some r → step (state ss (Inside deep m)) b ≡ Some (state ss (Inside deep r))
 inside_on ss deep m r b e = from (choose m b) e
   where
     from : (c : Chosen) → open_choice c ≡ Some r → selector_goes ss deep c ≡ Some (state ss (Inside deep r))

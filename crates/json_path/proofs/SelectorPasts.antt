@@ -7,8 +7,8 @@ use Rattle.json_path.specs.declared.path.Selector.{Selector}
 use Rattle.json_path.specs.declared.path.Selector.TheVariants.{Names, Indexes, Slice, All, Where}
 use Rattle.json_path.specs.declared.conditions.Checking.TheVariants as at
 use Rattle.json_path.specs.declared.conditions.Checked.{Checked}
-use Rattle.json_path.specs.declared.brackets.Within.{Within}
-use Rattle.json_path.specs.declared.brackets.Within.TheVariants as within
+use Rattle.json_path.specs.declared.brackets.InBrackets.{InBrackets}
+use Rattle.json_path.specs.declared.brackets.InBrackets.TheVariants as within
 use Rattle.json_path.specs.declared.brackets.Chosen.{Chosen}
 use Rattle.json_path.specs.declared.brackets.Chosen.TheVariants.{Open, Closed, Wrong}
 use Rattle.byte_grammar.specs.Bytes.{Each, is_space, is_digit}
@@ -45,7 +45,7 @@ alone_is i (first {text} a s e) g = let h : a ≡ i = cc in subst (λ (z : ℤ).
 alone_is i (next u t vs a l s e g) h = absurd (let n = filled l in let m = ap (λ (z : List ℤ). length z) (sym g ∙ h) in omega (arith, length-append vs (a ∷ [])))
 
 -- a selector so far
-abbrev pub ChoicePast : Within → List ℕ → Type 0
+abbrev pub ChoicePast : InBrackets → List ℕ → Type 0
 ChoicePast within.Before u = Each is_space u
 ChoicePast (within.Quote ns q) u = (v : List ℕ) × (d : Bool) × (t : List ℕ) × Ahead IsQuoted v ns × QuotePast d q t × (u ≡ v ++ mark d ∷ t)
 ChoicePast (within.Named ns) u = AreListed IsQuoted u ns
@@ -61,7 +61,7 @@ ChoicePast (within.Whole s) u = IsSelector u s
 
 -- what a byte makes of it
 pub data ChoiceBehind (u : List ℕ) (b : ℕ) : Chosen → Type 0 where
-  open_in : (m : Within) → ChoicePast m (u ++ b ∷ []) → ChoiceBehind u b (Open m)
+  open_in : (m : InBrackets) → ChoicePast m (u ++ b ∷ []) → ChoiceBehind u b (Open m)
   closed_in : (s : Selector) → b ≡ 93 → IsSelector u s → ChoiceBehind u b (Closed s)
   wrong_in : ChoiceBehind u b Wrong
 
@@ -124,7 +124,7 @@ before_behind u b k =
     (λ n. integer_on u b [] u [] (alone k) (sym (append-nil u)) (begin_integer b) (λ r e. digits_start b r e)))))))
 
 -- a byte leaves what has come of a selector
-pub choice_behind : (m : Within) (u : List ℕ) (b : ℕ) → ChoicePast m u → ChoiceBehind u b (choose m b)
+pub choice_behind : (m : InBrackets) (u : List ℕ) (b : ℕ) → ChoicePast m u → ChoiceBehind u b (choose m b)
 choice_behind within.Before u b k = before_behind u b k
 choice_behind (within.Quote ns q) u b k = in_quote u b ns k.0 k.1 k.2 k.3 k.5 (quote_behind k.1 q k.2 b k.4)
 choice_behind (within.Named ns) u b k =

@@ -8,8 +8,8 @@ use Rattle.json_path.specs.declared.conditions.Checking.{Checking}
 use Rattle.json_path.specs.declared.conditions.Checking.TheVariants as at
 use Rattle.json_path.specs.declared.conditions.Checked.{Checked}
 use Rattle.json_path.specs.declared.conditions.Checked.TheVariants as checked
-use Rattle.json_path.specs.declared.brackets.Within.{Within}
-use Rattle.json_path.specs.declared.brackets.Within.TheVariants as within
+use Rattle.json_path.specs.declared.brackets.InBrackets.{InBrackets}
+use Rattle.json_path.specs.declared.brackets.InBrackets.TheVariants as within
 use Rattle.json_path.specs.declared.brackets.Chosen.{Chosen}
 use Rattle.json_path.specs.declared.brackets.Chosen.TheVariants.{Open, Closed, Wrong}
 use Rattle.byte_grammar.specs.Bytes.{is_space, is_digit}
@@ -23,21 +23,21 @@ use Rattle.json_path.proofs.TextRuns.{Skips, Quotes, quoted_spaced}
 use Rattle.json_path.proofs.ConditionRuns.{open_check, check_step, condition_run, condition_met}
 
 -- a selector that isn't over
-abbrev pub open_choice : Chosen → Option Within
+abbrev pub open_choice : Chosen → Option InBrackets
 open_choice (Open w) = Some w
 open_choice (Closed s) = None
 open_choice Wrong = None
 
-abbrev pub choose_step : Within → ℕ → Option Within
+abbrev pub choose_step : InBrackets → ℕ → Option InBrackets
 choose_step m b = open_choice (choose m b)
 
 -- the integers behind which a state stands
-abbrev pub listed : Within → Option (List ℤ)
+abbrev pub listed : InBrackets → Option (List ℤ)
 listed (within.Index is n) = if n.any then Some (is ++ integer n ∷ []) else None
 listed (within.Counted is) = Some is
 listed _ = None
 
-listed_on : (m : Within) (is : List ℤ) (b : ℕ) → listed m ≡ Some is → is_digit b ≡ false → choose m b ≡ behind_integers is b
+listed_on : (m : InBrackets) (is : List ℤ) (b : ℕ) → listed m ≡ Some is → is_digit b ≡ false → choose m b ≡ behind_integers is b
 listed_on (within.Index is n) js b e h = rw h (from n.any e)
   where
     from : (c : Bool) → (if c then Some (is ++ integer n ∷ []) else None) ≡ Some js → (if c then behind_integers (is ++ integer n ∷ []) b else Wrong) ≡ behind_integers js b
@@ -56,7 +56,7 @@ listed_on (within.Condition c) js b e h = absurd cc
 listed_on (within.Whole s) js b e h = absurd cc
 
 -- the selector that a state would end with
-abbrev pub said : Within → Option Selector
+abbrev pub said : InBrackets → Option Selector
 said (within.Named ns) = Some (Names ns)
 said (within.Index is n) = if n.any then Some (Indexes (is ++ integer n ∷ [])) else None
 said (within.Counted is) = Some (Indexes is)
@@ -65,7 +65,7 @@ said (within.To f n) = if n.any then Some (Slice f (Some (integer n))) else None
 said (within.Whole s) = Some s
 said _ = None
 
-listed_said : (m : Within) (is : List ℤ) → listed m ≡ Some is → said m ≡ Some (Indexes is)
+listed_said : (m : InBrackets) (is : List ℤ) → listed m ≡ Some is → said m ≡ Some (Indexes is)
 listed_said (within.Index is n) js e = from n.any e
   where
     from : (c : Bool) → (if c then Some (is ++ integer n ∷ []) else None) ≡ Some js → (if c then Some (Indexes (is ++ integer n ∷ [])) else None) ≡ Some (Indexes js)
@@ -84,7 +84,7 @@ listed_said (within.Condition c) js e = absurd cc
 listed_said (within.Whole s) js e = absurd cc
 
 -- the bracket closes it
-pub closes : (m : Within) (s : Selector) → said m ≡ Some s → choose m 93 ≡ Closed s
+pub closes : (m : InBrackets) (s : Selector) → said m ≡ Some s → choose m 93 ≡ Closed s
 closes (within.Named ns) s e = let g : Names ns ≡ s = cc in rw (← g) refl
 closes (within.Index is n) s e = from n.any e
   where
@@ -107,12 +107,12 @@ closes within.Question s e = absurd cc
 closes (within.Condition c) s e = absurd cc
 
 -- a space leaves it
-record Left (m : Within) (s : Selector) : Type 0 where
-  now : Within
+record Left (m : InBrackets) (s : Selector) : Type 0 where
+  now : InBrackets
   is : choose_step m 32 ≡ Some now
   says : said now ≡ Some s
 
-leaves : (m : Within) (s : Selector) → said m ≡ Some s → Left m s
+leaves : (m : InBrackets) (s : Selector) → said m ≡ Some s → Left m s
 leaves (within.Named ns) s e = record { now = within.Named ns; is = refl; says = e }
 leaves (within.Index is n) s e = record { now = within.Counted (is ++ integer n ∷ []); is = (from n.any e).0; says = (from n.any e).1 }
   where
@@ -134,14 +134,14 @@ leaves (within.NextIndex is) s e = absurd cc
 leaves within.Question s e = absurd cc
 leaves (within.Condition c) s e = absurd cc
 
-skips : (m : Within) → choose_step m 32 ≡ Some m → Skips choose_step m
+skips : (m : InBrackets) → choose_step m 32 ≡ Some m → Skips choose_step m
 skips m h b e = let c : b ≡ 32 = space b e in rw c h
   where
     space : (b : ℕ) → is_space b ≡ true → b ≡ 32
     space b h = grind (arith, nat_tests)
 
 -- a place where an integer may begin, and how it goes on
-pub record Integers (s : Within) (f : Digits → Within) : Type 0 where
+pub record Integers (s : InBrackets) (f : Digits → InBrackets) : Type 0 where
   pub begins : (b : ℕ) (n : Digits) → begin_integer b ≡ Some n → choose_step s b ≡ Some (f n)
   pub goes : (n r : Digits) (b : ℕ) → is_digit b ≡ true → digit n b ≡ Some r → choose_step (f n) b ≡ Some (f r)
 
@@ -151,7 +151,7 @@ digit_begins d h = let n = not_minus d h in rw (n, h) refl
     not_minus : (d : ℕ) → is_digit d ≡ true → (d == 45) ≡ false
     not_minus d h = grind (arith, nat_tests)
 
-plus_counts : (s : Within) (f : Digits → Within) → Integers s f → Counts choose_step false s f
+plus_counts : (s : InBrackets) (f : Digits → InBrackets) → Integers s f → Counts choose_step false s f
 plus_counts s f k = record {
   begins = λ d h b. k.begins d (digits_so false (d - 48)) (digit_begins d h);
   goes = λ n d h b. k.goes (digits_so false n) (digits_so false (n * 10 + (d - 48))) d h (fits (digits_so false n) d b);
@@ -163,14 +163,14 @@ minus_sign = record { minus = true; any = false; value = 0 }
 first_of : (d : ℕ) → d - 48 ≤ 2 ^ 63 → digit minus_sign d ≡ Some (digits_so true (d - 48))
 first_of d h = let e : 0 * 10 + (d - 48) ≡ d - 48 = omega arith in fits minus_sign d (rw e h) ∙ ap (λ (v : ℕ). Some (digits_so true v)) e
 
-minus_counts : (s : Within) (f : Digits → Within) → Integers s f → Counts choose_step true (f minus_sign) f
+minus_counts : (s : InBrackets) (f : Digits → InBrackets) → Integers s f → Counts choose_step true (f minus_sign) f
 minus_counts s f k = record {
   begins = λ d h b. k.goes minus_sign (digits_so true (d - 48)) d h (first_of d b);
   goes = λ n d h b. k.goes (digits_so true n) (digits_so true (n * 10 + (d - 48))) d h (fits (digits_so true n) d b);
 }
 
 -- what the run of an integer comes to
-record Counted (s : Within) (f : Digits → Within) (text : List ℕ) (i : ℤ) : Type 0 where
+record Counted (s : InBrackets) (f : Digits → InBrackets) (text : List ℕ) (i : ℤ) : Type 0 where
   now : Digits
   is : run choose_step (Some s) text ≡ Some (f now)
   any : now.any ≡ true
@@ -193,7 +193,7 @@ minus_is n h = from (nat_lt n (2 ^ 63)) refl
     from true e = refl
     from false e = let g : n ≡ 2 ^ 63 = most n h e in rw g refl
 
-integer_run : (s : Within) (f : Digits → Within) → Integers s f → {t : List ℕ} {i : ℤ} → IsInteger t i → Counted s f t i
+integer_run : (s : InBrackets) (f : Digits → InBrackets) → Integers s f → {t : List ℕ} {i : ℤ} → IsInteger t i → Counted s f t i
 integer_run s f k (plus n a h e) = record { now = digits_so false n; is = digits_run choose_step false s f (plus_counts s f k) a (omega arith); any = refl; integer = plus_is n h ∙ sym e }
 integer_run s f k (minus t n a h e g) = record {
   now = digits_so true n;
@@ -203,12 +203,12 @@ integer_run s f k (minus t n a h e g) = record {
 }
 
 -- what the run of a list of integers comes to
-record Lists (s : Within) (text : List ℕ) (integers : List ℤ) : Type 0 where
-  now : Within
+record Lists (s : InBrackets) (text : List ℕ) (integers : List ℤ) : Type 0 where
+  now : InBrackets
   is : run choose_step (Some s) text ≡ Some now
   lists : listed now ≡ Some integers
 
-index_spaced : (s : Within) (is : List ℤ) → Integers s (within.Index is) → Skips choose_step s → {t : List ℕ} {i : ℤ} → Spaced IsInteger t i → Lists s t (is ++ i ∷ [])
+index_spaced : (s : InBrackets) (is : List ℤ) → Integers s (within.Index is) → Skips choose_step s → {t : List ℕ} {i : ℤ} → Spaced IsInteger t i → Lists s t (is ++ i ∷ [])
 index_spaced s is k h (behind_spaces x t e j p) =
     let r = integer_run s (within.Index is) k j in
     record { now = within.Index is r.now; is = rw p (joined choose_step (Some s) (Some s) x t (stays choose_step s is_space h x e) ∙ r.is); lists = rw (r.any, r.integer) refl }
@@ -245,7 +245,7 @@ indexes_run : {t : List ℕ} {is : List ℤ} → AreListed IsInteger t is → Li
 indexes_run (first {text} a s e) = rw e (index_spaced within.Before [] before_integers (skips within.Before refl) s)
 indexes_run (next u t vs a l s e g) =
     let r = indexes_run l in
-    let m : Within = within.NextIndex vs in
+    let m : InBrackets = within.NextIndex vs in
     let z = index_spaced m vs (next_integers vs) (skips m refl) s in
     record {
       now = z.now;
@@ -254,23 +254,23 @@ indexes_run (next u t vs a l s e g) =
     }
 
 -- what the run of a selector comes to
-record Says (s : Within) (text : List ℕ) (selector : Selector) : Type 0 where
-  now : Within
+record Says (s : InBrackets) (text : List ℕ) (selector : Selector) : Type 0 where
+  now : InBrackets
   is : run choose_step (Some s) text ≡ Some now
   says : said now ≡ Some selector
 
-says_space : (s : Within) (t : List ℕ) (r : Selector) → Says s t r → Says s (t ++ 32 ∷ []) r
+says_space : (s : InBrackets) (t : List ℕ) (r : Selector) → Says s t r → Says s (t ++ 32 ∷ []) r
 says_space s t r k = let l = leaves k.now r k.says in record { now = l.now; is = grown choose_step (Some s) k.now t 32 k.is ∙ l.is; says = l.says }
 
 bound_spaced : (f : Option ℤ) {t : List ℕ} {i : ℤ} → Spaced IsInteger t i → Says (within.From f) t (Slice f (Some i))
 bound_spaced f (behind_spaces x t e j p) =
-    let m : Within = within.From f in
+    let m : InBrackets = within.From f in
     let r = integer_run m (within.To f) (bound_integers f) j in
     record { now = within.To f r.now; is = rw p (joined choose_step (Some m) (Some m) x t (stays choose_step m is_space (skips m refl) x e) ∙ r.is); says = rw (r.any, r.integer) refl }
 bound_spaced f (with_space {text} {value} t j p) = rw p (says_space (within.From f) t (Slice f (Some value)) (bound_spaced f j))
 
 to_run : (f : Option ℤ) {t : List ℕ} {b : Option ℤ} → IsBound t b → Says (within.From f) t (Slice f b)
-to_run f (no_bound {text} e) = let m : Within = within.From f in record { now = m; is = stays choose_step m is_space (skips m refl) text e; says = refl }
+to_run f (no_bound {text} e) = let m : InBrackets = within.From f in record { now = m; is = stays choose_step m is_space (skips m refl) text e; says = refl }
 to_run f (bound i s) = bound_spaced f s
 
 -- the start of a slice and its colon
@@ -305,7 +305,7 @@ next_quotes ns = record {
 names_run : {t : List ℕ} {ws : List (List ℕ)} → AreListed IsQuoted t ws → run choose_step (Some within.Before) t ≡ Some (within.Named ws)
 names_run (first a s e) = rw e (quoted_spaced choose_step within.Before (within.Quote []) (λ w. within.Named ([] ++ w ∷ [])) before_quotes (skips within.Before refl) (λ w. skips (within.Named ([] ++ w ∷ [])) refl) s)
 names_run (next u t vs a l s e g) =
-    let m : Within = within.NextName vs in
+    let m : InBrackets = within.NextName vs in
     rw (e, g) (joined choose_step (Some within.Before) (Some (within.Named vs)) u (44 ∷ t) (names_run l) ∙ byte_on choose_step (within.Named vs) m 44 t refl
     ∙ quoted_spaced choose_step m (within.Quote vs) (λ w. within.Named (vs ++ w ∷ [])) (next_quotes vs) (skips m refl) (λ w. skips (within.Named (vs ++ w ∷ [])) refl) s)
 
@@ -318,7 +318,7 @@ in_condition m r b e = from (check m b) e
     from checked.Wrong e = absurd cc
 
 -- a selector is taken
-pub selector_run : {text : List ℕ} {s : Selector} → IsSelector text s → (m : Within) × (run choose_step (Some within.Before) text ≡ Some m) × (said m ≡ Some s)
+pub selector_run : {text : List ℕ} {s : Selector} → IsSelector text s → (m : InBrackets) × (run choose_step (Some within.Before) text ≡ Some m) × (said m ≡ Some s)
 selector_run (names ws l) = (within.Named ws, names_run l, refl)
 selector_run (indexes is l) = let r = indexes_run l in (r.now, r.is, listed_said r.now is r.lists)
 selector_run (slice u v from to f t e) =
@@ -327,8 +327,8 @@ selector_run (slice u v from to f t e) =
 selector_run (all x s e) = (within.Whole All, rw e (joined choose_step (Some within.Before) (Some within.Before) x (42 ∷ []) (stays choose_step within.Before is_space (skips within.Before refl) x s) ∙ byte_end choose_step within.Before (within.Whole All) 42 refl), refl)
 selector_run (condition x u c s h e) =
     let r = condition_run h in
-    let o : Within = within.Condition at.Before in
-    let w : Within = within.Whole (Where c) in (
+    let o : InBrackets = within.Condition at.Before in
+    let w : InBrackets = within.Whole (Where c) in (
       w,
       rw e (joined choose_step (Some within.Before) (Some within.Before) x (63 ∷ 40 ∷ (u ++ 41 ∷ [])) (stays choose_step within.Before is_space (skips within.Before refl) x s)
           ∙ byte_on choose_step within.Before within.Question 63 (40 ∷ (u ++ 41 ∷ [])) refl ∙ byte_on choose_step within.Question o 40 (u ++ 41 ∷ []) refl

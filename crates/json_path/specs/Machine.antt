@@ -28,8 +28,8 @@ use Rattle.json_path.specs.declared.conditions.Checking.{Checking}
 use Rattle.json_path.specs.declared.conditions.Checking.TheVariants as at
 use Rattle.json_path.specs.declared.conditions.Checked.{Checked}
 use Rattle.json_path.specs.declared.conditions.Checked.TheVariants as checked
-use Rattle.json_path.specs.declared.brackets.Within.{Within}
-use Rattle.json_path.specs.declared.brackets.Within.TheVariants as within
+use Rattle.json_path.specs.declared.brackets.InBrackets.{InBrackets}
+use Rattle.json_path.specs.declared.brackets.InBrackets.TheVariants as within
 use Rattle.json_path.specs.declared.brackets.Chosen.{Chosen}
 use Rattle.json_path.specs.declared.brackets.Chosen.TheVariants as chosen
 use Rattle.json_path.specs.declared.places.Place.{Place}
@@ -173,7 +173,7 @@ selector_begins b None =
     else if b == 58 then chosen.Open (within.From None) else integer_goes [] (begin_integer b)
 
 -- what a byte does to a selector
-abbrev pub choose : Within → ℕ → Chosen
+abbrev pub choose : InBrackets → ℕ → Chosen
 choose within.Before b = if b == 32 then chosen.Open within.Before else selector_begins b (begin_quote b)
 choose (within.Quote ns q) b = quote_goes ns (quote q b)
 choose (within.Named ns) b =

@@ -15,7 +15,7 @@ use zbx_types::{Many, OutOfMemory, Text};
 
 /// A selector so far.
 #[derive(Drop)]
-pub enum Within {
+pub enum InBrackets {
     /// Nothing of it has come but spaces.
     Before,
     /// In a quoted name, behind these.
@@ -46,7 +46,7 @@ pub enum Within {
 #[derive(Drop)]
 pub enum Chosen {
     /// It isn't over.
-    Open(Within),
+    Open(InBrackets),
     /// The byte closed it.
     Closed(Selector),
     /// No selector goes on so.
@@ -57,7 +57,7 @@ fn over(selector: Selector, byte: u8) -> Chosen
     ensures { result ≡ behind_selector selector byte }
 {
     if byte == b' ' {
-        Chosen::Open(Within::Whole(selector))
+        Chosen::Open(InBrackets::Whole(selector))
     } else if byte == b']' {
         Chosen::Closed(selector)
     } else {
@@ -69,7 +69,7 @@ fn sliced(integers: Many<i64>) -> Chosen
     ensures { result ≡ colon integers }
 {
     match integers.as_slice() {
-        [from] => Chosen::Open(Within::From(Some(*from))),
+        [from] => Chosen::Open(InBrackets::From(Some(*from))),
         _ => Chosen::Wrong,
     }
 }
@@ -78,9 +78,9 @@ fn integers_on(integers: Many<i64>, byte: u8) -> Chosen
     ensures { result ≡ behind_integers integers byte }
 {
     if byte == b' ' {
-        Chosen::Open(Within::Counted(integers))
+        Chosen::Open(InBrackets::Counted(integers))
     } else if byte == b',' {
-        Chosen::Open(Within::NextIndex(integers))
+        Chosen::Open(InBrackets::NextIndex(integers))
     } else if byte == b':' {
         sliced(integers)
     } else if byte == b']' {
@@ -94,7 +94,7 @@ fn quote_or_none(names: Many<Text>, quotation: Option<Quotation>) -> Chosen
     ensures { result ≡ quote_begins names quotation }
 {
     match quotation {
-        Some(quotation) => Chosen::Open(Within::Quote(names, quotation)),
+        Some(quotation) => Chosen::Open(InBrackets::Quote(names, quotation)),
         None => Chosen::Wrong,
     }
 }
@@ -108,19 +108,19 @@ fn in_quote(
     ensures { IfOk result (λ now. now ≡ quote_goes names (quote quotation byte)) }
 {
     match quoted(alloc, quotation, byte)? {
-        Quoting::Open(quotation) => Ok(Chosen::Open(Within::Quote(names, quotation))),
-        Quoting::Closed(word) => Ok(Chosen::Open(Within::Named(added(names, word)?))),
+        Quoting::Open(quotation) => Ok(Chosen::Open(InBrackets::Quote(names, quotation))),
+        Quoting::Closed(word) => Ok(Chosen::Open(InBrackets::Named(added(names, word)?))),
         Quoting::Wrong => Ok(Chosen::Wrong),
     }
 }
 
 fn behind_quote(names: Many<Text>, byte: u8) -> Chosen
-    ensures { result ≡ choose (Within.Named names) byte }
+    ensures { result ≡ choose (InBrackets.Named names) byte }
 {
     if byte == b',' {
-        Chosen::Open(Within::NextName(names))
+        Chosen::Open(InBrackets::NextName(names))
     } else if byte == b' ' {
-        Chosen::Open(Within::Named(names))
+        Chosen::Open(InBrackets::Named(names))
     } else if byte == b']' {
         Chosen::Closed(Selector::Names(names))
     } else {
@@ -129,10 +129,10 @@ fn behind_quote(names: Many<Text>, byte: u8) -> Chosen
 }
 
 fn behind_comma(alloc: Global, names: Many<Text>, byte: u8) -> Chosen
-    ensures { result ≡ choose (Within.NextName names) byte }
+    ensures { result ≡ choose (InBrackets.NextName names) byte }
 {
     if byte == b' ' {
-        Chosen::Open(Within::NextName(names))
+        Chosen::Open(InBrackets::NextName(names))
     } else {
         quote_or_none(names, quote_begun(alloc, byte))
     }
@@ -142,7 +142,7 @@ fn index_or_none(integers: Many<i64>, digits: Option<Digits>) -> Chosen
     ensures { result ≡ integer_goes integers digits }
 {
     match digits {
-        Some(digits) => Chosen::Open(Within::Index(integers, digits)),
+        Some(digits) => Chosen::Open(InBrackets::Index(integers, digits)),
         None => Chosen::Wrong,
     }
 }
@@ -156,7 +156,7 @@ fn counted_on(integers: Many<i64>, digits: Digits, byte: u8) -> Result<Chosen, O
 }
 
 fn in_index(integers: Many<i64>, digits: Digits, byte: u8) -> Result<Chosen, OutOfMemory>
-    ensures { IfOk result (λ now. now ≡ choose (Within.Index integers digits) byte) }
+    ensures { IfOk result (λ now. now ≡ choose (InBrackets.Index integers digits) byte) }
 {
     if is_digit(byte) {
         Ok(index_or_none(integers, counted(digits, byte)))
@@ -168,10 +168,10 @@ fn in_index(integers: Many<i64>, digits: Digits, byte: u8) -> Result<Chosen, Out
 }
 
 fn next_index(integers: Many<i64>, byte: u8) -> Chosen
-    ensures { result ≡ choose (Within.NextIndex integers) byte }
+    ensures { result ≡ choose (InBrackets.NextIndex integers) byte }
 {
     if byte == b' ' {
-        Chosen::Open(Within::NextIndex(integers))
+        Chosen::Open(InBrackets::NextIndex(integers))
     } else {
         index_or_none(integers, integer_begun(byte))
     }
@@ -181,16 +181,16 @@ fn bound_or_none(from: Option<i64>, digits: Option<Digits>) -> Chosen
     ensures { result ≡ bound_goes from digits }
 {
     match digits {
-        Some(digits) => Chosen::Open(Within::To(from, digits)),
+        Some(digits) => Chosen::Open(InBrackets::To(from, digits)),
         None => Chosen::Wrong,
     }
 }
 
 fn behind_colon(from: Option<i64>, byte: u8) -> Chosen
-    ensures { result ≡ choose (Within.From from) byte }
+    ensures { result ≡ choose (InBrackets.From from) byte }
 {
     if byte == b' ' {
-        Chosen::Open(Within::From(from))
+        Chosen::Open(InBrackets::From(from))
     } else if byte == b']' {
         Chosen::Closed(Selector::Slice { from, to: None })
     } else {
@@ -199,7 +199,7 @@ fn behind_colon(from: Option<i64>, byte: u8) -> Chosen
 }
 
 fn in_bound(from: Option<i64>, digits: Digits, byte: u8) -> Chosen
-    ensures { result ≡ choose (Within.To from digits) byte }
+    ensures { result ≡ choose (InBrackets.To from digits) byte }
 {
     if is_digit(byte) {
         bound_or_none(from, counted(digits, byte))
@@ -212,10 +212,10 @@ fn in_bound(from: Option<i64>, digits: Digits, byte: u8) -> Chosen
 }
 
 fn behind_question(byte: u8) -> Chosen
-    ensures { result ≡ choose Within.Question byte }
+    ensures { result ≡ choose InBrackets.Question byte }
 {
     if byte == b'(' {
-        Chosen::Open(Within::Condition(Checking::Before))
+        Chosen::Open(InBrackets::Condition(Checking::Before))
     } else {
         Chosen::Wrong
     }
@@ -225,8 +225,8 @@ fn in_condition(alloc: Global, condition: Checking, byte: u8) -> Result<Chosen, 
     ensures { IfOk result (λ now. now ≡ condition_goes (check condition byte)) }
 {
     match checked_on(alloc, condition, byte)? {
-        Checked::Open(condition) => Ok(Chosen::Open(Within::Condition(condition))),
-        Checked::Met(condition) => Ok(Chosen::Open(Within::Whole(Selector::Where(condition)))),
+        Checked::Open(condition) => Ok(Chosen::Open(InBrackets::Condition(condition))),
+        Checked::Met(condition) => Ok(Chosen::Open(InBrackets::Whole(Selector::Where(condition)))),
         Checked::Wrong => Ok(Chosen::Wrong),
     }
 }
@@ -235,45 +235,45 @@ fn begun(alloc: Global, byte: u8, quotation: Option<Quotation>) -> Chosen
     ensures { result ≡ selector_begins byte quotation }
 {
     if let Some(quotation) = quotation {
-        return Chosen::Open(Within::Quote(Many::new(alloc), quotation));
+        return Chosen::Open(InBrackets::Quote(Many::new(alloc), quotation));
     }
     if byte == b'*' {
-        Chosen::Open(Within::Whole(Selector::All))
+        Chosen::Open(InBrackets::Whole(Selector::All))
     } else if byte == b'?' {
-        Chosen::Open(Within::Question)
+        Chosen::Open(InBrackets::Question)
     } else if byte == b':' {
-        Chosen::Open(Within::From(None))
+        Chosen::Open(InBrackets::From(None))
     } else {
         index_or_none(Many::new(alloc), integer_begun(byte))
     }
 }
 
 fn before(alloc: Global, byte: u8) -> Chosen
-    ensures { result ≡ choose Within.Before byte }
+    ensures { result ≡ choose InBrackets.Before byte }
 {
     if byte == b' ' {
-        Chosen::Open(Within::Before)
+        Chosen::Open(InBrackets::Before)
     } else {
         begun(alloc, byte, quote_begun(alloc, byte))
     }
 }
 
 /// A selector behind one byte more.
-pub fn chosen_on(alloc: Global, now: Within, byte: u8) -> Result<Chosen, OutOfMemory>
+pub fn chosen_on(alloc: Global, now: InBrackets, byte: u8) -> Result<Chosen, OutOfMemory>
     ensures { IfOk result (λ made. made ≡ choose now byte) }
 {
     match now {
-        Within::Before => Ok(before(alloc, byte)),
-        Within::Quote(names, quotation) => in_quote(alloc, names, quotation, byte),
-        Within::Named(names) => Ok(behind_quote(names, byte)),
-        Within::NextName(names) => Ok(behind_comma(alloc, names, byte)),
-        Within::Index(integers, digits) => in_index(integers, digits, byte),
-        Within::Counted(integers) => Ok(integers_on(integers, byte)),
-        Within::NextIndex(integers) => Ok(next_index(integers, byte)),
-        Within::From(from) => Ok(behind_colon(from, byte)),
-        Within::To(from, digits) => Ok(in_bound(from, digits, byte)),
-        Within::Question => Ok(behind_question(byte)),
-        Within::Condition(condition) => in_condition(alloc, condition, byte),
-        Within::Whole(selector) => Ok(over(selector, byte)),
+        InBrackets::Before => Ok(before(alloc, byte)),
+        InBrackets::Quote(names, quotation) => in_quote(alloc, names, quotation, byte),
+        InBrackets::Named(names) => Ok(behind_quote(names, byte)),
+        InBrackets::NextName(names) => Ok(behind_comma(alloc, names, byte)),
+        InBrackets::Index(integers, digits) => in_index(integers, digits, byte),
+        InBrackets::Counted(integers) => Ok(integers_on(integers, byte)),
+        InBrackets::NextIndex(integers) => Ok(next_index(integers, byte)),
+        InBrackets::From(from) => Ok(behind_colon(from, byte)),
+        InBrackets::To(from, digits) => Ok(in_bound(from, digits, byte)),
+        InBrackets::Question => Ok(behind_question(byte)),
+        InBrackets::Condition(condition) => in_condition(alloc, condition, byte),
+        InBrackets::Whole(selector) => Ok(over(selector, byte)),
     }
 }

@@ -6,7 +6,7 @@ ghost use Rattle.json_path.specs.Machine.{choose, state, segment, behind_segment
 ghost use Rattle.json_path.specs.Machine.{function_of, call_begins, behind_name, selector_goes, behind_points};
 ghost use Rattle.json_path.specs.Machine.{step_from, step, path_of, named_path, ends, start};
 
-use crate::brackets::{Chosen, Within, chosen_on};
+use crate::brackets::{Chosen, InBrackets, chosen_on};
 use crate::path::{Function, Path, Segment, Selector};
 use crate::tokens::{Spelling, is_name, nothing, spelled, text_of};
 use std::alloc::Global;
@@ -26,7 +26,7 @@ pub enum Place {
     /// In a name, behind two points where it is deep.
     Name(bool, Spelling),
     /// In brackets, behind two points where they are deep.
-    Inside(bool, Within),
+    Inside(bool, InBrackets),
     /// Behind the `(` of a function.
     Call(Function),
     /// Behind the `)` of a function.
@@ -80,7 +80,7 @@ fn segment_on(done: Many<Segment>, byte: u8) -> Option<State>
         let place = Place::Point;
         Some(State { done, place })
     } else if byte == b'[' {
-        let place = Place::Inside(false, Within::Before);
+        let place = Place::Inside(false, InBrackets::Before);
         Some(State { done, place })
     } else {
         None
@@ -222,7 +222,7 @@ fn two_points(alloc: Global, done: Many<Segment>, byte: u8) -> Result<Option<Sta
     ensures { IfOk result (λ now. now ≡ step_from done Place.Points byte) }
 {
     if byte == b'[' {
-        let place = Place::Inside(true, Within::Before);
+        let place = Place::Inside(true, InBrackets::Before);
         Ok(Some(State { done, place }))
     } else {
         points(alloc, done, true, byte)
@@ -233,7 +233,7 @@ fn inside(
     alloc: Global,
     done: Many<Segment>,
     deep: bool,
-    within: Within,
+    within: InBrackets,
     byte: u8,
 ) -> Result<Option<State>, OutOfMemory>
     ensures { IfOk result (λ now. now ≡ selector_goes done deep (choose within byte)) }

@@ -154,10 +154,10 @@ walk_first conf memory arrival item e t =
     walks conf memory arrival (length conf.items - 1) 0 (omega arith) arrival.item arrival.value (λ k l. came_first conf memory arrival item e t k)
 
 -- an item that takes no values of entries: nothing comes anywhere
-abbrev Takes : Conf → ℕ → Type 0
-Takes conf id = (item : Item) × (at_id conf.items id ≡ Some item) × (is_trapper_kind item.kind ≡ true)
+abbrev TrapperAt : Conf → ℕ → Type 0
+TrapperAt conf id = (item : Item) × (at_id conf.items id ≡ Some item) × (is_trapper_kind item.kind ≡ true)
 
-nowhere_by : (conf : Conf) (arrival : Arrival) → (Takes conf arrival.item → ⊥) → (down : ℕ → Option (List ℕ)) → ((master : ℕ) → down master ≡ None) → (id : ℕ)
+nowhere_by : (conf : Conf) (arrival : Arrival) → (TrapperAt conf arrival.item → ⊥) → (down : ℕ → Option (List ℕ)) → ((master : ℕ) → down master ≡ None) → (id : ℕ)
     → (o : Option Item) → at_id conf.items id ≡ o → came_by arrival id down o ≡ None
 nowhere_by conf arrival refuted down none id None e = refl
 nowhere_by conf arrival refuted down none id (Some item) e = by_kind (is_trapper_kind item.kind) refl (id == arrival.item) refl item.enabled
@@ -168,14 +168,14 @@ nowhere_by conf arrival refuted down none id (Some item) e = by_kind (is_trapper
     by_kind false t s q true = none item.master
     by_kind false t s q false = refl
 
-came_nowhere : (conf : Conf) (memory : Memory) (arrival : Arrival) → (Takes conf arrival.item → ⊥) → (k id : ℕ) → came conf memory arrival k id ≡ None
+came_nowhere : (conf : Conf) (memory : Memory) (arrival : Arrival) → (TrapperAt conf arrival.item → ⊥) → (k id : ℕ) → came conf memory arrival k id ≡ None
 unfolding came
 came_nowhere conf memory arrival refuted zero id = nowhere_by conf arrival refuted (λ master. None) (λ master. refl) id (at_id conf.items id) refl
 came_nowhere conf memory arrival refuted (suc k) id = nowhere_by conf arrival refuted _ (λ master.
     ap (λ o. text_of (chained_by (memory master) arrival.time (at_id conf.items master) o)) (came_nowhere conf memory arrival refuted k master)
     ∙ ap text_of (no_chain (memory master) arrival.time (at_id conf.items master))) id (at_id conf.items id) refl
 
-no_visits : (conf : Conf) (memory : Memory) (arrival : Arrival) → (Takes conf arrival.item → ⊥) → [] ≡ visits_of conf memory arrival
+no_visits : (conf : Conf) (memory : Memory) (arrival : Arrival) → (TrapperAt conf arrival.item → ⊥) → [] ≡ visits_of conf memory arrival
 unfolding visits_of
 no_visits conf memory arrival refuted = sym (none_below conf memory arrival (length conf.items - 1) 0 (omega arith) arrival.item (λ k l. came_nowhere conf memory arrival refuted k arrival.item))
 

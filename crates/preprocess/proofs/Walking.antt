@@ -6,7 +6,7 @@ use Rattle.zbx_types.specs.declared.conf.Conf.{Conf}
 use Rattle.zbx_types.specs.declared.items.Item.{Item}
 use Rattle.prep_steps.specs.declared.memory.StepMemory.{StepMemory}
 use Rattle.zbx_types.specs.declared.steps.StepSpec.{StepSpec}
-use Rattle.preprocess.specs.declared.visit.Outcome.{Outcome}
+use Rattle.preprocess.specs.declared.visit.ItemOutcome.{ItemOutcome}
 use Rattle.preprocess.specs.Chain.{chain_of, comes_of, marks_of, ended_as, read_as}
 use Rattle.std.specs.Option.{unwrap_or}
 use Rattle.preprocess.specs.Chains.{dependents_of, listed, AreChainsOf}
@@ -88,7 +88,7 @@ goes conf memory time number down id value text item chained visit below before 
     ∙ ap (λ o. visit_of time number id chained ∷ with_text (λ t. walk_below conf memory time number down (dependents_of conf id) t) o) some))
 
 -- an item without steps reads the value as it stands
-pub plain_visit : (item : Item) (memory : ℕ → StepMemory) (value : List ℕ) (time number id : ℕ) (outcome : Outcome) (visit : Visit) (marks : List StepMemory) → item.steps ≡ [] → outcome ≡ outcome_of time number (read_as item.value_type value) → marks ≡ []
+pub plain_visit : (item : Item) (memory : ℕ → StepMemory) (value : List ℕ) (time number id : ℕ) (outcome : ItemOutcome) (visit : Visit) (marks : List StepMemory) → item.steps ≡ [] → outcome ≡ outcome_of time number (read_as item.value_type value) → marks ≡ []
     → visit ≡ record { item = id; outcome = outcome; marks = marks } → visit ≡ visit_of time number id (chain_of item memory value time)
 unfolding chain_of comes_of marks_of
 plain_visit item memory value time number id outcome visit marks none read empty is =

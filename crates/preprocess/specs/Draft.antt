@@ -13,8 +13,8 @@ use Rattle.prep_steps.specs.declared.memory.StepMemory.{StepMemory}
 use Rattle.value_cache.specs.Cells.{CellView, trim}
 use Rattle.value_cache.specs.Histories.{placed}
 use Rattle.value_cache.specs.declared.keeping.Keep.{Keep}
-use Rattle.preprocess.specs.declared.visit.Outcome.{Outcome}
-use Rattle.preprocess.specs.declared.visit.Outcome.TheVariants as outcome
+use Rattle.preprocess.specs.declared.visit.ItemOutcome.{ItemOutcome}
+use Rattle.preprocess.specs.declared.visit.ItemOutcome.TheVariants as outcome
 use Rattle.preprocess.specs.declared.visit.Visit.{Visit}
 
 -- no visit is of this item
@@ -41,7 +41,7 @@ kept_with now None kept = kept
 kept_with now (Some stored) kept = record { keep = kept.keep; values = trim kept.keep now (placed stored kept.values) }
 
 -- the value that a visit stores
-abbrev pub stored_by : Outcome → Option Stored
+abbrev pub stored_by : ItemOutcome → Option Stored
 stored_by (outcome.Stored stored) = Some stored
 stored_by outcome.Discarded = None
 stored_by (outcome.Failed why) = None
@@ -75,7 +75,7 @@ failure_by conf number why None = None
 failure_by conf number why (Some item) = Some (Failure number (host_name (at_id conf.hosts item.host)) item.key why)
 
 -- the Failure record of a visit that failed
-abbrev pub failure_of : Conf → ℕ → Visit → Outcome → Option Rec
+abbrev pub failure_of : Conf → ℕ → Visit → ItemOutcome → Option Rec
 failure_of conf number v (outcome.Stored stored) = None
 failure_of conf number v outcome.Discarded = None
 failure_of conf number v (outcome.Failed why) = failure_by conf number why (at_id conf.items v.item)

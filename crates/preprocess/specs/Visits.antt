@@ -13,8 +13,8 @@ use Rattle.preprocess.specs.Ways.{memory_at, HavePatterns}
 use Rattle.preprocess.specs.declared.chain.Chained.{Chained}
 use Rattle.preprocess.specs.declared.ended.Ended.{Ended}
 use Rattle.preprocess.specs.declared.ended.Ended.TheVariants.{Stored, Discarded, Failed}
-use Rattle.preprocess.specs.declared.visit.Outcome.{Outcome}
-use Rattle.preprocess.specs.declared.visit.Outcome.TheVariants as outcome
+use Rattle.preprocess.specs.declared.visit.ItemOutcome.{ItemOutcome}
+use Rattle.preprocess.specs.declared.visit.ItemOutcome.TheVariants as outcome
 use Rattle.preprocess.specs.declared.visit.Visit.{Visit}
 
 -- the value of an entry: the item that it is for, the moment that it is of, the entry's number, and its text
@@ -72,7 +72,7 @@ visited conf zero id = id ∷ []
 visited conf (suc down) id = id ∷ flat_map (visited conf down) (dependents_of conf id)
 
 -- what comes of the end of a chain: what the item stores is of the value's moment, and has the entry's number
-abbrev pub outcome_of : ℕ → ℕ → Ended → Outcome
+abbrev pub outcome_of : ℕ → ℕ → Ended → ItemOutcome
 outcome_of time number (Stored held text) = outcome.Stored (record { time = time; number = number; value = held })
 outcome_of time number Discarded = outcome.Discarded
 outcome_of time number (Failed why) = outcome.Failed why

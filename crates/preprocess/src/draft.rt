@@ -9,7 +9,7 @@ ghost use Rattle.preprocess.specs.Visits.{ArePatternsOf};
 use crate::cells::{Cells, reserve_at};
 use crate::chains::Chains;
 use crate::putting::put;
-use crate::visit::{Outcome, Visit, visits};
+use crate::visit::{ItemOutcome, Visit, visits};
 use pattern_set::Patterns;
 use std::alloc::Global;
 use value_cache::ItemCell;
@@ -53,7 +53,7 @@ fn failure_of(
 ) -> Result<Option<Rec>, OutOfMemory>
     ensures { IfOk result (λ failure. failure ≡ failure_of conf.now number visit.now visit.now.outcome) }
 {
-    let Outcome::Failed(why) = &visit.outcome else {
+    let ItemOutcome::Failed(why) = &visit.outcome else {
         return Ok(None);
     };
     let Some(item) = by_id(conf.items.as_slice(), visit.item) else {

@@ -6,7 +6,7 @@ ghost use Rattle.preprocess.specs.Putting.{kept_put};
 ghost use Rattle.preprocess.specs.Rows.{with_row};
 
 use crate::cells::Cells;
-use crate::visit::{Outcome, Visit};
+use crate::visit::{ItemOutcome, Visit};
 use prep_steps::StepMemory;
 use value_cache::ItemCell;
 use zbx_types::{Many, Moment, Stored};
@@ -43,12 +43,12 @@ fn put_value(cells: &mut Vec<ItemCell>, item: u32, stored: Stored, now: Moment)
 }
 
 /// The value that a visit stores, if it stores one.
-fn stored_by(outcome: Outcome) -> Option<Stored>
+fn stored_by(outcome: ItemOutcome) -> Option<Stored>
     ensures { result ≡ stored_by outcome }
 {
     match outcome {
-        Outcome::Stored(stored) => Some(stored),
-        Outcome::Discarded | Outcome::Failed(_) => None,
+        ItemOutcome::Stored(stored) => Some(stored),
+        ItemOutcome::Discarded | ItemOutcome::Failed(_) => None,
     }
 }
 

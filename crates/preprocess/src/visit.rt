@@ -20,7 +20,7 @@ use zbx_types::{
 
 /// What an entry's value left at an item.
 #[derive(Drop)]
-pub(crate) enum Outcome {
+pub(crate) enum ItemOutcome {
     /// The item stores this.
     Stored(Stored),
     /// Nothing is stored, without an error.
@@ -33,7 +33,7 @@ pub(crate) enum Outcome {
 #[derive(Drop)]
 pub(crate) struct Visit {
     pub(crate) item: u32,
-    pub(crate) outcome: Outcome,
+    pub(crate) outcome: ItemOutcome,
     /// What the steps to which it came remember from then on.
     pub(crate) marks: Many<StepMemory>,
 }
@@ -44,8 +44,8 @@ impl Visit {
         ensures { option_copied result ≡ stored_by self.now.outcome }
     {
         match &self.outcome {
-            Outcome::Stored(stored) => Some(stored),
-            Outcome::Discarded | Outcome::Failed(_) => None,
+            ItemOutcome::Stored(stored) => Some(stored),
+            ItemOutcome::Discarded | ItemOutcome::Failed(_) => None,
         }
     }
 }
@@ -67,7 +67,7 @@ fn left_by(time: Moment, number: u64, id: u32, chained: Chained) -> Visited
         Ended::Stored { held, text } => Visited {
             visit: Visit {
                 item: id,
-                outcome: Outcome::Stored(Stored {
+                outcome: ItemOutcome::Stored(Stored {
                     time,
                     number,
                     value: held,
@@ -79,7 +79,7 @@ fn left_by(time: Moment, number: u64, id: u32, chained: Chained) -> Visited
         Ended::Discarded => Visited {
             visit: Visit {
                 item: id,
-                outcome: Outcome::Discarded,
+                outcome: ItemOutcome::Discarded,
                 marks,
             },
             text: None,
@@ -87,7 +87,7 @@ fn left_by(time: Moment, number: u64, id: u32, chained: Chained) -> Visited
         Ended::Failed(why) => Visited {
             visit: Visit {
                 item: id,
-                outcome: Outcome::Failed(why),
+                outcome: ItemOutcome::Failed(why),
                 marks,
             },
             text: None,
@@ -103,17 +103,17 @@ fn read_plainly(
     number: u64,
     value_type: ValueType,
     value: &Text,
-) -> Result<Outcome, OutOfMemory>
+) -> Result<ItemOutcome, OutOfMemory>
     ensures { IfOk result (λ outcome. outcome ≡ outcome_of time number (read_as value_type value.now)) }
 {
     let held = match value_type {
         ValueType::Number => match Fix::read(unpadded(value.as_bytes())) {
             Some(read) => Held::Number(read),
-            None => return Ok(Outcome::Failed(Text::of(alloc, "value: not a number")?)),
+            None => return Ok(ItemOutcome::Failed(Text::of(alloc, "value: not a number")?)),
         },
         ValueType::Words => Held::Words(value.copy(alloc)?),
     };
-    Ok(Outcome::Stored(Stored {
+    Ok(ItemOutcome::Stored(Stored {
         time,
         number,
         value: held,

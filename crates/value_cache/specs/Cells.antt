@@ -31,7 +31,7 @@ pub record IsExact (cell : CellView) (seen : ℕ) (history : List Stored) : Type
   pub values : cell.values ≡ trim cell.keep seen history
 
 -- a cell stands for a history where from the moment `seen` on both have the same of what is to be kept
-pub record StandsFor (cell : CellView) (seen : ℕ) (history : List Stored) : Type 0 where
+pub record IsCellOf (cell : CellView) (seen : ℕ) (history : List Stored) : Type 0 where
   pub ordered : IsOrdered history
   pub kept : (now : ℕ) → seen ≤ now → trim cell.keep now cell.values ≡ trim cell.keep now history
 
@@ -49,25 +49,25 @@ StaysExact before after stored now =
 -- one cell stands for what the other one did with one more value, from a moment on that isn't earlier
 abbrev pub Gains : CellView → CellView → Stored → ℕ → Type 0
 Gains before after stored now =
-    (seen : ℕ) (history : List Stored) → seen ≤ now → StandsFor before seen history
-    → StandsFor after now (placed stored history)
+    (seen : ℕ) (history : List Stored) → seen ≤ now → IsCellOf before seen history
+    → IsCellOf after now (placed stored history)
 
 -- the values are the window of each history that the cell stands for, where that asks for no more than is kept
 abbrev pub Shows : CellView → Range → ℕ → ℕ → List Stored → Type 0
 Shows cell range shift now values =
-    (seen : ℕ) (history : List Stored) → seen ≤ now → StandsFor cell seen history → IsWithin cell.keep range shift
+    (seen : ℕ) (history : List Stored) → seen ≤ now → IsCellOf cell seen history → IsWithin cell.keep range shift
     → values ≡ window_of range shift now history
 
 -- the same of each of these histories with one more value
 abbrev pub ShowsWith : CellView → Stored → Range → ℕ → ℕ → List Stored → Type 0
 ShowsWith cell stored range shift now values =
-    (seen : ℕ) (history : List Stored) → seen ≤ now → StandsFor cell seen history → IsWithin cell.keep range shift
+    (seen : ℕ) (history : List Stored) → seen ≤ now → IsCellOf cell seen history → IsWithin cell.keep range shift
     → values ≡ window_of range shift now (placed stored history)
 
 -- the value is the latest one of each history that the cell stands for, where the cell keeps a latest one
 abbrev pub ShowsLatest : CellView → Option Stored → Type 0
 ShowsLatest cell latest =
-    (seen : ℕ) (history : List Stored) → StandsFor cell seen history → 1 ≤ cell.keep.count
+    (seen : ℕ) (history : List Stored) → IsCellOf cell seen history → 1 ≤ cell.keep.count
     → latest ≡ slice_get history 0
 
 -- two cells keep the same values by the same rule; their room doesn't matter

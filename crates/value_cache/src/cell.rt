@@ -3,7 +3,7 @@
 ghost use Rattle.std.specs.Prelude.{◌≡◌, ◌<◌, ◌↔◌, [], length, IsTrue, OnOk, OnErr, IfOk, IfErr, slice_get};
 ghost use Rattle.std.specs.Option.{option_copied};
 ghost use Rattle.value_cache.specs.Beside.{shown};
-ghost use Rattle.value_cache.specs.Cells.{StandsFor, IsExact, Gains, StaysExact, Shows, ShowsWith, ShowsLatest};
+ghost use Rattle.value_cache.specs.Cells.{IsCellOf, IsExact, Gains, StaysExact, Shows, ShowsWith, ShowsLatest};
 ghost use Rattle.value_cache.specs.Cells.{IsSame, trim};
 ghost use Rattle.value_cache.specs.Histories.{placed, oldest_first};
 
@@ -43,7 +43,7 @@ impl ItemCell {
     /// A cell without values, which stands for the empty history from moment 0 on. Takes no memory.
     pub fn new(alloc: Global, keep: Keep) -> ItemCell
         ensures keep { result.keep ≡ keep }
-        ensures empty { StandsFor result 0 [] }
+        ensures empty { IsCellOf result 0 [] }
         ensures exact { IsExact result 0 [] }
     {
         ItemCell {

@@ -12,7 +12,7 @@ longest_piece = 65536
 
 -- a wire: the events that stand in its queue, the latest connection of which it has told, how many connections are
 -- there, whether it listens, and its counts
-pub record Standing : Type 0 where
+pub record WireState : Type 0 where
   pub waiting : List WireEvent
   pub told : ℕ
   pub connections : ℕ
@@ -64,7 +64,7 @@ abbrev pub told_after_all : ℕ → List WireEvent → ℕ
 told_after_all told events = fold told_after told events
 
 -- a call that gives no event leaves the queue as it is
-pub record LeavesQueue (old new : Standing) : Type 0 where
+pub record LeavesQueue (old new : WireState) : Type 0 where
   pub waiting : new.waiting ≡ old.waiting
   pub told : new.told ≡ old.told
   pub listens : new.listens ≡ old.listens

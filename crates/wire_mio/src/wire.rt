@@ -41,9 +41,9 @@ pub struct MioWire<C: Clock> {
 
 impl<C: Clock> Model for MioWire<C> {
     ghost use Rattle.std.specs.Option.{is_some};
-    ghost use Rattle.wire_mio.specs.Queues.{Standing};
+    ghost use Rattle.wire_mio.specs.Queues.{WireState};
 
-    ghost Value = { Standing };
+    ghost Value = { WireState };
 
     ghost view = { λ w. record { waiting = w.queue.events; told = w.queue.told; connections = w.peers; listens = is_some w.sockets; given = w.given; sends = w.sends; faults = w.faults; unsent = w.unsent } };
 }
