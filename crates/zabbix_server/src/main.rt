@@ -5,19 +5,17 @@
 //! ```
 //!
 //! reads the configuration document in the file CONFIG, takes the events of the script in the file SCRIPT, keeps what it took
-//! in the file JOURNAL, adds a line for each problem and recovery to the file OUTBOX, and writes one line with the status of
-//! the run and its counts to standard output. Started again it goes on behind what the journal kept. Without a journal that
-//! is gone with the run, and without an outbox the lines go to standard output. With `--mode serve --listen ADDRESS` the
-//! events come over sockets, and `--mode workload --number N --values V` makes configuration and events from a number.
+//! in the file JOURNAL, adds a line for each failure, problem, recovery, step and message to the file OUTBOX, and writes one
+//! line with the status of the run and its counts to standard output. Started again it goes on behind what the journal kept.
+//! Without a journal that is gone with the run, and without an outbox the lines go to standard output. With
+//! `--mode serve --listen ADDRESS` the events come over sockets, and `--mode workload --number N --values V` makes
+//! configuration and events from a number.
 //!
 //! In each mode `--syncers N` says how many history syncers, 0 to 16, work the entries out, each in a thread of its own. Without
 //! it they are 4; with 0 of them the thread that takes the events does all. The same entries come to the same lines whatever
 //! their number.
 //!
-//! It exits with the number of the status: 0 for Ok, 2 for Usage, 3 for ConfigRefused, 4 for PatternRefused, 5 for SourceFault,
-//! 6 for NotOurs, 7 for Damaged, 8 for ConfigDiffers, 9 for OutboxAhead, 10 for DiskFault, 11 for OutboxFault, 12 for
-//! PrintFault, 13 for WireFault, 14 for Full, 15 for TurnLimit, 16 for OutOfMemory, 26 for PatternTooLarge. Nothing goes to
-//! standard error.
+//! It exits with the number of the status, 0 for Ok; `docs/FORMATS.md` has them all. Nothing goes to standard error.
 //!
 //! All that the run does is [`server_run::run_syncers`]. This crate hands it the files and standard output:
 //! [`FileSource`](wire_mio::FileSource) reads a file, [`FileSink`](wire_mio::FileSink) adds to one, [`FileDisk`](wire_mio::FileDisk)
