@@ -1,6 +1,6 @@
 //! What a path gives of a value.
 
-ghost use Rattle.std.specs.Prelude.{◌≡◌, ◌++◌, ◌<◌, OnOk, IfOk, Ok, Err, pos, int_div, option_and_then};
+ghost use Rattle.std.specs.Prelude.{◌≡◌, ◌<◌, IfOk, Ok, Err, pos, int_div, option_and_then};
 ghost use Rattle.zbx_types.specs.Arithmetic.{in_range};
 ghost use Rattle.zbx_types.specs.Numbers.{least, greatest};
 ghost use Rattle.zbx_types.specs.Written.{written};
