@@ -11,12 +11,13 @@ use Rattle.std.proofs.lemmas.List.Folds.{list_any_at, list_any-append, find_at}
 use Rattle.std.proofs.lemmas.List.Filters.{length-filter_both}
 use Rattle.std.proofs.lemmas.List.Elements.{All-filter, All-map, All-push, All-weaker}
 use Rattle.std.proofs.lemmas.List.Quantifiers.{position-Some}
+use Rattle.zbx_types.specs.Limits.{most_connections}
 use Rattle.zbxd_frame.specs.Found.{short, whole, bad, found, found_magic}
 use Rattle.zbxd_frame.specs.declared.fault.Fault.{Fault}
 use Rattle.wire_core.specs.declared.peer.Peer.{Peer}
 use Rattle.wire_core.specs.declared.turn.Turn.{Turn}
 use Rattle.wire_core.specs.declared.turn.Turn.TheVariants.{Nothing, Shut, Whole}
-use Rattle.wire_core.specs.Peers.{Peers, is_of, is_there, peer_of, replaced, without, most_peers, fresh, may_open, opened, with_piece, turn_at, peers_at, piece_turn, after_piece}
+use Rattle.wire_core.specs.Peers.{Peers, is_of, is_there, peer_of, replaced, without, fresh, may_open, opened, with_piece, turn_at, peers_at, piece_turn, after_piece}
 use Rattle.wire_core.specs.Kept.{AreApart, AreKept, given}
 
 pub both_false : (a b : Bool) → (a || b) ≡ false → (a ≡ false) × (b ≡ false)
@@ -194,7 +195,7 @@ AreKept-replaced ps q kept waits = record {
   apart = AreApart-replaced ps q kept.apart;
 }
 
-pub AreKept-push : (ps : Peers) (q : Peer) → AreKept ps → length ps < most_peers → is_there ps q.conn ≡ false → found q.bytes ≡ short → AreKept (ps ++ q ∷ [])
+pub AreKept-push : (ps : Peers) (q : Peer) → AreKept ps → length ps < most_connections → is_there ps q.conn ≡ false → found q.bytes ≡ short → AreKept (ps ++ q ∷ [])
 AreKept-push ps q kept room none waits = record {
   few = omega (arith, length-append ps (q ∷ []));
   waiting = All-push (λ p. found p.bytes ≡ short) ps q kept.waiting waits;
@@ -219,13 +220,13 @@ reopened ps i conn now bytes d apart at empty =
     rw (empty, h.1, h.3) (sym (replaced-set ps i (fresh conn now) d apart h.0 h.1))
 
 -- another one joins behind the others where there is room
-pub joined : (ps : Peers) (conn now : ℕ) (bytes : List ℕ) → is_there ps conn ≡ false → length ps < most_peers → bytes ≡ []
+pub joined : (ps : Peers) (conn now : ℕ) (bytes : List ℕ) → is_there ps conn ≡ false → length ps < most_connections → bytes ≡ []
     → ps ++ record { conn = conn; since = now; bytes = bytes } ∷ [] ≡ (if may_open ps conn then opened ps conn now else ps)
-joined ps conn now bytes none room empty = rw (empty, none, lt-ltb (length ps) most_peers room)
+joined ps conn now bytes none room empty = rw (empty, none, lt-ltb (length ps) most_connections room)
 
 -- another one may not open where there is no room
-pub no_room : (ps : Peers) (conn : ℕ) → is_there ps conn ≡ false → most_peers ≤ length ps → may_open ps conn ≡ false
-no_room ps conn none full = rw (none, le-ltb (length ps) most_peers full)
+pub no_room : (ps : Peers) (conn : ℕ) → is_there ps conn ≡ false → most_connections ≤ length ps → may_open ps conn ≡ false
+no_room ps conn none full = rw (none, le-ltb (length ps) most_connections full)
 
 -- one that is there may open
 pub room_again : (ps : Peers) (conn : ℕ) → is_there ps conn ≡ true → may_open ps conn ≡ true

@@ -1,6 +1,7 @@
 -- The connections of a wire, and what an event means for them.
 use Rattle.std.specs.Prelude.{◌≡◌, ℕ, List, [], ◌∷◌, ◌++◌, length, map, nat_lt, ◌==◌, if◌then◌else◌, Bool, false, not, ◌||◌, Option, Some, None}
 use Rattle.std.specs.List.{filter, find, list_any}
+use Rattle.zbx_types.specs.Limits.{most_connections}
 use Rattle.zbxd_frame.specs.Found.{Found, short, whole, bad, found}
 use Rattle.outside.specs.declared.event.WireEvent.{WireEvent}
 use Rattle.outside.specs.declared.event.WireEvent.TheVariants.{Opened, Piece, Ended, Broke, Quiet, Closed}
@@ -15,10 +16,6 @@ Peers = List Peer
 -- no connection is there
 abbrev pub no_peers : Peers
 no_peers = []
-
--- at most so many connections are there
-abbrev pub most_peers : ℕ
-most_peers = 128
 
 -- the peer is that of a connection
 abbrev pub is_of : ℕ → Peer → Bool
@@ -50,7 +47,7 @@ with_piece p piece = record { conn = p.conn; since = p.since; bytes = p.bytes ++
 
 -- a connection may open where it is there already, to begin anew, or where there is room for another
 abbrev pub may_open : Peers → ℕ → Bool
-may_open peers conn = is_there peers conn || nat_lt (length peers) most_peers
+may_open peers conn = is_there peers conn || nat_lt (length peers) most_connections
 
 -- the connections once one has begun
 abbrev pub opened : Peers → ℕ → ℕ → Peers

@@ -1,10 +1,11 @@
 //! The table of the connections that are there.
 
-ghost use Rattle.std.specs.Prelude.{◌≡◌, ◌≤◌, ◌<◌, ◌++◌, ◌∷◌, [], length, IfOk, OnOk, OnErr, Some, None, position, remove, slice_set, slice_index_or, if◌then◌else◌, ℕ};
-ghost use Rattle.wire_core.specs.Peers.{no_peers, turn_of, after_event, LeavesOthers, without, is_of, may_open, opened, peer_of, piece_turn, after_piece, most_peers};
+ghost use Rattle.std.specs.Prelude.{◌≡◌, ◌≤◌, ◌<◌, ◌++◌, ◌∷◌, [], length, IfOk, OnOk, OnErr, Some, None, position, remove, slice_set, slice_index_or, if◌then◌else◌};
+ghost use Rattle.wire_core.specs.Peers.{no_peers, turn_of, after_event, LeavesOthers, without, is_of, may_open, opened, peer_of, piece_turn, after_piece};
 ghost use Rattle.wire_core.specs.Kept.{given, begun, peers_in};
 ghost use Rattle.wire_core.specs.declared.turn.Turn.TheVariants as turns;
 ghost use Rattle.wire_core.specs.declared.peer.Peer.{Peer};
+ghost use Rattle.zbx_types.specs.Limits.{most_connections};
 ghost use Rattle.zbxd_frame.specs.Found.{found, short};
 ghost use Rattle.zbxd_frame.specs.Answers.{Answers};
 
@@ -14,11 +15,8 @@ use indexmap::IndexMap;
 use outside::WireEvent;
 use std::alloc::Global;
 use std::marker::Model;
-use zbx_types::{Moment, OutOfMemory};
+use zbx_types::{MOST_CONNECTIONS, Moment, OutOfMemory};
 use zbxd_frame::{Fed, Feed};
-
-/// At most so many connections are there at once.
-const MOST_PEERS: usize = 128;
 
 /// The connections of a wire that are there, each with the moment at which it opened and its bytes
 /// since then. A connection is found by its number, with no walk over the others. Contracts see them as
@@ -30,7 +28,6 @@ pub struct Table {
 }
 
 impl Model for Table {
-    ghost use Rattle.std.specs.Prelude.{List};
     ghost use Rattle.wire_core.specs.Peers.{Peers};
     ghost use Rattle.wire_core.specs.Kept.{AreKept, peers_in};
 
@@ -62,7 +59,7 @@ impl Table {
         ensures turn { IfOk result (λ t. t ≡ turn_of self.old now event.now) }
         ensures after { OnOk result (self.new ≡ after_event self.old now event.now) }
         ensures err { OnErr result (self.new ≡ self.old) }
-        ensures few { length self.new ≤ most_peers }
+        ensures few { length self.new ≤ most_connections }
         ensures others { LeavesOthers event.now self.old self.new }
     {
         let turn = self.take(alloc, event, now);
@@ -105,7 +102,7 @@ impl Table {
                 Ok(Turn::Nothing)
             }
             None => {
-                if self.peers.len() < MOST_PEERS {
+                if self.peers.len() < MOST_CONNECTIONS {
                     join(&mut self.peers, conn, opened)?;
                     Ok(Turn::Nothing)
                 } else {

@@ -22,8 +22,8 @@ invariant_of-self c =
     let h = place_found _ c.args.conn c.in-Some.place d (sym c.in-Some.ensures) in
     rw (c.begin_anew.ensures d) (AreKept-set _ _ _ d c.self.invariant h.0 refl (rw c.new.ensures found_nothing))
 
-pub invariant_of-self-then-len-lt-MOST_PEERS : goal.invariant_of-self-then-len-lt-MOST_PEERS
-invariant_of-self-then-len-lt-MOST_PEERS c =
+pub invariant_of-self-then-len-lt-MOST_CONNECTIONS : goal.invariant_of-self-then-len-lt-MOST_CONNECTIONS
+invariant_of-self-then-len-lt-MOST_CONNECTIONS c =
     let room = few_peers c.self.inside.peers.entries (omega arith) in
     rw c.in_ok-join-in-None.ensures.after (AreKept-push _ _ c.self.invariant room (absent (peers_in c.self.inside.peers.entries) c.args.conn c.in-None.ensures) (rw c.new.ensures found_nothing))
 
@@ -41,12 +41,12 @@ returns-in_ok-join-in-None-clause-after c =
     let room = few_peers c.self.inside.peers.entries (omega arith) in
     rw (c.in_ok-join-in-None.ensures.after, ← c.self.view_is) (joined _ _ _ _ (absent (peers_in c.self.inside.peers.entries) c.args.conn c.in-None.ensures) room c.new.ensures)
 
-pub returns-else-len-lt-MOST_PEERS-clause-turn : goal.returns-else-len-lt-MOST_PEERS-clause-turn
-returns-else-len-lt-MOST_PEERS-clause-turn c =
+pub returns-else-len-lt-MOST_CONNECTIONS-clause-turn : goal.returns-else-len-lt-MOST_CONNECTIONS-clause-turn
+returns-else-len-lt-MOST_CONNECTIONS-clause-turn c =
     let full = all_peers c.self.inside.peers.entries (omega arith) in
     rw (← c.self.view_is, no_room (peers_in c.self.inside.peers.entries) c.args.conn (absent (peers_in c.self.inside.peers.entries) c.args.conn c.in-None.ensures) full)
 
-pub returns-else-len-lt-MOST_PEERS-clause-after : goal.returns-else-len-lt-MOST_PEERS-clause-after
-returns-else-len-lt-MOST_PEERS-clause-after c =
+pub returns-else-len-lt-MOST_CONNECTIONS-clause-after : goal.returns-else-len-lt-MOST_CONNECTIONS-clause-after
+returns-else-len-lt-MOST_CONNECTIONS-clause-after c =
     let full = all_peers c.self.inside.peers.entries (omega arith) in
     rw (← c.self.view_is, no_room (peers_in c.self.inside.peers.entries) c.args.conn (absent (peers_in c.self.inside.peers.entries) c.args.conn c.in-None.ensures) full)
