@@ -7,9 +7,10 @@ use Rattle.std.proofs.lemmas.List.{take_at, drop_at}
 use Rattle.std.proofs.lemmas.List.Elements.{All-head, All-tail}
 use Rattle.byteorder.specs.Endian.{little_number}
 use Rattle.byteorder.specs.Numbers.{little_number-reads_back}
+use Rattle.zbx_types.specs.Limits.{longest_value}
 use Rattle.zbx_types.specs.declared.entries.Entry.{Entry}
 use Rattle.zbx_types.specs.declared.entries.Entry.TheVariants.{Config, Value, Tick}
-use Rattle.intake_journal.specs.Bytes.{longest_value, number_bytes, moment_bytes, text_bytes, entry_bytes, entries_bytes, HasShortValue, IsTyped}
+use Rattle.intake_journal.specs.Bytes.{number_bytes, moment_bytes, text_bytes, entry_bytes, entries_bytes, HasShortValue, IsTyped}
 use Rattle.intake_journal.specs.Format.{◌>>=◌, number_at, moment_at, piece_at, text_of, value_at, config_at, kind_at, entry_at, entries_of}
 use Rattle.intake_journal.proofs.Texts.{text_read}
 

@@ -5,9 +5,10 @@ use Rattle.std.specs.Str.{is_utf8}
 use Rattle.std.proofs.lemmas.Bool.Decides.{nat_tests}
 use Rattle.std.proofs.lemmas.List.{length-take-le}
 use Rattle.byteorder.specs.Endian.{little_number}
+use Rattle.zbx_types.specs.Limits.{longest_value}
 use Rattle.zbx_types.specs.declared.entries.Entry.{Entry}
 use Rattle.zbx_types.specs.declared.entries.Entry.TheVariants.{Config, Value, Tick}
-use Rattle.intake_journal.specs.Bytes.{longest_value, number_bytes, entry_bytes, entries_bytes}
+use Rattle.intake_journal.specs.Bytes.{number_bytes, entry_bytes, entries_bytes}
 use Rattle.intake_journal.specs.Format.{◌>>=◌, number_at, moment_at, piece_at, text_of, value_at, config_at, kind_at, entry_at, entries_of}
 
 -- what was read first, where all of it was read

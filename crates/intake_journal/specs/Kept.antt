@@ -1,5 +1,5 @@
 -- The groups that the bytes of a journal keep.
-use Rattle.std.specs.Prelude.{ℕ, Bool, ◌&&◌, zero, suc, ◌+◌, nat_le, nat_lt, ◌==◌, List, [], ◌∷◌, length, take, drop, Option, Some, None, if◌then◌else◌}
+use Rattle.std.specs.Prelude.{ℕ, Bool, ◌&&◌, zero, suc, ◌+◌, nat_le, nat_lt, ◌==◌, List, [], ◌∷◌, length, take, drop, Option, Some, None, if◌then◌else◌, codes}
 use Rattle.std.specs.List.{list_all, zip}
 use Rattle.zbx_types.specs.declared.entries.Entry.{Entry}
 use Rattle.intake_journal.specs.Format.{◌>>=◌, number_at, entries_of}
@@ -14,7 +14,7 @@ pub data Kept : Type 0 where
 
 -- `ZTSJRN01`, with which each journal begins
 abbrev pub magic : List ℕ
-magic = 90 ∷ 84 ∷ 83 ∷ 74 ∷ 82 ∷ 78 ∷ 48 ∷ 49 ∷ []
+magic = codes "ZTSJRN01"
 
 -- the place where groups begin: that of the first gate
 abbrev pub first_gate : ℕ

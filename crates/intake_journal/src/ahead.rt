@@ -1,6 +1,6 @@
 //! Bytes of a disk that are read ahead, so that many small groups take few reads.
 
-ghost use Rattle.std.specs.Prelude.{◌≡◌, ◌≤◌, ◌<◌, ◌+◌, ◌-◌, ◌^◌, [], true, length, take, drop, IfSome, IfOk, OnOk, OnErr, IsErrOf};
+ghost use Rattle.std.specs.Prelude.{◌≡◌, ◌≤◌, ◌<◌, ◌+◌, ◌-◌, ◌^◌, [], true, length, take, drop, IfSome, IfOk, OnOk, IsErrOf};
 ghost use Rattle.outside.specs.Causes.{Rose};
 ghost use Rattle.outside.specs.declared.event.Trouble.TheVariants as trouble;
 ghost use Rattle.intake_journal.specs.Ahead.{IsAhead, part_of};

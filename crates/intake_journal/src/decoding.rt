@@ -6,10 +6,7 @@ ghost use Rattle.intake_journal.specs.Given.{Gives};
 
 use byteorder::{ByteOrder, LittleEndian};
 use std::alloc::{AllocFailed, Global};
-use zbx_types::{Entry, Many, Moment, OutOfMemory, Text};
-
-/// The most bytes of a value.
-pub const LONGEST_VALUE: usize = 65_535;
+use zbx_types::{Entry, LONGEST_VALUE, Many, Moment, OutOfMemory, Text};
 
 /// Why bytes weren't read.
 #[derive(Clone, Copy)]

@@ -1,6 +1,6 @@
 //! What the journal does to its disk, in few calls of it.
 
-ghost use Rattle.std.specs.Prelude.{◌≡◌, ◌<◌, ◌≤◌, ◌+◌, ◌^◌, [], ◌∷◌, Some, length, take, is_some, IfSome, IfOk, OnOk};
+ghost use Rattle.std.specs.Prelude.{◌≡◌, ◌<◌, ◌+◌, ◌^◌, [], ◌∷◌, Some, length, is_some, IfSome, OnOk};
 ghost use Rattle.outside.specs.Causes.{HasCause};
 ghost use Rattle.outside.specs.Disk.{Only, LeavesOnly, overwritten};
 ghost use Rattle.intake_journal.specs.Around.{IsAround};

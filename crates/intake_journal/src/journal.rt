@@ -1,10 +1,9 @@
 //! A journal on a disk: opened, and added to.
 
-ghost use Rattle.std.specs.Prelude.{◌≡◌, ◌≢◌, ◌⊎◌, ℕ, false, not, Err, IsTrue, ◌+◌, ◌<◌, ◌≤◌, ◌-◌, ◌^◌, min, [], ◌∷◌, ◌++◌, length, All, Some, is_some, IfSome, IfOk, OnOk, OnErr, IfErr};
+ghost use Rattle.std.specs.Prelude.{◌≡◌, ◌≢◌, ◌⊎◌, ℕ, false, not, Err, IsTrue, ◌+◌, ◌<◌, ◌≤◌, ◌-◌, [], ◌∷◌, ◌++◌, length, All, is_some, IfSome, IfOk, OnOk, OnErr, IfErr};
 ghost use Rattle.outside.specs.Causes.{Rose, HasCause};
 ghost use Rattle.outside.specs.Disk.{Only, LeavesOnly};
-ghost use Rattle.intake_journal.specs.Bytes.{group_bytes, entries_bytes, HasShortValue};
-ghost use Rattle.intake_journal.specs.Format.{entries_of};
+ghost use Rattle.intake_journal.specs.Bytes.{entries_bytes, HasShortValue};
 ghost use Rattle.intake_journal.specs.Kept.{first_gate, longest_journal, kept, groups_of};
 ghost use Rattle.intake_journal.specs.Kept.Kept.{NotOurs};
 ghost use Rattle.intake_journal.specs.Opened.{IsOpened, disk_of};

@@ -42,7 +42,7 @@ mod state;
 mod whole;
 
 pub use block::Block;
-pub use decoding::{LONGEST_VALUE, decode};
+pub use decoding::decode;
 pub use encoding::{encode, size};
 pub use format::Group;
 pub use journal::Journal;

@@ -2,7 +2,6 @@
 
 ghost use Rattle.std.specs.Prelude.{◌≡◌, ◌⊎◌, Ok, Err, None, ◌≤◌, ◌<◌, ◌+◌, ◌-◌, ◌^◌, length, take, drop, IfSome, IfOk, IsErrOf};
 ghost use Rattle.outside.specs.Causes.{Rose};
-ghost use Rattle.outside.specs.Causes.{HasCause};
 ghost use Rattle.outside.specs.declared.event.Trouble.TheVariants as trouble;
 ghost use Rattle.intake_journal.specs.Bytes.{entries_bytes};
 ghost use Rattle.intake_journal.specs.Ahead.{IsAhead};

@@ -1,6 +1,6 @@
 //! The words of a script's lines: parts, numbers, moments and hexadecimal texts.
 
-ghost use Rattle.std.specs.Prelude.{◌≡◌, ◌≤◌, ◌<◌, ◌==◌, length, nat_le, if◌then◌else◌, IfSome, IfOk};
+ghost use Rattle.std.specs.Prelude.{◌≡◌, ◌<◌, ◌==◌, length, IfSome, IfOk};
 ghost use Rattle.std.specs.List.{position};
 ghost use Rattle.std.specs.Option.{option_map};
 ghost use Rattle.outside.specs.Words.{parted, nanos_of, moment_of, connection_of, nibble_of, byte_of, bytes_of_hex};

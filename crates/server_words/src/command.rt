@@ -1,8 +1,8 @@
 //! The command of the program, as `clap` reads it.
 
-ghost use Rattle.std.specs.Prelude.{◌≡◌, IfOk, codes, false};
+ghost use Rattle.std.specs.Prelude.{◌≡◌, IfOk, false};
 ghost use Rattle.clap.specs.Words.{app_of, rule_of};
-ghost use Rattle.server_words.specs.Words.{needed, option, with_default, number, bare_app, text_app, server_app};
+ghost use Rattle.server_words.specs.Words.{needed, option, with_default, number, text_app, server_app};
 
 use clap::builder::ValueParser;
 use clap::{Arg, Command};

@@ -9,12 +9,11 @@ use std::convert::AsStr;
 use zbx_types::{Cause, OutOfMemory, Text};
 
 #[tactic(auto, unfolding(crate::specs::Printed::count_text))]
-fn put_count(alloc: Global, line: &mut Text, name: &str, count: u64) -> Result<(), OutOfMemory>
+fn put_count(line: &mut Text, name: &str, count: u64) -> Result<(), OutOfMemory>
     ensures { OnOk result (line.new ≡ line.old ++ count_text name.now count) }
 {
     line.push_str(name)?;
-    let digits = count.to_string(alloc)?;
-    line.push_str(digits.as_str())
+    line.push_decimal(count)
 }
 
 fn put_end(line: &mut Text) -> Result<(), OutOfMemory>
@@ -23,19 +22,19 @@ fn put_end(line: &mut Text) -> Result<(), OutOfMemory>
     line.push_str("\n")
 }
 
-fn put_first(alloc: Global, line: &mut Text, counts: &Counts) -> Result<(), OutOfMemory>
+fn put_first(line: &mut Text, counts: &Counts) -> Result<(), OutOfMemory>
     ensures { OnOk result (line.new ≡ line.old ++ first_counts counts.now) }
 {
-    put_count(alloc, line, "status: Ok; entries: ", counts.entries)?;
-    put_count(alloc, line, "; problems: ", counts.problems)?;
-    put_count(alloc, line, "; recoveries: ", counts.recoveries)
+    put_count(line, "status: Ok; entries: ", counts.entries)?;
+    put_count(line, "; problems: ", counts.problems)?;
+    put_count(line, "; recoveries: ", counts.recoveries)
 }
 
-fn put_last(alloc: Global, line: &mut Text, counts: &Counts) -> Result<(), OutOfMemory>
+fn put_last(line: &mut Text, counts: &Counts) -> Result<(), OutOfMemory>
     ensures { OnOk result (line.new ≡ line.old ++ last_counts counts.now) }
 {
-    put_count(alloc, line, "; messages: ", counts.messages)?;
-    put_count(alloc, line, "; outbox bytes: ", counts.bytes)?;
+    put_count(line, "; messages: ", counts.messages)?;
+    put_count(line, "; outbox bytes: ", counts.bytes)?;
     put_end(line)
 }
 
@@ -43,12 +42,12 @@ fn ok_line(alloc: Global, counts: &Counts) -> Result<Text, OutOfMemory>
     ensures { IfOk result (λ line. line ≡ ok_text counts.now) }
 {
     let mut line = Text::new(alloc);
-    put_first(alloc, &mut line, counts)?;
-    put_last(alloc, &mut line, counts)?;
+    put_first(&mut line, counts)?;
+    put_last(&mut line, counts)?;
     Ok(line)
 }
 
-fn put_cause(alloc: Global, line: &mut Text, cause: Cause) -> Result<(), OutOfMemory>
+fn put_cause(line: &mut Text, cause: Cause) -> Result<(), OutOfMemory>
     ensures { OnOk result (line.new ≡ line.old ++ cause_text cause) }
 {
     match cause {
@@ -59,19 +58,19 @@ fn put_cause(alloc: Global, line: &mut Text, cause: Cause) -> Result<(), OutOfMe
         Cause::TooMany => line.push_str("TooMany"),
         Cause::UnknownName => line.push_str("UnknownName"),
         Cause::Cycle => line.push_str("Cycle"),
-        Cause::BadKey { at } => put_count(alloc, line, "BadKey at ", u64::from(at)),
+        Cause::BadKey { at } => put_count(line, "BadKey at ", u64::from(at)),
         Cause::TooDeep => line.push_str("TooDeep"),
-        Cause::BadPath { at } => put_count(alloc, line, "BadPath at ", u64::from(at)),
-        Cause::BadExpression { at } => put_count(alloc, line, "BadExpression at ", u64::from(at)),
+        Cause::BadPath { at } => put_count(line, "BadPath at ", u64::from(at)),
+        Cause::BadExpression { at } => put_count(line, "BadExpression at ", u64::from(at)),
         Cause::WrongValueType => line.push_str("WrongValueType"),
     }
 }
 
-fn put_reason(alloc: Global, line: &mut Text, cause: Cause) -> Result<(), OutOfMemory>
+fn put_reason(line: &mut Text, cause: Cause) -> Result<(), OutOfMemory>
     ensures { OnOk result (line.new ≡ line.old ++ reason_text cause) }
 {
     line.push_str("; cause: ")?;
-    put_cause(alloc, line, cause)?;
+    put_cause(line, cause)?;
     put_end(line)
 }
 
@@ -81,7 +80,7 @@ fn refused_line(alloc: Global, path: &Text, cause: Cause) -> Result<Text, OutOfM
 {
     let mut line = Text::of(alloc, "status: ConfigRefused; path: ")?;
     line.push_str(path.as_str())?;
-    put_reason(alloc, &mut line, cause)?;
+    put_reason(&mut line, cause)?;
     Ok(line)
 }
 
@@ -100,7 +99,7 @@ fn count_line(alloc: Global, name: &str, count: u64) -> Result<Text, OutOfMemory
     ensures { IfOk result (λ line. line ≡ count_text name.now count ++ codes "\n") }
 {
     let mut line = Text::new(alloc);
-    put_count(alloc, &mut line, name, count)?;
+    put_count(&mut line, name, count)?;
     put_end(&mut line)?;
     Ok(line)
 }
@@ -116,8 +115,8 @@ fn two_counts_line(
     ensures { IfOk result (λ line. line ≡ count_text name.now count ++ count_text next.now last ++ codes "\n") }
 {
     let mut line = Text::new(alloc);
-    put_count(alloc, &mut line, name, count)?;
-    put_count(alloc, &mut line, next, last)?;
+    put_count(&mut line, name, count)?;
+    put_count(&mut line, next, last)?;
     put_end(&mut line)?;
     Ok(line)
 }

@@ -12,6 +12,7 @@ Answers More f = f ≡ short
 Answers (Frame body rest) f = (behind : List ℕ) × (f ≡ whole body behind) × (length behind ≡ rest)
 Answers (Refused fault) f = f ≡ bad fault
 
+-- what was found is less than a whole frame
 abbrev pub is_short : Found → Bool
 is_short short = true
 is_short (whole body behind) = false
@@ -21,12 +22,13 @@ is_short (bad fault) = false
 abbrev pub fed_with : List ℕ → List ℕ → List ℕ
 fed_with bytes piece = if is_short (found bytes) then bytes ++ piece else bytes
 
--- what is left of a feed that hands a whole frame over
+-- what is left of bytes of which this was found, where a whole frame is handed over
 abbrev pub left_by : Found → List ℕ → List ℕ
 left_by short bytes = bytes
 left_by (whole body behind) bytes = []
 left_by (bad fault) bytes = bytes
 
+-- what is left of the bytes of a feed that hands a whole frame over
 abbrev pub left_of : List ℕ → List ℕ
 left_of bytes = left_by (found bytes) bytes
 
