@@ -11,7 +11,8 @@ use Rattle.zbx_types.specs.declared.entries.Entry.{Entry}
 use Rattle.zbx_types.specs.declared.entries.Entry.TheVariants.{Config, Value, Tick}
 use Rattle.prep_steps.specs.declared.memory.StepMemory.{StepMemory}
 use Rattle.preprocess.specs.Visits.{visited}
-use Rattle.preprocess.specs.Walks.{takes, takes_by}
+use Rattle.preprocess.specs.Walks.{takes}
+use Rattle.zbx_types.specs.Items.{is_trapper_item}
 use Rattle.preprocess.specs.Draft.{stored_at, stored_of as stored_by, visit_at}
 use Rattle.preprocess.specs.declared.visit.Visit.{Visit}
 use Rattle.preprocess.proofs.Apart.{Under, depends_by, master_by as master_in, all_map}
@@ -42,7 +43,7 @@ depends_there (Some x) e = (x, refl)
 takes_there : (conf : Conf) (item : ℕ) → takes conf item ≡ true → (x : Item) × (at_id conf.items item ≡ Some x)
 takes_there conf item t = go (at_id conf.items item) t
   where
-    go : (o : Option Item) → takes_by o ≡ true → (x : Item) × (o ≡ Some x)
+    go : (o : Option Item) → is_trapper_item o ≡ true → (x : Item) × (o ≡ Some x)
     go None e = cc
     go (Some x) e = (x, refl)
 
