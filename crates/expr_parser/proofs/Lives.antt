@@ -7,7 +7,7 @@ use Rattle.zbx_types.specs.declared.calls.Call.{Call}
 use Rattle.zbx_types.specs.declared.calls.Fun.{Fun}
 use Rattle.item_key.specs.declared.places.Place.{Place}
 use Rattle.item_key.specs.declared.places.Place.TheVariants.{Start, Name, Param, Listed, Closed, Done as Ended}
-use Rattle.item_key.specs.declared.places.Within.TheVariants as within
+use Rattle.item_key.specs.declared.places.InParameter.TheVariants as within
 use Rattle.item_key.specs.Machine as key
 use Rattle.item_key.specs.Grammar.{IsKeyText}
 use Rattle.item_key.proofs.Sound as keys
