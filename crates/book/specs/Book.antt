@@ -15,9 +15,9 @@ use Rattle.book.specs.Tally.{tally_of}
 use Rattle.book.specs.Outgoing.{Grew, log_lines}
 use Rattle.book.specs.Progress.{ProgressView}
 
--- The entries in the order of their numbers, where each stands, the cells, and the records kept of each entry; of how many
--- entries from the first on the lines were made, and what their records count; what the outbox tells, and the lines that it
--- doesn't have yet.
+-- The entries in the order of their numbers, where each stands, the cells, and the records kept of each entry; of how
+-- many entries from the first on the lines were made, and what their records count; what the outbox tells, and the
+-- lines that it doesn't have yet.
 pub record BookView : Type 0 where
   pub entries : List Numbered
   pub gate : Gate
@@ -42,7 +42,8 @@ StayApplied marks marks' = (i : ℕ) → get_or marks i Pending ≡ Applied → 
 
 -- as many of the first entries are applied, and no more
 abbrev pub IsFrontier : List Mark → List Numbered → ℕ → Type 0
-IsFrontier marks entries n = (n ≤ length entries) × AreApplied marks n × (n < length entries → get_or marks n Pending ≢ Applied)
+IsFrontier marks entries n =
+    (n ≤ length entries) × AreApplied marks n × (n < length entries → get_or marks n Pending ≢ Applied)
 
 -- the lines of the first entries
 abbrev pub lines_upto : Conf → List Numbered → ℕ → List ℕ
@@ -52,10 +53,11 @@ lines_upto conf entries n = log_lines conf (log_of (take n entries))
 abbrev pub AreOut : SinkTells → SinkTells → List ℕ → List ℕ → Type 0
 AreOut start sink unwritten lines = (sent : List ℕ) × Grew start sink sent × (lines ≡ sent ++ unwritten)
 
--- What holds of a book at all times. Its entries are those with which the run began, and those that came out of the ring. Its
--- lines and counts are those of the entries before its frontier, which are applied. Of the lines the outbox held some at the
--- opening; the others it has got since, or they aren't written yet.
-pub record IsBook (conf : Conf) (kept : List Numbered) (start : SinkTells) (received entries : List Numbered) (marks : List Mark) (frontier : ℕ) (tally : Tally) (sink : SinkTells) (unwritten : List ℕ) : Type 0 where
+-- What holds of a book at all times. Its entries are those with which the run began, and those that came out of the
+-- ring. Its lines and counts are those of the entries before its frontier, which are applied. Of the lines the outbox
+-- held some at the opening; the others it has got since, or they aren't written yet.
+pub record IsBook (conf : Conf) (kept : List Numbered) (start : SinkTells) (received entries : List Numbered)
+    (marks : List Mark) (frontier : ℕ) (tally : Tally) (sink : SinkTells) (unwritten : List ℕ) : Type 0 where
   pub received_is : entries ≡ kept ++ received
   pub within : frontier ≤ length entries
   pub applied : AreApplied marks frontier

@@ -21,8 +21,8 @@ use Rattle.syncer_gate.specs.Marks.{ended}
 use Rattle.book.specs.Entries.{IsWholeLog}
 use Rattle.book.specs.Schedule.{Worked, Facts, keeping}
 
--- the entries in the order of their numbers, where each stands, the cells, and the records kept of each entry, none of one that
--- isn't applied
+-- the entries in the order of their numbers, where each stands, the cells, and the records kept of each entry, none
+-- of one that isn't applied
 pub record ProgressView : Type 0 where
   pub entries : List Numbered
   pub gate : Gate
@@ -37,7 +37,8 @@ made_at made n = get_or made (n - 1) []
 abbrev pub worked_of : ProgressView → Cells → Worked
 worked_of p c = record { core = core_of p.entries p.gate; cells = c; made = made_at p.made }
 
--- What holds of it at all times: the entries are a whole log, all of them were offered, and the facts of the work stand.
+-- What holds of it at all times: the entries are a whole log, all of them were offered, and the facts of the work
+-- stand.
 pub record IsGoing (conf : Conf) (p : ProgressView) : Type 0 where
   pub whole : IsWholeLog conf p.entries
   pub first : p.gate.first ≡ 1
@@ -55,7 +56,8 @@ pub record OrderView : Type 0 where
   pub part : PartView
 
 -- an order's entries have the batch's numbers, its copies are of cells to which they come, and its scratch is free
-pub record IsOrder (conf : Conf) (batch : Batch) (entries : List Numbered) (part : PartView) (scratch : CellsView) : Type 0 where
+pub record IsOrder (conf : Conf) (batch : Batch) (entries : List Numbered) (part : PartView)
+    (scratch : CellsView) : Type 0 where
   pub numbers : map (λ e. e.number) entries ≡ batch.numbers
   pub workable : IsWorkable conf entries part
   pub scratch_free : HoldsLog conf scratch []
@@ -103,12 +105,15 @@ pub record AreReady (conf : Conf) (held : CellsView) (entries : List Numbered) (
 -- what entries make of these cells
 abbrev pub AreOutputs : Conf → CellsView → List Numbered → PartView → List (List Rec) → Type 0
 AreOutputs conf held es part made = (c : Cells) → Represents conf held c → AllCome conf c es
-    → (made ≡ records_done conf c es) × ((next : CellsView) → IsReplaced held part next → Represents conf next (cells_done conf c es))
+    → (made ≡ records_done conf c es) × ((next : CellsView) → IsReplaced held part next
+    → Represents conf next (cells_done conf c es))
 
--- Some entries are worked out over what is kept, and their records are put in their places: what there is before and behind it.
+-- Some entries are worked out over what is kept, and their records are put in their places: what there is before and
+-- behind it.
 abbrev pub IsWorkedIn : Conf → List Numbered → CellsView → List (List Rec) → CellsView → List (List Rec) → Type 0
 IsWorkedIn conf es held made next rows = (length rows ≡ length made)
-    × ((c : Cells) → Represents conf held c → AllCome conf c es → Represents conf next (cells_done conf c es) × IsKept made es (records_done conf c es) rows)
+    × ((c : Cells) → Represents conf held c → AllCome conf c es → Represents conf next (cells_done conf c es)
+    × IsKept made es (records_done conf c es) rows)
 
 -- a batch of one entry, which was pending, and what its end with results leaves
 pub record IsSingle (p : ProgressView) (gate : Gate) (batch : Batch) (n : ℕ) : Type 0 where
@@ -116,8 +121,8 @@ pub record IsSingle (p : ProgressView) (gate : Gate) (batch : Batch) (n : ℕ) :
   pub pending : get_or p.gate.marks (n - 1) Pending ≡ Pending
   pub after : map (ended batch.id Applied) gate.marks ≡ set p.gate.marks (n - 1) Applied
 
--- What a claim leaves: the work goes on, the batch is open, given back it leaves the marks as they were, and its entries
--- come to the cells.
+-- What a claim leaves: the work goes on, the batch is open, given back it leaves the marks as they were, and its
+-- entries come to the cells.
 pub record HasClaimed (conf : Conf) (p : ProgressView) (gate : Gate) (batch : Batch) : Type 0 where
   pub going : IsGoing conf (record p { gate = gate })
   pub opened : IsOpenBatch gate batch
@@ -127,7 +132,9 @@ pub record HasClaimed (conf : Conf) (p : ProgressView) (gate : Gate) (batch : Ba
 
 -- whatever cells and records there are, a claim of the batch leads from one gate to the other
 abbrev pub IsClaim : Conf → List Numbered → Gate → Gate → Batch → Type 0
-IsClaim conf entries before gate batch = (held : CellsView) (made : List (List Rec)) → IsGoing conf (record { entries = entries; gate = before; cells = held; made = made })
+IsClaim conf entries before gate batch =
+    (held : CellsView) (made : List (List Rec)) → IsGoing conf
+    (record { entries = entries; gate = before; cells = held; made = made })
     → HasClaimed conf (record { entries = entries; gate = before; cells = held; made = made }) gate batch
 
 -- one pending entry is applied

@@ -60,8 +60,8 @@ worked_all conf w (step ∷ steps) = worked_all conf (worked conf w step) steps
 abbrev pub has_applied : Worked → Numbered → Bool
 has_applied w e = is_applied (w.core.status e.number)
 
--- What holds at all times: no order is broken; the cells stand for the applied entries; and the records kept of each applied
--- entry are those that it makes in its place in one thread's replay.
+-- What holds at all times: no order is broken; the cells stand for the applied entries; and the records kept of each
+-- applied entry are those that it makes in its place in one thread's replay.
 pub record Facts (conf : Conf) (w : Worked) : Type 0 where
   pub order : InOrder (feet_of conf) w.core
   pub stand : AreCellsOf conf w.cells (filter (has_applied w) w.core.log)
@@ -70,7 +70,9 @@ pub record Facts (conf : Conf) (w : Worked) : Type 0 where
 
 -- whatever is offered, claimed, applied and given back, the facts hold
 abbrev pub EveryScheduleFacts : Type 0
-EveryScheduleFacts = (conf : Conf) (steps : List Step) → AreAllowed (feet_of conf) start steps → Facts conf (worked_all conf (begin_worked conf) steps)
+EveryScheduleFacts =
+    (conf : Conf) (steps : List Step) → AreAllowed (feet_of conf) start steps
+    → Facts conf (worked_all conf (begin_worked conf) steps)
 
 -- the records kept of these entries, in the order of their numbers
 abbrev pub records_kept : Worked → List Numbered → List Rec

@@ -1,4 +1,5 @@
-//! The book: what the syncers share. It takes entries out of the ring, hands out batches of them, and writes their lines.
+//! The book: what the syncers share. It takes entries out of the ring, hands out batches of them, and writes their
+//! lines.
 
 ghost use Rattle.std.specs.Prelude.{◌≡◌, ◌≤◌, ◌<◌, ◌+◌, ◌-◌, ◌++◌, [], ℕ, List, min, true, false, length, drop, replicate, get_or, IfOk, IfErr, IfSome, OnOk, OnErr, IsErrOf};
 ghost use Rattle.std.specs.Option.{option_map};
@@ -35,11 +36,11 @@ use std::marker::Model;
 use std::sync::ledger::Ledger;
 use zbx_types::{Bytes, Many, Numbered, OutOfMemory};
 
-/// The entries that came out of a ring behind those with which a run began, and how far the work on them is; and the lines of
-/// those that are worked out with all before them, on their way to the outbox.
+/// The entries that came out of a ring behind those with which a run began, and how far the work on them is; and the
+/// lines of those that are worked out with all before them, on their way to the outbox.
 ///
-/// It keeps one promise whatever is called: what the outbox got since the opening is a front of the lines of one thread that
-/// replays the entries, but for as many of their first bytes as the outbox held.
+/// It keeps one promise whatever is called: what the outbox got since the opening is a front of the lines of one
+/// thread that replays the entries, but for as many of their first bytes as the outbox held.
 #[derive(Drop)]
 pub struct Book<S: StartName, N: RunName, O: Sink> {
     progress: Progress<S>,
@@ -85,8 +86,8 @@ impl<S: StartName, N: RunName, O: Sink> Book<S, N, O> {
     ///
     /// # Errors
     ///
-    /// `OutboxAhead` comes exactly where the outbox holds more bytes than the lines of these entries have. `OutOfMemory` may
-    /// come too. The outbox comes back as it was.
+    /// `OutboxAhead` comes exactly where the outbox holds more bytes than the lines of these entries have.
+    /// `OutOfMemory` may come too. The outbox comes back as it was.
     pub fn new(
         alloc: Global,
         ready: &Ready,
@@ -100,8 +101,10 @@ impl<S: StartName, N: RunName, O: Sink> Book<S, N, O> {
         requires received { ring.received ≡ [] }
         requires outbox { O.tells outbox ≡ S.outbox }
         ensures entries { IfOk result (λ book. book.entries ≡ kept) }
-        ensures applied { IfOk result (λ book. (book.frontier ≡ length kept) × AreApplied book.gate.marks (length kept)) }
-        ensures unwritten { IfOk result (λ book. (book.sink ≡ S.outbox) × (book.unwritten ≡ drop S.outbox.held (log_lines S.conf (log_of kept)))) }
+        ensures applied { IfOk result (λ book. (book.frontier ≡ length kept)
+            × AreApplied book.gate.marks (length kept)) }
+        ensures unwritten { IfOk result (λ book. (book.sink ≡ S.outbox)
+            × (book.unwritten ≡ drop S.outbox.held (log_lines S.conf (log_of kept)))) }
         ensures enough { IfOk result (λ book. S.outbox.held ≤ length (log_lines S.conf (log_of kept))) }
         ensures back { IfErr result (λ refused. refused.0 ≡ outbox) }
         ensures ahead { IfErr result (λ refused. (held : ℕ) (lines : ℕ) → refused.1 ≡ BookError.OutboxAhead held lines
@@ -134,14 +137,20 @@ impl<S: StartName, N: RunName, O: Sink> Book<S, N, O> {
         }
     }
 
-    /// Takes the entries that the ring shows, and answers how many they are, or 2^32 - 1 where they are more. What the head
-    /// sends meanwhile may stay. At `Err` none was taken.
+    /// Takes the entries that the ring shows, and answers how many they are, or 2^32 - 1 where they are more. What
+    /// the head sends meanwhile may stay. At `Err` none was taken.
     pub fn pull(&mut self, alloc: Global) -> Result<u32, OutOfMemory>
         ensures more { IsPrefix self.old.entries self.new.entries }
-        ensures gate { self.new.gate ≡ record self.old.gate { marks = self.old.gate.marks ++ replicate (length self.new.entries - length self.old.entries) Mark.Pending } }
-        ensures count { IfOk result (λ count. count ≡ min (length self.new.entries - length self.old.entries) 4294967295) }
-        ensures rest { (self.new.cells ≡ self.old.cells) × ((n : ℕ) → get_or self.new.made n [] ≡ get_or self.old.made n []) }
-        ensures out { (self.new.frontier ≡ self.old.frontier) × (self.new.tally ≡ self.old.tally) × (self.new.sink ≡ self.old.sink) × (self.new.unwritten ≡ self.old.unwritten) }
+        ensures gate { self.new.gate ≡ record self.old.gate {
+          marks = self.old.gate.marks ++ replicate (length self.new.entries - length self.old.entries)
+              Mark.Pending;
+        } }
+        ensures count { IfOk result (λ count. count ≡ min
+            (length self.new.entries - length self.old.entries) 4294967295) }
+        ensures rest { (self.new.cells ≡ self.old.cells)
+            × ((n : ℕ) → get_or self.new.made n [] ≡ get_or self.old.made n []) }
+        ensures out { (self.new.frontier ≡ self.old.frontier) × (self.new.tally ≡ self.old.tally)
+            × (self.new.sink ≡ self.old.sink) × (self.new.unwritten ≡ self.old.unwritten) }
         ensures err { OnErr result (self.new ≡ self.old) }
     {
         let count = self.ring.look();
@@ -149,8 +158,8 @@ impl<S: StartName, N: RunName, O: Sink> Book<S, N, O> {
         Ok(capped(count))
     }
 
-    /// Takes all entries that are in the ring, for a thread that has both ends, and answers how many they are, or 2^32 - 1
-    /// where they are more. All slots are then known to be free. At `Err` none was taken.
+    /// Takes all entries that are in the ring, for a thread that has both ends, and answers how many they are, or
+    /// 2^32 - 1 where they are more. All slots are then known to be free. At `Err` none was taken.
     pub fn pull_beside(
         &mut self,
         alloc: Global,
@@ -161,10 +170,16 @@ impl<S: StartName, N: RunName, O: Sink> Book<S, N, O> {
         ensures all { OnOk result (self.new.entries ≡ S.kept ++ head.new.sent) }
         ensures free { OnOk result (head.new.free ≡ head.new.capacity) }
         ensures head { (head.new.sent ≡ head.old.sent) × (head.new.capacity ≡ head.old.capacity) }
-        ensures gate { self.new.gate ≡ record self.old.gate { marks = self.old.gate.marks ++ replicate (length self.new.entries - length self.old.entries) Mark.Pending } }
-        ensures count { IfOk result (λ count. count ≡ min (length self.new.entries - length self.old.entries) 4294967295) }
-        ensures rest { (self.new.cells ≡ self.old.cells) × ((n : ℕ) → get_or self.new.made n [] ≡ get_or self.old.made n []) }
-        ensures out { (self.new.frontier ≡ self.old.frontier) × (self.new.tally ≡ self.old.tally) × (self.new.sink ≡ self.old.sink) × (self.new.unwritten ≡ self.old.unwritten) }
+        ensures gate { self.new.gate ≡ record self.old.gate {
+          marks = self.old.gate.marks ++ replicate (length self.new.entries - length self.old.entries)
+              Mark.Pending;
+        } }
+        ensures count { IfOk result (λ count. count ≡ min
+            (length self.new.entries - length self.old.entries) 4294967295) }
+        ensures rest { (self.new.cells ≡ self.old.cells)
+            × ((n : ℕ) → get_or self.new.made n [] ≡ get_or self.old.made n []) }
+        ensures out { (self.new.frontier ≡ self.old.frontier) × (self.new.tally ≡ self.old.tally)
+            × (self.new.sink ≡ self.old.sink) × (self.new.unwritten ≡ self.old.unwritten) }
         ensures err { OnErr result (self.new ≡ self.old) }
     {
         let count = self.ring.look_beside(head);
@@ -173,8 +188,8 @@ impl<S: StartName, N: RunName, O: Sink> Book<S, N, O> {
         Ok(capped(count))
     }
 
-    /// Takes a batch of at most `limit` entries, as the crate `syncer_gate` chooses it, with copies of the cells in their
-    /// feet. None comes exactly where there is nothing to take. Where memory is refused nothing was taken.
+    /// Takes a batch of at most `limit` entries, as the crate `syncer_gate` chooses it, with copies of the cells in
+    /// their feet. None comes exactly where there is nothing to take. Where memory is refused nothing was taken.
     pub fn claim(
         &mut self,
         alloc: Global,
@@ -183,20 +198,24 @@ impl<S: StartName, N: RunName, O: Sink> Book<S, N, O> {
     ) -> Result<Option<Order<S>>, OutOfMemory>
         requires conf { ready.now ≡ S.conf }
         requires limit { 1 ≤ limit }
-        ensures batch { IfOk result (λ made. option_map (λ order. order.batch) made ≡ batch_of self.old.gate.next (chosen (feet_of S.conf) self.old.gate self.old.entries limit)) }
+        ensures batch { IfOk result (λ made. option_map (λ order. order.batch) made ≡ batch_of self.old.gate.next
+            (chosen (feet_of S.conf) self.old.gate self.old.entries limit)) }
         ensures inputs { IfOk result (λ made. IfSome made (λ order. HasInputs (work_of self.old) order)) }
-        ensures gate { OnOk result (self.new.gate ≡ claimed self.old.gate (chosen (feet_of S.conf) self.old.gate self.old.entries limit)) }
-        ensures rest { (self.new.entries ≡ self.old.entries) × (self.new.cells ≡ self.old.cells) × (self.new.made ≡ self.old.made) }
-        ensures out { (self.new.frontier ≡ self.old.frontier) × (self.new.tally ≡ self.old.tally) × (self.new.sink ≡ self.old.sink) × (self.new.unwritten ≡ self.old.unwritten) }
+        ensures gate { OnOk result (self.new.gate ≡ claimed self.old.gate
+            (chosen (feet_of S.conf) self.old.gate self.old.entries limit)) }
+        ensures rest { (self.new.entries ≡ self.old.entries) × (self.new.cells ≡ self.old.cells)
+            × (self.new.made ≡ self.old.made) }
+        ensures out { (self.new.frontier ≡ self.old.frontier) × (self.new.tally ≡ self.old.tally)
+            × (self.new.sink ≡ self.old.sink) × (self.new.unwritten ≡ self.old.unwritten) }
         ensures err { OnErr result (self.new.gate.marks ≡ self.old.gate.marks) }
     {
         self.progress.going();
         self.progress.claim(alloc, ready, limit)
     }
 
-    /// Puts what an order came to in place: its entries are applied. Where its batch isn't open here nothing changes. Where
-    /// its inputs aren't what is here, its entries are worked out anew; else no step is counted. Where memory is refused the
-    /// order comes back, and all is as before.
+    /// Puts what an order came to in place: its entries are applied. Where its batch isn't open here nothing changes.
+    /// Where its inputs aren't what is here, its entries are worked out anew; else no step is counted. Where memory
+    /// is refused the order comes back, and all is as before.
     pub fn apply<L: Ledger>(
         &mut self,
         alloc: Global,
@@ -206,10 +225,12 @@ impl<S: StartName, N: RunName, O: Sink> Book<S, N, O> {
     ) -> Result<(), (Done<S>, OutOfMemory)>
         requires conf { ready.now ≡ S.conf }
         ensures entries { self.new.entries ≡ self.old.entries }
-        ensures open { OnOk result (IsOpenBatch self.old.gate done.order.batch → self.new.gate ≡ with_ended done.order.batch.id Mark.Applied self.old.gate) }
+        ensures open { OnOk result (IsOpenBatch self.old.gate done.order.batch
+            → self.new.gate ≡ with_ended done.order.batch.id Mark.Applied self.old.gate) }
         ensures other { (IsOpenBatch self.old.gate done.order.batch → ⊥) → self.new ≡ self.old }
         ensures uncounted { HasInputs (work_of self.old) done.order → steps.new ≡ steps.old }
-        ensures out { (self.new.frontier ≡ self.old.frontier) × (self.new.tally ≡ self.old.tally) × (self.new.sink ≡ self.old.sink) × (self.new.unwritten ≡ self.old.unwritten) }
+        ensures out { (self.new.frontier ≡ self.old.frontier) × (self.new.tally ≡ self.old.tally)
+            × (self.new.sink ≡ self.old.sink) × (self.new.unwritten ≡ self.old.unwritten) }
         ensures err { OnErr result (self.new ≡ self.old) }
         ensures back { IfErr result (λ refused. refused.0 ≡ done) }
     {
@@ -218,16 +239,19 @@ impl<S: StartName, N: RunName, O: Sink> Book<S, N, O> {
 
     /// Makes the entries of an order pending again. Where its batch isn't open here nothing changes. Takes no memory.
     pub fn give_back(&mut self, order: Order<S>)
-        ensures open { IsOpenBatch self.old.gate order.batch → self.new.gate ≡ with_ended order.batch.id Mark.Pending self.old.gate }
+        ensures open { IsOpenBatch self.old.gate order.batch
+            → self.new.gate ≡ with_ended order.batch.id Mark.Pending self.old.gate }
         ensures other { (IsOpenBatch self.old.gate order.batch → ⊥) → self.new ≡ self.old }
-        ensures rest { (self.new.entries ≡ self.old.entries) × (self.new.cells ≡ self.old.cells) × (self.new.made ≡ self.old.made) }
-        ensures out { (self.new.frontier ≡ self.old.frontier) × (self.new.tally ≡ self.old.tally) × (self.new.sink ≡ self.old.sink) × (self.new.unwritten ≡ self.old.unwritten) }
+        ensures rest { (self.new.entries ≡ self.old.entries) × (self.new.cells ≡ self.old.cells)
+            × (self.new.made ≡ self.old.made) }
+        ensures out { (self.new.frontier ≡ self.old.frontier) × (self.new.tally ≡ self.old.tally)
+            × (self.new.sink ≡ self.old.sink) × (self.new.unwritten ≡ self.old.unwritten) }
     {
         self.progress.give_back(order);
     }
 
-    /// Works out the first entry that may be claimed, in the cells themselves, and answers whether there was one: for one
-    /// thread. Where memory is refused all is as before but for the next batch's id.
+    /// Works out the first entry that may be claimed, in the cells themselves, and answers whether there was one: for
+    /// one thread. Where memory is refused all is as before but for the next batch's id.
     pub fn work_one<L: Ledger>(
         &mut self,
         alloc: Global,
@@ -236,12 +260,18 @@ impl<S: StartName, N: RunName, O: Sink> Book<S, N, O> {
     ) -> Result<bool, OutOfMemory>
         requires conf { ready.now ≡ S.conf }
         ensures entries { self.new.entries ≡ self.old.entries }
-        ensures one { IfOk result (λ some. some ≡ true → (id : ℕ) × (self.new.gate.marks ≡ (with_ended id Mark.Applied (claimed self.old.gate (chosen (feet_of S.conf) self.old.gate self.old.entries 1))).marks)) }
-        ensures none { IfOk result (λ some. some ≡ false → (chosen (feet_of S.conf) self.old.gate self.old.entries 1 ≡ []) × (self.new ≡ self.old)) }
+        ensures one { IfOk result (λ some. some ≡ true → (id : ℕ)
+            × (self.new.gate.marks ≡ (with_ended id Mark.Applied
+            (claimed self.old.gate (chosen (feet_of S.conf) self.old.gate self.old.entries 1))).marks)) }
+        ensures none { IfOk result (λ some. some ≡ false
+            → (chosen (feet_of S.conf) self.old.gate self.old.entries 1 ≡ []) × (self.new ≡ self.old)) }
         ensures more { IfOk result (λ some. some ≡ true → IsOneMore self.old.gate.marks self.new.gate.marks) }
-        ensures idle { IfOk result (λ some. some ≡ false → list_any is_open self.old.gate.marks ≡ false → list_any is_pending self.old.gate.marks ≡ false) }
-        ensures out { (self.new.frontier ≡ self.old.frontier) × (self.new.tally ≡ self.old.tally) × (self.new.sink ≡ self.old.sink) × (self.new.unwritten ≡ self.old.unwritten) }
-        ensures err { OnErr result ((self.new.gate.marks ≡ self.old.gate.marks) × (self.new.cells ≡ self.old.cells) × (self.new.made ≡ self.old.made)) }
+        ensures idle { IfOk result (λ some. some ≡ false → list_any is_open self.old.gate.marks ≡ false
+            → list_any is_pending self.old.gate.marks ≡ false) }
+        ensures out { (self.new.frontier ≡ self.old.frontier) × (self.new.tally ≡ self.old.tally)
+            × (self.new.sink ≡ self.old.sink) × (self.new.unwritten ≡ self.old.unwritten) }
+        ensures err { OnErr result ((self.new.gate.marks ≡ self.old.gate.marks) × (self.new.cells ≡ self.old.cells)
+            × (self.new.made ≡ self.old.made)) }
     {
         self.progress.going();
         self.progress.work_one(alloc, ready, steps)
@@ -252,7 +282,8 @@ impl<S: StartName, N: RunName, O: Sink> Book<S, N, O> {
         requires before { self.old.frontier < applied }
         requires within { applied ≤ length self.old.entries }
         requires applied { AreApplied self.old.gate.marks applied }
-        ensures rest { self.new ≡ record self.old { frontier = self.new.frontier; tally = self.new.tally; unwritten = self.new.unwritten } }
+        ensures rest { self.new ≡ record self.old
+            { frontier = self.new.frontier; tally = self.new.tally; unwritten = self.new.unwritten } }
         ensures next { OnOk result (self.new.frontier ≡ self.old.frontier + 1) }
         ensures err { OnErr result (self.new ≡ self.old) }
     {
@@ -280,7 +311,8 @@ impl<S: StartName, N: RunName, O: Sink> Book<S, N, O> {
 
     /// Passes the entries that are applied with all before them. At `Err` some of them may be passed.
     fn pass_all(&mut self, alloc: Global) -> Result<(), OutOfMemory>
-        ensures rest { self.new ≡ record self.old { frontier = self.new.frontier; tally = self.new.tally; unwritten = self.new.unwritten } }
+        ensures rest { self.new ≡ record self.old
+            { frontier = self.new.frontier; tally = self.new.tally; unwritten = self.new.unwritten } }
         ensures frontier { OnOk result (IsFrontier self.new.gate.marks self.new.entries self.new.frontier) }
     {
         let applied = self.applied();
@@ -295,7 +327,8 @@ impl<S: StartName, N: RunName, O: Sink> Book<S, N, O> {
         ensures rest { self.new ≡ record self.old { sink = self.new.sink; unwritten = self.new.unwritten } }
         ensures all { OnOk result (self.new.unwritten ≡ []) }
         ensures later { self.old.sink.faults ≤ self.new.sink.faults }
-        ensures cause { IfErr result (λ error. (error ≡ FlushError.OutboxFault) × Rose self.old.sink.faults self.new.sink.faults) }
+        ensures cause { IfErr result (λ error. (error ≡ FlushError.OutboxFault)
+            × Rose self.old.sink.faults self.new.sink.faults) }
     {
         write_out(alloc, &mut self.outbox, &mut self.unwritten)?;
         Ok(())
@@ -304,22 +337,25 @@ impl<S: StartName, N: RunName, O: Sink> Book<S, N, O> {
     /// What the outbox has, once all lines are written.
     fn told(&self)
         requires { self.now.unwritten ≡ [] }
-        ensures { Grew S.outbox self.now.sink (drop S.outbox.held (lines_upto S.conf self.now.entries self.now.frontier)) }
+        ensures { Grew S.outbox self.now.sink (drop S.outbox.held
+            (lines_upto S.conf self.now.entries self.now.frontier)) }
     {
         let _ = &self.unwritten;
     }
 
-    /// Makes the lines of the entries that are applied with all before them, and writes the lines that the outbox doesn't have.
+    /// Makes the lines of the entries that are applied with all before them, and writes the lines that the outbox
+    /// doesn't have.
     ///
     /// # Errors
     ///
-    /// `OutboxFault` where the outbox failed: some of the lines from the front are out, and the next call goes on behind them.
-    /// `OutOfMemory` where memory was refused: nothing was written.
+    /// `OutboxFault` where the outbox failed: some of the lines from the front are out, and the next call goes on
+    /// behind them. `OutOfMemory` where memory was refused: nothing was written.
     pub fn flush(&mut self, alloc: Global) -> Result<(), FlushError>
         ensures work { work_of self.new ≡ work_of self.old }
         ensures frontier { OnOk result (IsFrontier self.new.gate.marks self.new.entries self.new.frontier) }
         ensures all { OnOk result (self.new.unwritten ≡ []) }
-        ensures lines { OnOk result (Grew S.outbox self.new.sink (drop S.outbox.held (lines_upto S.conf self.new.entries self.new.frontier))) }
+        ensures lines { OnOk result (Grew S.outbox self.new.sink
+            (drop S.outbox.held (lines_upto S.conf self.new.entries self.new.frontier))) }
         ensures later { self.old.sink.faults ≤ self.new.sink.faults }
         ensures cause { IsErrOf result FlushError.OutboxFault → Rose self.old.sink.faults self.new.sink.faults }
         ensures unwritten { IsErrOf result FlushError.OutOfMemory → self.new.sink ≡ self.old.sink }
@@ -330,13 +366,14 @@ impl<S: StartName, N: RunName, O: Sink> Book<S, N, O> {
         Ok(())
     }
 
-    /// Ends all open batches, and works out all entries, one after another, in the cells themselves: for one thread. At `Err`
-    /// some of them are worked out.
+    /// Ends all open batches, and works out all entries, one after another, in the cells themselves: for one thread.
+    /// At `Err` some of them are worked out.
     pub fn work_all(&mut self, alloc: Global, ready: &Ready) -> Result<(), OutOfMemory>
         requires conf { ready.now ≡ S.conf }
         ensures entries { self.new.entries ≡ self.old.entries }
         ensures all { OnOk result (AreApplied self.new.gate.marks (length self.new.entries)) }
-        ensures out { (self.new.frontier ≡ self.old.frontier) × (self.new.tally ≡ self.old.tally) × (self.new.sink ≡ self.old.sink) × (self.new.unwritten ≡ self.old.unwritten) }
+        ensures out { (self.new.frontier ≡ self.old.frontier) × (self.new.tally ≡ self.old.tally)
+            × (self.new.sink ≡ self.old.sink) × (self.new.unwritten ≡ self.old.unwritten) }
     {
         work_all(alloc, ready, &mut self.progress)
     }
@@ -363,7 +400,8 @@ impl<S: StartName, N: RunName, O: Sink> Book<S, N, O> {
 
     /// The outbox, which has some of the lines from the front.
     fn into_outbox(self) -> O
-        ensures front { (all : List Numbered) → IsPrefix self.entries all → GrewByFront S.outbox (O.tells result) (drop S.outbox.held (log_lines S.conf (log_of all))) }
+        ensures front { (all : List Numbered) → IsPrefix self.entries all
+            → GrewByFront S.outbox (O.tells result) (drop S.outbox.held (log_lines S.conf (log_of all))) }
         ensures sink { O.tells result ≡ self.sink }
     {
         let Book {
@@ -382,9 +420,11 @@ impl<S: StartName, N: RunName, O: Sink> Book<S, N, O> {
         requires frontier { self.frontier ≡ length self.entries }
         requires unwritten { self.unwritten ≡ [] }
         ensures entries { result.entries ≡ self.entries }
-        ensures lines { Grew S.outbox (O.tells result.outbox) (drop S.outbox.held (log_lines S.conf (log_of self.entries))) }
+        ensures lines { Grew S.outbox (O.tells result.outbox)
+            (drop S.outbox.held (log_lines S.conf (log_of self.entries))) }
         ensures sink { O.tells result.outbox ≡ self.sink }
-        ensures counts { tally_of (replay S.conf (log_of self.entries)) ≡ record { problems = result.problems; recoveries = result.recoveries; messages = result.messages; bytes = result.bytes } }
+        ensures counts { tally_of (replay S.conf (log_of self.entries)) ≡ record
+            { problems = result.problems; recoveries = result.recoveries; messages = result.messages; bytes = result.bytes } }
     {
         let Book {
             progress,
@@ -408,8 +448,8 @@ impl<S: StartName, N: RunName, O: Sink> Book<S, N, O> {
     ///
     /// # Errors
     ///
-    /// `OutboxFault` where the outbox failed, and `OutOfMemory` where memory was refused: the outbox comes back, and has some
-    /// of the lines from the front.
+    /// `OutboxFault` where the outbox failed, and `OutOfMemory` where memory was refused: the outbox comes back, and
+    /// has some of the lines from the front.
     pub fn finish(
         self,
         alloc: Global,
@@ -418,12 +458,16 @@ impl<S: StartName, N: RunName, O: Sink> Book<S, N, O> {
     ) -> Result<Closed<O>, (O, FlushError)>
         requires conf { ready.now ≡ S.conf }
         ensures entries { IfOk result (λ closed. closed.entries ≡ S.kept ++ head.sent) }
-        ensures lines { IfOk result (λ closed. Grew S.outbox (O.tells closed.outbox) (drop S.outbox.held (log_lines S.conf (log_of (S.kept ++ head.sent))))) }
-        ensures counts { IfOk result (λ closed. tally_of (replay S.conf (log_of (S.kept ++ head.sent))) ≡ record { problems = closed.problems; recoveries = closed.recoveries; messages = closed.messages; bytes = closed.bytes }) }
-        ensures front { IfErr result (λ refused. GrewByFront S.outbox (O.tells refused.0) (drop S.outbox.held (log_lines S.conf (log_of (S.kept ++ head.sent))))) }
+        ensures lines { IfOk result (λ closed. Grew S.outbox (O.tells closed.outbox)
+            (drop S.outbox.held (log_lines S.conf (log_of (S.kept ++ head.sent))))) }
+        ensures counts { IfOk result (λ closed. tally_of (replay S.conf (log_of (S.kept ++ head.sent))) ≡ record
+            { problems = closed.problems; recoveries = closed.recoveries; messages = closed.messages; bytes = closed.bytes }) }
+        ensures front { IfErr result (λ refused. GrewByFront S.outbox (O.tells refused.0)
+            (drop S.outbox.held (log_lines S.conf (log_of (S.kept ++ head.sent))))) }
         ensures later { IfOk result (λ closed. self.sink.faults ≤ (O.tells closed.outbox).faults) }
         ensures later_err { IfErr result (λ refused. self.sink.faults ≤ (O.tells refused.0).faults) }
-        ensures cause { IfErr result (λ refused. refused.1 ≡ FlushError.OutboxFault → Rose self.sink.faults (O.tells refused.0).faults) }
+        ensures cause { IfErr result (λ refused. refused.1 ≡ FlushError.OutboxFault
+            → Rose self.sink.faults (O.tells refused.0).faults) }
     {
         let mut book = self;
         let mut head = head;

@@ -149,7 +149,8 @@ fn scratch_of<S: StartName>(
 
 /// Keeps spare cells, if there is room.
 pub(crate) fn put_by(spare: &mut Vec<Cells>, scratch: Cells)
-    ensures { (conf : Conf) → All (λ cells. Holds conf cells []) spare.old.items → Holds conf scratch [] → All (λ cells. Holds conf cells []) spare.new.items }
+    ensures { (conf : Conf) → All (λ cells. Holds conf cells []) spare.old.items → Holds conf scratch []
+        → All (λ cells. Holds conf cells []) spare.new.items }
 {
     let _ = spare.push(scratch);
 }
@@ -168,7 +169,8 @@ pub(crate) fn order_of<S: StartName>(
     requires spare { All (λ cells. Holds S.conf cells []) spare.old.items }
     ensures batch { IfOk result (λ order. order.batch ≡ batch) }
     ensures entries { IfOk result (λ order. order.entries ≡ entries_with batch.numbers entries.now) }
-    ensures part { IfOk result (λ order. IsPartOf S.conf (entries_with batch.numbers entries.now) cells.now order.part) }
+    ensures part { IfOk result (λ order. IsPartOf S.conf (entries_with batch.numbers entries.now) cells.now
+        order.part) }
     ensures spare { All (λ cells. Holds S.conf cells []) spare.new.items }
     ensures back { IfErr result (λ refused. refused.0 ≡ batch) }
 {
@@ -223,7 +225,8 @@ fn rework<S: StartName, L: Ledger>(
     requires ready { AreReady S.conf cells.now entries.now numbers.now }
     requires scratch { Holds S.conf scratch.old [] }
     ensures entries { IfOk result (λ again. again.entries ≡ entries_with numbers.now entries.now) }
-    ensures made { IfOk result (λ again. AreOutputs S.conf cells.now (entries_with numbers.now entries.now) again.part again.made) }
+    ensures made { IfOk result (λ again. AreOutputs S.conf cells.now (entries_with numbers.now entries.now)
+        again.part again.made) }
     ensures scratch { Holds S.conf scratch.new [] }
 {
     let inputs = inputs_of::<S>(alloc, ready, cells, entries, numbers)?;
@@ -244,7 +247,8 @@ fn is_usable(cells: &Cells, entries: &[Numbered], given: &[Numbered], copies: &P
     are_here(entries, given) && cells.same(copies)
 }
 
-/// What an order came to, where its inputs are what is here; else what comes of it anew. Where memory is refused it comes back.
+/// What an order came to, where its inputs are what is here; else what comes of it anew. Where memory is refused it
+/// comes back.
 pub(crate) fn outputs_of<S: StartName, L: Ledger>(
     alloc: Global,
     ready: &Ready,
@@ -257,9 +261,11 @@ pub(crate) fn outputs_of<S: StartName, L: Ledger>(
     requires ready { AreReady S.conf cells.now entries.now done.order.batch.numbers }
     ensures batch { IfOk result (λ made. made.batch ≡ done.order.batch) }
     ensures entries { IfOk result (λ made. made.entries ≡ entries_with done.order.batch.numbers entries.now) }
-    ensures made { IfOk result (λ made. AreOutputs S.conf cells.now (entries_with done.order.batch.numbers entries.now) made.part made.made) }
+    ensures made { IfOk result (λ made. AreOutputs S.conf cells.now
+        (entries_with done.order.batch.numbers entries.now) made.part made.made) }
     ensures scratch { IfOk result (λ made. Holds S.conf made.scratch []) }
-    ensures uncounted { entries_with done.order.batch.numbers entries.now ≡ done.order.entries → IsSame cells.now done.order.part → steps.new ≡ steps.old }
+    ensures uncounted { entries_with done.order.batch.numbers entries.now ≡ done.order.entries
+        → IsSame cells.now done.order.part → steps.new ≡ steps.old }
     ensures back { IfErr result (λ refused. refused.0 ≡ done) }
 {
     let Done { order, part, made } = done;
@@ -327,7 +333,8 @@ pub(crate) fn put_in(
 )
     requires within { All (λ e. (0 < e.number) × (e.number ≤ length made.old.items)) entries.now }
     requires one { length lists ≡ length entries.now }
-    ensures { (conf : Conf) → AreOutputs conf cells.old entries.now part lists → IsWorkedIn conf entries.now cells.old made.old.items cells.new made.new.items }
+    ensures { (conf : Conf) → AreOutputs conf cells.old entries.now part lists
+        → IsWorkedIn conf entries.now cells.old made.old.items cells.new made.new.items }
 {
     cells.put(part);
     keep(made, entries, lists);
@@ -347,7 +354,8 @@ pub(crate) fn work_in<S: StartName, L: Ledger>(
     requires ready { AreReady S.conf cells.old entries.now numbers.now }
     requires one { length numbers.now ≡ 1 }
     requires size { length made.old.items ≡ length entries.now }
-    ensures works { OnOk result (IsWorkedIn S.conf (entries_with numbers.now entries.now) cells.old made.old.items cells.new made.new.items) }
+    ensures works { OnOk result (IsWorkedIn S.conf (entries_with numbers.now entries.now) cells.old made.old.items
+        cells.new made.new.items) }
     ensures err { OnErr result ((cells.new ≡ cells.old) × (made.new.items ≡ made.old.items)) }
 {
     let number = numbers[0];
@@ -367,12 +375,16 @@ pub(crate) fn take_batch<S: StartName>(
     requires conf { ready.now ≡ S.conf }
     requires limit { 1 ≤ limit }
     requires offered { AreOffered claims.old entries.now }
-    ensures batch { IfOk result (λ taken. taken ≡ batch_of claims.old.next (chosen (feet_of S.conf) claims.old entries.now limit)) }
-    ensures gate { OnOk result (claims.new ≡ claimed claims.old (chosen (feet_of S.conf) claims.old entries.now limit)) }
+    ensures batch { IfOk result (λ taken. taken ≡ batch_of claims.old.next
+        (chosen (feet_of S.conf) claims.old entries.now limit)) }
+    ensures gate { OnOk result (claims.new ≡ claimed claims.old
+        (chosen (feet_of S.conf) claims.old entries.now limit)) }
     ensures some { IfOk result (λ taken. IfSome taken (IsClaim S.conf entries.now claims.old claims.new)) }
-    ensures few { IfOk result (λ taken. IfSome taken (λ batch. (0 < length batch.numbers) × (length batch.numbers ≤ limit))) }
+    ensures few { IfOk result (λ taken. IfSome taken (λ batch. (0 < length batch.numbers)
+        × (length batch.numbers ≤ limit))) }
     ensures none { IfOk result (λ taken. IfNone taken (claims.new ≡ claims.old)) }
-    ensures idle { IfOk result (λ taken. IfNone taken (list_any is_open claims.old.marks ≡ false → list_any is_pending claims.old.marks ≡ false)) }
+    ensures idle { IfOk result (λ taken. IfNone taken (list_any is_open claims.old.marks ≡ false
+        → list_any is_pending claims.old.marks ≡ false)) }
     ensures err { OnErr result (claims.new ≡ claims.old) }
 {
     let taken = claims.claim(alloc, ready.feet(), entries, limit)?;

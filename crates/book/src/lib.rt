@@ -2,25 +2,27 @@
 //! syncers share, and the orders that they work out apart from it.
 //!
 //! Numbered entries go into the ring at its head and come out at its end, each once, in the order of their numbers.
-//! Head and end may be in two threads. The end belongs to the book, which takes the entries out. A syncer claims an order,
-//! some entries with copies of the cells that they touch, works it out on its own, and brings it back; the book puts what
-//! it came to in place, in whatever order the orders come back. The book passes the entries that are worked out with all
-//! before them, and writes their lines to the outbox.
+//! Head and end may be in two threads. The end belongs to the book, which takes the entries out. A syncer claims an
+//! order, some entries with copies of the cells that they touch, works it out on its own, and brings it back; the
+//! book puts what it came to in place, in whatever order the orders come back. The book passes the entries that are
+//! worked out with all before them, and writes their lines to the outbox.
 //!
-//! The one contract: whatever is pulled, claimed, applied, given back and flushed, what the outbox got since the opening is
-//! a front of the lines that one thread makes which takes the entries in the order of their numbers, but for as many of
-//! their first bytes as the outbox held; none is missing and none comes twice. Once the book is finished ([`Book::finish`])
-//! they are all out, of the entries with which the run began and of all that went into the ring.
+//! The one contract: whatever is pulled, claimed, applied, given back and flushed, what the outbox got since the
+//! opening is a front of the lines that one thread makes which takes the entries in the order of their numbers, but
+//! for as many of their first bytes as the outbox held; none is missing and none comes twice. Once the book is
+//! finished ([`Book::finish`]) they are all out, of the entries with which the run began and of all that went into
+//! the ring.
 //!
 //! A book goes through these states. It is made of the entries that the journal kept, which it works out itself
-//! ([`Book::new`]); an outbox that holds more than their lines is refused. Then any calls may come, from one thread at a
-//! time. Where the outbox fails, some lines from the front are out, and the next flush goes on behind them. Where memory
-//! is refused nothing is lost. At the end all open batches are given back, and one thread works out what is left.
+//! ([`Book::new`]); an outbox that holds more than their lines is refused. Then any calls may come, from one thread
+//! at a time. Where the outbox fails, some lines from the front are out, and the next flush goes on behind them.
+//! Where memory is refused nothing is lost. At the end all open batches are given back, and one thread works out what
+//! is left.
 //!
 //! A run has two names, which stand for contracts alone. [`StartName`] is with what it begins: its configuration, the
-//! entries that its journal kept, which don't go through the ring, and what its outbox told. [`RunName`] is which ring is
-//! its own. Two ends with the same names are of one ring, so a call that takes both asks for nothing more, also where one
-//! of them comes out of a lock.
+//! entries that its journal kept, which don't go through the ring, and what its outbox told. [`RunName`] is which
+//! ring is its own. Two ends with the same names are of one ring, so a call that takes both asks for nothing more,
+//! also where one of them comes out of a lock.
 //!
 //! ```text
 //! let ring = Ring::<S>::new(alloc, 4096)?;                    // no entry was sent
@@ -38,9 +40,9 @@
 //! let closed = book.finish(alloc, ready, head)?;              // all lines are out
 //! ```
 //!
-//! A function with a parameter `S: StartName` or `N: RunName` is proved for every name. Its caller passes `Brand`, and picks
-//! the name in its own `Invariants.antt`: the first from what the run begins with, the second from the ring that it hands
-//! over.
+//! A function with a parameter `S: StartName` or `N: RunName` is proved for every name. Its caller passes `Brand`,
+//! and picks the name in its own `Invariants.antt`: the first from what the run begins with, the second from the ring
+//! that it hands over.
 //!
 //! [`laws`] is about the work on the entries. To the core of `syncer_gate` it adds cells, and the records that are
 //! kept of each entry under its number: where a batch ends with its results, its entries are worked out over the

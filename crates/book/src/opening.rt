@@ -17,7 +17,8 @@ use entry_step::Ready;
 use std::alloc::Global;
 use zbx_types::{Bytes, Many, Numbered, OutOfMemory};
 
-/// The work on entries that are all worked out, the counts of their records, and those of their lines that an outbox lacks.
+/// The work on entries that are all worked out, the counts of their records, and those of their lines that an outbox
+/// lacks.
 #[derive(Drop)]
 pub(crate) struct Begun<S: StartName> {
     pub progress: Progress<S>,

@@ -58,8 +58,8 @@ impl<S: StartName> Order<S> {
         self.batch.numbers.as_slice().first().copied().unwrap_or(0)
     }
 
-    /// Works the entries out, one after another, on the copies. It needs nothing of the book. One step is counted for each
-    /// trigger that is evaluated. Where memory is refused, the order comes back as it was.
+    /// Works the entries out, one after another, on the copies. It needs nothing of the book. One step is counted for
+    /// each trigger that is evaluated. Where memory is refused, the order comes back as it was.
     pub fn run<L: Ledger>(
         self,
         alloc: Global,

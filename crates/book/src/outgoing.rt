@@ -53,7 +53,8 @@ pub(crate) fn add_behind(
     missing: &mut Bytes,
 ) -> Result<(), OutOfMemory>
     ensures { OnOk result ((before : List Rec) → tally.old ≡ tally_of before → missing.old ≡ drop held (lines_of before)
-        → (tally.new ≡ tally_of (before ++ records.now)) × (missing.new ≡ drop held (lines_of (before ++ records.now)))) }
+        → (tally.new ≡ tally_of (before ++ records.now))
+        × (missing.new ≡ drop held (lines_of (before ++ records.now)))) }
 {
     let before = tally.bytes;
     let mut lines = Bytes::new(alloc);
@@ -79,7 +80,8 @@ pub(crate) fn write_out<O: Sink>(
     outbox: &mut O,
     unwritten: &mut Bytes,
 ) -> Result<(), Failed>
-    ensures written { (front : List ℕ) × Grew (O.tells outbox.old) (O.tells outbox.new) front × (unwritten.old ≡ front ++ unwritten.new) }
+    ensures written { (front : List ℕ) × Grew (O.tells outbox.old) (O.tells outbox.new) front
+        × (unwritten.old ≡ front ++ unwritten.new) }
     ensures all { OnOk result (unwritten.new ≡ []) }
     ensures cause { HasCause (O.tells outbox.old).faults (O.tells outbox.new).faults result }
 {

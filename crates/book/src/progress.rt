@@ -1,4 +1,5 @@
-//! How far the work on the entries is: the entries themselves, where each of them stands, the cells, and the records kept.
+//! How far the work on the entries is: the entries themselves, where each of them stands, the cells, and the records
+//! kept.
 
 ghost use Rattle.std.specs.Prelude.{◌≡◌, ◌≢◌, ◌≤◌, ◌<◌, ◌+◌, ◌++◌, [], ℕ, true, false, length, map, replicate, get_or, IfOk, IfErr, IfSome, OnOk, OnErr, Some, None, take};
 ghost use Rattle.std.specs.Option.{option_map};
@@ -28,8 +29,8 @@ use std::sync::ledger::Ledger;
 use syncer_gate::Claims;
 use zbx_types::{Many, Numbered, OutOfMemory, Rec};
 
-/// The entries in the order of their numbers, where each of them stands, the cells behind those that are applied, and the
-/// records of these. Some cells before the first entry are spare, for orders to work in.
+/// The entries in the order of their numbers, where each of them stands, the cells behind those that are applied, and
+/// the records of these. Some cells before the first entry are spare, for orders to work in.
 #[derive(Drop)]
 pub(crate) struct Progress<S: StartName> {
     entries: Vec<Numbered>,
@@ -73,7 +74,8 @@ fn kept_at(made: &Vec<Many<Rec>>, place: usize) -> &[Rec]
     }
 }
 
-/// Takes so many entries out of the ring, which are known to be there, to places that are there. None of them has records.
+/// Takes so many entries out of the ring, which are known to be there, to places that are there. None of them has
+/// records.
 #[tactic(auto, using(crate::proofs::Batches::more_came))]
 fn pull_known<S: StartName, N: RunName>(
     alloc: Global,
@@ -112,7 +114,8 @@ impl<S: StartName> Progress<S> {
         requires conf { ready.now ≡ S.conf }
         requires whole { IsWholeLog S.conf entries }
         ensures entries { IfOk result (λ p. p.entries ≡ entries) }
-        ensures pending { IfOk result (λ p. p.gate ≡ record { first = 1; marks = replicate (length entries) Mark.Pending; next = 1 }) }
+        ensures pending { IfOk result (λ p. p.gate ≡ record
+            { first = 1; marks = replicate (length entries) Mark.Pending; next = 1 }) }
     {
         let count = entries.len();
         let entries = entries.into_vec();
@@ -146,8 +149,10 @@ impl<S: StartName> Progress<S> {
         ensures fifo { ring.new.received ++ ring.new.known ≡ ring.old.received ++ ring.old.known }
         ensures capacity { ring.new.capacity ≡ ring.old.capacity }
         ensures count { OnOk result (length ring.new.received ≡ length ring.old.received + count) }
-        ensures gate { OnOk result (self.new.gate ≡ record self.old.gate { marks = self.old.gate.marks ++ replicate count Mark.Pending }) }
-        ensures rest { (self.new.cells ≡ self.old.cells) × ((n : ℕ) → get_or self.new.made n [] ≡ get_or self.old.made n []) }
+        ensures gate { OnOk result (self.new.gate ≡ record self.old.gate
+            { marks = self.old.gate.marks ++ replicate count Mark.Pending }) }
+        ensures rest { (self.new.cells ≡ self.old.cells)
+            × ((n : ℕ) → get_or self.new.made n [] ≡ get_or self.old.made n []) }
         ensures err { OnErr result (self.new ≡ self.old) }
         ensures err_ring { OnErr result (ring.new ≡ ring.old) }
     {
@@ -161,8 +166,8 @@ impl<S: StartName> Progress<S> {
         Ok(())
     }
 
-    /// Takes a batch of at most `limit` entries, as the crate `syncer_gate` chooses it, with copies of the cells in their
-    /// feet. None comes exactly where there is nothing to take. Where memory is refused nothing was taken.
+    /// Takes a batch of at most `limit` entries, as the crate `syncer_gate` chooses it, with copies of the cells in
+    /// their feet. None comes exactly where there is nothing to take. Where memory is refused nothing was taken.
     pub(crate) fn claim(
         &mut self,
         alloc: Global,
@@ -171,10 +176,13 @@ impl<S: StartName> Progress<S> {
     ) -> Result<Option<Order<S>>, OutOfMemory>
         requires conf { ready.now ≡ S.conf }
         requires limit { 1 ≤ limit }
-        ensures batch { IfOk result (λ made. option_map (λ order. order.batch) made ≡ batch_of self.old.gate.next (chosen (feet_of S.conf) self.old.gate self.old.entries limit)) }
+        ensures batch { IfOk result (λ made. option_map (λ order. order.batch) made ≡ batch_of self.old.gate.next
+            (chosen (feet_of S.conf) self.old.gate self.old.entries limit)) }
         ensures inputs { IfOk result (λ made. IfSome made (λ order. HasInputs self.old order)) }
-        ensures gate { OnOk result (self.new.gate ≡ claimed self.old.gate (chosen (feet_of S.conf) self.old.gate self.old.entries limit)) }
-        ensures rest { (self.new.entries ≡ self.old.entries) × (self.new.cells ≡ self.old.cells) × (self.new.made ≡ self.old.made) }
+        ensures gate { OnOk result (self.new.gate ≡ claimed self.old.gate
+            (chosen (feet_of S.conf) self.old.gate self.old.entries limit)) }
+        ensures rest { (self.new.entries ≡ self.old.entries) × (self.new.cells ≡ self.old.cells)
+            × (self.new.made ≡ self.old.made) }
         ensures err { OnErr result (self.new.gate.marks ≡ self.old.gate.marks) }
     {
         let all = self.entries.as_slice();
@@ -193,9 +201,9 @@ impl<S: StartName> Progress<S> {
         }
     }
 
-    /// Puts what an order came to in place: its entries are applied. Where its batch isn't open here nothing changes. Where
-    /// its inputs aren't what is here, its entries are worked out anew; else no step is counted. Where memory is refused the
-    /// order comes back, and all is as before.
+    /// Puts what an order came to in place: its entries are applied. Where its batch isn't open here nothing changes.
+    /// Where its inputs aren't what is here, its entries are worked out anew; else no step is counted. Where memory
+    /// is refused the order comes back, and all is as before.
     pub(crate) fn apply<L: Ledger>(
         &mut self,
         alloc: Global,
@@ -205,7 +213,8 @@ impl<S: StartName> Progress<S> {
     ) -> Result<(), (Done<S>, OutOfMemory)>
         requires conf { ready.now ≡ S.conf }
         ensures entries { self.new.entries ≡ self.old.entries }
-        ensures open { OnOk result (IsOpenBatch self.old.gate done.order.batch → self.new.gate ≡ with_ended done.order.batch.id Mark.Applied self.old.gate) }
+        ensures open { OnOk result (IsOpenBatch self.old.gate done.order.batch
+            → self.new.gate ≡ with_ended done.order.batch.id Mark.Applied self.old.gate) }
         ensures other { (IsOpenBatch self.old.gate done.order.batch → ⊥) → self.new ≡ self.old }
         ensures uncounted { HasInputs self.old done.order → steps.new ≡ steps.old }
         ensures err { OnErr result (self.new ≡ self.old) }
@@ -235,19 +244,22 @@ impl<S: StartName> Progress<S> {
         Ok(())
     }
 
-    /// Makes the entries of an order pending again. Where its batch isn't open here nothing changes. It is never refused.
+    /// Makes the entries of an order pending again. Where its batch isn't open here nothing changes. It is never
+    /// refused.
     pub(crate) fn give_back(&mut self, order: Order<S>)
-        ensures open { IsOpenBatch self.old.gate order.batch → self.new.gate ≡ with_ended order.batch.id Mark.Pending self.old.gate }
+        ensures open { IsOpenBatch self.old.gate order.batch
+            → self.new.gate ≡ with_ended order.batch.id Mark.Pending self.old.gate }
         ensures other { (IsOpenBatch self.old.gate order.batch → ⊥) → self.new ≡ self.old }
-        ensures rest { (self.new.entries ≡ self.old.entries) × (self.new.cells ≡ self.old.cells) × (self.new.made ≡ self.old.made) }
+        ensures rest { (self.new.entries ≡ self.old.entries) × (self.new.cells ≡ self.old.cells)
+            × (self.new.made ≡ self.old.made) }
     {
         let Order { batch, scratch, .. } = order;
         put_by(&mut self.spare, scratch);
         self.claims.give_back(batch);
     }
 
-    /// Works out the first entry that may be claimed, in the cells themselves, and answers whether there was one. Where memory
-    /// is refused all is as before but for the next batch's id.
+    /// Works out the first entry that may be claimed, in the cells themselves, and answers whether there was one.
+    /// Where memory is refused all is as before but for the next batch's id.
     pub(crate) fn work_one<L: Ledger>(
         &mut self,
         alloc: Global,
@@ -256,11 +268,16 @@ impl<S: StartName> Progress<S> {
     ) -> Result<bool, OutOfMemory>
         requires conf { ready.now ≡ S.conf }
         ensures entries { self.new.entries ≡ self.old.entries }
-        ensures one { IfOk result (λ some. some ≡ true → (id : ℕ) × (self.new.gate.marks ≡ (with_ended id Mark.Applied (claimed self.old.gate (chosen (feet_of S.conf) self.old.gate self.old.entries 1))).marks)) }
-        ensures none { IfOk result (λ some. some ≡ false → (chosen (feet_of S.conf) self.old.gate self.old.entries 1 ≡ []) × (self.new ≡ self.old)) }
+        ensures one { IfOk result (λ some. some ≡ true → (id : ℕ)
+            × (self.new.gate.marks ≡ (with_ended id Mark.Applied
+            (claimed self.old.gate (chosen (feet_of S.conf) self.old.gate self.old.entries 1))).marks)) }
+        ensures none { IfOk result (λ some. some ≡ false
+            → (chosen (feet_of S.conf) self.old.gate self.old.entries 1 ≡ []) × (self.new ≡ self.old)) }
         ensures more { IfOk result (λ some. some ≡ true → IsOneMore self.old.gate.marks self.new.gate.marks) }
-        ensures idle { IfOk result (λ some. some ≡ false → list_any is_open self.old.gate.marks ≡ false → list_any is_pending self.old.gate.marks ≡ false) }
-        ensures err { OnErr result ((self.new.gate.marks ≡ self.old.gate.marks) × (self.new.cells ≡ self.old.cells) × (self.new.made ≡ self.old.made)) }
+        ensures idle { IfOk result (λ some. some ≡ false → list_any is_open self.old.gate.marks ≡ false
+            → list_any is_pending self.old.gate.marks ≡ false) }
+        ensures err { OnErr result ((self.new.gate.marks ≡ self.old.gate.marks) × (self.new.cells ≡ self.old.cells)
+            × (self.new.made ≡ self.old.made)) }
     {
         let all = self.entries.as_slice();
         let taken = take_batch::<S>(alloc, ready, &mut self.claims, all, 1)?;
@@ -283,8 +300,8 @@ impl<S: StartName> Progress<S> {
         }
     }
 
-    /// Ends all open batches, whose entries are pending again, and works out all entries, one after another. At `Err` some of
-    /// them are worked out.
+    /// Ends all open batches, whose entries are pending again, and works out all entries, one after another. At `Err`
+    /// some of them are worked out.
     pub(crate) fn work_all<L: Ledger>(
         &mut self,
         alloc: Global,
@@ -293,8 +310,10 @@ impl<S: StartName> Progress<S> {
     ) -> Result<(), OutOfMemory>
         requires conf { ready.now ≡ S.conf }
         ensures entries { self.new.entries ≡ self.old.entries }
-        ensures all { OnOk result ((i : ℕ) → i < length self.new.entries → get_or self.new.gate.marks i Mark.Pending ≡ Mark.Applied) }
-        ensures applied { (i : ℕ) → get_or self.old.gate.marks i Mark.Pending ≡ Mark.Applied → get_or self.new.gate.marks i Mark.Pending ≡ Mark.Applied }
+        ensures all { OnOk result ((i : ℕ) → i < length self.new.entries
+            → get_or self.new.gate.marks i Mark.Pending ≡ Mark.Applied) }
+        ensures applied { (i : ℕ) → get_or self.old.gate.marks i Mark.Pending ≡ Mark.Applied
+            → get_or self.new.gate.marks i Mark.Pending ≡ Mark.Applied }
     {
         self.reopen();
         for _entry in 0..self.len() {
@@ -307,7 +326,10 @@ impl<S: StartName> Progress<S> {
 
     /// Ends all open batches, whose entries are pending again.
     fn reopen(&mut self)
-        ensures reopened { self.new ≡ record self.old { gate = record self.old.gate { marks = map reopened self.old.gate.marks } } }
+        ensures reopened { self.new ≡ record self.old {
+          gate = record self.old.gate
+              { marks = map reopened self.old.gate.marks };
+        } }
         ensures size { length self.new.gate.marks ≡ length self.new.entries }
     {
         self.claims.give_back_all();
@@ -317,7 +339,8 @@ impl<S: StartName> Progress<S> {
     pub(crate) fn applied(&self) -> usize
         ensures within { result ≤ length self.now.entries }
         ensures applied { (i : ℕ) → i < result → get_or self.now.gate.marks i Mark.Pending ≡ Mark.Applied }
-        ensures next { result < length self.now.entries → get_or self.now.gate.marks result Mark.Pending ≢ Mark.Applied }
+        ensures next { result < length self.now.entries
+            → get_or self.now.gate.marks result Mark.Pending ≢ Mark.Applied }
     {
         self.claims.applied()
     }
@@ -326,7 +349,8 @@ impl<S: StartName> Progress<S> {
     pub(crate) fn records(&self, place: usize) -> &[Rec]
         ensures made { result.now ≡ get_or self.now.made place [] }
         ensures next { place < length self.now.entries → get_or self.now.gate.marks place Mark.Pending ≡ Mark.Applied
-            → replay S.conf (log_of (take (place + 1) self.now.entries)) ≡ replay S.conf (log_of (take place self.now.entries)) ++ result.now }
+            → replay S.conf (log_of (take (place + 1) self.now.entries)) ≡ replay S.conf
+            (log_of (take place self.now.entries)) ++ result.now }
     {
         kept_at(&self.made, place)
     }

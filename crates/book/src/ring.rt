@@ -10,7 +10,8 @@ use std::alloc::Global;
 use std::marker::{Model, PhantomData};
 use zbx_types::{Numbered, OutOfMemory};
 
-/// What may be sent: an entry with which the entries that a run began with, and those sent behind them, are a whole log.
+/// What may be sent: an entry with which the entries that a run began with, and those sent behind them, are a whole
+/// log.
 struct LogRule<S> {
     of: PhantomData<S>,
 }
@@ -73,7 +74,8 @@ impl<S: StartName> Ring<S> {
     }
 }
 
-/// The end that sends. Contracts see the entries sent so far, how many slots it knows to be free, and how many there are.
+/// The end that sends. Contracts see the entries sent so far, how many slots it knows to be free, and how many there
+/// are.
 #[derive(Drop)]
 pub struct RingHead<S: StartName, N: RunName> {
     producer: Producer<Numbered, Global, LogRule<S>>,
@@ -113,8 +115,8 @@ impl<S: StartName, N: RunName> Model for RingEnd<S, N> {
 }
 
 impl<S: StartName, N: RunName> RingHead<S, N> {
-    /// Sends an entry, or hands it back where no slot is free. Its number has to follow: with it, the entries that the run
-    /// began with and those sent behind them are a whole log. Takes no memory.
+    /// Sends an entry, or hands it back where no slot is free. Its number has to follow: with it, the entries that
+    /// the run began with and those sent behind them are a whole log. Takes no memory.
     pub fn push(&mut self, entry: Numbered) -> Result<(), Numbered>
         requires { IsWholeLog S.conf (S.kept ++ (self.old.sent ++ entry ∷ [])) }
         ensures sent { OnOk result (self.new.sent ≡ self.old.sent ++ entry ∷ []) }
@@ -131,22 +133,23 @@ impl<S: StartName, N: RunName> RingHead<S, N> {
         }
     }
 
-    /// How many slots are free, for a thread that has both ends: all those that hold no entry. That the other end is of the
-    /// same ring, its type says.
+    /// How many slots are free, for a thread that has both ends: all those that hold no entry. That the other end is
+    /// of the same ring, its type says.
     pub fn look_beside(&mut self, end: &mut RingEnd<S, N>) -> usize
         ensures value { result ≡ self.new.free }
         ensures free { self.new.free + length self.new.sent ≡ self.new.capacity + length end.new.received }
         ensures more { self.old.free ≤ self.new.free }
         ensures head { (self.new.sent ≡ self.old.sent) × (self.new.capacity ≡ self.old.capacity) }
-        ensures end { (end.new.received ≡ end.old.received) × IsPrefix end.old.known end.new.known × (end.new.capacity ≡ end.old.capacity) }
+        ensures end { (end.new.received ≡ end.old.received) × IsPrefix end.old.known end.new.known
+            × (end.new.capacity ≡ end.old.capacity) }
     {
         self.producer.slots_beside(&mut end.consumer)
     }
 }
 
 impl<S: StartName, N: RunName> RingEnd<S, N> {
-    /// Takes the oldest entry, where the ring shows one. With it, what was received behind the entries that the run began
-    /// with is a whole log. What the head sends meanwhile may show or not.
+    /// Takes the oldest entry, where the ring shows one. With it, what was received behind the entries that the run
+    /// began with is a whole log. What the head sends meanwhile may show or not.
     #[tactic(auto, using(crate::proofs::Numbers::number_behind))]
     pub fn take(&mut self) -> Option<Numbered>
         ensures received { IfSome result (λ entry. self.new.received ≡ self.old.received ++ entry ∷ []) }
@@ -169,8 +172,8 @@ impl<S: StartName, N: RunName> RingEnd<S, N> {
         self.consumer.slots()
     }
 
-    /// Takes the oldest entry, which is known to be there. With it, what was received behind the entries that the run began
-    /// with is a whole log.
+    /// Takes the oldest entry, which is known to be there. With it, what was received behind the entries that the run
+    /// began with is a whole log.
     #[tactic(auto, using(crate::proofs::Numbers::number_behind))]
     pub fn take_known(&mut self) -> Numbered
         requires { 0 < length self.old.known }
@@ -184,8 +187,8 @@ impl<S: StartName, N: RunName> RingEnd<S, N> {
         self.consumer.pop_known()
     }
 
-    /// Takes the oldest entry, for a thread that has both ends. None comes exactly where the ring is empty. Where it leaves the
-    /// ring empty, all slots are known to be free. That the other end is of the same ring, its type says.
+    /// Takes the oldest entry, for a thread that has both ends. None comes exactly where the ring is empty. Where it
+    /// leaves the ring empty, all slots are known to be free. That the other end is of the same ring, its type says.
     pub fn take_beside(&mut self, head: &mut RingHead<S, N>) -> Option<Numbered>
         ensures none { IsNone result ↔ (self.old.received ≡ head.old.sent) }
         ensures received { IfSome result (λ entry. self.new.received ≡ self.old.received ++ entry ∷ []) }
@@ -205,14 +208,16 @@ impl<S: StartName, N: RunName> RingEnd<S, N> {
         Some(entry)
     }
 
-    /// How many entries are in the ring, for a thread that has both ends: those that were received and those that are known
-    /// to be next are exactly the ones that were sent, in their order. That the other end is of the same ring, its type says.
+    /// How many entries are in the ring, for a thread that has both ends: those that were received and those that are
+    /// known to be next are exactly the ones that were sent, in their order. That the other end is of the same ring,
+    /// its type says.
     pub fn look_beside(&mut self, head: &mut RingHead<S, N>) -> usize
         ensures value { result ≡ length self.new.known }
         ensures fifo { self.new.received ++ self.new.known ≡ head.new.sent }
         ensures more { IsPrefix self.old.known self.new.known }
         ensures end { (self.new.received ≡ self.old.received) × (self.new.capacity ≡ self.old.capacity) }
-        ensures head { (head.new.sent ≡ head.old.sent) × (head.old.free ≤ head.new.free) × (head.new.capacity ≡ head.old.capacity) }
+        ensures head { (head.new.sent ≡ head.old.sent) × (head.old.free ≤ head.new.free)
+            × (head.new.capacity ≡ head.old.capacity) }
     {
         self.consumer.slots_beside(&mut head.producer)
     }

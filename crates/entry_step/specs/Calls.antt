@@ -13,7 +13,8 @@ use Rattle.entry_step.specs.declared.plans.Node.{Node}
 
 -- what is kept shows the trigger these histories
 abbrev pub Shown : Calls → (ℕ → List Stored) → Type 0
-Shown calls items = SeesFor calls.ready.now calls.items.now (still_to_come calls.coming.now) calls.occasion.now items calls.id
+Shown calls items =
+    SeesFor calls.ready.now calls.items.now (still_to_come calls.coming.now) calls.occasion.now items calls.id
 
 -- the values of the calls, by their places, over histories
 abbrev pub values_of : Calls → (ℕ → List Stored) → ℕ → Option ℤ
@@ -25,15 +26,18 @@ value_in values place = slice_index_or values place None
 
 -- these are the values of the calls over all histories that the trigger is shown
 abbrev pub AreValues : Calls → List (Option ℤ) → Type 0
-AreValues calls values = (items : ℕ → List Stored) → Shown calls items → (place : ℕ) → value_in values place ≡ values_of calls items place
+AreValues calls values =
+    (items : ℕ → List Stored) → Shown calls items → (place : ℕ) → value_in values place ≡ values_of calls items place
 
 -- these are the values that events show, over all histories that the trigger is shown
 abbrev pub AreShown : Calls → List (Option Held) → Type 0
-AreShown calls values = (items : ℕ → List Stored) → Shown calls items → values ≡ shown_values items calls.occasion.now calls.trigger.now
+AreShown calls values =
+    (items : ℕ → List Stored) → Shown calls items → values ≡ shown_values items calls.occasion.now calls.trigger.now
 
 -- what the trigger sees of histories, where its calls have these values
 abbrev pub sight_of : Calls → List (Option ℤ) → (ℕ → List Stored) → Seen
-sight_of calls values items = record { calls = value_in values; values = shown_values items calls.occasion.now calls.trigger.now }
+sight_of calls values items =
+    record { calls = value_in values; values = shown_values items calls.occasion.now calls.trigger.now }
 
 -- what is found is the value of a tree, and these nodes behind it
 pub record Evaluates (calls : ℕ → Option ℤ) (t : Tree) (more : List Node) (found : Found) : Type 0 where

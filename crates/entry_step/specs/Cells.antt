@@ -27,7 +27,8 @@ pub data Key : Type 0 where
   TriggerKey : ℕ → Key
   TickKey : Key
 
--- an item's values, the latest first, what its steps remember, and the moment of the last entry whose foot holds the item
+-- an item's values, the latest first, what its steps remember, and the moment of the last entry whose foot holds the
+-- item
 pub record ItemCell : Type 0 where
   pub history : List Stored
   pub marks : List StepMemory
@@ -73,11 +74,13 @@ item_after conf memory number entry i cell = record {
 abbrev pub histories_after : Conf → Cells → ℕ → Entry → ℕ → List Stored
 histories_after conf c number entry i = (item_after conf (memory_in c) number entry i (c (ItemKey i))).history
 
--- what an entry makes over cells before any step is due: its failures, and then the records of the triggers that it evaluates
+-- what an entry makes over cells before any step is due: its failures, and then the records of the triggers that it
+-- evaluates
 unfoldable pub judged_at : Conf → Cells → ℕ → Entry → List Rec
 judged_at conf c number entry =
     failures_at conf (memory_in c) number entry
-    ++ phase conf (evaluated conf (occasion_of (c TickKey) number entry) (histories_after conf c number entry)) (opens_in c) (triggers_at conf (memory_in c) number entry)
+    ++ phase conf (evaluated conf (occasion_of (c TickKey) number entry) (histories_after conf c number entry))
+    (opens_in c) (triggers_at conf (memory_in c) number entry)
 
 -- the records that an entry makes over cells: with those, at a Tick, the steps that are due for what is open then
 unfoldable pub records_at : Conf → Cells → ℕ → Entry → List Rec
@@ -101,7 +104,8 @@ seen_of conf (e ∷ log) i = if touches conf e.entry (ItemKey i) then moment_of 
 
 -- what the cells hold, found by searching a log and its records
 unfoldable pub look : Conf → List Numbered → List Rec → Cells
-look conf log rs (ItemKey i) = record { history = history_of conf log i; marks = marks_of conf log i; seen = seen_of conf log i }
+look conf log rs (ItemKey i) =
+    record { history = history_of conf log i; marks = marks_of conf log i; seen = seen_of conf log i }
 look conf log rs (TriggerKey id) = open_of conf rs id
 look conf log rs TickKey = first_tick log
 

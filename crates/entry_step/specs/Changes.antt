@@ -91,12 +91,14 @@ EachClosed P (Close events) = Each P events
 abbrev pub judged : Conf → Occasion → Seen → ℕ → Trigger → Bool → (ℕ → List Open) → List Rec
 judged conf occasion seen id trigger held all =
     verdict_records conf occasion.number occasion.now seen.values id trigger all
-    (verdict_over trigger held (all id) (expression_value seen.calls trigger.expr) (recovery_value seen.calls trigger.recovery_expr) (event_tags conf id seen.values) occasion.is_value)
+    (verdict_over trigger held (all id) (expression_value seen.calls trigger.expr)
+    (recovery_value seen.calls trigger.recovery_expr) (event_tags conf id seen.values) occasion.is_value)
 
 -- tags serve a trigger in place of others: with both it has the same verdict over its open problems
 abbrev pub Serve : Trigger → List Open → List Tag → List Tag → Type 0
 Serve trigger os tags others =
-    (held : Bool) (p r : Option ℤ) (is_value : Bool) → verdict_over trigger held os p r tags is_value ≡ verdict_over trigger held os p r others is_value
+    (held : Bool) (p r : Option ℤ) (is_value : Bool) → verdict_over trigger held os p r tags is_value ≡ verdict_over
+    trigger held os p r others is_value
 
 -- each trigger has a row, and each open problem is in the row of its own trigger
 pub record AreTidy (conf : Conf) (rows : List (List Open)) : Type 0 where
@@ -104,21 +106,28 @@ pub record AreTidy (conf : Conf) (rows : List (List Open)) : Type 0 where
   pub homes : (id : ℕ) → AllAtHome conf id (problems_at rows id)
 
 -- the triggers with these ids, evaluated one after another over rows, make these records and leave these rows
-pub record Runs (conf : Conf) (one : (ℕ → List Open) → ℕ → List Rec) (before : List (List Open)) (ids : List ℕ) (made : List Rec) (rows : List (List Open)) : Type 0 where
+pub record Runs (conf : Conf) (one : (ℕ → List Open) → ℕ → List Rec) (before : List (List Open)) (ids : List ℕ)
+    (made : List Rec) (rows : List (List Open)) : Type 0 where
   pub records : made ≡ phase conf one (problems_at before) ids
   pub changes : (id : ℕ) → problems_at rows id ≡ absorbed_all conf id (problems_at before id) made
   pub size : length rows ≡ length before
 
 -- triggers are evaluated on an occasion, over whichever histories they are shown by cells with what is still to come
-abbrev pub RunsOver : Conf → Occasion → List CellView → (ℕ → Option Stored) → List (List Open) → List ℕ → List Rec → List (List Open) → Type 0
+abbrev pub RunsOver : Conf → Occasion → List CellView → (ℕ → Option Stored) → List (List Open) → List ℕ → List Rec
+    → List (List Open) → Type 0
 RunsOver conf occasion cells stored before ids made rows =
-    (items : ℕ → List Stored) → Each (SeesFor conf cells stored occasion.now items) ids → AreTidy conf before → Runs conf (evaluated conf occasion items) before ids made rows
+    (items : ℕ → List Stored) → Each (SeesFor conf cells stored occasion.now items) ids → AreTidy conf before
+    → Runs conf (evaluated conf occasion items) before ids made rows
 
--- one trigger more, if it is evaluated: whatever was evaluated before it and made these records and rows, now these are made
-abbrev pub RunsOn : Conf → Occasion → List CellView → (ℕ → Option Stored) → Bool → ℕ → List Rec → List (List Open) → List Rec → List (List Open) → Type 0
+-- one trigger more, if it is evaluated: whatever was evaluated before it and made these records and rows, now these
+-- are made
+abbrev pub RunsOn : Conf → Occasion → List CellView → (ℕ → Option Stored) → Bool → ℕ → List Rec → List (List Open)
+    → List Rec → List (List Open) → Type 0
 RunsOn conf occasion cells stored asked id made rows more next =
-    (items : ℕ → List Stored) (before : List (List Open)) (ids : List ℕ) → AreTidy conf before → Runs conf (evaluated conf occasion items) before ids made rows
-    → (asked ≡ true → SeesFor conf cells stored occasion.now items id) → Runs conf (evaluated conf occasion items) before (if asked then ids ++ id ∷ [] else ids) more next
+    (items : ℕ → List Stored) (before : List (List Open)) (ids : List ℕ) → AreTidy conf before
+    → Runs conf (evaluated conf occasion items) before ids made rows
+    → (asked ≡ true → SeesFor conf cells stored occasion.now items id)
+    → Runs conf (evaluated conf occasion items) before (if asked then ids ++ id ∷ [] else ids) more next
 
 -- the triggers with a call over an item that a draft stores a value of; without a draft all
 abbrev pub is_asked : Conf → Option Draft → ℕ → Bool
@@ -126,14 +135,16 @@ is_asked conf None id = true
 is_asked conf (Some draft) id = has_call (λ item. is_some (stored_at draft.visits item)) (at_id conf.triggers id)
 
 -- triggers are evaluated over cells with what is still to come, and their records stand behind some failures
-pub record Drafted (conf : Conf) (occasion : Occasion) (coming : Option Draft) (ids : List ℕ) (failures : List Rec) (cells : List CellView) (before : List (List Open)) (made : List Rec) (rows : List (List Open)) : Type 0 where
+pub record Drafted (conf : Conf) (occasion : Occasion) (coming : Option Draft) (ids : List ℕ) (failures : List Rec)
+    (cells : List CellView) (before : List (List Open)) (made : List Rec) (rows : List (List Open)) : Type 0 where
   pub judged : List Rec
   pub runs : RunsOver conf occasion cells (still_to_come coming) before ids judged rows
   pub records : made ≡ failures ++ judged
 
--- the cells take in these visits of a value: the triggers over what is stored are evaluated, and their records stand behind
--- the failures
-pub record TakesIn (conf : Conf) (occasion : Occasion) (visits : List Visit) (ids : List ℕ) (before : CellsView) (made : List Rec) (after : CellsView) : Type 0 where
+-- the cells take in these visits of a value: the triggers over what is stored are evaluated, and their records stand
+-- behind the failures
+pub record TakesIn (conf : Conf) (occasion : Occasion) (visits : List Visit) (ids : List ℕ) (before : CellsView)
+    (made : List Rec) (after : CellsView) : Type 0 where
   pub judged : List Rec
   pub runs : RunsOver conf occasion before.items (stored_at visits) before.problems ids judged after.problems
   pub records : made ≡ failures_of conf occasion.number visits ++ judged
@@ -146,7 +157,8 @@ pub record Absorbed (conf : Conf) (before : List (List Open)) (made : List Rec) 
   pub size : length rows ≡ length before
 
 -- the cells take a Tick: the triggers are evaluated, and then the steps run that are due over the rows that these leave
-pub record TakesTick (conf : Conf) (occasion : Occasion) (before : CellsView) (made : List Rec) (after : CellsView) : Type 0 where
+pub record TakesTick (conf : Conf) (occasion : Occasion) (before : CellsView) (made : List Rec)
+    (after : CellsView) : Type 0 where
   pub judged : List Rec
   pub rows : List (List Open)
   pub runs : RunsOver conf occasion before.items (λ id. None) before.problems (timed_triggers conf) judged rows

@@ -19,17 +19,20 @@ use Rattle.preprocess.specs.declared.visit.Visit.{Visit}
 abbrev pub visits_at : Conf → (ℕ → ℕ → StepMemory) → ℕ → Entry → List Visit
 visits_at conf memory number (Config now text) = []
 visits_at conf memory number (Tick now) = []
-visits_at conf memory number (Value now item time value) = visits_of conf memory (record { item = item; time = time; number = number; value = value })
+visits_at conf memory number (Value now item time value) =
+    visits_of conf memory (record { item = item; time = time; number = number; value = value })
 
 -- what an entry stores of an item
 unfoldable pub stored_of : Conf → (ℕ → ℕ → StepMemory) → ℕ → Entry → ℕ → Option Stored
 stored_of conf memory number entry id = stored_at (visits_at conf memory number entry) id
 
--- what the steps of an item remember behind a log: where the newest entry comes to the item, what it leaves, and else what
--- they remembered before it
+-- what the steps of an item remember behind a log: where the newest entry comes to the item, what it leaves, and else
+-- what they remembered before it
 unfoldable pub marks_of : Conf → List Numbered → ℕ → List StepMemory
 marks_of conf [] id = option_map_or no_marks (at_id conf.items id) []
-marks_of conf (e ∷ log) id = marks_after (visit_at (visits_at conf (λ i k. memory_at (marks_of conf log i) k) e.number e.entry) id) (marks_of conf log id)
+marks_of conf (e ∷ log) id =
+    marks_after (visit_at (visits_at conf (λ i k. memory_at (marks_of conf log i) k) e.number e.entry) id)
+    (marks_of conf log id)
 
 -- the same of each step
 abbrev pub memory_of : Conf → List Numbered → ℕ → ℕ → StepMemory
@@ -43,4 +46,5 @@ with_stored (Some s) history = placed s history
 -- the history of an item: all values that were stored, the latest first, by time and then by number
 abbrev pub history_of : Conf → List Numbered → ℕ → List Stored
 history_of conf [] id = []
-history_of conf (e ∷ log) id = with_stored (stored_of conf (memory_of conf log) e.number e.entry id) (history_of conf log id)
+history_of conf (e ∷ log) id =
+    with_stored (stored_of conf (memory_of conf log) e.number e.entry id) (history_of conf log id)

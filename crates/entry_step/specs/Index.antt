@@ -60,15 +60,21 @@ unfoldable pub triggers_under : Conf → ℕ → List ℕ
 triggers_under conf item = filter (λ id. is_over_below conf item (at_id conf.triggers id)) (order conf)
 
 -- the indexes are those of the configuration
-pub record IsIndex {A S T : Type 0} (conf : Conf) (hosts : HashMap (String A) ℕ S) (keys : List (HashMap (String A) ℕ T)) (over : Packed ℕ) (plans recoveries : Packed Node) (masters : Packed ℕ) (patterns : List (List ℕ)) (places : Packed ℕ) (timed all : List ℕ) (reached : List Bool) (chains : Chains) (feet : FootTables) (reaches : Packed ℕ) : Type 0 where
+pub record IsIndex {A S T : Type 0} (conf : Conf) (hosts : HashMap (String A) ℕ S)
+    (keys : List (HashMap (String A) ℕ T)) (over : Packed ℕ) (plans recoveries : Packed Node) (masters : Packed ℕ)
+    (patterns : List (List ℕ)) (places : Packed ℕ) (timed all : List ℕ) (reached : List Bool) (chains : Chains)
+    (feet : FootTables) (reaches : Packed ℕ) : Type 0 where
   pub by_name : (name : List ℕ) → get_by_text hosts name ≡ host_named conf name
   pub by_key : (host : ℕ) (key : List ℕ) → id_at keys host key ≡ item_keyed conf host key
   pub by_item : (item : ℕ) → row_at over.starts over.items item ≡ triggers_under conf item
-  pub by_trigger : (number : ℕ) → row_at plans.starts plans.items number ≡ slice_index_or (map plan_of conf.triggers) number []
-  pub by_recovery : (number : ℕ) → row_at recoveries.starts recoveries.items number ≡ slice_index_or (map recovery_plan_of conf.triggers) number []
+  pub by_trigger : (number : ℕ) → row_at plans.starts plans.items number ≡ slice_index_or (map plan_of conf.triggers)
+      number []
+  pub by_recovery : (number : ℕ) → row_at recoveries.starts recoveries.items number ≡ slice_index_or
+      (map recovery_plan_of conf.triggers) number []
   pub by_place : patterns ≡ conf.patterns
   pub by_text : ArePatterned conf
-  pub by_call : (number : ℕ) → row_at places.starts places.items number ≡ slice_index_or (map (places_of patterns) conf.triggers) number []
+  pub by_call : (number : ℕ) → row_at places.starts places.items number ≡ slice_index_or
+      (map (places_of patterns) conf.triggers) number []
   pub asked : ArePlaced patterns conf
   pub timed_are : timed ≡ timed_triggers conf
   pub all_are : all ≡ order conf

@@ -24,7 +24,8 @@ still_to_come None id = None
 still_to_come (Some draft) id = stored_at draft.visits id
 
 -- a cell of the item with an id, with what is still to come, shows this history at a moment
-pub record SeesIn (conf : Conf) (id : ℕ) (cell : CellView) (stored : Option Stored) (now : ℕ) (history : List Stored) : Type 0 where
+pub record SeesIn (conf : Conf) (id : ℕ) (cell : CellView) (stored : Option Stored) (now : ℕ)
+    (history : List Stored) : Type 0 where
   pub seen : ℕ
   pub before : List Stored
   pub by : seen ≤ now
@@ -42,13 +43,16 @@ IsCalled conf id item = (trigger : Trigger) × (at_id conf.triggers id ≡ Some 
 
 -- what is kept shows the trigger with an id these histories
 abbrev pub SeesFor : Conf → List CellView → (ℕ → Option Stored) → ℕ → (ℕ → List Stored) → ℕ → Type 0
-SeesFor conf cells stored now items id = (item : ℕ) → IsCalled conf id item → Sees conf item (at_id cells item) (stored item) now (items item)
+SeesFor conf cells stored now items id =
+    (item : ℕ) → IsCalled conf id item → Sees conf item (at_id cells item) (stored item) now (items item)
 
 -- a cell as what it keeps alone, whatever room it has
 abbrev pub roomless : CellView → CellView
 roomless cell = record { keep = cell.keep; values = cell.values; room = 0 }
 
 -- what visits store came into the cells at a moment, and what they leave into the memories
-pub record CameIn (now : ℕ) (visits : List Visit) (before after : List CellView) (memories next : List (List StepMemory)) : Type 0 where
-  pub cells : (id : ℕ) → at_id (map kept_of after) id ≡ option_map (kept_after now (visit_at visits id)) (at_id (map kept_of before) id)
+pub record CameIn (now : ℕ) (visits : List Visit) (before after : List CellView)
+    (memories next : List (List StepMemory)) : Type 0 where
+  pub cells : (id : ℕ) → at_id (map kept_of after) id ≡ option_map (kept_after now (visit_at visits id))
+      (at_id (map kept_of before) id)
   pub marks : (id : ℕ) → at_id next id ≡ option_map (marks_after (visit_at visits id)) (at_id memories id)

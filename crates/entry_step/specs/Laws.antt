@@ -31,34 +31,41 @@ Apart conf a b = (k : Key) → touches conf a.entry k ≡ true → touches conf 
 -- Two entries conflict, by their footprints, exactly where some cell is in both feet.
 abbrev pub ConflictIsMeeting : Type 0
 ConflictIsMeeting = (conf : Conf) (a b : Numbered)
-    → (conflict_of conf a.entry b.entry ≡ false → Apart conf a b) × (Apart conf a b → conflict_of conf a.entry b.entry ≡ false)
+    → (conflict_of conf a.entry b.entry ≡ false → Apart conf a b)
+    × (Apart conf a b → conflict_of conf a.entry b.entry ≡ false)
 
 -- cells that stand for a log are tidy
 abbrev pub AreTidyCells : Type 0
 AreTidyCells = (conf : Conf) (c : Cells) (log : List Numbered) → AreCellsOf conf c log → IsTidy conf c
 
--- Locality: an entry's records and changes are a function of the entry, the configuration, the first Tick and the cells of
--- its foot, and nothing else changes.
+-- Locality: an entry's records and changes are a function of the entry, the configuration, the first Tick and the
+-- cells of its foot, and nothing else changes.
 abbrev pub Locality : Type 0
-Locality = (conf : Conf) (e : Numbered) (c d : Cells) → IsTidy conf c → IsTidy conf d → Agree conf e c d → IsLocal conf e c d × IsConfined conf e c
+Locality =
+    (conf : Conf) (e : Numbered) (c d : Cells) → IsTidy conf c → IsTidy conf d → Agree conf e c d
+    → IsLocal conf e c d × IsConfined conf e c
 
 -- each of the newer entries adds the same records with an entry in its place and without
 abbrev pub SameOut : Conf → Numbered → List Numbered → List Numbered → Type 0
 SameOut conf e [] older = Unit {0}
 SameOut conf e (a ∷ newer) older =
-    (out_of conf (newer ++ older) a a.entry (replay conf (newer ++ older)) ≡ out_of conf (newer ++ e ∷ older) a a.entry (replay conf (newer ++ e ∷ older)))
+    (out_of conf (newer ++ older) a a.entry (replay conf (newer ++ older)) ≡ out_of conf (newer ++ e ∷ older) a
+    a.entry (replay conf (newer ++ e ∷ older)))
     × SameOut conf e newer older
 
--- what an entry does over cells that stand for the log without it is what it does in its place, and behind it they stand
--- for the log with it
-pub record InPlace (conf : Conf) (newer : List Numbered) (e : Numbered) (older : List Numbered) (c : Cells) : Type 0 where
+-- what an entry does over cells that stand for the log without it is what it does in its place, and behind it they
+-- stand for the log with it
+pub record InPlace (conf : Conf) (newer : List Numbered) (e : Numbered) (older : List Numbered)
+    (c : Cells) : Type 0 where
   pub its_records : records conf c e ≡ out_of conf older e e.entry (replay conf older)
-  pub its_changes : (d : Cells) → AreCellsOf conf d older → (k : Key) → touches conf e.entry k ≡ true → after conf c e k ≡ after conf d e k
+  pub its_changes : (d : Cells) → AreCellsOf conf d older → (k : Key) → touches conf e.entry k ≡ true
+      → after conf c e k ≡ after conf d e k
   pub stand : AreCellsOf conf (after conf c e) (newer ++ e ∷ older)
 
 -- Insertion: an entry that conflicts with no newer one joins in its place.
 abbrev pub Insertion : Type 0
-Insertion = (conf : Conf) (newer : List Numbered) (e : Numbered) (older : List Numbered) → Each (λ a. Apart conf e a) newer
+Insertion =
+    (conf : Conf) (newer : List Numbered) (e : Numbered) (older : List Numbered) → Each (λ a. Apart conf e a) newer
     → SameOut conf e newer older × ((c : Cells) → AreCellsOf conf c (newer ++ older) → InPlace conf newer e older c)
 
 -- the cells behind these entries, the oldest first
@@ -84,11 +91,13 @@ pub record Copies (conf : Conf) (es : List Numbered) (c copy : Cells) : Type 0 w
   pub at : (k : Key) → any_touches conf es k ≡ true → c k ≡ copy k
   pub tick : c TickKey ≡ copy TickKey
 
--- A batch on a copy: entries that are worked out on a copy of the cells of their feet make the records that they make over
--- the cells themselves, and the copy put back is what they leave there.
+-- A batch on a copy: entries that are worked out on a copy of the cells of their feet make the records that they make
+-- over the cells themselves, and the copy put back is what they leave there.
 abbrev pub BatchOnACopy : Type 0
-BatchOnACopy = (conf : Conf) (es : List Numbered) (c copy : Cells) → IsTidy conf c → IsTidy conf copy → Copies conf es c copy
-    → (records_done conf copy es ≡ records_done conf c es) × (put_over conf es (cells_done conf copy es) c ≡ cells_done conf c es)
+BatchOnACopy =
+    (conf : Conf) (es : List Numbered) (c copy : Cells) → IsTidy conf c → IsTidy conf copy → Copies conf es c copy
+    → (records_done conf copy es ≡ records_done conf c es)
+    × (put_over conf es (cells_done conf copy es) c ≡ cells_done conf c es)
 
 -- an applied entry conflicts with no older one that isn't
 abbrev pub PassedApart : Conf → (Numbered → Bool) → Numbered → Numbered → Type 0
@@ -97,6 +106,8 @@ PassedApart conf applied e older = applied e ≡ true → applied older ≡ fals
 -- The applied part of a log: over cells that stand for it, an entry that conflicts with no older one that isn't applied
 -- makes the records that it makes over the whole log.
 abbrev pub AppliedPart : Type 0
-AppliedPart = (conf : Conf) (applied : Numbered → Bool) (older : List Numbered) (e : Numbered) → EachPair (PassedApart conf applied) older
+AppliedPart =
+    (conf : Conf) (applied : Numbered → Bool) (older : List Numbered) (e : Numbered)
+    → EachPair (PassedApart conf applied) older
     → Each (λ y. applied y ≡ false → Apart conf y e) older → (c : Cells) → AreCellsOf conf c (filter applied older)
     → records conf c e ≡ out_of conf older e e.entry (replay conf older)

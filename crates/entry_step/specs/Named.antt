@@ -37,5 +37,8 @@ AreDistinct conf = (i j : ℕ) (a b : Trigger) → at_id conf.triggers i ≡ Som
 
 -- On a replay, the open problems of a trigger are those with its names that no Recovery names at all.
 abbrev pub OpenByNames : Type 0
-OpenByNames = (conf : Conf) (log : List Numbered) → IsRising log → AreDistinct conf → (id : ℕ) (trigger : Trigger) → at_id conf.triggers id ≡ Some trigger
-    → map (λ o. o.problem) (open_of conf (replay conf log) id) ≡ open_problems (replay conf log) (host_of conf trigger) trigger.name
+OpenByNames =
+    (conf : Conf) (log : List Numbered) → IsRising log → AreDistinct conf → (id : ℕ) (trigger : Trigger)
+    → at_id conf.triggers id ≡ Some trigger
+    → map (λ o. o.problem) (open_of conf (replay conf log) id) ≡ open_problems (replay conf log)
+    (host_of conf trigger) trigger.name

@@ -9,4 +9,5 @@ host_named conf name = option_map (λ place. place + 1) (position (λ h. bytes_e
 
 -- the id of a host's first item with a key
 abbrev pub item_keyed : Conf → ℕ → List ℕ → Option ℕ
-item_keyed conf host key = option_map (λ place. place + 1) (position (λ i. (i.host == host) && bytes_eq i.key key) conf.items)
+item_keyed conf host key =
+    option_map (λ place. place + 1) (position (λ i. (i.host == host) && bytes_eq i.key key) conf.items)

@@ -14,4 +14,5 @@ is_value (Tick now) = false
 
 -- the occasion of an entry with a number, where this was the first Tick before it
 abbrev pub occasion_of : Option ℕ → ℕ → Entry → Occasion
-occasion_of first number entry = record { number = number; now = moment_of entry; is_value = is_value entry; tick = tick_with first entry }
+occasion_of first number entry =
+    record { number = number; now = moment_of entry; is_value = is_value entry; tick = tick_with first entry }

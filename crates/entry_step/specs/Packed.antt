@@ -8,4 +8,5 @@ begin_at starts end number = slice_index_or starts number end
 -- the list of a number. Where there is no such list, it is empty.
 abbrev pub row_at : {A : Type 0} → List ℕ → List A → ℕ → List A
 row_at starts items number =
-    take (begin_at starts (length items) (number + 1) - begin_at starts (length items) number) (drop (begin_at starts (length items) number) items)
+    take (begin_at starts (length items) (number + 1) - begin_at starts (length items) number)
+    (drop (begin_at starts (length items) number) items)

@@ -17,8 +17,8 @@ use Rattle.entry_step.specs.Represents.{CellsView, Represents, ComesAfter}
 use Rattle.entry_step.specs.declared.parts.ItemRow.{ItemRow}
 use Rattle.entry_step.specs.declared.parts.TriggerRow.{TriggerRow}
 
--- what contracts see of a part: the copies of items' cells and of triggers' open problems, each with its id, and the moment
--- of the first Tick
+-- what contracts see of a part: the copies of items' cells and of triggers' open problems, each with its id, and the
+-- moment of the first Tick
 pub record PartView : Type 0 where
   pub items : List ItemRow
   pub triggers : List TriggerRow
@@ -49,7 +49,8 @@ problems_in part id = option_map (λ row. row.problems) (row_with (λ row. row.i
 pub record IsPartOf (conf : Conf) (es : List Numbered) (held : CellsView) (part : PartView) : Type 0 where
   pub cells : (id : ℕ) → cell_in part id ≡ (if any_touches conf es (ItemKey id) then at_id held.items id else None)
   pub marks : (id : ℕ) → marks_in part id ≡ (if any_touches conf es (ItemKey id) then at_id held.memories id else None)
-  pub problems : (id : ℕ) → problems_in part id ≡ (if any_touches conf es (TriggerKey id) then at_id held.problems id else None)
+  pub problems : (id : ℕ) → problems_in part id ≡ (if any_touches conf es (TriggerKey id) then at_id held.problems id
+      else None)
   pub tick : part.tick ≡ held.tick
 
 -- each copy is what is here
@@ -63,7 +64,8 @@ pub record IsSame (held : CellsView) (part : PartView) : Type 0 where
 pub record IsReplaced (held : CellsView) (part : PartView) (next : CellsView) : Type 0 where
   pub items : (id : ℕ) → at_id next.items id ≡ option_map (unwrap_or (cell_in part id)) (at_id held.items id)
   pub memories : (id : ℕ) → at_id next.memories id ≡ option_map (unwrap_or (marks_in part id)) (at_id held.memories id)
-  pub problems : (id : ℕ) → at_id next.problems id ≡ option_map (unwrap_or (problems_in part id)) (at_id held.problems id)
+  pub problems : (id : ℕ) → at_id next.problems id ≡ option_map (unwrap_or (problems_in part id))
+      (at_id held.problems id)
   pub tick : next.tick ≡ part.tick
 
 -- each of these entries, as those before it are worked out, comes after what the cells have seen, and fits
@@ -74,7 +76,8 @@ AllCome conf c (e ∷ es) = ComesAfter conf c e × IsFitting conf e.entry × All
 -- how many triggers they evaluate
 abbrev pub evaluations : Conf → Cells → List Numbered → ℕ
 evaluations conf c [] = 0
-evaluations conf c (e ∷ es) = length (triggers_at conf (memory_in c) e.number e.entry) + evaluations conf (after conf c e) es
+evaluations conf c (e ∷ es) =
+    length (triggers_at conf (memory_in c) e.number e.entry) + evaluations conf (after conf c e) es
 
 -- a part is of some cells that represent others to which the entries come
 pub record IsWorkable (conf : Conf) (es : List Numbered) (part : PartView) : Type 0 where
@@ -84,13 +87,16 @@ pub record IsWorkable (conf : Conf) (es : List Numbered) (part : PartView) : Typ
   pub represented : Represents conf held cells
   pub come : AllCome conf cells es
 
--- What the entries make of a part, whatever cells it is of: the records of each, one after another, and copies that leave what
--- the entries leave, once they come into their places.
+-- What the entries make of a part, whatever cells it is of: the records of each, one after another, and copies that
+-- leave what the entries leave, once they come into their places.
 unfoldable pub WorksOut : Conf → List Numbered → PartView → PartView → List (List Rec) → Type 0
-WorksOut conf es part done made = (held : CellsView) (c : Cells) → IsPartOf conf es held part → Represents conf held c → AllCome conf c es
-    → (made ≡ records_done conf c es) × ((next : CellsView) → IsReplaced held done next → Represents conf next (cells_done conf c es))
+WorksOut conf es part done made =
+    (held : CellsView) (c : Cells) → IsPartOf conf es held part → Represents conf held c → AllCome conf c es
+    → (made ≡ records_done conf c es) × ((next : CellsView) → IsReplaced held done next
+    → Represents conf next (cells_done conf c es))
 
 -- so many triggers were evaluated for that
 unfoldable pub IsCounted : Conf → List Numbered → PartView → ℕ → ℕ → Type 0
-IsCounted conf es part before now = (held : CellsView) (c : Cells) → IsPartOf conf es held part → Represents conf held c → AllCome conf c es
+IsCounted conf es part before now =
+    (held : CellsView) (c : Cells) → IsPartOf conf es held part → Represents conf held c → AllCome conf c es
     → now ≡ before + evaluations conf c es

@@ -42,19 +42,20 @@ use Rattle.trigger_state.specs.declared.answer.Verdict.TheVariants.{Nothing, New
 use Rattle.trigger_state.specs.declared.problems.Open.{Open}
 use Rattle.entry_step.specs.declared.occasions.Occasion.{Occasion}
 
--- the Problem record of a trigger at an entry, at which its events show these values. It is suppressed where its trigger is,
--- at this moment and for its own tags.
+-- the Problem record of a trigger at an entry, at which its events show these values. It is suppressed where its
+-- trigger is, at this moment and for its own tags.
 unfoldable pub problem_of : Conf → ℕ → ℕ → List (Option Held) → ℕ → Trigger → Rec
 problem_of conf number now values id trigger =
-    Problem (record { number = number; trigger = id }) now trigger.severity (is_suppressed conf id (event_tags conf id values) now)
+    Problem (record { number = number; trigger = id }) now trigger.severity
+    (is_suppressed conf id (event_tags conf id values) now)
     (host_name (at_id conf.hosts trigger.host)) trigger.name (name_of conf id values) (event_tags conf id values)
 
 -- the Recovery record of an event at an entry
 abbrev pub recovery_of : ℕ → ℕ → Cause2 → EventId → Rec
 recovery_of number now cause event = Recovery event number now cause
 
--- what the end of one of these open problems makes: its Recovery, then the recovery messages of the actions that ran a step
--- for it
+-- what the end of one of these open problems makes: its Recovery, then the recovery messages of the actions that ran
+-- a step for it
 abbrev pub closed_records : Conf → ℕ → ℕ → Cause2 → List Open → EventId → List Rec
 closed_records conf number now cause os event =
     recovery_of number now cause event
@@ -70,16 +71,18 @@ ruled conf problem all = closes_of conf problem (problems_open conf all)
 
 -- what the ends of the problems that rules close make, each of its own trigger
 abbrev pub ruled_records : Conf → ℕ → ℕ → (ℕ → List Open) → List EventId → List Rec
-ruled_records conf number now all events = flat_map (λ e. closed_records conf number now causes.Correlation (all (home conf e)) e) events
+ruled_records conf number now all events =
+    flat_map (λ e. closed_records conf number now causes.Correlation (all (home conf e)) e) events
 
--- what comes last: the new problem's own Recovery where a rule closes it, else step 1 of each action that matches it and
--- isn't paused
+-- what comes last: the new problem's own Recovery where a rule closes it, else step 1 of each action that matches it
+-- and isn't paused
 abbrev pub last_records : Conf → ℕ → ℕ → ℕ → Rec → Bool → List Rec
 last_records conf number now id problem is_closed =
-    if is_closed then recovery_of number now causes.Correlation (event_of problem) ∷ [] else first_records_of conf id problem now
+    if is_closed then recovery_of number now causes.Correlation (event_of problem) ∷ [] else first_records_of conf id
+    problem now
 
--- what a new problem of a trigger makes where this closes for it: its record, then the ends of the old problems, then its own
--- end or its first steps
+-- what a new problem of a trigger makes where this closes for it: its record, then the ends of the old problems, then
+-- its own end or its first steps
 abbrev pub begun_with : Conf → ℕ → ℕ → (ℕ → List Open) → ℕ → Rec → Closes → List Rec
 begun_with conf number now all id problem closes =
     problem ∷ ruled_records conf number now all closes.old ++ last_records conf number now id problem closes.new
@@ -88,12 +91,14 @@ begun_with conf number now all id problem closes =
 abbrev pub begun_records : Conf → ℕ → ℕ → (ℕ → List Open) → ℕ → Rec → List Rec
 begun_records conf number now all id problem = begun_with conf number now all id problem (ruled conf problem all)
 
--- the records that a verdict on a trigger makes over the open problems of all triggers: a new one with what rules close, or
--- the ends of those that close
+-- the records that a verdict on a trigger makes over the open problems of all triggers: a new one with what rules
+-- close, or the ends of those that close
 unfoldable pub verdict_records : Conf → ℕ → ℕ → List (Option Held) → ℕ → Trigger → (ℕ → List Open) → Verdict → List Rec
 verdict_records conf number now values id trigger all Nothing = []
-verdict_records conf number now values id trigger all New = begun_records conf number now all id (problem_of conf number now values id trigger)
-verdict_records conf number now values id trigger all (Close events) = flat_map (closed_records conf number now causes.Expression (all id)) events
+verdict_records conf number now values id trigger all New =
+    begun_records conf number now all id (problem_of conf number now values id trigger)
+verdict_records conf number now values id trigger all (Close events) =
+    flat_map (closed_records conf number now causes.Expression (all id)) events
 
 -- the value of an expression over the values of the calls
 abbrev pub expression_value : (ℕ → Option ℤ) → Expr → Option ℤ
@@ -108,15 +113,17 @@ recovery_value calls (Some expr) = expression_value calls expr
 abbrev pub judged_by : Conf → Occasion → Seen → (ℕ → List Open) → ℕ → Trigger → List Rec
 judged_by conf occasion seen all id trigger =
     verdict_records conf occasion.number occasion.now seen.values id trigger all
-    (verdict_of conf all id (expression_value seen.calls trigger.expr) (recovery_value seen.calls trigger.recovery_expr) (event_tags conf id seen.values) occasion.is_value)
+    (verdict_of conf all id (expression_value seen.calls trigger.expr)
+    (recovery_value seen.calls trigger.recovery_expr) (event_tags conf id seen.values) occasion.is_value)
 
 -- the records of the verdict on the trigger with an id, over these histories. No trigger: none.
 abbrev pub records_by : Conf → Occasion → (ℕ → List Stored) → (ℕ → List Open) → ℕ → Option Trigger → List Rec
 records_by conf occasion items all id None = []
-records_by conf occasion items all id (Some trigger) = judged_by conf occasion (seen_in items occasion conf.utc_offset trigger) all id trigger
+records_by conf occasion items all id (Some trigger) =
+    judged_by conf occasion (seen_in items occasion conf.utc_offset trigger) all id trigger
 
--- What the trigger with an id adds on an occasion, over the histories of the items and the open problems of the triggers: the
--- records of its verdict.
+-- What the trigger with an id adds on an occasion, over the histories of the items and the open problems of the
+-- triggers: the records of its verdict.
 unfoldable pub evaluated : Conf → Occasion → (ℕ → List Stored) → (ℕ → List Open) → ℕ → List Rec
 evaluated conf occasion items all id = records_by conf occasion items all id (at_id conf.triggers id)
 
@@ -162,22 +169,24 @@ unfoldable pub triggers_at : Conf → (ℕ → ℕ → StepMemory) → ℕ → E
 triggers_at conf memory number (Config now text) = []
 triggers_at conf memory number (Tick now) = timed_triggers conf
 triggers_at conf memory number (Value now item time value) =
-    filter (λ id. has_call (stores conf memory number (Value now item time value)) (at_id conf.triggers id)) (order conf)
+    filter (λ id. has_call (stores conf memory number (Value now item time value)) (at_id conf.triggers id))
+    (order conf)
 
 -- the Failure records of an entry, in the order of its visits
 unfoldable pub failures_at : Conf → (ℕ → ℕ → StepMemory) → ℕ → Entry → List Rec
 failures_at conf memory number entry = failures_of conf number (visits_at conf memory number entry)
 
--- what an entry makes before any step is due, behind this log and the records before it: its failures, and then the records
--- of the triggers that it evaluates
+-- what an entry makes before any step is due, behind this log and the records before it: its failures, and then the
+-- records of the triggers that it evaluates
 unfoldable pub judged_of : Conf → List Numbered → Numbered → Entry → List Rec → List Rec
 judged_of conf log e entry rs =
     failures_at conf (memory_of conf log) e.number entry
-    ++ phase_over conf (evaluated conf (occasion_of (first_tick log) e.number entry) (history_of conf (e ∷ log))) (rs ++ failures_at conf (memory_of conf log) e.number entry)
+    ++ phase_over conf (evaluated conf (occasion_of (first_tick log) e.number entry) (history_of conf (e ∷ log)))
+    (rs ++ failures_at conf (memory_of conf log) e.number entry)
     (triggers_at conf (memory_of conf log) e.number entry)
 
--- the records that an entry adds to those before it, behind this log: with those, at a Tick, the steps that are due for what
--- is open then
+-- the records that an entry adds to those before it, behind this log: with those, at a Tick, the steps that are due
+-- for what is open then
 unfoldable pub out_of : Conf → List Numbered → Numbered → Entry → List Rec → List Rec
 out_of conf log e entry rs =
     judged_of conf log e entry rs ++ due_at conf entry (open_of conf (rs ++ judged_of conf log e entry rs))

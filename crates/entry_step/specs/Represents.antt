@@ -43,15 +43,15 @@ IsTagged conf id problem = (trigger : Trigger) × (at_id conf.triggers id ≡ So
 abbrev pub AllTagged : Conf → ℕ → List Open → Type 0
 AllTagged conf id os = Each (λ o. IsTagged conf id o.problem) os
 
--- each open problem is in the cell of its own trigger and has the names of its tags, and what is no item of the configuration
--- has no history
+-- each open problem is in the cell of its own trigger and has the names of its tags, and what is no item of the
+-- configuration has no history
 pub record IsTidy (conf : Conf) (c : Cells) : Type 0 where
   pub homes : (id : ℕ) → AllAtHome conf id (opens_in c id)
   pub tagged : (id : ℕ) → AllTagged conf id (opens_in c id)
   pub absent : (id : ℕ) → at_id conf.items id ≡ None → (c (ItemKey id)).history ≡ []
 
--- What a run keeps represents cells: the same open problems and first Tick, and of each item what its steps remember and
--- what stands for its history from the last moment on that its cell has seen. The cells are tidy.
+-- What a run keeps represents cells: the same open problems and first Tick, and of each item what its steps remember
+-- and what stands for its history from the last moment on that its cell has seen. The cells are tidy.
 pub record Represents (conf : Conf) (held : CellsView) (c : Cells) : Type 0 where
   pub items : length held.items ≡ length conf.items
   pub ordered : (id : ℕ) → IfSome (at_id held.items id) (λ cell. IsOrdered cell.values)
@@ -73,7 +73,9 @@ pub record Holds (conf : Conf) (held : CellsView) (log : List Numbered) : Type 0
 abbrev pub ComesAfter : Conf → Cells → Numbered → Type 0
 ComesAfter conf c e = (id : ℕ) → touches conf e.entry (ItemKey id) ≡ true → (c (ItemKey id)).seen ≤ moment_of e.entry
 
--- what a step makes and leaves, whatever cells it is that the kept ones represent: the records of the entry over them, and
--- what represents the cells behind it
+-- what a step makes and leaves, whatever cells it is that the kept ones represent: the records of the entry over
+-- them, and what represents the cells behind it
 abbrev pub StepsTo : Conf → CellsView → Numbered → List Rec → CellsView → Type 0
-StepsTo conf held e made next = (c : Cells) → Represents conf held c → ComesAfter conf c e → IsFitting conf e.entry → (made ≡ records conf c e) × Represents conf next (after conf c e)
+StepsTo conf held e made next =
+    (c : Cells) → Represents conf held c → ComesAfter conf c e → IsFitting conf e.entry → (made ≡ records conf c e)
+    × Represents conf next (after conf c e)

@@ -20,10 +20,12 @@ first_held (s ∷ rest) = Some s.value
 abbrev pub latest_in : ℕ → List Stored → Option Held
 latest_in now history = first_held (window_of (Count 1) 0 now history)
 
--- the latest values up to a moment of the items of a trigger's history calls, in the order of the calls. A call without an
--- item has item 0.
+-- the latest values up to a moment of the items of a trigger's history calls, in the order of the calls. A call
+-- without an item has item 0.
 unfoldable pub shown_values : (ℕ → List Stored) → ℕ → Trigger → List (Option Held)
-shown_values items now trigger = map (λ item. latest_in now (items item)) (filter (λ item. not (item == 0)) (take (length trigger.calls) trigger.call_items))
+shown_values items now trigger =
+    map (λ item. latest_in now (items item)) (filter (λ item. not (item == 0))
+    (take (length trigger.calls) trigger.call_items))
 
 -- the values of a trigger's calls, by their places, and the values that its events show
 pub record Seen : Type 0 where
@@ -39,7 +41,8 @@ seen_in items occasion offset trigger = record {
 
 -- the patterns of a trigger's title and of its tags' values are among these
 unfoldable pub HasTexts : List (List ℕ) → Trigger → Type 0
-HasTexts patterns trigger = HasPatterns patterns trigger.title × All (λ (tag : Tag). HasPatterns patterns tag.value) trigger.tags
+HasTexts patterns trigger =
+    HasPatterns patterns trigger.title × All (λ (tag : Tag). HasPatterns patterns tag.value) trigger.tags
 
 -- those of all triggers are among the configuration's
 unfoldable pub ArePatterned : Conf → Type 0

@@ -74,7 +74,8 @@ pub(crate) fn place_in(places: &[u32], place: usize) -> u32
 
 /// The places of the patterns of calls.
 fn places_of(alloc: Global, calls: &[Call], patterns: &Patterns) -> Result<Many<u32>, OutOfMemory>
-    ensures places { IfOk result (λ made. made ≡ map (λ call. pattern_place (call_pattern call) patterns.now) calls.now) }
+    ensures places { IfOk result (λ made. made ≡ map (λ call. pattern_place (call_pattern call) patterns.now)
+        calls.now) }
     ensures asked { OnOk result (All (IsAsked patterns.now) calls.now) }
 {
     let mut made = Many::new(alloc);
@@ -107,7 +108,9 @@ pub(crate) fn places_of_all(
     conf: &Conf,
     patterns: &Patterns,
 ) -> Result<Packed<u32>, OutOfMemory>
-    ensures places { IfOk result (λ made. (number : ℕ) → row_at made.starts made.items number ≡ slice_index_or (map (places_of patterns.now) conf.now.triggers) number []) }
+    ensures places { IfOk result (λ made. (number : ℕ)
+        → row_at made.starts made.items number ≡ slice_index_or (map (places_of patterns.now) conf.now.triggers)
+        number []) }
     ensures asked { OnOk result (ArePlaced patterns.now conf.now) }
 {
     let rows = rows_of(alloc, conf.triggers.as_slice(), patterns)?;

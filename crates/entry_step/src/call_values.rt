@@ -28,7 +28,8 @@ fn value_over(
     window: &[Stored],
 ) -> Result<Option<Fix>, OutOfMemory>
     requires { at_id calls.now.ready.now.patterns pattern ≡ call_pattern call.now }
-    ensures { IfOk result (λ v. v ≡ value_of call.now window.now calls.now.occasion.now calls.now.occasion.tick calls.now.ready.now.utc_offset) }
+    ensures { IfOk result (λ v. v ≡ value_of call.now window.now calls.now.occasion.now calls.now.occasion.tick
+        calls.now.ready.now.utc_offset) }
 {
     value_at(
         alloc,
@@ -67,7 +68,8 @@ fn value_beside(
     window: &Window,
 ) -> Result<Option<Fix>, OutOfMemory>
     requires { at_id calls.now.ready.now.patterns pattern ≡ call_pattern call.now }
-    ensures { IfOk result (λ v. v ≡ value_of call.now (shown window.now) calls.now.occasion.now calls.now.occasion.tick calls.now.ready.now.utc_offset) }
+    ensures { IfOk result (λ v. v ≡ value_of call.now (shown window.now) calls.now.occasion.now
+        calls.now.occasion.tick calls.now.ready.now.utc_offset) }
 {
     if let Some(values) = whole(window) {
         return value_over(alloc, calls, call, pattern, values);
@@ -96,8 +98,11 @@ fn value_in(
     stored: Option<&Stored>,
 ) -> Result<Option<Fix>, OutOfMemory>
     requires { at_id calls.now.ready.now.patterns pattern ≡ call_pattern call.now }
-    ensures { IfOk result (λ v. (id : ℕ) (history : List Stored) → Sees calls.now.ready.now id (Some cell.now) (option_copied stored.entry) calls.now.occasion.now history → IsWithin (keep_of calls.now.ready.now id) call.now.range call.now.shift
-        → v ≡ value_of call.now (window_of call.now.range call.now.shift calls.now.occasion.now history) calls.now.occasion.now calls.now.occasion.tick calls.now.ready.now.utc_offset) }
+    ensures { IfOk result (λ v. (id : ℕ) (history : List Stored)
+        → Sees calls.now.ready.now id (Some cell.now) (option_copied stored.entry) calls.now.occasion.now history
+        → IsWithin (keep_of calls.now.ready.now id) call.now.range call.now.shift
+        → v ≡ value_of call.now (window_of call.now.range call.now.shift calls.now.occasion.now history)
+        calls.now.occasion.now calls.now.occasion.tick calls.now.ready.now.utc_offset) }
 {
     match stored {
         None => {
@@ -131,7 +136,8 @@ fn item_at(trigger: &Trigger, place: usize) -> Option<u32>
 /// The value of a call, by its place, over what is kept of its item.
 fn call_value(alloc: Global, calls: &Calls, place: usize) -> Result<Option<Fix>, OutOfMemory>
     requires { at_id calls.now.ready.now.triggers calls.now.id ≡ Some calls.now.trigger.now }
-    ensures { IfOk result (λ v. (items : ℕ → List Stored) → Shown calls.now items → v ≡ values_of calls.now items place) }
+    ensures { IfOk result (λ v. (items : ℕ → List Stored) → Shown calls.now items
+        → v ≡ values_of calls.now items place) }
 {
     let Some(call) = call_at(calls.trigger, place) else {
         return Ok(None);

@@ -8,9 +8,9 @@ use std::marker::Model;
 use trigger_state::Open;
 use zbx_types::{Conf, Many, Moment, OutOfMemory};
 
-/// What a run keeps between entries: the values of each item that a later window can see, what its steps remember, the open
-/// problems of each trigger in the order in which they were made, and the moment of the first Tick. Items and triggers stand
-/// in the order of ids.
+/// What a run keeps between entries: the values of each item that a later window can see, what its steps remember,
+/// the open problems of each trigger in the order in which they were made, and the moment of the first Tick. Items
+/// and triggers stand in the order of ids.
 #[derive(Drop)]
 pub struct Cells {
     pub(crate) items: preprocess::Cells,

@@ -70,7 +70,8 @@ fn restore(alloc: Global, opens: &mut Many<Open>, before: Before)
     }
 }
 
-/// Puts other open problems into the row of the trigger with an id, and keeps what it had. At `Err` the row is as before.
+/// Puts other open problems into the row of the trigger with an id, and keeps what it had. At `Err` the row is as
+/// before.
 #[tactic(auto, using(crate::proofs::Writes::row_none, crate::proofs::Writes::row_past, crate::proofs::Writes::row_in, crate::proofs::Writes::back_more, crate::proofs::Writes::back_same))]
 fn exchange(
     alloc: Global,
@@ -110,7 +111,8 @@ fn add(
     id: u32,
     one: Open,
 ) -> Result<(), OutOfMemory>
-    ensures rows { OnOk result (problems.new.items ≡ with_row problems.old.items id (problems_at problems.old.items id ++ one ∷ [])) }
+    ensures rows { OnOk result (problems.new.items ≡ with_row problems.old.items id
+        (problems_at problems.old.items id ++ one ∷ [])) }
     ensures same { put_back problems.new.items taken.new ≡ put_back problems.old.items taken.old }
 {
     if id == 0 {

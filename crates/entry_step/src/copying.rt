@@ -60,7 +60,8 @@ fn row_of_item(
     memories: &[Many<StepMemory>],
     id: u32,
 ) -> Result<Option<ItemRow>, OutOfMemory>
-    ensures { IfOk result (λ row. option_map roomless_row row ≡ item_copy id (at_id (map roomless cells.now) id) (at_id memories.now id)) }
+    ensures { IfOk result (λ row. option_map roomless_row row ≡ item_copy id (at_id (map roomless cells.now) id)
+        (at_id memories.now id)) }
 {
     let Some(cell) = by_id(cells, id) else {
         return Ok(None);
@@ -102,7 +103,8 @@ pub(crate) fn copied_items(
     memories: &[Many<StepMemory>],
     ids: &[u32],
 ) -> Result<Vec<ItemRow>, OutOfMemory>
-    ensures { IfOk result (λ rows. map roomless_row rows.items ≡ item_copies (map roomless cells.now) memories.now ids.now) }
+    ensures { IfOk result (λ rows. map roomless_row rows.items ≡ item_copies (map roomless cells.now) memories.now
+        ids.now) }
 {
     let mut rows = Vec::new(alloc);
     for id in ids {

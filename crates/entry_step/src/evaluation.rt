@@ -45,7 +45,8 @@ fn with_rest<'a>(value: Option<Fix>, rest: &'a [Node]) -> Found<'a>
 
 /// The value of the first of the expressions that the nodes are of.
 fn value_at<'a>(values: &[Option<Fix>], nodes: &'a [Node]) -> Found<'a>
-    ensures value { (t : Tree) (rest : List Node) → nodes.now ≡ flat t rest → Evaluates (value_in values.now) t rest result }
+    ensures value { (t : Tree) (rest : List Node) → nodes.now ≡ flat t rest
+        → Evaluates (value_in values.now) t rest result }
     ensures shorter { length result.rest.now ≤ length nodes.now }
 {
     let Some((node, rest)) = nodes.split_first() else {

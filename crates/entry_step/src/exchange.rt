@@ -25,7 +25,8 @@ fn exchange_item(items: &mut preprocess::Cells, row: &mut ItemRow)
 /// Exchanges the copies of items for what is kept of them. Takes no memory.
 pub(crate) fn exchange_items(items: &mut preprocess::Cells, rows: &mut [ItemRow])
     ensures cells { items.new.cells.items ≡ put_all (λ row. row.id) (λ row. row.cell) items.old.cells.items rows.old }
-    ensures memories { items.new.memories.items ≡ put_all (λ row. row.id) (λ row. row.marks) items.old.memories.items rows.old }
+    ensures memories { items.new.memories.items ≡ put_all (λ row. row.id) (λ row. row.marks) items.old.memories.items
+        rows.old }
     ensures rows { rows.new ≡ items_taken items.old.cells.items items.old.memories.items rows.old }
 {
     for place in 0..rows.len() {

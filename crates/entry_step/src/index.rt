@@ -45,10 +45,13 @@ use zbx_types::{Conf, Held, Many, Moment, OutOfMemory, Tag, Text, by_id};
 /// The patterns of these texts, built.
 fn patterns_of(alloc: Global, texts: &Many<Text>) -> Result<Patterns, BuildError>
     ensures ok { IfOk result (λ patterns. (patterns ≡ texts.now) × All IsPattern texts.now) }
-    ensures refused { (place : ℕ) → result ≡ Err (BuildError.Refused place) → (text : List ℕ) × (at_id texts.now place ≡ Some text) × IsNoPattern text }
+    ensures refused { (place : ℕ) → result ≡ Err (BuildError.Refused place) → (text : List ℕ)
+        × (at_id texts.now place ≡ Some text) × IsNoPattern text }
     ensures first { (place : ℕ) → result ≡ Err (BuildError.Refused place) → All IsPattern (take (place - 1) texts.now) }
-    ensures large { (place : ℕ) → result ≡ Err (BuildError.TooLarge place) → (text : List ℕ) × (at_id texts.now place ≡ Some text) × IsPattern text × Contains text 123 }
-    ensures first_large { (place : ℕ) → result ≡ Err (BuildError.TooLarge place) → All IsPattern (take (place - 1) texts.now) }
+    ensures large { (place : ℕ) → result ≡ Err (BuildError.TooLarge place) → (text : List ℕ)
+        × (at_id texts.now place ≡ Some text) × IsPattern text × Contains text 123 }
+    ensures first_large { (place : ℕ) → result ≡ Err (BuildError.TooLarge place)
+        → All IsPattern (take (place - 1) texts.now) }
 {
     if texts.len() > u32::MAX as usize {
         return Err(BuildError::OutOfMemory);
@@ -103,22 +106,26 @@ impl Ready {
     ///
     /// # Errors
     ///
-    /// `Refused` where a pattern isn't read by the grammar or nests too deeply, and `TooLarge` where one is too large when it
-    /// is built, each with the pattern's place.
+    /// `Refused` where a pattern isn't read by the grammar or nests too deeply, and `TooLarge` where one is too large
+    /// when it is built, each with the pattern's place.
     ///
-    /// `OutOfMemory` where memory was refused, which a configuration whose hosts, items or triggers can't be counted in
-    /// 32 bits stands for too, and one with a trigger whose depth isn't greater than that of each trigger that it depends
-    /// on, one whose local time differs from UTC by more than 14 hours, and one with a call or with an event name or a tag
-    /// or a preprocessing step whose pattern isn't among the configuration's, or with a call whose shift and period together are 2^32 seconds or
-    /// more. There is room for each id of a host or an item that is named and for each depth, up to the greatest of them,
-    /// whether it is in the configuration or not.
+    /// `OutOfMemory` where memory was refused, which a configuration whose hosts, items or triggers can't be counted
+    /// in 32 bits stands for too, and one with a trigger whose depth isn't greater than that of each trigger that it
+    /// depends on, one whose local time differs from UTC by more than 14 hours, and one with a call or with an event
+    /// name or a tag or a preprocessing step whose pattern isn't among the configuration's, or with a call whose
+    /// shift and period together are 2^32 seconds or more. There is room for each id of a host or an item that is
+    /// named and for each depth, up to the greatest of them, whether it is in the configuration or not.
     pub fn build(alloc: Global, conf: Conf) -> Result<Ready, BuildError>
         ensures ok { IfOk result (λ ready. ready ≡ conf) }
         ensures patterns { IfOk result (λ _. All IsPattern conf.patterns) }
-        ensures refused { (place : ℕ) → result ≡ Err (BuildError.Refused place) → (text : List ℕ) × (at_id conf.patterns place ≡ Some text) × IsNoPattern text }
-        ensures first { (place : ℕ) → result ≡ Err (BuildError.Refused place) → All IsPattern (take (place - 1) conf.patterns) }
-        ensures large { (place : ℕ) → result ≡ Err (BuildError.TooLarge place) → (text : List ℕ) × (at_id conf.patterns place ≡ Some text) × IsPattern text × Contains text 123 }
-        ensures first_large { (place : ℕ) → result ≡ Err (BuildError.TooLarge place) → All IsPattern (take (place - 1) conf.patterns) }
+        ensures refused { (place : ℕ) → result ≡ Err (BuildError.Refused place) → (text : List ℕ)
+            × (at_id conf.patterns place ≡ Some text) × IsNoPattern text }
+        ensures first { (place : ℕ) → result ≡ Err (BuildError.Refused place)
+            → All IsPattern (take (place - 1) conf.patterns) }
+        ensures large { (place : ℕ) → result ≡ Err (BuildError.TooLarge place) → (text : List ℕ)
+            × (at_id conf.patterns place ≡ Some text) × IsPattern text × Contains text 123 }
+        ensures first_large { (place : ℕ) → result ≡ Err (BuildError.TooLarge place)
+            → All IsPattern (take (place - 1) conf.patterns) }
     {
         near(&conf)?;
         let patterns = patterns_of(alloc, &conf.patterns)?;
@@ -197,7 +204,8 @@ impl Ready {
         time: Moment,
         number: u64,
     ) -> Result<Prepared, OutOfMemory>
-        ensures prepared { IfOk result (λ prepared. prepared ≡ prepared_of self.now cells.old (record { item = item; time = time; number = number; value = value.now })) }
+        ensures prepared { IfOk result (λ prepared. prepared ≡ prepared_of self.now cells.old
+            (record { item = item; time = time; number = number; value = value.now })) }
         ensures apart { IfOk result (λ prepared. AreApart prepared.draft.visits) }
         ensures room { IfOk result (λ prepared. HaveRoom cells.new.cells.items prepared.draft.visits) }
         ensures same { AreSame cells.new cells.old }
@@ -223,7 +231,8 @@ impl Ready {
     }
     /// The nodes of the recovery expression of the trigger with an id, none where it has none.
     pub(crate) fn recovery_plan(&self, id: u32) -> &[Node]
-        ensures { (trigger : Trigger) → at_id self.now.triggers id ≡ Some trigger → result.now ≡ recovery_plan_of trigger }
+        ensures { (trigger : Trigger) → at_id self.now.triggers id ≡ Some trigger
+            → result.now ≡ recovery_plan_of trigger }
     {
         row(&self.recoveries, id.saturating_sub(1))
     }
@@ -244,7 +253,8 @@ impl Ready {
 
     /// Whether the reach of some rule of global correlation holds the trigger with an id.
     pub(crate) fn is_reached(&self, id: u32) -> bool
-        ensures { (trigger : Trigger) → at_id self.now.triggers id ≡ Some trigger → result ≡ some_reaches self.now.correlations trigger }
+        ensures { (trigger : Trigger) → at_id self.now.triggers id ≡ Some trigger
+            → result ≡ some_reaches self.now.correlations trigger }
     {
         match by_id(self.reached.as_slice(), id) {
             None => false,
@@ -262,7 +272,9 @@ impl Ready {
 
     /// The place of the pattern of a call of the trigger with an id, 0 where it has none. Calls go by places from 0 on.
     pub(crate) fn place_of(&self, id: u32, place: usize) -> u32
-        ensures { (trigger : Trigger) (call : Call) → at_id self.now.triggers id ≡ Some trigger → slice_get trigger.calls place ≡ Some call → (at_id self.now.patterns result ≡ call_pattern call) × (call.shift + seconds_in call.range ≤ most_seconds) }
+        ensures { (trigger : Trigger) (call : Call) → at_id self.now.triggers id ≡ Some trigger
+            → slice_get trigger.calls place ≡ Some call → (at_id self.now.patterns result ≡ call_pattern call)
+            × (call.shift + seconds_in call.range ≤ most_seconds) }
     {
         place_in(row(&self.places, id.saturating_sub(1)), place)
     }

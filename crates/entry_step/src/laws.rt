@@ -14,33 +14,33 @@ pub fn are_tidy()
     ensures { AreTidyCells }
 {}
 
-/// Locality: an entry's records and changes are a function of the entry, the configuration, the first Tick and the cells of
-/// its foot, and it changes nothing else.
+/// Locality: an entry's records and changes are a function of the entry, the configuration, the first Tick and the
+/// cells of its foot, and it changes nothing else.
 pub fn locality()
     ensures { Locality }
 {}
 
-/// Insertion: an entry that conflicts with no later one joins in its place. Each later entry makes the same records with it
-/// and without; over cells that stand for the log without it, it makes the records and changes of its place, and behind it
-/// they stand for the log with it.
+/// Insertion: an entry that conflicts with no later one joins in its place. Each later entry makes the same records
+/// with it and without; over cells that stand for the log without it, it makes the records and changes of its place,
+/// and behind it they stand for the log with it.
 pub fn insertion()
     ensures { Insertion }
 {}
 
-/// A batch that is evaluated on a copy of the cells of its feet makes the same records, and the copy put back is what the
-/// batch leaves.
+/// A batch that is evaluated on a copy of the cells of its feet makes the same records, and the copy put back is what
+/// the batch leaves.
 pub fn batch_on_a_copy()
     ensures { BatchOnACopy }
 {}
 
-/// Over cells that stand for the applied part of a log, an entry that conflicts with no older one that isn't applied makes
-/// the records that it makes over the whole log.
+/// Over cells that stand for the applied part of a log, an entry that conflicts with no older one that isn't applied
+/// makes the records that it makes over the whole log.
 pub fn applied_part()
     ensures { AppliedPart }
 {}
 
-/// On the replay of a log whose numbers rise, under a configuration whose triggers have different names, the open problems
-/// of a trigger are the Problem records with its host's name and its own that no Recovery names at all.
+/// On the replay of a log whose numbers rise, under a configuration whose triggers have different names, the open
+/// problems of a trigger are the Problem records with its host's name and its own that no Recovery names at all.
 pub fn open_by_names()
     ensures { OpenByNames }
 {}

@@ -1,35 +1,36 @@
 //! One entry at a time: what an entry stores, which triggers it evaluates, and which problems begin and end.
 //!
-//! `Ready` is a configuration with indexes that are made once: hosts by their names, items by their keys, triggers by the
-//! items that they have calls over. So what is done for a value takes no walk over the configuration. `Cells` keep what a
-//! run needs between entries: the values that a later window can see, what preprocessing steps remember, the open problems
-//! of each trigger, the first Tick.
-//! `step` takes one numbered entry and answers the records that it makes.
+//! `Ready` is a configuration with indexes that are made once: hosts by their names, items by their keys, triggers by
+//! the items that they have calls over. So what is done for a value takes no walk over the configuration. `Cells`
+//! keep what a run needs between entries: the values that a later window can see, what preprocessing steps remember,
+//! the open problems of each trigger, the first Tick. `step` takes one numbered entry and answers the records that it
+//! makes.
 //!
-//! The contract: whatever cells it is that the kept ones represent (`specs/Represents.antt`), `step` answers the records
-//! of the entry over them, and leaves what represents the cells behind the entry (`specs/Cells.antt`). Over a log that is
-//! held, these are the records that a search of the log and of its records finds. At `Err` all is as before.
+//! The contract: whatever cells it is that the kept ones represent (`specs/Represents.antt`), `step` answers the
+//! records of the entry over them, and leaves what represents the cells behind the entry (`specs/Cells.antt`). Over a
+//! log that is held, these are the records that a search of the log and of its records finds. At `Err` all is as
+//! before.
 //!
 //! A log has its newest entry first (`specs/Log.antt`), records stand in the order in which they were made. A value
-//! goes through the preprocessing steps of its item, and what the item stores through the items that depend on it, as the
-//! crate `preprocess` says; each failure makes a Failure record, and what is stored goes into the history of its item by its
-//! time (`specs/History.antt`). Behind the failures, the enabled triggers with a call over an item that stored a value are
-//! evaluated one after another, by depth and then by id (`specs/Order.antt`, `specs/Evaluation.antt`,
-//! `specs/Records.antt`): the verdict of the crate `trigger_state`, over the problems that are open then, makes a problem or
-//! closes some. A Tick evaluates in the same way the enabled triggers with a function that changes with time
-//! alone, as `nodata` and `time`, and then runs the steps that are due for the problems that are open, in the order of
-//! making (`specs/Due.antt`). A Config makes no records.
+//! goes through the preprocessing steps of its item, and what the item stores through the items that depend on it, as
+//! the crate `preprocess` says; each failure makes a Failure record, and what is stored goes into the history of its
+//! item by its time (`specs/History.antt`). Behind the failures, the enabled triggers with a call over an item that
+//! stored a value are evaluated one after another, by depth and then by id (`specs/Order.antt`,
+//! `specs/Evaluation.antt`, `specs/Records.antt`): the verdict of the crate `trigger_state`, over the problems that
+//! are open then, makes a problem or closes some. A Tick evaluates in the same way the enabled triggers with a
+//! function that changes with time alone, as `nodata` and `time`, and then runs the steps that are due for the
+//! problems that are open, in the order of making (`specs/Due.antt`). A Config makes no records.
 //!
-//! The module `laws` has the laws of order as clauses: an entry's records and changes depend on its foot alone, and an entry
-//! that conflicts with no later one joins in its place.
+//! The module `laws` has the laws of order as clauses: an entry's records and changes depend on its foot alone, and
+//! an entry that conflicts with no later one joins in its place.
 //!
-//! The value of a call is that of `history_functions` over the window of the item's whole history; what is kept of it, in
-//! the cells of `value_cache`, shows the same window. Operators are those of the crate `expr_eval`.
-//! A problem's record has its name and tags with the latest values in them, and tells whether it is suppressed. Behind it
-//! come the Recovery records of global correlation, whose rules are those of the crate `event_correlation`, over all that is
-//! open as the problem is made: the old problems first, and the new one last. Where that stays open, step 1 comes of each
-//! action that matches it and isn't paused. Behind each Recovery come its recovery messages. Where no rule's reach holds a
-//! trigger, nothing is looked at for its problems.
+//! The value of a call is that of `history_functions` over the window of the item's whole history; what is kept of
+//! it, in the cells of `value_cache`, shows the same window. Operators are those of the crate `expr_eval`. A
+//! problem's record has its name and tags with the latest values in them, and tells whether it is suppressed. Behind
+//! it come the Recovery records of global correlation, whose rules are those of the crate `event_correlation`, over
+//! all that is open as the problem is made: the old problems first, and the new one last. Where that stays open, step
+//! 1 comes of each action that matches it and isn't paused. Behind each Recovery come its recovery messages. Where no
+//! rule's reach holds a trigger, nothing is looked at for its problems.
 //!
 //! ```text
 //! let ready = Ready::build(alloc, conf)?;

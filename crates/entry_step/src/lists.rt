@@ -37,7 +37,8 @@ fn enter_all(
     items: &[u32],
     id: u32,
 ) -> Result<(), OutOfMemory>
-    ensures { OnOk result ((item : ℕ) → listed over.new.items item ≡ listed over.old.items item ++ (if has_id item items.now then id ∷ [] else [])) }
+    ensures { OnOk result ((item : ℕ) → listed over.new.items item ≡ listed over.old.items
+        item ++ (if has_id item items.now then id ∷ [] else [])) }
 {
     for (place, item) in items.iter().enumerate() {
         if !has_id(&items[..place], *item) {
@@ -47,7 +48,8 @@ fn enter_all(
     Ok(())
 }
 
-/// Adds an enabled trigger's id to the lists of the items that it has calls over and of all their masters, to each once.
+/// Adds an enabled trigger's id to the lists of the items that it has calls over and of all their masters, to each
+/// once.
 fn enter_trigger(
     alloc: Global,
     over: &mut Vec<Many<u32>>,
@@ -55,7 +57,8 @@ fn enter_trigger(
     trigger: &Trigger,
     id: u32,
 ) -> Result<(), OutOfMemory>
-    ensures { OnOk result ((item : ℕ) → listed over.new.items item ≡ listed over.old.items item ++ (if is_over_below conf.now item (Some trigger.now) then id ∷ [] else [])) }
+    ensures { OnOk result ((item : ℕ) → listed over.new.items item ≡ listed over.old.items
+        item ++ (if is_over_below conf.now item (Some trigger.now) then id ∷ [] else [])) }
 {
     if trigger.enabled {
         let items = with_masters(alloc, conf, trigger.call_items.as_slice())?;
@@ -71,7 +74,8 @@ fn enter_by_id(
     conf: &Conf,
     id: u32,
 ) -> Result<(), OutOfMemory>
-    ensures { OnOk result ((item : ℕ) → listed over.new.items item ≡ listed over.old.items item ++ (if is_over_below conf.now item (at_id conf.now.triggers id) then id ∷ [] else [])) }
+    ensures { OnOk result ((item : ℕ) → listed over.new.items item ≡ listed over.old.items
+        item ++ (if is_over_below conf.now item (at_id conf.now.triggers id) then id ∷ [] else [])) }
 {
     match by_id(conf.triggers.as_slice(), id) {
         None => Ok(()),

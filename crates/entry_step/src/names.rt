@@ -18,7 +18,8 @@ fn note(
     name: &Text,
     id: u32,
 ) -> Result<(), OutOfMemory>
-    ensures { OnOk result ((q : List ℕ) → get_by_text ids.new q ≡ noted (get_by_text ids.old q) (bytes_eq name.now q) id) }
+    ensures { OnOk result ((q : List ℕ) → get_by_text ids.new q ≡ noted (get_by_text ids.old q) (bytes_eq name.now q)
+        id) }
 {
     if ids.get(name.as_str()).is_none() {
         ids.insert(String::from_str(alloc, name.as_str())?, id)?;
@@ -57,7 +58,8 @@ fn note_key(
     key: &Text,
     id: u32,
 ) -> Result<(), OutOfMemory>
-    ensures { OnOk result ((h : ℕ) (q : List ℕ) → id_at keys.new.items h q ≡ noted (id_at keys.old.items h q) ((host == h) && bytes_eq key.now q) id) }
+    ensures { OnOk result ((h : ℕ) (q : List ℕ) → id_at keys.new.items h q ≡ noted (id_at keys.old.items h q)
+        ((host == h) && bytes_eq key.now q) id) }
 {
     reach(alloc, keys, host)?;
     note(alloc, &mut keys[host as usize], key, id)
@@ -65,7 +67,8 @@ fn note_key(
 
 /// The ids of items by their hosts and keys: of each key of a host the first.
 pub(crate) fn keys_of(alloc: Global, conf: &Conf) -> Result<Vec<HashMap<String, u32>>, OutOfMemory>
-    ensures { IfOk result (λ keys. (host : ℕ) (key : List ℕ) → id_at keys.items host key ≡ item_keyed conf.now host key) }
+    ensures { IfOk result (λ keys. (host : ℕ) (key : List ℕ)
+        → id_at keys.items host key ≡ item_keyed conf.now host key) }
 {
     let mut keys = Vec::new(alloc);
     for (place, item) in conf.items.as_slice().iter().enumerate() {

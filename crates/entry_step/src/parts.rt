@@ -1,4 +1,5 @@
-//! Parts of cells: copies of those in the feet of some entries, on which the entries are worked out apart from the others.
+//! Parts of cells: copies of those in the feet of some entries, on which the entries are worked out apart from the
+//! others.
 
 ghost use Rattle.std.specs.Prelude.{◌≡◌, true, [], IfOk, OnOk, IsTrue, ◌↔◌};
 ghost use Rattle.entry_step.specs.Represents.{Holds};
@@ -81,8 +82,8 @@ pub struct WorkedOut {
 }
 
 impl Cells {
-    /// Copies the cells in the feet of some entries, and the moment of the first Tick. [`OutOfMemory`] where there is no
-    /// room for them.
+    /// Copies the cells in the feet of some entries, and the moment of the first Tick. [`OutOfMemory`] where there is
+    /// no room for them.
     ///
     /// It takes time in the sizes of the feet, and for a Config or a Tick in that of all cells.
     pub fn part(
@@ -169,8 +170,8 @@ pub(crate) fn step_all<L: Ledger>(
     Ok(made)
 }
 
-/// Works out entries, one after another, on a part of cells. The part has to be of some cells to which they come. `scratch`
-/// are cells before the first entry, in which it is done, and which are so again behind it.
+/// Works out entries, one after another, on a part of cells. The part has to be of some cells to which they come.
+/// `scratch` are cells before the first entry, in which it is done, and which are so again behind it.
 ///
 /// One step is counted for each trigger that is evaluated. `Err` where no memory is to be had.
 pub fn work_out<L: Ledger>(

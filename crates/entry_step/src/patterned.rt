@@ -75,8 +75,8 @@ fn all_have(alloc: Global, texts: &[Text], triggers: &[Trigger]) -> Result<bool,
     Ok(true)
 }
 
-/// Checks that the patterns of the titles and tags of all triggers are among those of the configuration: else there is no
-/// room for others.
+/// Checks that the patterns of the titles and tags of all triggers are among those of the configuration: else there
+/// is no room for others.
 pub(crate) fn patterned(alloc: Global, conf: &Conf) -> Result<(), OutOfMemory>
     ensures { OnOk result (ArePatterned conf.now) }
 {

@@ -61,7 +61,8 @@ fn add_recovery(nodes: &mut Many<Node>, trigger: &Trigger) -> Result<(), OutOfMe
 
 /// The nodes of each trigger's expression, by the places of triggers.
 pub(crate) fn plans_of(alloc: Global, triggers: &[Trigger]) -> Result<Packed<Node>, OutOfMemory>
-    ensures { IfOk result (λ made. (number : ℕ) → row_at made.starts made.items number ≡ slice_index_or (map plan_of triggers.now) number []) }
+    ensures { IfOk result (λ made. (number : ℕ) → row_at made.starts made.items number ≡ slice_index_or
+        (map plan_of triggers.now) number []) }
 {
     let mut made = Packed {
         starts: Many::new(alloc),
@@ -79,7 +80,8 @@ pub(crate) fn recovery_plans_of(
     alloc: Global,
     triggers: &[Trigger],
 ) -> Result<Packed<Node>, OutOfMemory>
-    ensures { IfOk result (λ made. (number : ℕ) → row_at made.starts made.items number ≡ slice_index_or (map recovery_plan_of triggers.now) number []) }
+    ensures { IfOk result (λ made. (number : ℕ) → row_at made.starts made.items number ≡ slice_index_or
+        (map recovery_plan_of triggers.now) number []) }
 {
     let mut made = Packed {
         starts: Many::new(alloc),

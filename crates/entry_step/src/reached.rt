@@ -51,7 +51,8 @@ fn reach_of(alloc: Global, rule: &Rule, triggers: &[Trigger]) -> Result<Many<u32
 
 /// Those of each rule, by ids of rules: an empty row for 0, and one for each rule.
 fn reach_rows(alloc: Global, conf: &Conf) -> Result<Vec<Many<u32>>, OutOfMemory>
-    ensures { IfOk result (λ rows. rows.items ≡ [] ∷ map (λ rule. reach_from rule 1 conf.now.triggers) conf.now.correlations) }
+    ensures { IfOk result (λ rows. rows.items ≡ [] ∷ map (λ rule. reach_from rule 1 conf.now.triggers)
+        conf.now.correlations) }
 {
     let rules = conf.correlations.as_slice();
     let triggers = conf.triggers.as_slice();
@@ -66,7 +67,8 @@ fn reach_rows(alloc: Global, conf: &Conf) -> Result<Vec<Many<u32>>, OutOfMemory>
 /// The ids of the triggers that the reach of each rule holds, one list behind another, by ids of rules.
 #[tactic(auto, using(crate::proofs::Reaches::reach_has))]
 pub(crate) fn reaches_of_all(alloc: Global, conf: &Conf) -> Result<Packed<u32>, OutOfMemory>
-    ensures { IfOk result (λ made. (rule id : ℕ) → has_id (row_at made.starts made.items rule) id ≡ is_reached conf.now rule id) }
+    ensures { IfOk result (λ made. (rule id : ℕ) → has_id (row_at made.starts made.items rule) id ≡ is_reached
+        conf.now rule id) }
 {
     let rows = reach_rows(alloc, conf)?;
     pack(alloc, rows.as_slice())

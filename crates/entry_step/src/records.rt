@@ -72,7 +72,8 @@ fn is_of(one: &Open, event: EventId) -> bool
     own.number == event.number && own.trigger == event.trigger
 }
 
-/// Adds what is sent as the open problem of an event closes: the recovery messages of the actions that ran a step for it.
+/// Adds what is sent as the open problem of an event closes: the recovery messages of the actions that ran a step for
+/// it.
 fn push_sent(
     alloc: Global,
     conf: &Conf,
@@ -81,7 +82,8 @@ fn push_sent(
     event: EventId,
     out: &mut Many<Rec>,
 ) -> Result<(), OutOfMemory>
-    ensures { OnOk result (out.new ≡ out.old ++ flat_map (λ o. recovered_records conf.now o.problem o.steps now) (filter (λ o. same_event (event_in o) event) opens.now)) }
+    ensures { OnOk result (out.new ≡ out.old ++ flat_map (λ o. recovered_records conf.now o.problem o.steps now)
+        (filter (λ o. same_event (event_in o) event) opens.now)) }
 {
     for one in opens {
         if is_of(one, event) {
@@ -130,7 +132,8 @@ fn closings(
     opens: &[Open],
     events: &[EventId],
 ) -> Result<Many<Rec>, OutOfMemory>
-    ensures { IfOk result (λ made. made ≡ flat_map (closed_records conf.now number now Cause2.Expression opens.now) events.now) }
+    ensures { IfOk result (λ made. made ≡ flat_map (closed_records conf.now number now Cause2.Expression opens.now)
+        events.now) }
 {
     let cause = Cause2::Expression;
     let mut made = Many::new(alloc);
@@ -150,7 +153,8 @@ fn push_ruled(
     events: &[EventId],
     out: &mut Many<Rec>,
 ) -> Result<(), OutOfMemory>
-    ensures { OnOk result (out.new ≡ out.old ++ ruled_records conf.now number now (problems_at problems.now) events.now) }
+    ensures { OnOk result (out.new ≡ out.old ++ ruled_records conf.now number now (problems_at problems.now)
+        events.now) }
 {
     let cause = Cause2::Correlation;
     for event in events {
@@ -160,8 +164,8 @@ fn push_ruled(
     Ok(())
 }
 
-/// Adds what comes last as a problem of the trigger with an id begins: its own Recovery where a rule closes it, else step 1
-/// of each action.
+/// Adds what comes last as a problem of the trigger with an id begins: its own Recovery where a rule closes it, else
+/// step 1 of each action.
 fn push_last(
     alloc: Global,
     conf: &Conf,
@@ -183,8 +187,8 @@ fn push_last(
     Ok(())
 }
 
-/// What a new problem of the trigger with an id makes, as rules close these: its record, the ends of the old ones, and what
-/// comes last.
+/// What a new problem of the trigger with an id makes, as rules close these: its record, the ends of the old ones,
+/// and what comes last.
 fn begun(
     alloc: Global,
     conf: &Conf,
@@ -195,7 +199,8 @@ fn begun(
     problem: &Rec,
     closes: &Closes,
 ) -> Result<Many<Rec>, OutOfMemory>
-    ensures { IfOk result (λ made. made ≡ begun_with conf.now number now (problems_at problems.now) id problem.now closes.now) }
+    ensures { IfOk result (λ made. made ≡ begun_with conf.now number now (problems_at problems.now) id problem.now
+        closes.now) }
 {
     let old = closes.old.as_slice();
     let mut made = Many::new(alloc);
@@ -205,8 +210,8 @@ fn begun(
     Ok(made)
 }
 
-/// A new problem of a trigger, behind those that are open. Where no rule and no action does anything about it, they stay
-/// where they are.
+/// A new problem of a trigger, behind those that are open. Where no rule and no action does anything about it, they
+/// stay where they are.
 fn begin(
     alloc: Global,
     ready: &Ready,
@@ -218,8 +223,10 @@ fn begin(
     problems: &[Many<Open>],
 ) -> Result<TriggerOutcome, OutOfMemory>
     requires { at_id ready.now.triggers id ≡ Some trigger.now }
-    ensures records { IfOk result (λ made. made.records ≡ begun_records ready.now number now (problems_at problems.now) id (problem_of ready.now number now values.now id trigger.now)) }
-    ensures rows { IfOk result (λ made. length problems.now ≡ length ready.now.triggers → Absorbed ready.now problems.now made.records (outcome_rows problems.now id (Some made))) }
+    ensures records { IfOk result (λ made. made.records ≡ begun_records ready.now number now
+        (problems_at problems.now) id (problem_of ready.now number now values.now id trigger.now)) }
+    ensures rows { IfOk result (λ made. length problems.now ≡ length ready.now.triggers
+        → Absorbed ready.now problems.now made.records (outcome_rows problems.now id (Some made))) }
 {
     let conf = ready.conf();
     let problem = problem_of(alloc, ready, number, now, values, id, trigger)?;
@@ -262,8 +269,11 @@ fn end(
     problems: &[Many<Open>],
     events: &[EventId],
 ) -> Result<TriggerOutcome, OutOfMemory>
-    ensures records { IfOk result (λ made. made.records ≡ flat_map (closed_records conf.now number now Cause2.Expression (problems_at problems.now id)) events.now) }
-    ensures rows { IfOk result (λ made. Each (λ e. home conf.now e ≡ id) events.now → length problems.now ≡ length conf.now.triggers → Absorbed conf.now problems.now made.records (outcome_rows problems.now id (Some made))) }
+    ensures records { IfOk result (λ made. made.records ≡ flat_map
+        (closed_records conf.now number now Cause2.Expression (problems_at problems.now id)) events.now) }
+    ensures rows { IfOk result (λ made. Each (λ e. home conf.now e ≡ id) events.now
+        → length problems.now ≡ length conf.now.triggers
+        → Absorbed conf.now problems.now made.records (outcome_rows problems.now id (Some made))) }
 {
     let opens = problems_at(problems, id);
     let records = closings(alloc, conf, number, now, opens, events)?;
@@ -284,8 +294,14 @@ fn settled(
     verdict: &Verdict,
 ) -> Result<Option<TriggerOutcome>, OutOfMemory>
     requires { at_id calls.now.ready.now.triggers calls.now.id ≡ Some calls.now.trigger.now }
-    ensures records { IfOk result (λ made. (items : ℕ → List Stored) → Shown calls.now items → outcome_records made ≡ verdict_records calls.now.ready.now calls.now.occasion.number calls.now.occasion.now (shown_values items calls.now.occasion.now calls.now.trigger.now) calls.now.id calls.now.trigger.now (problems_at problems.now) verdict.now) }
-    ensures rows { IfOk result (λ made. EachClosed (λ e. home calls.now.ready.now e ≡ calls.now.id) verdict.now → length problems.now ≡ length calls.now.ready.now.triggers → Absorbed calls.now.ready.now problems.now (outcome_records made) (outcome_rows problems.now calls.now.id made)) }
+    ensures records { IfOk result (λ made. (items : ℕ → List Stored) → Shown calls.now items
+        → outcome_records made ≡ verdict_records calls.now.ready.now calls.now.occasion.number calls.now.occasion.now
+        (shown_values items calls.now.occasion.now calls.now.trigger.now) calls.now.id calls.now.trigger.now
+        (problems_at problems.now) verdict.now) }
+    ensures rows { IfOk result (λ made. EachClosed (λ e. home calls.now.ready.now e ≡ calls.now.id) verdict.now
+        → length problems.now ≡ length calls.now.ready.now.triggers
+        → Absorbed calls.now.ready.now problems.now (outcome_records made)
+        (outcome_rows problems.now calls.now.id made)) }
 {
     let ready = calls.ready;
     let id = calls.id;
@@ -318,7 +334,9 @@ fn settled(
 #[tactic(auto, using(crate::proofs::Sight::serve_same, crate::proofs::Sight::serve_untagged, crate::proofs::Sight::serve_none))]
 fn closing_tags(alloc: Global, calls: &Calls, opens: &[Open]) -> Result<Many<Tag>, OutOfMemory>
     requires { at_id calls.now.ready.now.triggers calls.now.id ≡ Some calls.now.trigger.now }
-    ensures { IfOk result (λ made. (items : ℕ → List Stored) → Shown calls.now items → Serve calls.now.trigger.now opens.now made (event_tags calls.now.ready.now calls.now.id (shown_values items calls.now.occasion.now calls.now.trigger.now))) }
+    ensures { IfOk result (λ made. (items : ℕ → List Stored) → Shown calls.now items
+        → Serve calls.now.trigger.now opens.now made (event_tags calls.now.ready.now calls.now.id
+        (shown_values items calls.now.occasion.now calls.now.trigger.now))) }
 {
     if calls.trigger.close_tag.len() == 0 {
         return Ok(Many::new(alloc));
@@ -343,8 +361,12 @@ pub(crate) fn judge(
     requires there { at_id calls.now.ready.now.triggers calls.now.id ≡ Some calls.now.trigger.now }
     requires plan { plan.now ≡ plan_of calls.now.trigger.now }
     requires recovery { recovery.now ≡ recovery_plan_of calls.now.trigger.now }
-    ensures records { IfOk result (λ made. (items : ℕ → List Stored) → Shown calls.now items → outcome_records made ≡ judged calls.now.ready.now calls.now.occasion (sight_of calls.now values.now items) calls.now.id calls.now.trigger.now held (problems_at problems.now)) }
-    ensures rows { IfOk result (λ made. AreTidy calls.now.ready.now problems.now → Absorbed calls.now.ready.now problems.now (outcome_records made) (outcome_rows problems.now calls.now.id made)) }
+    ensures records { IfOk result (λ made. (items : ℕ → List Stored) → Shown calls.now items
+        → outcome_records made ≡ judged calls.now.ready.now calls.now.occasion (sight_of calls.now values.now items)
+        calls.now.id calls.now.trigger.now held (problems_at problems.now)) }
+    ensures rows { IfOk result (λ made. AreTidy calls.now.ready.now problems.now
+        → Absorbed calls.now.ready.now problems.now (outcome_records made)
+        (outcome_rows problems.now calls.now.id made)) }
 {
     let trigger = calls.trigger;
     let opens = problems_at(problems, calls.id);

@@ -41,7 +41,8 @@ pub(crate) fn enter(
     number: u32,
     id: u32,
 ) -> Result<(), OutOfMemory>
-    ensures { OnOk result ((n : ℕ) → listed rows.new.items n ≡ (if number == n then listed rows.old.items n ++ id ∷ [] else listed rows.old.items n)) }
+    ensures { OnOk result ((n : ℕ) → listed rows.new.items
+        n ≡ (if number == n then listed rows.old.items n ++ id ∷ [] else listed rows.old.items n)) }
 {
     reach(alloc, rows, number)?;
     add(rows, number, id)

@@ -46,7 +46,9 @@ fn latest_in(
     cell: &ItemCell,
     stored: Option<&Stored>,
 ) -> Result<Option<Held>, OutOfMemory>
-    ensures { IfOk result (λ made. (id : ℕ) (history : List Stored) → Sees calls.now.ready.now id (Some cell.now) (option_copied stored.entry) calls.now.occasion.now history → IsWithin (keep_of calls.now.ready.now id) (Count 1) 0
+    ensures { IfOk result (λ made. (id : ℕ) (history : List Stored)
+        → Sees calls.now.ready.now id (Some cell.now) (option_copied stored.entry) calls.now.occasion.now history
+        → IsWithin (keep_of calls.now.ready.now id) (Count 1) 0
         → made ≡ latest_in calls.now.occasion.now history) }
 {
     match stored {
@@ -63,7 +65,8 @@ fn latest_in(
 
 /// The latest value of the item with an id, where the trigger has a call over it.
 fn latest_of(alloc: Global, calls: &Calls, item: u32) -> Result<Option<Held>, OutOfMemory>
-    ensures { IfOk result (λ made. (items : ℕ → List Stored) → Shown calls.now items → IsCalled calls.now.ready.now calls.now.id item → IsWithin (keep_of calls.now.ready.now item) (Count 1) 0
+    ensures { IfOk result (λ made. (items : ℕ → List Stored) → Shown calls.now items
+        → IsCalled calls.now.ready.now calls.now.id item → IsWithin (keep_of calls.now.ready.now item) (Count 1) 0
         → made ≡ latest_in calls.now.occasion.now (items item)) }
 {
     match by_id(calls.items, item) {

@@ -1,6 +1,6 @@
-//! One step: what an entry's value leaves at its item and at those below it is prepared, the triggers over them are evaluated
-//! one after another, each over what those before it left in the cells, and then what was prepared is put in place. Where
-//! memory is refused, what was changed is put back, also what rules closed of other triggers.
+//! One step: what an entry's value leaves at its item and at those below it is prepared, the triggers over them are
+//! evaluated one after another, each over what those before it left in the cells, and then what was prepared is put
+//! in place. Where memory is refused, what was changed is put back, also what rules closed of other triggers.
 
 ghost use Rattle.std.specs.Prelude.{◌≡◌, ◌≤◌, ◌+◌, ◌∷◌, ◌++◌, [], ℕ, List, length, filter, Some, is_some, IfSome, IfOk, OnOk, OnErr, if◌then◌else◌};
 ghost use Rattle.std.specs.List.{list_any};
@@ -35,8 +35,8 @@ use trigger_state::{Open, held_by};
 use value_cache::ItemCell;
 use zbx_types::{Conf, Entry, Many, Moment, Numbered, OutOfMemory, Rec, Text, by_id};
 
-/// Whether the trigger with an id is evaluated: where values are to be stored, it has a call over an item that is to store
-/// one.
+/// Whether the trigger with an id is evaluated: where values are to be stored, it has a call over an item that is to
+/// store one.
 fn is_asked(conf: &Conf, coming: &Option<preprocess::Draft>, id: u32) -> bool
     ensures { result ≡ is_asked conf.now coming.now id }
 {
@@ -72,8 +72,11 @@ fn outcome_of(
     coming: &Option<preprocess::Draft>,
     id: u32,
 ) -> Result<Option<TriggerOutcome>, OutOfMemory>
-    ensures records { IfOk result (λ made. (histories : ℕ → List Stored) → SeesFor ready.now items.now (still_to_come coming.now) occasion.entry.now.now histories id → outcome_records made ≡ evaluated ready.now occasion.entry.now histories (problems_at problems.now) id) }
-    ensures rows { IfOk result (λ made. AreTidy ready.now problems.now → Absorbed ready.now problems.now (outcome_records made) (outcome_rows problems.now id made)) }
+    ensures records { IfOk result (λ made. (histories : ℕ → List Stored)
+        → SeesFor ready.now items.now (still_to_come coming.now) occasion.entry.now.now histories id
+        → outcome_records made ≡ evaluated ready.now occasion.entry.now histories (problems_at problems.now) id) }
+    ensures rows { IfOk result (λ made. AreTidy ready.now problems.now
+        → Absorbed ready.now problems.now (outcome_records made) (outcome_rows problems.now id made)) }
 {
     let conf = ready.conf();
     let Some(trigger) = by_id(conf.triggers.as_slice(), id) else {
@@ -100,8 +103,8 @@ fn outcome_of(
     )
 }
 
-/// Evaluates the trigger with an id on an occasion, if it is to be evaluated. What it had before is kept in the draft, also
-/// at `Err`.
+/// Evaluates the trigger with an id on an occasion, if it is to be evaluated. What it had before is kept in the
+/// draft, also at `Err`.
 fn evaluate_one<L: Ledger>(
     alloc: Global,
     ready: &Ready,
@@ -114,7 +117,9 @@ fn evaluate_one<L: Ledger>(
     steps: &mut Steps<L>,
 ) -> Result<(), OutOfMemory>
     ensures same { put_back problems.new.items draft.new.taken ≡ put_back problems.old.items draft.old.taken }
-    ensures runs { OnOk result (RunsOn ready.now occasion.entry.now items.now (still_to_come coming.now) (is_asked ready.now coming.now id) id draft.old.records problems.old.items draft.new.records problems.new.items) }
+    ensures runs { OnOk result (RunsOn ready.now occasion.entry.now items.now (still_to_come coming.now)
+        (is_asked ready.now coming.now id) id draft.old.records problems.old.items draft.new.records
+        problems.new.items) }
     ensures counted { OnOk result (steps.new ≡ steps.old + (if is_asked ready.now coming.now id then 1 else 0)) }
     ensures most { steps.new ≤ steps.old + (if is_asked ready.now coming.now id then 1 else 0) }
 {
@@ -142,7 +147,8 @@ fn evaluate_all<L: Ledger>(
 ) -> Result<(), OutOfMemory>
     requires { draft.old.records ≡ [] }
     ensures same { put_back problems.new.items draft.new.taken ≡ put_back problems.old.items draft.old.taken }
-    ensures runs { OnOk result (RunsOver ready.now occasion.entry.now items.now (still_to_come coming.now) problems.old.items (filter (is_asked ready.now coming.now) ids.now) draft.new.records problems.new.items) }
+    ensures runs { OnOk result (RunsOver ready.now occasion.entry.now items.now (still_to_come coming.now)
+        problems.old.items (filter (is_asked ready.now coming.now) ids.now) draft.new.records problems.new.items) }
     ensures counted { OnOk result (steps.new ≡ steps.old + length (filter (is_asked ready.now coming.now) ids.now)) }
     ensures most { steps.new ≤ steps.old + length (filter (is_asked ready.now coming.now) ids.now) }
 {
@@ -166,7 +172,8 @@ fn evaluated<L: Ledger>(
     steps: &mut Steps<L>,
 ) -> Result<Draft, OutOfMemory>
     ensures same { IfOk result (λ draft. put_back problems.new.items draft.taken ≡ problems.old.items) }
-    ensures runs { IfOk result (λ draft. RunsOver ready.now occasion.entry.now items.now (still_to_come coming.now) problems.old.items (filter (is_asked ready.now coming.now) ids.now) draft.records problems.new.items) }
+    ensures runs { IfOk result (λ draft. RunsOver ready.now occasion.entry.now items.now (still_to_come coming.now)
+        problems.old.items (filter (is_asked ready.now coming.now) ids.now) draft.records problems.new.items) }
     ensures counted { OnOk result (steps.new ≡ steps.old + length (filter (is_asked ready.now coming.now) ids.now)) }
     ensures err { OnErr result (problems.new.items ≡ problems.old.items) }
 {
@@ -185,8 +192,8 @@ fn evaluated<L: Ledger>(
     }
 }
 
-/// Takes a value of an item: it goes through its item and those that depend on it, and what they store goes into the cells;
-/// the triggers over what is stored are evaluated, as if it were there already.
+/// Takes a value of an item: it goes through its item and those that depend on it, and what they store goes into the
+/// cells; the triggers over what is stored are evaluated, as if it were there already.
 fn take_value<L: Ledger>(
     alloc: Global,
     ready: &Ready,
@@ -197,9 +204,15 @@ fn take_value<L: Ledger>(
     value: &Text,
     steps: &mut Steps<L>,
 ) -> Result<Many<Rec>, OutOfMemory>
-    ensures ok { IfOk result (λ made. TakesIn ready.now occasion.entry.now (visits_at ready.now (memory_in cells.old.memories) occasion.entry.now.number (Value occasion.entry.now.now item time value.now)) (triggers_at ready.now (memory_in cells.old.memories) occasion.entry.now.number (Value occasion.entry.now.now item time value.now)) cells.old made cells.new) }
+    ensures ok { IfOk result (λ made. TakesIn ready.now occasion.entry.now
+        (visits_at ready.now (memory_in cells.old.memories) occasion.entry.now.number
+        (Value occasion.entry.now.now item time value.now))
+        (triggers_at ready.now (memory_in cells.old.memories) occasion.entry.now.number
+        (Value occasion.entry.now.now item time value.now)) cells.old made cells.new) }
     ensures err { OnErr result (cells.new ≡ cells.old) }
-    ensures counted { OnOk result (steps.new ≡ steps.old + length (triggers_at ready.now (memory_in cells.old.memories) occasion.entry.now.number (Value occasion.entry.now.now item time value.now))) }
+    ensures counted { OnOk result (steps.new ≡ steps.old + length
+        (triggers_at ready.now (memory_in cells.old.memories) occasion.entry.now.number
+        (Value occasion.entry.now.now item time value.now))) }
 {
     let Prepared { draft, failures } = ready.prepare(
         alloc,
@@ -222,7 +235,8 @@ fn take_value<L: Ledger>(
     )
 }
 
-/// Takes what was prepared of a value: the triggers over what it is to store are evaluated, and then it is put in place.
+/// Takes what was prepared of a value: the triggers over what it is to store are evaluated, and then it is put in
+/// place.
 fn take_draft<L: Ledger>(
     alloc: Global,
     ready: &Ready,
@@ -236,9 +250,13 @@ fn take_draft<L: Ledger>(
 ) -> Result<Many<Rec>, OutOfMemory>
     requires apart { IfSome coming (λ draft. AreApart draft.visits) }
     requires room { IfSome coming (λ draft. HaveRoom items.old.cells.items draft.visits) }
-    ensures made { IfOk result (λ made. Drafted ready.now occasion.entry.now coming (filter (is_asked ready.now coming) (triggers_under ready.now item)) failures items.old.cells.items problems.old.items made problems.new.items) }
-    ensures came { OnOk result (IfSome coming (λ draft. Becomes occasion.entry.now.now draft.visits items.old items.new)) }
-    ensures counted { OnOk result (steps.new ≡ steps.old + length (filter (is_asked ready.now coming) (triggers_under ready.now item))) }
+    ensures made { IfOk result (λ made. Drafted ready.now occasion.entry.now coming
+        (filter (is_asked ready.now coming) (triggers_under ready.now item)) failures items.old.cells.items
+        problems.old.items made problems.new.items) }
+    ensures came { OnOk result (IfSome coming (λ draft. Becomes occasion.entry.now.now draft.visits items.old
+        items.new)) }
+    ensures counted { OnOk result (steps.new ≡ steps.old + length
+        (filter (is_asked ready.now coming) (triggers_under ready.now item))) }
     ensures items { OnErr result (items.new ≡ items.old) }
     ensures problems { OnErr result (problems.new.items ≡ problems.old.items) }
 {
@@ -331,7 +349,8 @@ fn advance<L: Ledger>(
     steps: &mut Steps<L>,
 ) -> Result<Many<Rec>, OutOfMemory>
     ensures made { IfOk result (λ made. StepsTo ready.now cells.old entry.now made cells.new) }
-    ensures counted { OnOk result (steps.new ≡ steps.old + length (triggers_at ready.now (memory_in cells.old.memories) entry.now.number entry.now.entry)) }
+    ensures counted { OnOk result (steps.new ≡ steps.old + length
+        (triggers_at ready.now (memory_in cells.old.memories) entry.now.number entry.now.entry)) }
     ensures err { OnErr result (cells.new ≡ cells.old) }
 {
     let occasion = occasion_of(cells.tick, entry);
@@ -349,16 +368,16 @@ fn advance<L: Ledger>(
 
 /// Takes an entry: answers the records that it makes, in their order, and brings the cells up to it.
 ///
-/// The cells must represent cells to which the entry comes after, and the entry's value must fit this configuration; else
-/// the answer means nothing, and the cells are of no more use. Cells that hold a log are such cells, where the log with the
-/// entry suits.
+/// The cells must represent cells to which the entry comes after, and the entry's value must fit this configuration;
+/// else the answer means nothing, and the cells are of no more use. Cells that hold a log are such cells, where the
+/// log with the entry suits.
 ///
 /// One step is counted for each trigger that is evaluated. `Err` where no memory is to be had. The cells are then as
 /// before, and the entry may be taken again.
 ///
-/// Only the triggers over a value's item are looked at, and at a Tick those with a function of time and, where there are
-/// actions, the problems that are open. For a new problem of a trigger that a rule of global correlation reaches, all
-/// problems that are open are looked at.
+/// Only the triggers over a value's item are looked at, and at a Tick those with a function of time and, where there
+/// are actions, the problems that are open. For a new problem of a trigger that a rule of global correlation reaches,
+/// all problems that are open are looked at.
 pub fn step<L: Ledger>(
     alloc: Global,
     ready: &Ready,
@@ -367,9 +386,13 @@ pub fn step<L: Ledger>(
     steps: &mut Steps<L>,
 ) -> Result<Many<Rec>, OutOfMemory>
     ensures made { IfOk result (λ made. StepsTo ready.now cells.old entry.now made cells.new) }
-    ensures out { IfOk result (λ made. (log : List Numbered) → Holds ready.now cells.old log → Suits ready.now (entry.now ∷ log) → made ≡ out_of ready.now log entry.now entry.now.entry (replay ready.now log)) }
-    ensures holds { OnOk result ((log : List Numbered) → Holds ready.now cells.old log → Suits ready.now (entry.now ∷ log) → Holds ready.now cells.new (entry.now ∷ log)) }
-    ensures counted { OnOk result (steps.new ≡ steps.old + length (triggers_at ready.now (memory_in cells.old.memories) entry.now.number entry.now.entry)) }
+    ensures out { IfOk result (λ made. (log : List Numbered) → Holds ready.now cells.old log
+        → Suits ready.now (entry.now ∷ log) → made ≡ out_of ready.now log entry.now entry.now.entry
+        (replay ready.now log)) }
+    ensures holds { OnOk result ((log : List Numbered) → Holds ready.now cells.old log
+        → Suits ready.now (entry.now ∷ log) → Holds ready.now cells.new (entry.now ∷ log)) }
+    ensures counted { OnOk result (steps.new ≡ steps.old + length
+        (triggers_at ready.now (memory_in cells.old.memories) entry.now.number entry.now.entry)) }
     ensures err { OnErr result (cells.new ≡ cells.old) }
 {
     advance(alloc, ready, cells, entry, steps)

@@ -5,8 +5,8 @@ ghost use Rattle.std.specs.Prelude.{◌≡◌, ◌+◌, ◌<◌};
 use std::marker::Model;
 use std::sync::ledger::{Blank, Book, Ledger, Share};
 
-/// How many steps were taken (this project's own). It takes no bytes, and only [`Steps::tick`] changes it. A step stands
-/// for one trigger that is evaluated.
+/// How many steps were taken (this project's own). It takes no bytes, and only [`Steps::tick`] changes it. A step
+/// stands for one trigger that is evaluated.
 #[derive(Drop)]
 pub struct Steps<L: Ledger> {
     book: Book<L>,

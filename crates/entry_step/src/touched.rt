@@ -27,7 +27,8 @@ fn find_all<T>(found: &mut Vec<u32>, all: &[T]) -> Result<(), OutOfMemory>
 
 /// Adds the ids of the triggers that the reaches of rules hold.
 fn find_reached(ready: &Ready, found: &mut Vec<u32>, rules: &[u32]) -> Result<(), OutOfMemory>
-    ensures { OnOk result ((id : ℕ) → has_id found.new.items id ≡ (has_id found.old.items id || list_any (λ rule. is_reached ready.now rule id) rules.now)) }
+    ensures { OnOk result ((id : ℕ) → has_id found.new.items
+        id ≡ (has_id found.old.items id || list_any (λ rule. is_reached ready.now rule id) rules.now)) }
 {
     for rule in rules {
         found.extend_from_slice(ready.reach(*rule))?;
@@ -42,7 +43,8 @@ fn find_items<T>(
     entry: &Entry,
     all: &[T],
 ) -> Result<(), OutOfMemory>
-    ensures { OnOk result (IsFound all.now found.old.items (λ id. touches ready.now entry.now (ItemKey id)) found.new.items) }
+    ensures { OnOk result (IsFound all.now found.old.items (λ id. touches ready.now entry.now (ItemKey id))
+        found.new.items) }
 {
     match entry {
         Entry::Config { .. } => {
@@ -68,7 +70,8 @@ fn find_triggers<T>(
     entry: &Entry,
     all: &[T],
 ) -> Result<(), OutOfMemory>
-    ensures { OnOk result (IsFound all.now found.old.items (λ id. touches ready.now entry.now (TriggerKey id)) found.new.items) }
+    ensures { OnOk result (IsFound all.now found.old.items (λ id. touches ready.now entry.now (TriggerKey id))
+        found.new.items) }
 {
     match entry {
         Entry::Config { .. } => {

@@ -43,16 +43,19 @@ pub record IsIdle {D : Type 0} (front : Fronted D) : Type 0 where
   pub no_answers : front.answers ≡ []
   pub no_failing : front.failing ≡ []
 
--- An idle front with this intake has taken these events, and holds back what they are answered with: where their groups are
--- kept, and where the disk refuses the first of these groups, at which the events stop.
-pub record HasTaken {D : Type 0} (conf : Conf) (begun : Intake) (events : List WireEvent) (front : Fronted D) : Type 0 where
+-- An idle front with this intake has taken these events, and holds back what they are answered with: where their
+-- groups are kept, and where the disk refuses the first of these groups, at which the events stop.
+pub record HasTaken {D : Type 0} (conf : Conf) (begun : Intake) (events : List WireEvent)
+    (front : Fronted D) : Type 0 where
   pub kept_is : front.kept ≡ begun.entries
   pub entries_are : front.intake.entries ≡ (answered (limits_of front.journal 0) conf begun events).intake.entries
   pub answers_are : front.answers ≡ (answered (limits_of front.journal 0) conf begun events).answers
   pub failing_are : front.failing ≡ (answered (limits_of front.journal (begun.groups + 1)) conf begun events).answers
-  pub none : front.block ≡ [] → (answered (limits_of front.journal (begun.groups + 1)) conf begun events ≡ answered (limits_of front.journal 0) conf begun events)
+  pub none : front.block ≡ [] → (answered (limits_of front.journal (begun.groups + 1)) conf begun events ≡ answered
+      (limits_of front.journal 0) conf begun events)
       × ((answered (limits_of front.journal 0) conf begun events).intake.groups ≡ begun.groups)
-  pub some : 0 < length front.block → ((answered (limits_of front.journal (begun.groups + 1)) conf begun events).intake.entries ≡ begun.entries)
+  pub some : 0 < length front.block → ((answered (limits_of front.journal (begun.groups + 1)) conf begun
+      events).intake.entries ≡ begun.entries)
       × ((answered (limits_of front.journal (begun.groups + 1)) conf begun events).stop ≡ Some stop.DiskFault)
 
 -- so many bytes of groups are enough for a commit: 1 MiB
@@ -61,4 +64,6 @@ longest_wait = 1048576
 
 -- one more event may be taken before the commit: the groups that wait have fewer bytes, and no Tick is among them
 abbrev pub goes_on : List (List Entry) → Bool
-goes_on block = nat_lt (length (opened_bytes block)) longest_wait && not (list_any (λ entry. is_some (tick_of entry)) (all_of block))
+goes_on block =
+    nat_lt (length (opened_bytes block)) longest_wait && not
+    (list_any (λ entry. is_some (tick_of entry)) (all_of block))

@@ -16,9 +16,9 @@ use Rattle.intake_front.specs.declared.answer.Stop.{Stop}
 use Rattle.intake_front.specs.declared.answer.Stop.TheVariants as stop
 use Rattle.intake_front.specs.declared.answer.Unmade.{Unmade}
 
--- What contracts see of a front: its journal, and its intake behind all events that it took. Of these some may wait for a
--- commit: the entries that the journal keeps, the groups that wait, and what these events are answered with, where their
--- groups are kept, and where the disk refuses the first of them.
+-- What contracts see of a front: its journal, and its intake behind all events that it took. Of these some may wait
+-- for a commit: the entries that the journal keeps, the groups that wait, and what these events are answered with,
+-- where their groups are kept, and where the disk refuses the first of them.
 pub record Fronted (D : Type 0) : Type 0 where
   pub journal : Journaled D
   pub intake : Intake
@@ -44,7 +44,8 @@ abbrev pub KeepsEither : List Numbered → List Numbered → List ℕ → Type 0
 KeepsEither before after file = Keeps before file ⊎ Keeps after file
 
 -- a journal has these entries and so many bytes, and its disk keeps them through any crash, where it tells
-pub record HasJournaled {D : Type 0} (bytes : D → Option (List ℕ)) (images : D → List ℕ → Type 0) (journal : Journaled D) (entries : List Numbered) (size : ℕ) : Type 0 where
+pub record HasJournaled {D : Type 0} (bytes : D → Option (List ℕ)) (images : D → List ℕ → Type 0)
+    (journal : Journaled D) (entries : List Numbered) (size : ℕ) : Type 0 where
   pub count : journal.entries ≡ length entries
   pub size_is : journal.at + 1 ≡ size
   pub keeps : IfSome (bytes journal.disk) (Keeps entries)
@@ -52,13 +53,15 @@ pub record HasJournaled {D : Type 0} (bytes : D → Option (List ℕ)) (images :
 
 -- each crash leaves bytes that keep these entries, where the disk tells
 abbrev pub IsKept : {D : Type 0} → (D → Option (List ℕ)) → (D → List ℕ → Type 0) → D → List Numbered → Type 0
-IsKept bytes images disk entries = IfSome (bytes disk) (λ b. Keeps entries b × ((c : List ℕ) → images disk c → Keeps entries c))
+IsKept bytes images disk entries =
+    IfSome (bytes disk) (λ b. Keeps entries b × ((c : List ℕ) → images disk c → Keeps entries c))
 
 -- the limits of a journal whose disk refuses the group with this number
 abbrev pub limits_of : {D : Type 0} → Journaled D → ℕ → Limits
 limits_of journal refused = record { max_entries = journal.max_entries; max_bytes = journal.max_bytes; stop = refused }
 
--- the number of the group that the disk refused of an event that stopped: the next one where it stopped by a fault of the disk
+-- the number of the group that the disk refused of an event that stopped: the next one where it stopped by a fault of
+-- the disk
 abbrev pub refused_group : Intake → Option Stop → ℕ
 refused_group i None = 0
 refused_group i (Some stop.Closed) = 0

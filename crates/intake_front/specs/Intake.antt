@@ -27,8 +27,8 @@ use Rattle.intake_front.specs.declared.answer.Stop.{Stop}
 use Rattle.intake_front.specs.declared.answer.Stop.TheVariants as stop
 use Rattle.intake_front.specs.declared.drafts.Draft.{Draft}
 
--- What a run may journal: the most entries and the most bytes, and the number of the group that the disk refuses, counted
--- from 1 in the run, or 0 where it refuses none.
+-- What a run may journal: the most entries and the most bytes, and the number of the group that the disk refuses,
+-- counted from 1 in the run, or 0 where it refuses none.
 pub record Limits : Type 0 where
   pub max_entries : ℕ
   pub max_bytes : ℕ
@@ -92,7 +92,8 @@ replying conn bytes = Some (record { conn = conn; bytes = bytes })
 abbrev pub counting : ℕ → ℕ → ℕ → ℕ → ℕ → Option Reply
 counting conn processed failed now since = replying conn (frame (reply_text processed failed ((now - since) / 1000)))
 
--- the values that are taken are one group; the reply counts them and the others, or all as failed where the group isn't kept
+-- the values that are taken are one group; the reply counts them and the others, or all as failed where the group
+-- isn't kept
 unfoldable pub answered_values : Conf → ℕ → ℕ → ℕ → List Asked → Draft
 answered_values conf now conn since all =
     let group = group_of conf now all in
@@ -105,8 +106,10 @@ answered_values conf now conn since all =
 
 -- a request that brings no values is refused by its reply
 unfoldable pub answered_request : Conf → ℕ → ℕ → ℕ → Request → Draft
-answered_request conf now conn since request.NotJson = only (replying conn (frame (refusal_text refusal.NotJson))) (Some conn)
-answered_request conf now conn since request.Other = only (replying conn (frame (refusal_text refusal.Unsupported))) (Some conn)
+answered_request conf now conn since request.NotJson =
+    only (replying conn (frame (refusal_text refusal.NotJson))) (Some conn)
+answered_request conf now conn since request.Other =
+    only (replying conn (frame (refusal_text refusal.Unsupported))) (Some conn)
 answered_request conf now conn since (request.Values all) = answered_values conf now conn since all
 
 -- what is made at a moment of what an event meant for its connection
@@ -124,8 +127,8 @@ stop_of (Ended conn at) = None
 stop_of (Broke conn at) = None
 stop_of (Quiet at) = None
 
--- why the group with this number isn't kept, with which the journal would have so many entries and bytes: it would pass a
--- limit, or the disk refuses it
+-- why the group with this number isn't kept, with which the journal would have so many entries and bytes: it would
+-- pass a limit, or the disk refuses it
 unfoldable pub refused_at : Limits → ℕ → ℕ → ℕ → Option Stop
 refused_at limits entries bytes number =
     if nat_lt limits.max_entries entries || nat_lt limits.max_bytes bytes then Some (stop.Full entries bytes)
@@ -134,7 +137,8 @@ refused_at limits entries bytes number =
 
 -- why one more group isn't kept; a number of bytes that has no place in 64 bits is told as 2^64 - 1
 abbrev pub refused_more : Limits → Intake → List Entry → Option Stop
-refused_more limits i group = refused_at limits (length i.entries + length group) (min (bytes_with i.bytes group) (2 ^ 64 - 1)) (i.groups + 1)
+refused_more limits i group =
+    refused_at limits (length i.entries + length group) (min (bytes_with i.bytes group) (2 ^ 64 - 1)) (i.groups + 1)
 
 -- why a group that is offered isn't kept; no entries are no group
 abbrev pub refused : Limits → Intake → List Entry → Option Stop
@@ -143,7 +147,8 @@ refused limits i (e ∷ es) = refused_more limits i (e ∷ es)
 
 -- the intake with one more group
 abbrev pub kept_more : Intake → List Entry → Intake
-kept_more i group = record i { entries = with_group i.entries group; bytes = bytes_with i.bytes group; groups = i.groups + 1 }
+kept_more i group =
+    record i { entries = with_group i.entries group; bytes = bytes_with i.bytes group; groups = i.groups + 1 }
 
 -- the intake with a group that is kept
 abbrev pub kept_with : Intake → List Entry → Intake
@@ -163,9 +168,16 @@ stopping s = record { reply = None; shut = None; added = []; stop = Some s }
 abbrev pub values_offered : Intake → List Numbered → Draft → Option Stop → Option Stop → Handled
 values_offered i ticks made last None = record {
   intake = kept_with i made.group;
-  answer = record { reply = made.reply; shut = made.shut; added = ticks ++ numbered_behind i.entries made.group; stop = last };
+  answer =
+      record {
+        reply = made.reply;
+        shut = made.shut;
+        added = ticks ++ numbered_behind i.entries made.group;
+        stop = last;
+      };
 }
-values_offered i ticks made last (Some s) = record { intake = i; answer = record { reply = made.failing; shut = made.shut; added = ticks; stop = Some s } }
+values_offered i ticks made last (Some s) =
+    record { intake = i; answer = record { reply = made.failing; shut = made.shut; added = ticks; stop = Some s } }
 
 -- what an event does behind the Tick that was kept
 unfoldable pub behind_tick : Limits → Intake → List Numbered → Draft → Option Stop → Handled
@@ -173,7 +185,8 @@ behind_tick limits i ticks made last = values_offered i ticks made last (refused
 
 -- what an event does where its Tick is kept, or why it isn't: then the event isn't handled
 abbrev pub tick_offered : Limits → Intake → List Entry → Draft → Option Stop → Option Stop → Handled
-tick_offered limits i ticks made last None = behind_tick limits (ticked i ticks) (numbered_behind i.entries ticks) made last
+tick_offered limits i ticks made last None =
+    behind_tick limits (ticked i ticks) (numbered_behind i.entries ticks) made last
 tick_offered limits i ticks made last (Some s) = record { intake = i; answer = stopping s }
 
 -- what an event does whose Tick and whose group are offered, one after the other
@@ -214,7 +227,8 @@ resumed entries bytes = record {
 abbrev pub first_group : List ℕ → List Entry
 first_group text = Config 0 text ∷ []
 
--- the intake of a run whose journal kept these entries and has so many bytes; where it kept none the configuration is journaled
+-- the intake of a run whose journal kept these entries and has so many bytes; where it kept none the configuration is
+-- journaled
 abbrev pub start : List ℕ → List Numbered → ℕ → Intake
 start text [] bytes = resumed (numbered_from 1 (first_group text)) (bytes_with bytes (first_group text))
 start text (e ∷ es) bytes = resumed (e ∷ es) bytes

@@ -9,8 +9,8 @@ use Rattle.intake_journal.specs.declared.format.Group.{Group}
 use Rattle.intake_front.specs.Intake.{numbered_from}
 use Rattle.intake_front.specs.Fronted.{numbered_of}
 
--- the entries of groups, numbered from 1, fit: the first alone is a Config, no moment falls, and each value is of an enabled
--- trapper item and no later than its moment
+-- the entries of groups, numbered from 1, fit: the first alone is a Config, no moment falls, and each value is of an
+-- enabled trapper item and no later than its moment
 abbrev pub GroupsFit : Conf → List Group → Type 0
 GroupsFit conf groups = Fits conf (log_of (numbered_of groups))
 

@@ -24,7 +24,12 @@ closing before (Some conn) = (conn, before) ∷ []
 abbrev pub grown : Served → Handled → Served
 grown s h =
     let replies = s.replies ++ option_to_list h.answer.reply in
-    record { intake = h.intake; replies = replies; shut = s.shut ++ closing (length replies) h.answer.shut; stop = h.answer.stop }
+    record {
+      intake = h.intake;
+      replies = replies;
+      shut = s.shut ++ closing (length replies) h.answer.shut;
+      stop = h.answer.stop;
+    }
 
 -- one event more, unless one has stopped
 abbrev pub served_on : Option Stop → Limits → Conf → Served → WireEvent → Served
@@ -38,4 +43,5 @@ served_from limits conf s (e ∷ es) = served_from limits conf (served_on s.stop
 
 -- what the events make of an intake
 abbrev pub served : Limits → Conf → Intake → List WireEvent → Served
-served limits conf i events = served_from limits conf (record { intake = i; replies = []; shut = []; stop = None }) events
+served limits conf i events =
+    served_from limits conf (record { intake = i; replies = []; shut = []; stop = None }) events

@@ -24,7 +24,8 @@ abbrev pub refused_by : {D : Type 0} → Journaled D → List (List Entry) → L
 refused_by journal block [] = None
 refused_by journal block (e ∷ es) =
     let more = block ++ (e ∷ es) ∷ [] in
-    if passes_with_all journal more then Some (stop.Full (entries_with_all journal more) (bytes_with_all journal more)) else None
+    if passes_with_all journal more then Some (stop.Full (entries_with_all journal more)
+    (bytes_with_all journal more)) else None
 
 -- how many groups these entries are: one, or none where there are none
 abbrev pub groups_in : List Entry → ℕ
@@ -37,17 +38,23 @@ pub record FollowsBlock {D : Type 0} (journal : Journaled D) (block : List (List
   pub size_is : journal.at + length (opened_bytes block) + 1 ≡ i.bytes
 
 -- what was staged of an event's Tick and its values behind the groups of a block, by what the journal has room for
-abbrev pub IsStagedAs : {D : Type 0} → Journaled D → List (List Entry) → List Entry → List Entry → List (List Entry) → Staged → Type 0
+abbrev pub IsStagedAs : {D : Type 0} → Journaled D → List (List Entry) → List Entry → List Entry → List (List Entry)
+    → Staged → Type 0
 IsStagedAs journal block ticks group after Both =
-    (refused_by journal block ticks ≡ None) × (refused_by journal (staged_with block ticks) group ≡ None) × (after ≡ staged_with (staged_with block ticks) group)
+    (refused_by journal block ticks ≡ None) × (refused_by journal (staged_with block ticks) group ≡ None)
+    × (after ≡ staged_with (staged_with block ticks) group)
 IsStagedAs journal block ticks group after (OnlyTick full) =
-    (refused_by journal block ticks ≡ None) × (refused_by journal (staged_with block ticks) group ≡ Some full) × (after ≡ staged_with block ticks)
-IsStagedAs journal block ticks group after (Neither full) = (refused_by journal block ticks ≡ Some full) × (after ≡ block)
+    (refused_by journal block ticks ≡ None) × (refused_by journal (staged_with block ticks) group ≡ Some full)
+    × (after ≡ staged_with block ticks)
+IsStagedAs journal block ticks group after (Neither full) =
+    (refused_by journal block ticks ≡ Some full) × (after ≡ block)
 
--- the answer where the disk refuses the first of an event's groups: behind a Tick the event isn't handled, and values count as failed
+-- the answer where the disk refuses the first of an event's groups: behind a Tick the event isn't handled, and values
+-- count as failed
 abbrev pub fault_at : List Entry → List Entry → Option Reply → Option ℕ → Option Answer
 fault_at [] [] failing shut = None
-fault_at [] (g ∷ gs) failing shut = Some (record { reply = failing; shut = shut; added = []; stop = Some stop.DiskFault })
+fault_at [] (g ∷ gs) failing shut =
+    Some (record { reply = failing; shut = shut; added = []; stop = Some stop.DiskFault })
 fault_at (t ∷ ts) group failing shut = Some (stopping stop.DiskFault)
 
 -- what an event enters, of which these entries with their numbers were made, and what it is answered with
@@ -67,17 +74,20 @@ settled (OnlyTick full) ticks made last added = record {
 settled (Neither full) ticks made last added = record { ticks = []; group = []; now = stopping full; fault = None }
 
 -- what was written, or not, changes what a crash leaves only from these entries to those, at each moment
-pub record IsWritten {D : Type 0} (bytes : D → Option (List ℕ)) (moment : D → ℕ) (since : D → ℕ → List ℕ → Type 0) (faults : D → ℕ) (old new : D) (before after : List Numbered) : Type 0 where
+pub record IsWritten {D : Type 0} (bytes : D → Option (List ℕ)) (moment : D → ℕ) (since : D → ℕ → List ℕ → Type 0)
+    (faults : D → ℕ) (old new : D) (before after : List Numbered) : Type 0 where
   pub later : faults old ≤ faults new
   pub told : is_some (bytes new) ≡ is_some (bytes old)
   pub any_moment : IfSome (bytes old) (λ _. LeavesOnly moment since old new (KeepsEither before after))
 
 -- an event was answered, and left what this says where the disk refuses the group with a number, or none
-pub record IsOffered {D : Type 0} (bytes : D → Option (List ℕ)) (moment : D → ℕ) (since : D → ℕ → List ℕ → Type 0) (faults : D → ℕ)
+pub record IsOffered {D : Type 0} (bytes : D → Option (List ℕ)) (moment : D → ℕ) (since : D → ℕ → List ℕ → Type 0)
+    (faults : D → ℕ)
     (old new : Journaled D) (i j : Intake) (says : ℕ → Handled) (result : Result Answer OutOfMemory) : Type 0 where
   pub answer : IfOk result (λ a. a ≡ (says (refused_group i a.stop)).answer)
   pub after : IfOk result (λ a. j ≡ (says (refused_group i a.stop)).intake)
   pub err : OnErr result ((j.entries ≡ i.entries) × (new ≡ old))
-  pub fault : IfOk result (λ a. a.stop ≡ Some stop.DiskFault → (new.state ≡ Broken) × Rose (faults old.disk) (faults new.disk))
+  pub fault : IfOk result (λ a. a.stop ≡ Some stop.DiskFault → (new.state ≡ Broken)
+      × Rose (faults old.disk) (faults new.disk))
   pub ready : IfOk result (λ a. a.stop ≢ Some stop.DiskFault → IsReady old new)
   pub written : IsWritten bytes moment since faults old.disk new.disk i.entries (says 0).intake.entries

@@ -31,9 +31,9 @@ is_enabled_item (Some item) = item.enabled
 abbrev pub AllCollected : Conf → ℕ → Type 0
 AllCollected conf now = (host : ℕ) → is_collected conf host now ≡ true
 
--- What an asked value becomes: an entry, or the first cause for which it is refused, in the order host, key, whether both
--- are enabled, whether the item takes values from senders, whether a maintenance keeps the host's values out, value, clock.
--- Below, the last test stands first.
+-- What an asked value becomes: an entry, or the first cause for which it is refused, in the order host, key, whether
+-- both are enabled, whether the item takes values from senders, whether a maintenance keeps the host's values out,
+-- value, clock. Below, the last test stands first.
 
 -- by its clock: a value's time is its clock, or the moment at which it is taken, and never later than that
 unfoldable pub clocked : ℕ → ℕ → List ℕ → Clock → Result Entry ValueRefusal

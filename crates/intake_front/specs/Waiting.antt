@@ -26,7 +26,8 @@ mark_of i = record { kept = length i.entries; tick = i.tick; bytes = i.bytes; gr
 
 -- an intake with the entries, the Tick, the bytes and the groups of a mark; its moment and its connections stay
 abbrev pub back_to : Intake → Mark → Intake
-back_to i mark = record i { tick = mark.tick; entries = take mark.kept i.entries; bytes = mark.bytes; groups = mark.groups }
+back_to i mark =
+    record i { tick = mark.tick; entries = take mark.kept i.entries; bytes = mark.bytes; groups = mark.groups }
 
 -- a Tick is among entries
 abbrev pub has_tick : List Entry → Bool
@@ -47,7 +48,8 @@ pub record IsBatch (i : Intake) (b : Batch) : Type 0 where
   pub ticked : b.is_ticked ≡ has_tick (all_of b.block)
 
 -- the groups that wait fit into the journal, and unless its disk failed it keeps what stands before them
-pub record IsWaiting {D : Type 0} (bytes : D → Option (List ℕ)) (images : D → List ℕ → Type 0) (journal : Journaled D) (i : Intake) (b : Batch) : Type 0 where
+pub record IsWaiting {D : Type 0} (bytes : D → Option (List ℕ)) (images : D → List ℕ → Type 0)
+    (journal : Journaled D) (i : Intake) (b : Batch) : Type 0 where
   pub batch : IsBatch i b
   pub room : HasRoom journal b.block
   pub journaled : journal.state ≡ Ready → HasJournaled bytes images journal (take b.mark.kept i.entries) b.mark.bytes
@@ -69,12 +71,14 @@ first_with (Some first) at fault = Some first
 first_with None at None = None
 first_with None at (Some answer) = Some (record { at = at; answer = answer })
 
--- which event has the first group that waits once one more was taken, of which this says what it does where the disk refuses the group with a number
+-- which event has the first group that waits once one more was taken, of which this says what it does where the disk
+-- refuses the group with a number
 abbrev pub FirstBy : Intake → List Answer → (ℕ → Handled) → Option First → Option First → Type 0
 FirstBy i answers says (Some before) after = after ≡ Some before
 FirstBy i answers says None None = (says (i.groups + 1) ≡ says 0) × ((says 0).intake.groups ≡ i.groups)
 FirstBy i answers says None (Some first) =
-    (first.at ≡ length answers) × (says (i.groups + 1) ≡ record { intake = record i { now = (says 0).intake.now; peers = (says 0).intake.peers }; answer = first.answer })
+    (first.at ≡ length answers) × (says (i.groups + 1) ≡ record
+    { intake = record i { now = (says 0).intake.now; peers = (says 0).intake.peers }; answer = first.answer })
     × (first.answer.stop ≡ Some stop.DiskFault)
 
 -- an event was taken

@@ -15,8 +15,8 @@ pub(crate) struct Found {
     pub(crate) some_out: bool,
 }
 
-/// The configuration by which values are taken. It remembers what was found of its maintenances at the last moment, so that
-/// they are looked through once a second and not for each event. Contracts see the configuration.
+/// The configuration by which values are taken. It remembers what was found of its maintenances at the last moment,
+/// so that they are looked through once a second and not for each event. Contracts see the configuration.
 #[derive(Drop)]
 pub struct Collection<'a> {
     ready: &'a Ready,

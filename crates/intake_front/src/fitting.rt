@@ -9,9 +9,10 @@ ghost use Rattle.intake_front.specs.Misfit.{IsFirstMisfit, FitsBehind, reached, 
 use intake_journal::Group;
 use zbx_types::{Conf, Entry, Moment, by_id};
 
-/// The place of the first group whose entries don't fit a configuration, or None where all fit: the first entry alone is a
-/// Config, no moment falls, and each value is of an enabled trapper item and no later than its moment. Whether the item's
-/// host is enabled doesn't matter. The place is that of the group's gate, in bytes from the file's beginning. Takes no memory.
+/// The place of the first group whose entries don't fit a configuration, or None where all fit: the first entry alone
+/// is a Config, no moment falls, and each value is of an enabled trapper item and no later than its moment. Whether
+/// the item's host is enabled doesn't matter. The place is that of the group's gate, in bytes from the file's
+/// beginning. Takes no memory.
 pub fn first_misfit(conf: &Conf, kept: &[Group]) -> Option<u64>
     ensures { IsFirstMisfit conf.now kept.now result }
 {
@@ -27,7 +28,8 @@ pub fn first_misfit(conf: &Conf, kept: &[Group]) -> Option<u64>
 /// Whether entries fit behind a log that has reached this moment, which goes on to that of the last one.
 fn group_fits(conf: &Conf, last: &mut Option<Moment>, entries: &[Entry]) -> bool
     ensures fits { (log : List Numbered) → last.old ≡ reached log → Fits conf.now log
-        → MatchBool result (Fits conf.now (log_with log entries.now) × (last.new ≡ reached (log_with log entries.now))) (¬ (Fits conf.now (log_with log entries.now))) }
+        → MatchBool result (Fits conf.now (log_with log entries.now)
+        × (last.new ≡ reached (log_with log entries.now))) (¬ (Fits conf.now (log_with log entries.now))) }
 {
     for entry in entries {
         if !entry_fits(conf, *last, entry) {

@@ -27,11 +27,11 @@ use std::alloc::Global;
 use std::marker::Model;
 use zbx_types::{Many, Numbered, OutOfMemory};
 
-/// The intake of a run over its journal. Contracts see the journal, and the intake behind all events that were taken: its
-/// moment in nanoseconds, the half minute of the last Tick, the connections that are there, the entries in the order of
-/// their numbers, the journal's bytes up to and with the gate behind its last group, and how many groups this run added. Of
-/// events that wait for a commit they see which entries the journal keeps, the groups that wait, and what the events are
-/// answered with: where these groups are kept, and where the disk refuses them.
+/// The intake of a run over its journal. Contracts see the journal, and the intake behind all events that were taken:
+/// its moment in nanoseconds, the half minute of the last Tick, the connections that are there, the entries in the
+/// order of their numbers, the journal's bytes up to and with the gate behind its last group, and how many groups
+/// this run added. Of events that wait for a commit they see which entries the journal keeps, the groups that wait,
+/// and what the events are answered with: where these groups are kept, and where the disk refuses them.
 #[derive(Drop)]
 pub struct Front<D: Disk> {
     inside: Inside<D>,
@@ -57,9 +57,9 @@ impl<D: Disk> Model for Front<D> {
 }
 
 impl<D: Disk> Front<D> {
-    /// The intake of a run over a journal of which all groups were read, and whose kept entries these are. Where it kept none
-    /// the text of the configuration of `ready` is journaled as entry 1, at moment 0, a group of its own. No connection is
-    /// there. All memory is taken before the write.
+    /// The intake of a run over a journal of which all groups were read, and whose kept entries these are. Where it
+    /// kept none the text of the configuration of `ready` is journaled as entry 1, at moment 0, a group of its own.
+    /// No connection is there. All memory is taken before the write.
     ///
     /// # Errors
     ///
@@ -75,7 +75,8 @@ impl<D: Disk> Front<D> {
         requires journaled { HasJournaled D.bytes D.images journal kept (journal.at + 1) }
 
         ensures made { IfOk result (λ f. f.intake ≡ start ready.now.text kept (journal.at + 1)) }
-        ensures sound { IfOk result (λ f. IsFull (log_of kept) → Fits ready.now (log_of kept) → IsSound ready.now f.intake) }
+        ensures sound { IfOk result (λ f. IsFull (log_of kept) → Fits ready.now (log_of kept)
+            → IsSound ready.now f.intake) }
         ensures durable { IfOk result (λ f. IsKept D.bytes D.images f.journal.disk f.intake.entries) }
         ensures state { IfOk result (λ f. IsReady journal f.journal) }
         ensures idle { IfOk result (λ f. IsIdle f) }
@@ -83,15 +84,20 @@ impl<D: Disk> Front<D> {
         ensures back { IfErr result (λ u. u.kept ≡ kept) }
         ensures full { kept ≡ [] → IsTrue (passes_with_all journal (first_group ready.now.text ∷ []))
             → IfOk result (λ _. ⊥) × IfErr result (λ u. u.error ≢ error.DiskFault) }
-        ensures only_full { IfErr result (λ u. (entries bytes : ℕ) → u.error ≡ error.Full entries bytes → (kept ≡ []) × IsTrue (passes_with_all journal (first_group ready.now.text ∷ []))
-            × (entries ≡ entries_with_all journal (first_group ready.now.text ∷ [])) × (bytes ≡ bytes_with_all journal (first_group ready.now.text ∷ []))) }
-        ensures fault { IfErr result (λ u. u.error ≡ error.DiskFault → (kept ≡ []) × Rose (D.faults journal.disk) (D.faults u.disk)) }
+        ensures only_full { IfErr result (λ u. (entries bytes : ℕ) → u.error ≡ error.Full entries bytes → (kept ≡ [])
+            × IsTrue (passes_with_all journal (first_group ready.now.text ∷ []))
+            × (entries ≡ entries_with_all journal (first_group ready.now.text ∷ []))
+            × (bytes ≡ bytes_with_all journal (first_group ready.now.text ∷ []))) }
+        ensures fault { IfErr result (λ u. u.error ≡ error.DiskFault → (kept ≡ [])
+            × Rose (D.faults journal.disk) (D.faults u.disk)) }
         ensures same { IfErr result (λ u. u.error ≢ error.DiskFault → u.disk ≡ journal.disk) }
         ensures later { D.faults journal.disk ≤ D.faults (disk_of result) }
         ensures told { is_some (D.bytes (disk_of result)) ≡ is_some (D.bytes journal.disk) }
 
-        // A crash at any moment of the call leaves the entries that were kept, or with none of these the configuration alone.
-        ensures any_moment { IfSome (D.bytes journal.disk) (λ _. LeavesOnly D.moment D.images_since journal.disk (disk_of result)
+        // A crash at any moment of the call leaves the entries that were kept, or with none of these the
+        // configuration alone.
+        ensures any_moment { IfSome (D.bytes journal.disk)
+            (λ _. LeavesOnly D.moment D.images_since journal.disk (disk_of result)
             (KeepsEither kept (start ready.now.text kept (journal.at + 1)).entries)) }
     {
         let mut journal = journal;
@@ -143,11 +149,11 @@ impl<D: Disk> Front<D> {
 
     /// Takes an event of the wire, by `handled`: the moment, the Tick that is due, and what the event means for its
     /// connection. The Tick and the values are two groups, which one append keeps or refuses. Only then they are
-    /// answered, with the reply to send, the connection to close behind it, the entries that were added, and why the event
-    /// was the last one.
+    /// answered, with the reply to send, the connection to close behind it, the entries that were added, and why the
+    /// event was the last one.
     ///
-    /// Where the journal has no room for a group, or its disk failed, that group isn't kept and no event follows: a reply to
-    /// its values counts all of them as failed, and behind a Tick that isn't kept the event isn't handled.
+    /// Where the journal has no room for a group, or its disk failed, that group isn't kept and no event follows: a
+    /// reply to its values counts all of them as failed, and behind a Tick that isn't kept the event isn't handled.
     ///
     /// Entries that fit the configuration of `ready` stay so. Each event is to be given that of entry 1. No value is
     /// looked up by a walk over the configuration or the entries. All memory is taken before the append.
@@ -164,19 +170,29 @@ impl<D: Disk> Front<D> {
         requires going { self.old.journal.state ≡ state.Ready }
         requires idle { IsIdle self.old }
 
-        ensures answer { IfOk result (λ a. a ≡ (handled (limits_of self.old.journal (refused_group self.old.intake a.stop)) ready.now self.old.intake event.now).answer) }
-        ensures after { IfOk result (λ a. self.new.intake ≡ (handled (limits_of self.old.journal (refused_group self.old.intake a.stop)) ready.now self.old.intake event.now).intake) }
+        ensures answer { IfOk result (λ a. a ≡ (handled
+            (limits_of self.old.journal (refused_group self.old.intake a.stop)) ready.now self.old.intake
+            event.now).answer) }
+        ensures after { IfOk result (λ a. self.new.intake ≡ (handled
+            (limits_of self.old.journal (refused_group self.old.intake a.stop)) ready.now self.old.intake
+            event.now).intake) }
         ensures keeps { OnOk result (IsSound ready.now self.old.intake → IsSound ready.now self.new.intake) }
-        ensures err { OnErr result ((self.new.intake.entries ≡ self.old.intake.entries) × (self.new.journal ≡ self.old.journal)) }
+        ensures err { OnErr result ((self.new.intake.entries ≡ self.old.intake.entries)
+            × (self.new.journal ≡ self.old.journal)) }
 
-        // An answer is given once each crash leaves all entries, unless the disk failed: a reply counts no value as processed then.
-        ensures durable { IfOk result (λ a. a.stop ≢ Some stop.DiskFault → IsKept D.bytes D.images self.new.journal.disk self.new.intake.entries) }
+        // An answer is given once each crash leaves all entries, unless the disk failed: a reply counts no value as
+        // processed then.
+        ensures durable { IfOk result (λ a. a.stop ≢ Some stop.DiskFault
+            → IsKept D.bytes D.images self.new.journal.disk self.new.intake.entries) }
 
         // A crash at any moment of the call leaves the entries from before it, or these with all that the event adds.
-        ensures any_moment { IfSome (D.bytes self.old.journal.disk) (λ _. LeavesOnly D.moment D.images_since self.old.journal.disk self.new.journal.disk
-            (KeepsEither self.old.intake.entries (handled (limits_of self.old.journal 0) ready.now self.old.intake event.now).intake.entries)) }
+        ensures any_moment { IfSome (D.bytes self.old.journal.disk)
+            (λ _. LeavesOnly D.moment D.images_since self.old.journal.disk self.new.journal.disk
+            (KeepsEither self.old.intake.entries (handled (limits_of self.old.journal 0) ready.now self.old.intake
+            event.now).intake.entries)) }
 
-        ensures fault { IfOk result (λ a. a.stop ≡ Some stop.DiskFault → Rose (D.faults self.old.journal.disk) (D.faults self.new.journal.disk)) }
+        ensures fault { IfOk result (λ a. a.stop ≡ Some stop.DiskFault
+            → Rose (D.faults self.old.journal.disk) (D.faults self.new.journal.disk)) }
         ensures later { D.faults self.old.journal.disk ≤ D.faults self.new.journal.disk }
         ensures told { is_some (D.bytes self.new.journal.disk) ≡ is_some (D.bytes self.old.journal.disk) }
         ensures state { IfOk result (λ a. a.stop ≢ Some stop.DiskFault → IsReady self.old.journal self.new.journal) }
@@ -194,13 +210,14 @@ impl<D: Disk> Front<D> {
         )
     }
 
-    /// Takes an event of the wire as [`Front::on_event`] does, but for the append: its entries are numbered, its groups
-    /// wait for [`Front::commit`], and what it is answered with is held back. Answers why no event is to be taken after it.
+    /// Takes an event of the wire as [`Front::on_event`] does, but for the append: its entries are numbered, its
+    /// groups wait for [`Front::commit`], and what it is answered with is held back. Answers why no event is to be
+    /// taken after it.
     ///
     /// # Errors
     ///
-    /// `OutOfMemory` where memory was refused. No entry was added, and no further event is to be given; what waited still
-    /// does, and can be committed.
+    /// `OutOfMemory` where memory was refused. No entry was added, and no further event is to be given; what waited
+    /// still does, and can be committed.
     pub fn take(
         &mut self,
         alloc: Global,
@@ -209,16 +226,22 @@ impl<D: Disk> Front<D> {
     ) -> Result<Option<Stop>, OutOfMemory>
         requires going { self.old.journal.state ≡ state.Ready }
 
-        ensures stop { IfOk result (λ s. s ≡ (handled (limits_of self.old.journal 0) collection.old self.old.intake event.now).answer.stop) }
-        ensures after { OnOk result (self.new.intake ≡ (handled (limits_of self.old.journal 0) collection.old self.old.intake event.now).intake) }
-        ensures taken { OnOk result ((begun : Intake) → (events : List WireEvent) → self.old.intake ≡ (answered (limits_of self.old.journal 0) collection.old begun events).intake
+        ensures stop { IfOk result (λ s. s ≡ (handled (limits_of self.old.journal 0) collection.old self.old.intake
+            event.now).answer.stop) }
+        ensures after { OnOk result (self.new.intake ≡ (handled (limits_of self.old.journal 0) collection.old
+            self.old.intake event.now).intake) }
+        ensures taken { OnOk result ((begun : Intake) → (events : List WireEvent)
+            → self.old.intake ≡ (answered (limits_of self.old.journal 0) collection.old begun events).intake
             → (answered (limits_of self.old.journal 0) collection.old begun events).stop ≡ None
-            → HasTaken collection.old begun events self.old → HasTaken collection.old begun (events ++ event.now ∷ []) self.new) }
+            → HasTaken collection.old begun events self.old
+            → HasTaken collection.old begun (events ++ event.now ∷ []) self.new) }
         ensures keeps { OnOk result (IsSound collection.old self.old.intake → IsSound collection.old self.new.intake) }
         ensures same { collection.new ≡ collection.old }
         ensures journal { self.new.journal ≡ self.old.journal }
         ensures kept { self.new.kept ≡ self.old.kept }
-        ensures err { OnErr result ((self.new.intake.entries ≡ self.old.intake.entries) × (self.new.block ≡ self.old.block) × (self.new.answers ≡ self.old.answers) × (self.new.failing ≡ self.old.failing)) }
+        ensures err { OnErr result ((self.new.intake.entries ≡ self.old.intake.entries)
+            × (self.new.block ≡ self.old.block) × (self.new.answers ≡ self.old.answers)
+            × (self.new.failing ≡ self.old.failing)) }
     {
         let inside = &mut self.inside;
         receive(
@@ -238,25 +261,29 @@ impl<D: Disk> Front<D> {
         self.inside.batch.goes_on()
     }
 
-    /// Journals all groups that wait, by one append, and hands out what their events are answered with, in the order of the
-    /// events. Takes no memory.
+    /// Journals all groups that wait, by one append, and hands out what their events are answered with, in the order
+    /// of the events. Takes no memory.
     ///
-    /// Where the disk failed none of them is kept and no event follows: the reply to the values of the first group counts
-    /// all of them as failed, and the events behind it aren't answered.
+    /// Where the disk failed none of them is kept and no event follows: the reply to the values of the first group
+    /// counts all of them as failed, and the events behind it aren't answered.
     pub fn commit(&mut self, alloc: Global) -> Many<Answer>
         requires going { self.old.journal.state ≡ state.Ready }
 
         ensures state { (self.new.journal.state ≡ state.Ready) ⊎ (self.new.journal.state ≡ state.Broken) }
-        ensures done { self.new.journal.state ≡ state.Ready → (result ≡ self.old.answers) × (self.new.intake ≡ self.old.intake) × IsReady self.old.journal self.new.journal }
-        ensures failed { self.new.journal.state ≡ state.Broken → (result ≡ self.old.failing) × (self.new.intake.entries ≡ self.old.kept) × (0 < length self.old.block)
+        ensures done { self.new.journal.state ≡ state.Ready → (result ≡ self.old.answers)
+            × (self.new.intake ≡ self.old.intake) × IsReady self.old.journal self.new.journal }
+        ensures failed { self.new.journal.state ≡ state.Broken → (result ≡ self.old.failing)
+            × (self.new.intake.entries ≡ self.old.kept) × (0 < length self.old.block)
             × Rose (D.faults self.old.journal.disk) (D.faults self.new.journal.disk) }
         ensures idle { IsIdle self.new }
 
         // Answers are given once each crash leaves all entries, unless the disk failed.
-        ensures durable { self.new.journal.state ≡ state.Ready → IsKept D.bytes D.images self.new.journal.disk self.new.intake.entries }
+        ensures durable { self.new.journal.state ≡ state.Ready
+            → IsKept D.bytes D.images self.new.journal.disk self.new.intake.entries }
 
         // A crash at any moment of the call leaves the entries that were kept before it, or these with all that waited.
-        ensures any_moment { IfSome (D.bytes self.old.journal.disk) (λ _. LeavesOnly D.moment D.images_since self.old.journal.disk self.new.journal.disk
+        ensures any_moment { IfSome (D.bytes self.old.journal.disk)
+            (λ _. LeavesOnly D.moment D.images_since self.old.journal.disk self.new.journal.disk
             (KeepsEither self.old.kept self.old.intake.entries)) }
 
         ensures later { D.faults self.old.journal.disk ≤ D.faults self.new.journal.disk }

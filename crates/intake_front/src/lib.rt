@@ -1,25 +1,25 @@
 //! Intake: what wire events make of a run's entries, what its journal keeps, and what senders are answered.
 //!
-//! A `Front` holds the journal, the moment that the events have reached, the half minute of the last Tick, the connections
-//! of the wire and all entries that were numbered. Its contract in a sentence: each event leaves the intake that the
-//! definition `handled` says and is answered as it says, once each crash leaves the entries that it added; and entries
-//! that fit their configuration stay so.
+//! A `Front` holds the journal, the moment that the events have reached, the half minute of the last Tick, the
+//! connections of the wire and all entries that were numbered. Its contract in a sentence: each event leaves the
+//! intake that the definition `handled` says and is answered as it says, once each crash leaves the entries that it
+//! added; and entries that fit their configuration stay so.
 //!
-//! An event sets the moment, which never goes back, and offers a Tick to the journal where none was numbered in this half
-//! minute. Then it does what it means for its connection. A whole frame is read as a request of the sender protocol (the
-//! Zabbix 6.0 manual, section "Trapper items"): the values that are taken are offered as one group behind the Tick, the
-//! reply counts them and those that failed, and the connection is closed behind it. A value is taken where its host and key
-//! name an enabled trapper item of an enabled host, no maintenance without data collection is in force for that host, its
-//! value has at most 65,535 bytes and its clock is absent or good; its time is its clock, but never later than the moment at
-//! which it is taken. `Closed` is the last event.
+//! An event sets the moment, which never goes back, and offers a Tick to the journal where none was numbered in this
+//! half minute. Then it does what it means for its connection. A whole frame is read as a request of the sender
+//! protocol (the Zabbix 6.0 manual, section "Trapper items"): the values that are taken are offered as one group
+//! behind the Tick, the reply counts them and those that failed, and the connection is closed behind it. A value is
+//! taken where its host and key name an enabled trapper item of an enabled host, no maintenance without data
+//! collection is in force for that host, its value has at most 65,535 bytes and its clock is absent or good; its time
+//! is its clock, but never later than the moment at which it is taken. `Closed` is the last event.
 //!
-//! Events are taken one by one and committed together. `take` numbers an event's entries, stages its Tick and its values
-//! as two groups behind those that wait, and holds its answer back. `commit` writes all groups that wait by one append, and
-//! hands the answers out in the order of the events. `on_event` is both, for one event.
+//! Events are taken one by one and committed together. `take` numbers an event's entries, stages its Tick and its
+//! values as two groups behind those that wait, and holds its answer back. `commit` writes all groups that wait by
+//! one append, and hands the answers out in the order of the events. `on_event` is both, for one event.
 //!
-//! Where the journal would pass a limit with a group, it isn't kept, and no event follows. Where its disk fails at a commit,
-//! none of its groups is kept, and only the events up to that of the first group are answered. Values that aren't kept count
-//! as failed, and behind a Tick that isn't kept the event isn't handled.
+//! Where the journal would pass a limit with a group, it isn't kept, and no event follows. Where its disk fails at a
+//! commit, none of its groups is kept, and only the events up to that of the first group are answered. Values that
+//! aren't kept count as failed, and behind a Tick that isn't kept the event isn't handled.
 //!
 //! ```text
 //! let mut front = Front::new(alloc, &ready, journal, kept)?; // entry 1 is the configuration of `ready`

@@ -33,8 +33,8 @@ fn half_behind(last: Option<u32>, now: Moment, ticks: &[Entry]) -> Option<u32>
     }
 }
 
-/// Stages an event's Tick and its values, enters what was staged, and holds its answers back. All memory is taken before
-/// anything is changed.
+/// Stages an event's Tick and its values, enters what was staged, and holds its answers back. All memory is taken
+/// before anything is changed.
 fn offer<D: Disk>(
     alloc: Global,
     journal: &Journal<D>,
@@ -49,7 +49,9 @@ fn offer<D: Disk>(
     requires last { last ≢ Some stop.DiskFault }
     requires stands { FollowsBlock journal.now batch.old.block held.old }
     requires batch { IsBatch held.old batch.old }
-    ensures taken { MatchResult result (IsTaken held.old held.new batch.old batch.new (λ s. offered (limits_of journal.now s) held.old ticks draft last)) (λ _. IsLeft held.old held.new batch.old batch.new) }
+    ensures taken { MatchResult result (IsTaken held.old held.new batch.old batch.new
+        (λ s. offered (limits_of journal.now s) held.old ticks draft last))
+        (λ _. IsLeft held.old held.new batch.old batch.new) }
     ensures room { HasRoom journal.now batch.old.block → HasRoom journal.now batch.new.block }
 {
     let first = held.entries.as_slice().len() as u64 + 1;
@@ -92,7 +94,9 @@ pub(crate) fn receive<D: Disk>(
 ) -> Result<Option<Stop>, OutOfMemory>
     requires stands { FollowsBlock journal.now batch.old.block held.old }
     requires batch { IsBatch held.old batch.old }
-    ensures taken { MatchResult result (IsTaken held.old held.new batch.old batch.new (λ s. handled (limits_of journal.now s) collection.old held.old event.now)) (λ _. IsLeft held.old held.new batch.old batch.new) }
+    ensures taken { MatchResult result (IsTaken held.old held.new batch.old batch.new
+        (λ s. handled (limits_of journal.now s) collection.old held.old event.now))
+        (λ _. IsLeft held.old held.new batch.old batch.new) }
     ensures same { collection.new ≡ collection.old }
     ensures room { HasRoom journal.now batch.old.block → HasRoom journal.now batch.new.block }
 {
@@ -117,7 +121,8 @@ pub(crate) fn receive_alone<D: Disk>(
     requires waiting { IsWaiting D.bytes D.images journal.old held.old batch.old }
     requires block { batch.old.block ≡ [] }
     requires answers { batch.old.answers.items ≡ [] }
-    ensures offered { IsOffered D.bytes D.moment D.images_since D.faults journal.old journal.new held.old held.new (λ s. handled (limits_of journal.old s) ready.now held.old event.now) result }
+    ensures offered { IsOffered D.bytes D.moment D.images_since D.faults journal.old journal.new held.old held.new
+        (λ s. handled (limits_of journal.old s) ready.now held.old event.now) result }
     ensures waiting { IsWaiting D.bytes D.images journal.new held.new batch.new }
     ensures block { batch.new.block ≡ [] }
     ensures answers { batch.new.answers.items ≡ [] }

@@ -57,8 +57,10 @@ fn staged_first<D: Disk>(
     ensures made { IfOk result (λ made. made ≡ numbered_from 1 (first_group ready.now.text)) }
     ensures staged { OnOk result (block.new ≡ first_group ready.now.text ∷ []) }
     ensures room { OnOk result (passes_with_all journal.now (first_group ready.now.text ∷ []) ≡ false) }
-    ensures full { IfErr result (λ e. (entries bytes : ℕ) → e ≡ error.Full entries bytes → IsTrue (passes_with_all journal.now (first_group ready.now.text ∷ []))
-        × (entries ≡ entries_with_all journal.now (first_group ready.now.text ∷ [])) × (bytes ≡ bytes_with_all journal.now (first_group ready.now.text ∷ []))) }
+    ensures full { IfErr result (λ e. (entries bytes : ℕ) → e ≡ error.Full entries bytes
+        → IsTrue (passes_with_all journal.now (first_group ready.now.text ∷ []))
+        × (entries ≡ entries_with_all journal.now (first_group ready.now.text ∷ []))
+        × (bytes ≡ bytes_with_all journal.now (first_group ready.now.text ∷ []))) }
     ensures no_fault { IfErr result (λ e. e ≢ error.DiskFault) }
 {
     let group = first_group(alloc, ready)?;
@@ -82,13 +84,17 @@ fn first<D: Disk>(
     ensures state { IfOk result (λ h. IsReady journal.old journal.new) }
     ensures full { IsTrue (passes_with_all journal.old (first_group ready.now.text ∷ []))
         → IfOk result (λ _. ⊥) × IfErr result (λ e. e ≢ error.DiskFault) }
-    ensures only_full { IfErr result (λ e. (entries bytes : ℕ) → e ≡ error.Full entries bytes → IsTrue (passes_with_all journal.old (first_group ready.now.text ∷ []))
-        × (entries ≡ entries_with_all journal.old (first_group ready.now.text ∷ [])) × (bytes ≡ bytes_with_all journal.old (first_group ready.now.text ∷ []))) }
-    ensures fault { IfErr result (λ e. e ≡ error.DiskFault → Rose (D.faults journal.old.disk) (D.faults journal.new.disk)) }
+    ensures only_full { IfErr result (λ e. (entries bytes : ℕ) → e ≡ error.Full entries bytes
+        → IsTrue (passes_with_all journal.old (first_group ready.now.text ∷ []))
+        × (entries ≡ entries_with_all journal.old (first_group ready.now.text ∷ []))
+        × (bytes ≡ bytes_with_all journal.old (first_group ready.now.text ∷ []))) }
+    ensures fault { IfErr result (λ e. e ≡ error.DiskFault
+        → Rose (D.faults journal.old.disk) (D.faults journal.new.disk)) }
     ensures same { IfErr result (λ e. e ≢ error.DiskFault → journal.new ≡ journal.old) }
     ensures later { D.faults journal.old.disk ≤ D.faults journal.new.disk }
     ensures told { is_some (D.bytes journal.new.disk) ≡ is_some (D.bytes journal.old.disk) }
-    ensures any_moment { IfSome (D.bytes journal.old.disk) (λ _. LeavesOnly D.moment D.images_since journal.old.disk journal.new.disk
+    ensures any_moment { IfSome (D.bytes journal.old.disk)
+        (λ _. LeavesOnly D.moment D.images_since journal.old.disk journal.new.disk
         (KeepsEither [] (start ready.now.text [] (journal.old.at + 1)).entries)) }
 {
     let mut block = Block::new(alloc)?;
@@ -116,13 +122,17 @@ pub(crate) fn open<D: Disk>(
     ensures back { IfErr result (λ u. u.0 ≡ kept) }
     ensures full { kept ≡ [] → IsTrue (passes_with_all journal.old (first_group ready.now.text ∷ []))
         → IfOk result (λ _. ⊥) × IfErr result (λ u. u.1 ≢ error.DiskFault) }
-    ensures only_full { IfErr result (λ u. (entries bytes : ℕ) → u.1 ≡ error.Full entries bytes → (kept ≡ []) × IsTrue (passes_with_all journal.old (first_group ready.now.text ∷ []))
-        × (entries ≡ entries_with_all journal.old (first_group ready.now.text ∷ [])) × (bytes ≡ bytes_with_all journal.old (first_group ready.now.text ∷ []))) }
-    ensures fault { IfErr result (λ u. u.1 ≡ error.DiskFault → (kept ≡ []) × Rose (D.faults journal.old.disk) (D.faults journal.new.disk)) }
+    ensures only_full { IfErr result (λ u. (entries bytes : ℕ) → u.1 ≡ error.Full entries bytes → (kept ≡ [])
+        × IsTrue (passes_with_all journal.old (first_group ready.now.text ∷ []))
+        × (entries ≡ entries_with_all journal.old (first_group ready.now.text ∷ []))
+        × (bytes ≡ bytes_with_all journal.old (first_group ready.now.text ∷ []))) }
+    ensures fault { IfErr result (λ u. u.1 ≡ error.DiskFault → (kept ≡ [])
+        × Rose (D.faults journal.old.disk) (D.faults journal.new.disk)) }
     ensures same { IfErr result (λ u. u.1 ≢ error.DiskFault → journal.new ≡ journal.old) }
     ensures later { D.faults journal.old.disk ≤ D.faults journal.new.disk }
     ensures told { is_some (D.bytes journal.new.disk) ≡ is_some (D.bytes journal.old.disk) }
-    ensures any_moment { IfSome (D.bytes journal.old.disk) (λ _. LeavesOnly D.moment D.images_since journal.old.disk journal.new.disk
+    ensures any_moment { IfSome (D.bytes journal.old.disk)
+        (λ _. LeavesOnly D.moment D.images_since journal.old.disk journal.new.disk
         (KeepsEither kept (start ready.now.text kept (journal.old.at + 1)).entries)) }
 {
     if !kept.as_slice().is_empty() {

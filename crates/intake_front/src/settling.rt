@@ -114,8 +114,8 @@ pub(crate) fn enter(entries: &mut Vec<Numbered>, group: Many<Entry>)
     }
 }
 
-/// The answer where the disk refuses the first of an event's groups: behind a Tick the event isn't handled, and values count
-/// as failed.
+/// The answer where the disk refuses the first of an event's groups: behind a Tick the event isn't handled, and
+/// values count as failed.
 fn fault_at(
     alloc: Global,
     ticks: &[Entry],

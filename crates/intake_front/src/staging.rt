@@ -72,8 +72,8 @@ fn stage_in_turn<D: Disk>(
     }
 }
 
-/// Stages an event's Tick and its values. Where memory is refused the block is as before: two groups are staged in a copy
-/// of it.
+/// Stages an event's Tick and its values. Where memory is refused the block is as before: two groups are staged in a
+/// copy of it.
 pub(crate) fn stage_both<D: Disk>(
     alloc: Global,
     journal: &Journal<D>,
@@ -99,13 +99,17 @@ pub(crate) fn stage_both<D: Disk>(
 pub(crate) fn write<D: Disk>(journal: &mut Journal<D>, block: &Block) -> bool
     requires ready { journal.old.state ≡ Ready }
     requires room { HasRoom journal.old block.now }
-    ensures kept { IsTrue result → (entries : List Numbered) (size : ℕ) → HasJournaled D.bytes D.images journal.old entries size
-        → HasJournaled D.bytes D.images journal.new (with_group entries (all_of block.now)) (size + length (opened_bytes block.now)) }
+    ensures kept { IsTrue result → (entries : List Numbered) (size : ℕ)
+        → HasJournaled D.bytes D.images journal.old entries size
+        → HasJournaled D.bytes D.images journal.new (with_group entries (all_of block.now))
+        (size + length (opened_bytes block.now)) }
     ensures any_moment { (entries : List Numbered) (size : ℕ) → HasJournaled D.bytes D.images journal.old entries size
-        → IfSome (D.bytes journal.old.disk) (λ _. LeavesOnly D.moment D.images_since journal.old.disk journal.new.disk (KeepsEither entries (with_group entries (all_of block.now)))) }
+        → IfSome (D.bytes journal.old.disk) (λ _. LeavesOnly D.moment D.images_since journal.old.disk
+        journal.new.disk (KeepsEither entries (with_group entries (all_of block.now)))) }
     ensures ready { IsTrue result → IsReady journal.old journal.new }
     ensures broken { result ≡ false → journal.new.state ≡ Broken }
-    ensures fault { result ≡ false → (0 < length block.now) × Rose (D.faults journal.old.disk) (D.faults journal.new.disk) }
+    ensures fault { result ≡ false → (0 < length block.now)
+        × Rose (D.faults journal.old.disk) (D.faults journal.new.disk) }
     ensures later { D.faults journal.old.disk ≤ D.faults journal.new.disk }
     ensures told { is_some (D.bytes journal.new.disk) ≡ is_some (D.bytes journal.old.disk) }
 {

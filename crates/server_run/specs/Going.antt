@@ -28,7 +28,8 @@ use Rattle.server_run.specs.Runs.{Finished}
 use Rattle.server_run.specs.Statuses.{anywhere, course_of, IsUnprinted}
 use Rattle.server_run.specs.Stops.{refusing, Journals}
 
--- the entries behind those with which a run began are sent, all of them, or, where memory was refused, some from the front
+-- the entries behind those with which a run began are sent, all of them, or, where memory was refused, some from the
+-- front
 abbrev pub IsSentAt : List Numbered → List Numbered → List Numbered → Status → Type 0
 IsSentAt kept sent entries status.OutOfMemory = IsPrefix (kept ++ sent) entries
 IsSentAt kept sent entries _ = kept ++ sent ≡ entries
@@ -38,7 +39,8 @@ abbrev pub IsSentBy : List Numbered → List Numbered → List Numbered → Resu
 IsSentBy kept sent entries (Ok count) = kept ++ sent ≡ entries
 IsSentBy kept sent entries (Err s) = IsSentAt kept sent entries s
 
--- a status with which the taking of events ends by itself: it comes before anything is printed, and isn't for the outbox
+-- a status with which the taking of events ends by itself: it comes before anything is printed, and isn't for the
+-- outbox
 abbrev pub IsCause : Status → Type 0
 IsCause s = IsUnprinted s × (s ≢ status.OutboxFault)
 
@@ -48,56 +50,70 @@ IsGoing (taken.Going count) = ⊤
 IsGoing (taken.Ended s) = ⊥
 
 -- a run that serves: nothing waits for a commit, the intake is sound, and all its entries are sent
-pub record IsServing {D : Type 0} (conf : Conf) (kept : List Numbered) (front : Fronted D) (head : HeadView) : Type 0 where
+pub record IsServing {D : Type 0} (conf : Conf) (kept : List Numbered) (front : Fronted D)
+    (head : HeadView) : Type 0 where
   pub going : front.journal.state ≡ Ready
   pub idle : IsIdle front
   pub sound : IsSound conf front.intake
   pub sent : kept ++ head.sent ≡ front.intake.entries
   pub room : 0 < head.capacity
 
--- a run that began with some entries, an intake, a disk and a wire took so many events, none of which stopped it, and came to
--- this intake
-pub record Reaches {D : Type 0} (bytes : D → Option (List ℕ)) (images : D → List ℕ → Type 0) (moment : D → ℕ) (since : D → ℕ → List ℕ → Type 0) (faults : D → ℕ) (limits : Limits) (conf : Conf)
+-- a run that began with some entries, an intake, a disk and a wire took so many events, none of which stopped it, and
+-- came to this intake
+pub record Reaches {D : Type 0} (bytes : D → Option (List ℕ)) (images : D → List ℕ → Type 0) (moment : D → ℕ)
+    (since : D → ℕ → List ℕ → Type 0) (faults : D → ℕ) (limits : Limits) (conf : Conf)
     (recovered : List Numbered) (start now : Intake) (d0 d : D) (w0 w : WireTells) (count : ℕ) : Type 0 where
-  pub ran : Ran (refusing limits 0) conf recovered start now (Journals bytes images moment since faults (λ c. ⊥) d0 d) w0 w count None None anywhere
+  pub ran : Ran (refusing limits 0) conf recovered start now
+      (Journals bytes images moment since faults (λ c. ⊥) d0 d) w0 w count None None anywhere
   pub later : w0.faults ≤ w.faults
 
--- What taking events did, behind whatever the run had done before: it took so many more and goes on; or it ended with a status.
-abbrev pub TakesOn : {D : Type 0} → (D → Option (List ℕ)) → (D → List ℕ → Type 0) → (D → ℕ) → (D → ℕ → List ℕ → Type 0) → (D → ℕ) → Limits → Conf → Intake → Intake → D → D → WireTells → WireTells → ℕ → Taken → Type 0
+-- What taking events did, behind whatever the run had done before: it took so many more and goes on; or it ended with
+-- a status.
+abbrev pub TakesOn : {D : Type 0} → (D → Option (List ℕ)) → (D → List ℕ → Type 0) → (D → ℕ)
+    → (D → ℕ → List ℕ → Type 0) → (D → ℕ) → Limits → Conf → Intake → Intake → D → D → WireTells → WireTells → ℕ
+    → Taken → Type 0
 TakesOn {D = D} bytes images moment since faults limits conf old new d d' w w' turns (taken.Going n) =
-    (n ≤ turns) × ((recovered : List Numbered) (start : Intake) (d0 : D) (w0 : WireTells) (count : ℕ) → Reaches bytes images moment since faults limits conf recovered start old d0 d w0 w count
+    (n ≤ turns) × ((recovered : List Numbered) (start : Intake) (d0 : D) (w0 : WireTells) (count : ℕ)
+    → Reaches bytes images moment since faults limits conf recovered start old d0 d w0 w count
     → Reaches bytes images moment since faults limits conf recovered start new d0 d' w0 w' (count + n))
 TakesOn {D = D} bytes images moment since faults limits conf old new d d' w w' turns (taken.Ended s) =
-    (recovered : List Numbered) (start : Intake) (d0 : D) (w0 : WireTells) (count : ℕ) → Reaches bytes images moment since faults limits conf recovered start old d0 d w0 w count
-    → Finished limits conf recovered start new.entries (count + turns) (Journals bytes images moment since faults (λ c. ⊥) d0 d') w0 w' (course_of s).ending
+    (recovered : List Numbered) (start : Intake) (d0 : D) (w0 : WireTells) (count : ℕ)
+    → Reaches bytes images moment since faults limits conf recovered start old d0 d w0 w count
+    → Finished limits conf recovered start new.entries (count + turns)
+    (Journals bytes images moment since faults (λ c. ⊥) d0 d') w0 w' (course_of s).ending
 
--- what holds of a run at the end of the taking of events: nothing waits for a commit, and its entries are sent; a fault of its wire
--- shows in the count
-pub record IsEndedAt {D : Type 0} (kept : List Numbered) (new : Fronted D) (w w' : WireTells) (head : HeadView) (s : Status) : Type 0 where
+-- what holds of a run at the end of the taking of events: nothing waits for a commit, and its entries are sent; a
+-- fault of its wire shows in the count
+pub record IsEndedAt {D : Type 0} (kept : List Numbered) (new : Fronted D) (w w' : WireTells) (head : HeadView)
+    (s : Status) : Type 0 where
   pub idle : IsIdle new
   pub sent : IsSentAt kept head.sent new.intake.entries s
   pub unprinted : IsUnprinted s
   pub wire : s ≡ status.WireFault → Rose w.faults w'.faults
 
 -- the run serves, where the taking of events goes on; or it has ended, but not for its outbox
-abbrev pub IsServedAt : {D : Type 0} → Conf → List Numbered → Fronted D → Fronted D → WireTells → WireTells → HeadView → Taken → Type 0
+abbrev pub IsServedAt : {D : Type 0} → Conf → List Numbered → Fronted D → Fronted D → WireTells → WireTells
+    → HeadView → Taken → Type 0
 IsServedAt conf kept old new w w' head (taken.Going n) = IsServing conf kept new head × IsReady old.journal new.journal
 IsServedAt conf kept old new w w' head (taken.Ended s) = IsEndedAt kept new w w' head s × IsCause s
 
 -- Events were taken by a run that served, at most so many, and answered; and their entries were sent.
-pub record HasServed {D : Type 0} (bytes : D → Option (List ℕ)) (images : D → List ℕ → Type 0) (moment : D → ℕ) (since : D → ℕ → List ℕ → Type 0) (faults : D → ℕ) (conf : Conf) (kept : List Numbered)
+pub record HasServed {D : Type 0} (bytes : D → Option (List ℕ)) (images : D → List ℕ → Type 0) (moment : D → ℕ)
+    (since : D → ℕ → List ℕ → Type 0) (faults : D → ℕ) (conf : Conf) (kept : List Numbered)
     (old new : Fronted D) (w w' : WireTells) (head : HeadView) (turns : ℕ) (t : Taken) : Type 0 where
   pub later : w.faults ≤ w'.faults
-  pub takes : TakesOn bytes images moment since faults (limits_of old.journal 0) conf old.intake new.intake old.journal.disk new.journal.disk w w' turns t
+  pub takes : TakesOn bytes images moment since faults (limits_of old.journal 0) conf old.intake new.intake
+      old.journal.disk new.journal.disk w w' turns t
   pub served : IsServedAt conf kept old new w w' head t
 
 -- what taking events came to, or want of memory of somebody beside it
 abbrev pub IsJoined : Taken → Taken → Type 0
 IsJoined t joined = (joined ≡ t) ⊎ (joined ≡ taken.Ended status.OutOfMemory)
 
--- A front with which a run begins: its journal is ready and keeps these entries, nothing waits for a commit, and the intake is
--- sound.
-pub record IsOpened {D : Type 0} (bytes : D → Option (List ℕ)) (images : D → List ℕ → Type 0) (conf : Conf) (kept : List Numbered) (front : Fronted D) : Type 0 where
+-- A front with which a run begins: its journal is ready and keeps these entries, nothing waits for a commit, and the
+-- intake is sound.
+pub record IsOpened {D : Type 0} (bytes : D → Option (List ℕ)) (images : D → List ℕ → Type 0) (conf : Conf)
+    (kept : List Numbered) (front : Fronted D) : Type 0 where
   pub going : front.journal.state ≡ Ready
   pub idle : IsIdle front
   pub sound : IsSound conf front.intake
@@ -107,11 +123,13 @@ pub record IsOpened {D : Type 0} (bytes : D → Option (List ℕ)) (images : D �
 -- a run that got no book: memory was refused, or its outbox holds more bytes than the lines of the kept entries have
 abbrev pub IsAheadOf : Conf → List Numbered → ℕ → Status → Type 0
 IsAheadOf conf kept held status.OutOfMemory = ⊤
-IsAheadOf conf kept held (status.OutboxAhead told lines) = (told ≡ held) × (lines ≡ length (log_lines conf (log_of kept))) × (lines < told)
+IsAheadOf conf kept held (status.OutboxAhead told lines) =
+    (told ≡ held) × (lines ≡ length (log_lines conf (log_of kept))) × (lines < told)
 IsAheadOf conf kept held _ = ⊥
 
 -- and has its disk and its entries
-pub record IsHeldBack {D : Type 0} (conf : Conf) (kept : List Numbered) (held : ℕ) (front : Fronted D) (disk : D) (entries : List Numbered) (s : Status) : Type 0 where
+pub record IsHeldBack {D : Type 0} (conf : Conf) (kept : List Numbered) (held : ℕ) (front : Fronted D) (disk : D)
+    (entries : List Numbered) (s : Status) : Type 0 where
   pub disk_is : disk ≡ front.journal.disk
   pub entries_are : entries ≡ front.intake.entries
   pub why : IsAheadOf conf kept held s
@@ -121,20 +139,25 @@ abbrev pub book_status : BookError → Status
 book_status (refusal.OutboxAhead held lines) = status.OutboxAhead held lines
 book_status refusal.OutOfMemory = status.OutOfMemory
 
--- what becomes of a status where the last lines aren't written, or memory is refused: want of memory stands before a fault of the
--- outbox, and that before all others
+-- what becomes of a status where the last lines aren't written, or memory is refused: want of memory stands before a
+-- fault of the outbox, and that before all others
 abbrev pub IsWorse : Status → Status → Type 0
-IsWorse s worse = (worse ≡ s) ⊎ ((worse ≡ status.OutOfMemory) ⊎ ((worse ≡ status.OutboxFault) × (s ≢ status.OutOfMemory)))
+IsWorse s worse =
+    (worse ≡ s) ⊎ ((worse ≡ status.OutOfMemory) ⊎ ((worse ≡ status.OutboxFault) × (s ≢ status.OutOfMemory)))
 
--- A run that was opened went up to its printed line: it got no book, or it took events up to some ending; and so many lines and counts
--- are those of its entries.
-pub record HasGone {D : Type 0} (bytes : D → Option (List ℕ)) (images : D → List ℕ → Type 0) (moment : D → ℕ) (since : D → ℕ → List ℕ → Type 0) (faults : D → ℕ) (conf : Conf) (kept : List Numbered) (outbox : SinkTells)
-    (front : Fronted D) (turns : ℕ) (w w' : WireTells) (began : Bool) (s : Status) (counts : Counts) (disk : D) (entries : List Numbered) (outbox' : SinkTells) : Type 0 where
+-- A run that was opened went up to its printed line: it got no book, or it took events up to some ending; and so many
+-- lines and counts are those of its entries.
+pub record HasGone {D : Type 0} (bytes : D → Option (List ℕ)) (images : D → List ℕ → Type 0) (moment : D → ℕ)
+    (since : D → ℕ → List ℕ → Type 0) (faults : D → ℕ) (conf : Conf) (kept : List Numbered) (outbox : SinkTells)
+    (front : Fronted D) (turns : ℕ) (w w' : WireTells) (began : Bool) (s : Status) (counts : Counts) (disk : D)
+    (entries : List Numbered) (outbox' : SinkTells) : Type 0 where
   pub wire : s ≡ status.WireFault → Rose w.faults w'.faults
   pub fault : s ≡ status.OutboxFault → Rose outbox.faults outbox'.faults
   pub unprinted : IsUnprinted s
   pub held_back : began ≡ false → IsHeldBack conf kept outbox.held front disk entries s
   pub enough : began ≡ true → outbox.held ≤ length (log_lines conf (log_of kept))
-  pub finished : began ≡ true → Finished (limits_of front.journal 0) conf kept front.intake entries turns (Journals bytes images moment since faults (λ c. ⊥) front.journal.disk disk) w w' (course_of s).ending
-  pub lines : began ≡ true → LinesAre (course_of s).out outbox outbox' (drop outbox.held (log_lines conf (log_of entries)))
+  pub finished : began ≡ true → Finished (limits_of front.journal 0) conf kept front.intake entries turns
+      (Journals bytes images moment since faults (λ c. ⊥) front.journal.disk disk) w w' (course_of s).ending
+  pub lines : began ≡ true → LinesAre (course_of s).out outbox outbox'
+      (drop outbox.held (log_lines conf (log_of entries)))
   pub counts_are : s ≡ status.Ok → counts ≡ counts_with (length entries) (tally_of (replay conf (log_of entries)))

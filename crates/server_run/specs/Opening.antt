@@ -52,16 +52,16 @@ abbrev pub kept_text : List Group → Option (List ℕ)
 kept_text [] = None
 kept_text (g ∷ gs) = first_text g.entries
 
--- what is said of the text with which entries are to begin, and of that with which they do: they begin with no configuration;
--- or with another, which differs first there; or there is nothing to say
+-- what is said of the text with which entries are to begin, and of that with which they do: they begin with no
+-- configuration; or with another, which differs first there; or there is nothing to say
 abbrev pub IsTextJudged : List ℕ → Option (List ℕ) → Option Status → Type 0
 IsTextJudged text None (Some (status.Damaged at)) = at ≡ first_gate
 IsTextJudged text (Some found) (Some (status.ConfigDiffers at)) = differ_at text found ≡ Some at
 IsTextJudged text (Some found) None = found ≡ text
 IsTextJudged text found _ = ⊥
 
--- why groups that begin with this text aren't those of a run with a configuration: they begin with none; or with another; or
--- their entries don't fit
+-- why groups that begin with this text aren't those of a run with a configuration: they begin with none; or with
+-- another; or their entries don't fit
 abbrev pub IsRejectedFor : Conf → List Group → Option (List ℕ) → Status → Type 0
 IsRejectedFor conf groups None (status.Damaged at) = at ≡ first_gate
 IsRejectedFor conf groups (Some text) (status.ConfigDiffers at) = differ_at conf.text text ≡ Some at
@@ -93,22 +93,27 @@ opening_lines conf groups = log_lines conf (log_of (opening_entries conf groups)
 
 -- an outbox of so many bytes holds more than these lines of the groups
 abbrev pub IsAhead : Conf → List Group → ℕ → ℕ → ℕ → Type 0
-IsAhead conf groups held told lines = IsAccepted conf groups × (told ≡ held) × (lines ≡ length (opening_lines conf groups)) × (lines < held)
+IsAhead conf groups held told lines =
+    IsAccepted conf groups × (told ≡ held) × (lines ≡ length (opening_lines conf groups)) × (lines < held)
 
--- with the configuration alone a journal of at most so many entries would be full: it would have so many entries and bytes
+-- with the configuration alone a journal of at most so many entries would be full: it would have so many entries and
+-- bytes
 abbrev pub IsFullAtFirst : ℕ → Conf → ℕ → ℕ → Type 0
 IsFullAtFirst most conf entries bytes =
     (entries ≡ length (start conf.text [] 9).entries) × (bytes ≡ min (start conf.text [] 9).bytes (2 ^ 64 - 1))
     × IsTrue (nat_lt most entries || nat_lt longest_journal bytes)
 
--- why a run with this configuration doesn't begin, which allows so many entries: what its file keeps, or how many bytes its
--- outbox holds
+-- why a run with this configuration doesn't begin, which allows so many entries: what its file keeps, or how many
+-- bytes its outbox holds
 abbrev pub Bars : Conf → ℕ → Option (List ℕ) → ℕ → Status → Type 0
 Bars conf most file held status.NotOurs = IfSome file (λ b. kept b ≡ NotOurs)
 Bars conf most file held (status.Damaged at) =
-    IfSome file (λ b. kept b ≡ Damaged at) ⊎ ((groups : List Group) × FoundGroups file groups × IsRejected conf groups (status.Damaged at))
-Bars conf most file held (status.ConfigDiffers at) = (groups : List Group) × FoundGroups file groups × IsRejected conf groups (status.ConfigDiffers at)
-Bars conf most file held (status.OutboxAhead told lines) = (groups : List Group) × FoundGroups file groups × IsAhead conf groups held told lines
+    IfSome file (λ b. kept b ≡ Damaged at) ⊎ ((groups : List Group) × FoundGroups file groups
+    × IsRejected conf groups (status.Damaged at))
+Bars conf most file held (status.ConfigDiffers at) =
+    (groups : List Group) × FoundGroups file groups × IsRejected conf groups (status.ConfigDiffers at)
+Bars conf most file held (status.OutboxAhead told lines) =
+    (groups : List Group) × FoundGroups file groups × IsAhead conf groups held told lines
 Bars conf most file held (status.Full entries bytes) = FoundGroups file [] × IsFullAtFirst most conf entries bytes
 Bars conf most file held _ = ⊥
 
@@ -124,23 +129,29 @@ Unopened conf most file faults faults' held status.OutOfMemory = ⊤
 Unopened conf most file faults faults' held status.DiskFault = Rose faults faults'
 Unopened conf most file faults faults' held s = Bars conf most file held s
 
--- entries that a run finds at its opening: those of its file's groups, or that of the configuration where there are none
+-- entries that a run finds at its opening: those of its file's groups, or that of the configuration where there are
+-- none
 abbrev pub FoundEntries : Option (List ℕ) → Conf → List Numbered → Type 0
-FoundEntries file conf entries = (groups : List Group) × FoundGroups file groups × ((entries ≡ numbered_of groups) ⊎ (entries ≡ opening_entries conf groups))
+FoundEntries file conf entries =
+    (groups : List Group) × FoundGroups file groups × ((entries ≡ numbered_of groups)
+    ⊎ (entries ≡ opening_entries conf groups))
 
--- A run that was configured, with an outbox of so many bytes, and didn't begin: why, and the entries that it has, none or those
--- that it found. A crash meanwhile left what one before it might have, or entries that it found.
-pub record TurnedAway {D : Type 0} (bytes : D → Option (List ℕ)) (images : D → List ℕ → Type 0) (moment : D → ℕ) (since : D → ℕ → List ℕ → Type 0) (faults : D → ℕ) (conf : Conf) (most held : ℕ) (old new : D)
+-- A run that was configured, with an outbox of so many bytes, and didn't begin: why, and the entries that it has,
+-- none or those that it found. A crash meanwhile left what one before it might have, or entries that it found.
+pub record TurnedAway {D : Type 0} (bytes : D → Option (List ℕ)) (images : D → List ℕ → Type 0) (moment : D → ℕ)
+    (since : D → ℕ → List ℕ → Type 0) (faults : D → ℕ) (conf : Conf) (most held : ℕ) (old new : D)
     (entries : List Numbered) (s : Status) : Type 0 where
   pub told : is_some (bytes new) ≡ is_some (bytes old)
   pub later : faults old ≤ faults new
   pub why : Unopened conf most (bytes old) (faults old) (faults new) held s
   pub has : (entries ≡ []) ⊎ FoundEntries (bytes old) conf entries
-  pub left : IfSome (bytes old) (λ _. LeavesOnly moment since old new (λ c. KeepsAsOneOf (images old) c ⊎ KeepsSome (FoundEntries (bytes old) conf) c))
+  pub left : IfSome (bytes old) (λ _. LeavesOnly moment since old new
+      (λ c. KeepsAsOneOf (images old) c ⊎ KeepsSome (FoundEntries (bytes old) conf) c))
 
--- A journal that was opened for a run with this configuration and is ready: its groups are accepted, these are their entries, and
--- it was gone on with as far as that.
-pub record IsTakenUp {D : Type 0} (bytes : D → Option (List ℕ)) (images : D → List ℕ → Type 0) (moment : D → ℕ) (since : D → ℕ → List ℕ → Type 0) (faults : D → ℕ) (conf : Conf) (most : ℕ) (old : D)
+-- A journal that was opened for a run with this configuration and is ready: its groups are accepted, these are their
+-- entries, and it was gone on with as far as that.
+pub record IsTakenUp {D : Type 0} (bytes : D → Option (List ℕ)) (images : D → List ℕ → Type 0) (moment : D → ℕ)
+    (since : D → ℕ → List ℕ → Type 0) (faults : D → ℕ) (conf : Conf) (most : ℕ) (old : D)
     (journal : Journaled D) (kept : List Numbered) : Type 0 where
   pub groups : List Group
   pub found : FoundGroups (bytes old) groups
@@ -150,9 +161,12 @@ pub record IsTakenUp {D : Type 0} (bytes : D → Option (List ℕ)) (images : D 
   pub limits : (journal.max_entries ≡ most) × (journal.max_bytes ≡ longest_journal)
   pub goes_on : GoesOn bytes images moment since faults old journal.disk
 
--- A run that was configured: the intake behind its journal's groups. A crash meanwhile left what one before it might have, or
--- the entries of the groups, or those with which the run goes on, which are kept now; nothing waits for a commit.
-pub record HasBegun {D : Type 0} (bytes : D → Option (List ℕ)) (images : D → List ℕ → Type 0) (moment : D → ℕ) (since : D → ℕ → List ℕ → Type 0) (faults : D → ℕ) (conf : Conf) (most : ℕ) (old : D) (made : Fronted D) : Type 0 where
+-- A run that was configured: the intake behind its journal's groups. A crash meanwhile left what one before it might
+-- have, or the entries of the groups, or those with which the run goes on, which are kept now; nothing waits for a
+-- commit.
+pub record HasBegun {D : Type 0} (bytes : D → Option (List ℕ)) (images : D → List ℕ → Type 0) (moment : D → ℕ)
+    (since : D → ℕ → List ℕ → Type 0) (faults : D → ℕ) (conf : Conf) (most : ℕ) (old : D)
+    (made : Fronted D) : Type 0 where
   pub groups : List Group
   pub found : FoundGroups (bytes old) groups
   pub accepted : IsAccepted conf groups
@@ -161,4 +175,5 @@ pub record HasBegun {D : Type 0} (bytes : D → Option (List ℕ)) (images : D �
   pub intake_is : made.intake ≡ start conf.text (numbered_of groups) (journal_bytes groups)
   pub sound : IsSound conf made.intake
   pub idle : IsIdle made
-  pub journaled : Journals bytes images moment since faults (KeepsAsOneOf (images old)) old made.journal.disk (IsEither (numbered_of groups) made.intake.entries) None made.intake.entries
+  pub journaled : Journals bytes images moment since faults (KeepsAsOneOf (images old)) old made.journal.disk
+      (IsEither (numbered_of groups) made.intake.entries) None made.intake.entries

@@ -23,22 +23,24 @@ journal_bytes [] = 9
 journal_bytes (g ∷ gs) = length (entries_bytes g.entries) + 9 + journal_bytes gs
 
 -- a journal with these groups, ready for more, all of it durable where its disk tells
-pub record HasGroups {D : Type 0} (bytes : D → Option (List ℕ)) (images : D → List ℕ → Type 0) (journal : Journaled D) (groups : List Group) : Type 0 where
+pub record HasGroups {D : Type 0} (bytes : D → Option (List ℕ)) (images : D → List ℕ → Type 0)
+    (journal : Journaled D) (groups : List Group) : Type 0 where
   pub ready : journal.state ≡ Ready
   pub count : journal.entries ≡ count_entries groups
   pub size : journal.at + 1 ≡ journal_bytes groups
   pub keeps : IfSome (bytes journal.disk) (λ c. groups_of (kept c) ≡ Some groups)
   pub durable : IfSome (bytes journal.disk) (λ c. Only c (images journal.disk))
 
--- what groups come to that were read, each of which has an entry: their entries are numbered from 1, and the place is that of
--- the first one that doesn't fit a configuration
+-- what groups come to that were read, each of which has an entry: their entries are numbered from 1, and the place is
+-- that of the first one that doesn't fit a configuration
 pub record IsNumbered (conf : Conf) (groups : List Group) (numbering : Numbering) : Type 0 where
   pub some : All (λ (g : Group). 0 < length g.entries) groups
   pub entries_are : numbering.entries ≡ numbered_of groups
   pub misfit_is : IsFirstMisfit conf groups numbering.misfit
 
 -- a journal of which groups were read, where nothing was read before: these, in front of what is left
-pub record IsReadSoFar {D : Type 0} (bytes : D → Option (List ℕ)) (conf : Conf) (old new : Journaled D) (numbering : Numbering) : Type 0 where
+pub record IsReadSoFar {D : Type 0} (bytes : D → Option (List ℕ)) (conf : Conf) (old new : Journaled D)
+    (numbering : Numbering) : Type 0 where
   pub groups : List Group
   pub numbered : IsNumbered conf groups numbering
   pub count : new.entries ≡ count_entries groups
@@ -47,7 +49,8 @@ pub record IsReadSoFar {D : Type 0} (bytes : D → Option (List ℕ)) (conf : Co
   pub found : IfSome (bytes old.disk) (λ b. kept_from first_gate b ≡ onto groups (kept_from new.at b))
 
 -- a journal of which all groups were read that its file keeps, where nothing was read before
-pub record IsReadThrough {D : Type 0} (bytes : D → Option (List ℕ)) (conf : Conf) (old new : Journaled D) (numbering : Numbering) : Type 0 where
+pub record IsReadThrough {D : Type 0} (bytes : D → Option (List ℕ)) (conf : Conf) (old new : Journaled D)
+    (numbering : Numbering) : Type 0 where
   pub groups : List Group
   pub numbered : IsNumbered conf groups numbering
   pub ready : new.state ≡ Ready
@@ -78,16 +81,18 @@ IsUnread file faults faults' status.DiskFault = Rose faults faults'
 IsUnread file faults faults' status.OutOfMemory = ⊤
 IsUnread file faults faults' _ = ⊥
 
--- a disk that was gone on with: a crash at any moment since then leaves a file that keeps what one did that a crash then might
--- have left, where it tells
-pub record GoesOn {D : Type 0} (bytes : D → Option (List ℕ)) (images : D → List ℕ → Type 0) (moment : D → ℕ) (since : D → ℕ → List ℕ → Type 0) (faults : D → ℕ) (old new : D) : Type 0 where
+-- a disk that was gone on with: a crash at any moment since then leaves a file that keeps what one did that a crash
+-- then might have left, where it tells
+pub record GoesOn {D : Type 0} (bytes : D → Option (List ℕ)) (images : D → List ℕ → Type 0) (moment : D → ℕ)
+    (since : D → ℕ → List ℕ → Type 0) (faults : D → ℕ) (old new : D) : Type 0 where
   pub told : is_some (bytes new) ≡ is_some (bytes old)
   pub later : faults old ≤ faults new
   pub moments : IfSome (bytes old) (λ _. LeavesOnly moment since old new (KeepsAsOneOf (images old)))
 
--- a journal that was opened on a disk and is ready: its groups, which the disk's file kept, and what they come to beside a
--- configuration
-pub record IsRecovered {D : Type 0} (bytes : D → Option (List ℕ)) (images : D → List ℕ → Type 0) (conf : Conf) (old : D) (journal : Journaled D) (numbering : Numbering) : Type 0 where
+-- a journal that was opened on a disk and is ready: its groups, which the disk's file kept, and what they come to
+-- beside a configuration
+pub record IsRecovered {D : Type 0} (bytes : D → Option (List ℕ)) (images : D → List ℕ → Type 0) (conf : Conf)
+    (old : D) (journal : Journaled D) (numbering : Numbering) : Type 0 where
   pub groups : List Group
   pub numbered : IsNumbered conf groups numbering
   pub found : IfSome (bytes old) (λ b. groups_of (kept b) ≡ Some groups)

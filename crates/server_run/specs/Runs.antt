@@ -33,8 +33,8 @@ use Rattle.book.specs.Outgoing.{Grew, GrewByFront}
 use Rattle.server_run.specs.Sending.{Shows}
 use Rattle.server_run.specs.Statuses.{Ending, Printing, whole_line, own_line, front_of_line, front_of_ok, course_of, EndsAs, LeftIs}
 
--- why a configuration couldn't be taken: memory was refused, it is refused for its first fault, or a pattern of it isn't one,
--- or holds a brace and is too large
+-- why a configuration couldn't be taken: memory was refused, it is refused for its first fault, or a pattern of it
+-- isn't one, or holds a brace and is too large
 abbrev pub IsUntaken : List ℕ → Status → Type 0
 IsUntaken text status.OutOfMemory = ⊤
 IsUntaken text (status.ConfigRefused path cause) = flat_of text ≡ refuse path cause
@@ -49,33 +49,38 @@ pub record Configured (words : List (List ℕ)) (source : Option (List ℕ)) (pl
   pub conf_is : flat_of conf.text ≡ Ok conf
 
 -- what was read of a run's words and configuration: its turns, its most entries, and the whole text of its source
-pub record IsConfigured (words : List (List ℕ)) (source source' : Option (List ℕ)) (turns most : ℕ) (conf : Conf) : Type 0 where
+pub record IsConfigured (words : List (List ℕ)) (source source' : Option (List ℕ)) (turns most : ℕ)
+    (conf : Conf) : Type 0 where
   pub plan : Plan
   pub configured : Configured words source plan conf
   pub turns_are : turns ≡ plan.turns
   pub most_is : most ≡ plan.max_entries
   pub at_end : IsAtEnd source'
 
--- why a run wasn't configured: its words have no plan; memory was refused; or they have one, and its source failed, or the
--- source's text couldn't be taken
+-- why a run wasn't configured: its words have no plan; memory was refused; or they have one, and its source failed,
+-- or the source's text couldn't be taken
 abbrev pub Unconfigured : List (List ℕ) → Option (List ℕ) → ℕ → ℕ → Status → Type 0
 Unconfigured words source faults faults' status.Usage = plan_of words ≡ None
 Unconfigured words source faults faults' status.SourceFault = IsSome (plan_of words) × Rose faults faults'
 Unconfigured words source faults faults' status.OutOfMemory = ⊤
 Unconfigured words source faults faults' (status.ConfigRefused path cause) =
     IsSome (plan_of words) × IfSome source (λ text. flat_of text ≡ refuse path cause)
-Unconfigured words source faults faults' (status.PatternRefused path) = IsSome (plan_of words) × IfSome source (HasFlawAt IsNoPattern path)
-Unconfigured words source faults faults' (status.PatternTooLarge path) = IsSome (plan_of words) × IfSome source (HasFlawAt HoldsBrace path)
+Unconfigured words source faults faults' (status.PatternRefused path) =
+    IsSome (plan_of words) × IfSome source (HasFlawAt IsNoPattern path)
+Unconfigured words source faults faults' (status.PatternTooLarge path) =
+    IsSome (plan_of words) × IfSome source (HasFlawAt HoldsBrace path)
 Unconfigured words source faults faults' _ = ⊥
 
 -- a run that was configured, and is barred by what its file keeps or its outbox holds
 abbrev pub IsBarred : List (List ℕ) → Option (List ℕ) → Option (List ℕ) → ℕ → Status → Type 0
-IsBarred words source file held s = (plan : Plan) × (conf : Conf) × Configured words source plan conf × Bars conf plan.max_entries file held s
+IsBarred words source file held s =
+    (plan : Plan) × (conf : Conf) × Configured words source plan conf × Bars conf plan.max_entries file held s
 
 -- why a run didn't begin: it wasn't configured, or its disk failed, or it was barred
 abbrev pub Refuses : List (List ℕ) → Option (List ℕ) → ℕ → ℕ → Option (List ℕ) → ℕ → ℕ → ℕ → Status → Type 0
 Refuses words source faults faults' file disk_faults disk_faults' held status.Usage = plan_of words ≡ None
-Refuses words source faults faults' file disk_faults disk_faults' held status.SourceFault = IsSome (plan_of words) × Rose faults faults'
+Refuses words source faults faults' file disk_faults disk_faults' held status.SourceFault =
+    IsSome (plan_of words) × Rose faults faults'
 Refuses words source faults faults' file disk_faults disk_faults' held status.OutOfMemory = ⊤
 Refuses words source faults faults' file disk_faults disk_faults' held (status.ConfigRefused path cause) =
     IsSome (plan_of words) × IfSome source (λ text. flat_of text ≡ refuse path cause)
@@ -89,7 +94,8 @@ Refuses words source faults faults' file disk_faults disk_faults' held s = IsBar
 
 -- entries that a run found at its opening, which was configured
 abbrev pub FoundBy : List (List ℕ) → Option (List ℕ) → Option (List ℕ) → List Numbered → Type 0
-FoundBy words source file entries = (plan : Plan) × (conf : Conf) × Configured words source plan conf × FoundEntries file conf entries
+FoundBy words source file entries =
+    (plan : Plan) × (conf : Conf) × Configured words source plan conf × FoundEntries file conf entries
 
 -- the limits of a run with this plan, whose disk refuses no group
 abbrev pub limits_by : Plan → Limits
@@ -99,26 +105,31 @@ limits_by plan = record { max_entries = plan.max_entries; max_bytes = longest_jo
 abbrev pub opening_intake : Conf → List Group → Intake
 opening_intake conf groups = start conf.text (numbered_of groups) (journal_bytes groups)
 
--- A run that began with an intake handled some events, and memory may have been refused for one more. The wire gave these
--- and no other, and where it tells its events they were its first; what it tells is left stood behind them, unless a call of
--- next failed. The run's entries, replies and closings are those that the handled events make, of which the disk may have
--- refused a group. A crash meanwhile left entries that they reached.
-pub record Finished (limits : Limits) (conf : Conf) (recovered : List Numbered) (begun : Intake) (entries : List Numbered) (turns : ℕ) (did : Doing) (wire wire' : WireTells) (ending : Ending) : Type 0 where
+-- A run that began with an intake handled some events, and memory may have been refused for one more. The wire gave
+-- these and no other, and where it tells its events they were its first; what it tells is left stood behind them,
+-- unless a call of next failed. The run's entries, replies and closings are those that the handled events make, of
+-- which the disk may have refused a group. A crash meanwhile left entries that they reached.
+pub record Finished (limits : Limits) (conf : Conf) (recovered : List Numbered) (begun : Intake)
+    (entries : List Numbered) (turns : ℕ) (did : Doing) (wire wire' : WireTells) (ending : Ending) : Type 0 where
   pub handled : List WireEvent
   pub lost : Option WireEvent
   pub refused : ℕ
   pub few : length handled + length (option_to_list lost) ≤ turns
   pub given : wire'.given ≡ wire.given + length handled + length (option_to_list lost)
-  pub told : IfSome wire.left (λ all. (rest : List WireEvent) × (all ≡ handled ++ (option_to_list lost ++ rest)) × (LeftIs ending lost wire'.left rest ⊎ Rose wire.faults wire'.faults))
+  pub told : IfSome wire.left (λ all. (rest : List WireEvent) × (all ≡ handled ++ (option_to_list lost ++ rest))
+      × (LeftIs ending lost wire'.left rest ⊎ Rose wire.faults wire'.faults))
   pub entries_are : entries ≡ (served (refusing limits refused) conf begun handled).intake.entries
   pub ends : EndsAs ending turns (length handled) (served (refusing limits refused) conf begun handled).stop lost
   pub refused_is : (refused ≡ 0) ⊎ ((served (refusing limits refused) conf begun handled).stop ≡ Some stop.DiskFault)
-  pub shows : Shows wire wire' (served (refusing limits refused) conf begun handled).replies (served (refusing limits refused) conf begun handled).shut
-  pub journaled : did (IsReached (refusing limits refused) conf recovered begun handled) (served (refusing limits refused) conf begun handled).stop entries
+  pub shows : Shows wire wire' (served (refusing limits refused) conf begun handled).replies
+      (served (refusing limits refused) conf begun handled).shut
+  pub journaled : did (IsReached (refusing limits refused) conf recovered begun handled)
+      (served (refusing limits refused) conf begun handled).stop entries
 
--- A run that began: its words had a plan, its configuration is flat, its journal kept groups of it, its outbox held no more than
--- their lines, and it took events.
-pub record Followed (words : List (List ℕ)) (source file : Option (List ℕ)) (held : ℕ) (did : Doing) (wire wire' : WireTells) (s : Status) (entries : List Numbered) : Type 0 where
+-- A run that began: its words had a plan, its configuration is flat, its journal kept groups of it, its outbox held
+-- no more than their lines, and it took events.
+pub record Followed (words : List (List ℕ)) (source file : Option (List ℕ)) (held : ℕ) (did : Doing)
+    (wire wire' : WireTells) (s : Status) (entries : List Numbered) : Type 0 where
   pub plan : Plan
   pub conf : Conf
   pub configured : Configured words source plan conf
@@ -126,11 +137,13 @@ pub record Followed (words : List (List ℕ)) (source file : Option (List ℕ)) 
   pub found : FoundGroups file groups
   pub accepted : IsAccepted conf groups
   pub enough : held ≤ length (opening_lines conf groups)
-  pub finished : Finished (limits_by plan) conf (numbered_of groups) (opening_intake conf groups) entries plan.turns did wire wire' (course_of s).ending
+  pub finished : Finished (limits_by plan) conf (numbered_of groups) (opening_intake conf groups) entries plan.turns
+      did wire wire' (course_of s).ending
 
--- What a run has begun with: the plan's turns, the configuration of the text that the source told, all of which was read, and
--- the intake behind its journal.
-pub record Opened {D : Type 0} (bytes : D → Option (List ℕ)) (images : D → List ℕ → Type 0) (moment : D → ℕ) (since : D → ℕ → List ℕ → Type 0) (faults : D → ℕ) (words : List (List ℕ)) (source source' : Option (List ℕ))
+-- What a run has begun with: the plan's turns, the configuration of the text that the source told, all of which was
+-- read, and the intake behind its journal.
+pub record Opened {D : Type 0} (bytes : D → Option (List ℕ)) (images : D → List ℕ → Type 0) (moment : D → ℕ)
+    (since : D → ℕ → List ℕ → Type 0) (faults : D → ℕ) (words : List (List ℕ)) (source source' : Option (List ℕ))
     (old : D) (turns : ℕ) (conf : Conf) (front : Fronted D) : Type 0 where
   pub plan : Plan
   pub configured : Configured words source plan conf
@@ -138,15 +151,17 @@ pub record Opened {D : Type 0} (bytes : D → Option (List ℕ)) (images : D →
   pub at_end : IsAtEnd source'
   pub begun : HasBegun bytes images moment since faults conf plan.max_entries old front
 
--- What became of a run that didn't begin: why, and the entries that it has, none or those that it found. A crash meanwhile left
--- what one before it might have, or entries that it found.
-pub record Unbegun {D : Type 0} (bytes : D → Option (List ℕ)) (images : D → List ℕ → Type 0) (moment : D → ℕ) (since : D → ℕ → List ℕ → Type 0) (faults : D → ℕ) (words : List (List ℕ)) (source : Option (List ℕ))
+-- What became of a run that didn't begin: why, and the entries that it has, none or those that it found. A crash
+-- meanwhile left what one before it might have, or entries that it found.
+pub record Unbegun {D : Type 0} (bytes : D → Option (List ℕ)) (images : D → List ℕ → Type 0) (moment : D → ℕ)
+    (since : D → ℕ → List ℕ → Type 0) (faults : D → ℕ) (words : List (List ℕ)) (source : Option (List ℕ))
     (source_faults source_faults' held : ℕ) (old new : D) (entries : List Numbered) (s : Status) : Type 0 where
   pub why : Refuses words source source_faults source_faults' (bytes old) (faults old) (faults new) held s
   pub told : is_some (bytes new) ≡ is_some (bytes old)
   pub later : faults old ≤ faults new
   pub has : (entries ≡ []) ⊎ FoundBy words source (bytes old) entries
-  pub left : IfSome (bytes old) (λ _. LeavesOnly moment since old new (λ c. KeepsAsOneOf (images old) c ⊎ KeepsSome (FoundBy words source (bytes old)) c))
+  pub left : IfSome (bytes old) (λ _. LeavesOnly moment since old new
+      (λ c. KeepsAsOneOf (images old) c ⊎ KeepsSome (FoundBy words source (bytes old)) c))
 
 -- some of a text from the front was printed, since the printer failed
 abbrev pub CutShort : SinkTells → SinkTells → List ℕ → Type 0

@@ -10,13 +10,15 @@ use Rattle.intake_front.specs.declared.answer.Stop.{Stop}
 
 -- some of a reply from the front was sent, or nothing
 abbrev pub SendsPart : List (ℕ × List ℕ) → Option (List (ℕ × List ℕ)) → Reply → Type 0
-SendsPart before after r = (after ≡ Some before) ⊎ ((n : ℕ) × (n ≤ length r.bytes) × (after ≡ Some (before ++ (r.conn, take n r.bytes) ∷ [])))
+SendsPart before after r =
+    (after ≡ Some before) ⊎ ((n : ℕ) × (n ≤ length r.bytes) × (after ≡ Some (before ++ (r.conn, take n r.bytes) ∷ [])))
 
 -- a reply was sent whole; or the count of failed sends rose, and some of it from the front was sent, or nothing
 abbrev pub SendsReply : WireTells → WireTells → Option Reply → List (ℕ × List ℕ) → Type 0
 SendsReply wire wire' None before = wire'.sent ≡ Some before
 SendsReply wire wire' (Some r) before =
-    (wire'.sent ≡ Some (before ++ (r.conn, r.bytes) ∷ [])) ⊎ (Rose wire.unsent wire'.unsent × SendsPart before wire'.sent r)
+    (wire'.sent ≡ Some (before ++ (r.conn, r.bytes) ∷ []))
+    ⊎ (Rose wire.unsent wire'.unsent × SendsPart before wire'.sent r)
 
 -- these were closed, where the wire tells the closed connections and still does; it doesn't begin to tell
 abbrev pub Shuts : Option (List (ℕ × ℕ)) → Option (List (ℕ × ℕ)) → List (ℕ × ℕ) → Type 0
@@ -36,7 +38,8 @@ pub data Delivered : List Reply → List (ℕ × List ℕ) → ℕ → Type 0 wh
   none : Delivered [] [] 0
   whole : {rs : List Reply} {parts : List (ℕ × List ℕ)} {lost : ℕ} (r : Reply) → Delivered rs parts lost
       → Delivered (rs ++ r ∷ []) (parts ++ (r.conn, r.bytes) ∷ []) lost
-  cut : {rs : List Reply} {parts : List (ℕ × List ℕ)} {lost : ℕ} (r : Reply) (n : ℕ) → n ≤ length r.bytes → Delivered rs parts lost
+  cut : {rs : List Reply} {parts : List (ℕ × List ℕ)} {lost : ℕ} (r : Reply) (n : ℕ) → n ≤ length r.bytes
+      → Delivered rs parts lost
       → Delivered (rs ++ r ∷ []) (parts ++ (r.conn, take n r.bytes) ∷ []) (lost + 1)
   dropped : {rs : List Reply} {parts : List (ℕ × List ℕ)} {lost : ℕ} (r : Reply) → Delivered rs parts lost
       → Delivered (rs ++ r ∷ []) parts (lost + 1)
@@ -48,7 +51,8 @@ RoseBy before by now = min (before + by) (2 ^ 64 - 1) ≤ now
 -- where a wire tells what is sent, the replies were sent, but for as many as the count of failed sends rose by
 abbrev pub Sent : WireTells → WireTells → List Reply → Type 0
 Sent wire wire' replies =
-    IfSome wire.sent (λ before. (parts : List (ℕ × List ℕ)) × (lost : ℕ) × (wire'.sent ≡ Some (before ++ parts)) × Delivered replies parts lost × RoseBy wire.unsent lost wire'.unsent)
+    IfSome wire.sent (λ before. (parts : List (ℕ × List ℕ)) × (lost : ℕ) × (wire'.sent ≡ Some (before ++ parts))
+    × Delivered replies parts lost × RoseBy wire.unsent lost wire'.unsent)
 
 -- closings, each with how many calls of send stood before it, where so many stood before them all
 abbrev pub counted_from : ℕ → List (ℕ × ℕ) → List (ℕ × ℕ)
@@ -61,8 +65,8 @@ pub record Shows (wire wire' : WireTells) (replies : List Reply) (shut : List (�
   pub sends : wire'.sends ≡ wire.sends + length replies
   pub closed : Shuts wire.closed wire'.closed (counted_from wire.sends shut)
 
--- what answers hand out in their order: the replies; the connections to close, each with how many of these replies stand
--- before its closing; and why the last of them is the last event
+-- what answers hand out in their order: the replies; the connections to close, each with how many of these replies
+-- stand before its closing; and why the last of them is the last event
 pub record Outgoing : Type 0 where
   pub replies : List Reply
   pub shut : List (ℕ × ℕ)

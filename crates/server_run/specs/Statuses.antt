@@ -29,16 +29,16 @@ pub data Extent : Type 0 where
   all_lines : Extent
   front_lines : Extent
 
--- what was printed: the status's line; that line, or its front where the printer failed; its front; or the front of Ok's
--- line, since the printer failed
+-- what was printed: the status's line; that line, or its front where the printer failed; its front; or the front of
+-- Ok's line, since the printer failed
 pub data Printing : Type 0 where
   whole_line : Printing
   own_line : Printing
   front_of_line : Printing
   front_of_ok : Printing
 
--- what a status is to a run: whether it can end its opening, and, where the run began, how the taking of events ended and
--- which lines are out; and what was printed
+-- what a status is to a run: whether it can end its opening, and, where the run began, how the taking of events ended
+-- and which lines are out; and what was printed
 pub record Course : Type 0 where
   pub opening : Bool
   pub ending : Ending
@@ -70,9 +70,9 @@ behind_disk (Some stop.Closed) other = other
 behind_disk (Some stop.DiskFault) other = status.DiskFault
 behind_disk (Some (stop.Full entries bytes)) other = other
 
--- the status with which a run ends behind events that were committed together, if it does: given what stopped, how the taking
--- of events ended, and whether memory was refused as their entries were sent. Want of memory stands before all, and then a fault
--- of the disk, and of the wire.
+-- the status with which a run ends behind events that were committed together, if it does: given what stopped, how
+-- the taking of events ended, and whether memory was refused as their entries were sent. Want of memory stands before
+-- all, and then a fault of the disk, and of the wire.
 abbrev pub ended_with : Option Stop → Result (Unit {0}) Trouble → Result (Unit {0}) OutOfMemory → Option Status
 ended_with s (Err trouble.OutOfMemory) sent = Some status.OutOfMemory
 ended_with s (Err trouble.Failed) (Err refused) = Some status.OutOfMemory
@@ -119,8 +119,8 @@ NamesPattern (status.PatternRefused path) = ⊤
 NamesPattern (status.PatternTooLarge path) = ⊤
 NamesPattern _ = ⊥
 
--- a status that stands before one that names what the journal or the outbox was: a fault of what is read, a pattern of the
--- configuration, or want of memory
+-- a status that stands before one that names what the journal or the outbox was: a fault of what is read, a pattern
+-- of the configuration, or want of memory
 abbrev pub YieldsTo : Status → Type 0
 YieldsTo s = (s ≡ status.SourceFault) ⊎ ((s ≡ status.DiskFault) ⊎ ((s ≡ status.OutOfMemory) ⊎ NamesPattern s))
 
@@ -133,9 +133,9 @@ IsEnding _ = ⊤
 abbrev pub IsCourse : Status → Type 0
 IsCourse s = IsEnding (course_of s).ending
 
--- How the taking of events ended, given how many turns the plan allows, how many events were handled, what the last of
--- them stopped, and the event after them for which memory was refused, if any. Where that is an event behind others that
--- are committed together, the disk may have refused the groups of these.
+-- How the taking of events ended, given how many turns the plan allows, how many events were handled, what the last
+-- of them stopped, and the event after them for which memory was refused, if any. Where that is an event behind
+-- others that are committed together, the disk may have refused the groups of these.
 abbrev pub EndsAs : Ending → ℕ → ℕ → Option Stop → Option WireEvent → Type 0
 EndsAs never turns count s lost = ⊥
 EndsAs at_closed turns count s lost = (s ≡ Some stop.Closed) × (lost ≡ None)
@@ -172,4 +172,5 @@ IsUnprinted s = IsOwn (course_of s).line
 
 -- what printing may make of a status that comes before it: nothing, or want of memory, or PrintFault of Ok
 abbrev pub EndsPrinted : Status → Status → Type 0
-EndsPrinted s ended = IsUnprinted s × ((ended ≡ s) ⊎ ((ended ≡ status.OutOfMemory) ⊎ ((ended ≡ status.PrintFault) × (s ≡ status.Ok))))
+EndsPrinted s ended =
+    IsUnprinted s × ((ended ≡ s) ⊎ ((ended ≡ status.OutOfMemory) ⊎ ((ended ≡ status.PrintFault) × (s ≡ status.Ok))))

@@ -19,10 +19,11 @@ refusing limits number = record { max_entries = limits.max_entries; max_bytes = 
 abbrev pub KeepsSome : (List Numbered → Type 0) → List ℕ → Type 0
 KeepsSome among c = (entries : List Numbered) × among entries × Keeps entries c
 
--- What the disk of a run's journal did since then, up to a stop, if any: a crash at any moment left entries of these, or what
--- else it might; where it stopped by a fault of the disk the count of that rose; else its file keeps these entries and each
--- crash leaves them. What a crash leaves is said where the disk tells.
-pub record Journals {D : Type 0} (bytes : D → Option (List ℕ)) (images : D → List ℕ → Type 0) (moment : D → ℕ) (since : D → ℕ → List ℕ → Type 0) (faults : D → ℕ) (also : List ℕ → Type 0) (old new : D)
+-- What the disk of a run's journal did since then, up to a stop, if any: a crash at any moment left entries of these,
+-- or what else it might; where it stopped by a fault of the disk the count of that rose; else its file keeps these
+-- entries and each crash leaves them. What a crash leaves is said where the disk tells.
+pub record Journals {D : Type 0} (bytes : D → Option (List ℕ)) (images : D → List ℕ → Type 0) (moment : D → ℕ)
+    (since : D → ℕ → List ℕ → Type 0) (faults : D → ℕ) (also : List ℕ → Type 0) (old new : D)
     (among : List Numbered → Type 0) (reason : Option Stop) (entries : List Numbered) : Type 0 where
   pub left : IfSome (bytes old) (λ _. LeavesOnly moment since old new (λ c. also c ⊎ KeepsSome among c))
   pub fault : reason ≡ Some stop.DiskFault → Rose (faults old) (faults new)
@@ -34,10 +35,11 @@ pub record Journals {D : Type 0} (bytes : D → Option (List ℕ)) (images : D �
 abbrev pub IsEither : List Numbered → List Numbered → List Numbered → Type 0
 IsEither before after entries = (entries ≡ before) ⊎ (entries ≡ after)
 
--- entries that a run came to: those that were kept at its opening; those behind some of the events that it handled, none or
--- all of them too; or those that all of these make where the disk refuses no group
+-- entries that a run came to: those that were kept at its opening; those behind some of the events that it handled,
+-- none or all of them too; or those that all of these make where the disk refuses no group
 abbrev pub IsReached : Limits → Conf → List Numbered → Intake → List WireEvent → List Numbered → Type 0
 IsReached limits conf recovered begun handled entries =
     (entries ≡ recovered)
-    ⊎ (((first : List WireEvent) × (rest : List WireEvent) × (handled ≡ first ++ rest) × (entries ≡ (served limits conf begun first).intake.entries))
+    ⊎ (((first : List WireEvent) × (rest : List WireEvent) × (handled ≡ first ++ rest)
+    × (entries ≡ (served limits conf begun first).intake.entries))
     ⊎ (entries ≡ (served (refusing limits 0) conf begun handled).intake.entries))

@@ -8,7 +8,8 @@ use Rattle.server_run.specs.Replayed.{replayed}
 
 -- the counts that a run prints
 abbrev pub counts_with : ℕ → Tally → Counts
-counts_with entries t = record { entries = entries; problems = t.problems; recoveries = t.recoveries; messages = t.messages; bytes = t.bytes }
+counts_with entries t =
+    record { entries = entries; problems = t.problems; recoveries = t.recoveries; messages = t.messages; bytes = t.bytes }
 
 -- the counts of a run with these entries
 unfoldable pub run_counts : List Numbered → Counts

@@ -127,7 +127,8 @@ fn serve_alone<S: StartName, N: RunName, W: Wire, D: Disk, O: Sink>(
     alone: &mut Alone<S, N, O>,
 ) -> Status
     requires { IsServing S.conf S.kept front.old head.old }
-    ensures takes { TakesOn D.bytes D.images D.moment D.images_since D.faults (limits_of front.old.journal 0) S.conf front.old.intake front.new.intake front.old.journal.disk front.new.journal.disk
+    ensures takes { TakesOn D.bytes D.images D.moment D.images_since D.faults (limits_of front.old.journal 0) S.conf
+        front.old.intake front.new.intake front.old.journal.disk front.new.journal.disk
         (W.tells wire.old) (W.tells wire.new) turns (Taken.Ended result) }
     ensures ended { IsEndedAt S.kept front.new (W.tells wire.old) (W.tells wire.new) head.new result }
     ensures outbox { result ≡ Status.OutboxFault → Rose S.outbox.faults alone.new.book.sink.faults }
@@ -145,7 +146,8 @@ fn has_risen(before: u64, now: u64) -> bool
     now > before || now == u64::MAX
 }
 
-/// Takes events until one ends the run, at most `turns`: beside syncers, and where these ended, alone. Answers why it ended.
+/// Takes events until one ends the run, at most `turns`: beside syncers, and where these ended, alone. Answers why it
+/// ended.
 fn serve_all<S, N, W, D, O, R, G>(
     rt: &R,
     alloc: Global,
@@ -169,7 +171,8 @@ where
     G: Gate + Sync,
     requires serving { IsServing S.conf S.kept front.old head.old }
     requires before { before ≡ S.outbox.faults }
-    ensures takes { TakesOn D.bytes D.images D.moment D.images_since D.faults (limits_of front.old.journal 0) S.conf front.old.intake front.new.intake front.old.journal.disk front.new.journal.disk
+    ensures takes { TakesOn D.bytes D.images D.moment D.images_since D.faults (limits_of front.old.journal 0) S.conf
+        front.old.intake front.new.intake front.old.journal.disk front.new.journal.disk
         (W.tells wire.old) (W.tells wire.new) turns (Taken.Ended result.1) }
     ensures ended { IsEndedAt S.kept front.new (W.tells wire.old) (W.tells wire.new) head.new result.1 }
     ensures outbox { result.1 ≡ Status.OutboxFault → Rose S.outbox.faults result.0.sink.faults }
@@ -228,9 +231,11 @@ fn finish<S: StartName, N: RunName, O: Sink>(
     requires fault { status ≡ Status.OutboxFault → Rose S.outbox.faults book.sink.faults }
     ensures status { IsWorse status result.status }
     ensures lines { (entries : List Numbered) → IsSentAt S.kept head.sent entries status
-        → LinesAre (course_of result.status).out S.outbox (O.tells result.outbox) (drop S.outbox.held (log_lines S.conf (log_of entries))) }
+        → LinesAre (course_of result.status).out S.outbox (O.tells result.outbox)
+        (drop S.outbox.held (log_lines S.conf (log_of entries))) }
     ensures outbox { result.status ≡ Status.OutboxFault → Rose S.outbox.faults (O.tells result.outbox).faults }
-    ensures counts { result.status ≡ Status.Ok → result.tally ≡ tally_of (replay S.conf (log_of (S.kept ++ head.sent))) }
+    ensures counts { result.status ≡ Status.Ok → result.tally ≡ tally_of
+        (replay S.conf (log_of (S.kept ++ head.sent))) }
 {
     let _since = book.faults();
     match book.finish(alloc, prepared.ready(), head) {
@@ -279,16 +284,19 @@ fn close<S: StartName, N: RunName, D: Disk, O: Sink>(
     ensures disk { result.disk ≡ front.journal.disk }
     ensures entries { result.entries ≡ front.intake.entries }
     ensures status { IsWorse status result.status }
-    ensures lines { LinesAre (course_of result.status).out S.outbox (O.tells result.outbox) (drop S.outbox.held (log_lines S.conf (log_of front.intake.entries))) }
+    ensures lines { LinesAre (course_of result.status).out S.outbox (O.tells result.outbox)
+        (drop S.outbox.held (log_lines S.conf (log_of front.intake.entries))) }
     ensures outbox { result.status ≡ Status.OutboxFault → Rose S.outbox.faults (O.tells result.outbox).faults }
-    ensures counts { result.status ≡ Status.Ok → result.counts ≡ counts_with (length front.intake.entries) (tally_of (replay S.conf (log_of front.intake.entries))) }
+    ensures counts { result.status ≡ Status.Ok → result.counts ≡ counts_with (length front.intake.entries)
+        (tally_of (replay S.conf (log_of front.intake.entries))) }
 {
     let Written {
         status,
         tally,
         outbox,
     } = finish(alloc, &prepared, book, head, status);
-    // It holds nothing but memory, and most of what the process holds, which the system takes back whole where that ends.
+    // It holds nothing but memory, and most of what the process holds, which the system takes back whole where that
+    // ends.
     forget(prepared.into_ready());
     let (disk, entries) = front.end();
     let count = entries.as_slice().len() as u64;
@@ -318,7 +326,9 @@ fn named<S: StartName, N: RunName, W: Wire, D: Disk, O: Sink>(
     requires opened { IsOpened D.bytes D.images S.conf S.kept front }
     requires kept { kept ≡ S.kept }
     requires outbox { O.tells outbox ≡ S.outbox }
-    ensures gone { HasGone D.bytes D.images D.moment D.images_since D.faults S.conf S.kept S.outbox front turns (W.tells wire.old) (W.tells wire.new) result.began result.status result.counts result.disk result.entries (O.tells result.outbox) }
+    ensures gone { HasGone D.bytes D.images D.moment D.images_since D.faults S.conf S.kept S.outbox front turns
+        (W.tells wire.old) (W.tells wire.new) result.began result.status result.counts result.disk result.entries
+        (O.tells result.outbox) }
     ensures untouched { result.began ≡ false → (wire.new ≡ wire.old) × (result.outbox ≡ outbox) }
 {
     let (head, end) = ring.named::<N>();
@@ -356,7 +366,9 @@ pub(crate) fn started<S: StartName, W: Wire, D: Disk, O: Sink>(
     requires opened { IsOpened D.bytes D.images S.conf S.kept front }
     requires kept { kept ≡ S.kept }
     requires outbox { O.tells outbox ≡ S.outbox }
-    ensures gone { HasGone D.bytes D.images D.moment D.images_since D.faults S.conf S.kept S.outbox front turns (W.tells wire.old) (W.tells wire.new) result.began result.status result.counts result.disk result.entries (O.tells result.outbox) }
+    ensures gone { HasGone D.bytes D.images D.moment D.images_since D.faults S.conf S.kept S.outbox front turns
+        (W.tells wire.old) (W.tells wire.new) result.began result.status result.counts result.disk result.entries
+        (O.tells result.outbox) }
     ensures untouched { result.began ≡ false → (wire.new ≡ wire.old) × (result.outbox ≡ outbox) }
 {
     let prepared = Prepared::<S>::new(ready);
@@ -398,7 +410,9 @@ where
     requires opened { IsOpened D.bytes D.images S.conf S.kept front }
     requires kept { kept ≡ S.kept }
     requires outbox { O.tells outbox ≡ S.outbox }
-    ensures gone { HasGone D.bytes D.images D.moment D.images_since D.faults S.conf S.kept S.outbox front turns (W.tells wire.old) (W.tells wire.new) result.began result.status result.counts result.disk result.entries (O.tells result.outbox) }
+    ensures gone { HasGone D.bytes D.images D.moment D.images_since D.faults S.conf S.kept S.outbox front turns
+        (W.tells wire.old) (W.tells wire.new) result.began result.status result.counts result.disk result.entries
+        (O.tells result.outbox) }
     ensures untouched { result.began ≡ false → (wire.new ≡ wire.old) × (result.outbox ≡ outbox) }
 {
     let before = outbox.faults();
@@ -442,7 +456,9 @@ where
     requires opened { IsOpened D.bytes D.images S.conf S.kept front }
     requires kept { kept ≡ S.kept }
     requires outbox { O.tells outbox ≡ S.outbox }
-    ensures gone { HasGone D.bytes D.images D.moment D.images_since D.faults S.conf S.kept S.outbox front turns (W.tells wire.old) (W.tells wire.new) result.began result.status result.counts result.disk result.entries (O.tells result.outbox) }
+    ensures gone { HasGone D.bytes D.images D.moment D.images_since D.faults S.conf S.kept S.outbox front turns
+        (W.tells wire.old) (W.tells wire.new) result.began result.status result.counts result.disk result.entries
+        (O.tells result.outbox) }
     ensures untouched { result.began ≡ false → (wire.new ≡ wire.old) × (result.outbox ≡ outbox) }
 {
     let prepared = Prepared::<S>::new(ready);

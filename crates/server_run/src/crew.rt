@@ -154,7 +154,8 @@ trait Taker<S: StartName, N: RunName> {
         shared: &Shared<S, N, O>,
     ) -> Taken
         requires { IsServing S.conf S.kept front.old (head self.old) }
-        ensures { HasServed D.bytes D.images D.moment D.images_since D.faults S.conf S.kept front.old front.new (W.tells wire.old) (W.tells wire.new) (head self.new) turns result };
+        ensures { HasServed D.bytes D.images D.moment D.images_since D.faults S.conf S.kept front.old front.new
+            (W.tells wire.old) (W.tells wire.new) (head self.new) turns result };
 }
 
 impl<S: StartName, N: RunName> Taker<S, N> for RingHead<S, N> {
@@ -200,21 +201,23 @@ where
     G: Gate + Sync,
     T: Taker<S, N>,
     requires { IsServing S.conf S.kept front.old (T.head taker.old) }
-    ensures { HasServed D.bytes D.images D.moment D.images_since D.faults S.conf S.kept front.old front.new (W.tells wire.old) (W.tells wire.new) (T.head taker.new) turns result }
+    ensures { HasServed D.bytes D.images D.moment D.images_since D.faults S.conf S.kept front.old front.new
+        (W.tells wire.old) (W.tells wire.new) (T.head taker.new) turns result }
 {
     let (worked, taken) = join_mut(
         rt,
         &mut || work_all(rt, alloc, prepared, shared, gate, syncers),
         &mut || -> Taken
             requires { IsServing S.conf S.kept front.now (T.head taker.now) }
-            ensures { HasServed D.bytes D.images D.moment D.images_since D.faults S.conf S.kept front.entry.now front.exit.now (W.tells wire.entry.now) (W.tells wire.exit.now) (T.head taker.exit.now) turns result }
+            ensures { HasServed D.bytes D.images D.moment D.images_since D.faults S.conf S.kept front.entry.now
+                front.exit.now (W.tells wire.entry.now) (W.tells wire.exit.now) (T.head taker.exit.now) turns result }
         { taker.serve_shared(rt, alloc, turns, prepared, wire, front, shared) },
     );
     joined(taken, worked)
 }
 
-/// Takes events, at most `turns`, while syncers of this number work their entries out, up to one that ends the run, or to where
-/// the syncers ended. None is taken where there are no syncers.
+/// Takes events, at most `turns`, while syncers of this number work their entries out, up to one that ends the run,
+/// or to where the syncers ended. None is taken where there are no syncers.
 pub(crate) fn serve_syncers<S, N, O, W, D, R, G>(
     rt: &R,
     alloc: Global,
@@ -236,7 +239,8 @@ where
     R: Threads + Wait + Sync,
     G: Gate + Sync,
     requires { IsServing S.conf S.kept front.old head.old }
-    ensures { HasServed D.bytes D.images D.moment D.images_since D.faults S.conf S.kept front.old front.new (W.tells wire.old) (W.tells wire.new) head.new turns result.1 }
+    ensures { HasServed D.bytes D.images D.moment D.images_since D.faults S.conf S.kept front.old front.new
+        (W.tells wire.old) (W.tells wire.new) head.new turns result.1 }
 {
     if syncers == 0 {
         return (book, Taken::Going(0));

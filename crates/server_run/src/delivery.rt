@@ -49,11 +49,12 @@ fn deliver<W: Wire>(wire: &mut W, answer: &Answer)
     shut(wire, answer.shut);
 }
 
-/// Sends the replies of answers and closes their connections, in the order of the answers. Answers why no event follows the
-/// last of them, where one doesn't.
+/// Sends the replies of answers and closes their connections, in the order of the answers. Answers why no event
+/// follows the last of them, where one doesn't.
 pub(crate) fn deliver_all<W: Wire>(wire: &mut W, answers: &[Answer]) -> Option<Stop>
     ensures stop { result ≡ (outgoing answers.now).stop }
-    ensures shows { Shows (W.tells wire.old) (W.tells wire.new) (outgoing answers.now).replies (outgoing answers.now).shut }
+    ensures shows { Shows (W.tells wire.old) (W.tells wire.new) (outgoing answers.now).replies
+        (outgoing answers.now).shut }
     ensures later { (W.tells wire.old).unsent ≤ (W.tells wire.new).unsent }
     ensures left { (W.tells wire.new).left ≡ (W.tells wire.old).left }
     ensures given { (W.tells wire.new).given ≡ (W.tells wire.old).given }

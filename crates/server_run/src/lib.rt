@@ -1,21 +1,21 @@
 //! The run of the server, on one thread or beside history syncers, from its words to its printed line.
 //!
-//! [`run_single`] reads the configuration, takes the events of a wire in their order, journals what it takes, answers each
-//! sender, evaluates the triggers and writes a line for each record. [`run_syncers`] does the same while threads of their own
-//! evaluate the triggers. Events that stand ready one behind another, up to 128,
-//! are journaled by one append, and answered behind it in their order. Everything outside, the configuration's source, the
-//! wire, the journal's disk, the outbox and the printer, is handed in, so the same code runs over files and sockets and over
+//! [`run_single`] reads the configuration, takes the events of a wire in their order, journals what it takes, answers
+//! each sender, evaluates the triggers and writes a line for each record. [`run_syncers`] does the same while threads
+//! of their own evaluate the triggers. Events that stand ready one behind another, up to 128, are journaled by one
+//! append, and answered behind it in their order. Everything outside, the configuration's source, the wire, the
+//! journal's disk, the outbox and the printer, is handed in, so the same code runs over files and sockets and over
 //! memory, and its contract speaks of whatever was handed in.
 //!
-//! The one contract, in a sentence: the replies and entries are those that the definition of what events make gives for
-//! the events taken, behind those that the journal kept; a stop at any moment leaves the entries behind some of the events,
-//! and all that were answered; the outbox has the lines of one thread replaying the entries, none missing and none twice;
-//! and a run ends early only for the cause that its status names.
+//! The one contract, in a sentence: the replies and entries are those that the definition of what events make gives
+//! for the events taken, behind those that the journal kept; a stop at any moment leaves the entries behind some of
+//! the events, and all that were answered; the outbox has the lines of one thread replaying the entries, none missing
+//! and none twice; and a run ends early only for the cause that its status names.
 //!
-//! A run goes through its opening, in which each refusal ends it: the words; reading the configuration; flattening it;
-//! opening the journal and reading its groups, which must be those of a run with this configuration; journaling that where
-//! there are none; replaying the entries; and comparing the outbox. Then, begun, it writes the lines that the outbox lacks
-//! and takes the events, up to one that closes the wire. Last it prints one line.
+//! A run goes through its opening, in which each refusal ends it: the words; reading the configuration; flattening
+//! it; opening the journal and reading its groups, which must be those of a run with this configuration; journaling
+//! that where there are none; replaying the entries; and comparing the outbox. Then, begun, it writes the lines that
+//! the outbox lacks and takes the events, up to one that closes the wire. Last it prints one line.
 //!
 //! ```text
 //! let ended = run_single(alloc, words.as_slice(), &mut source, &mut wire, disk, outbox, &mut printer);

@@ -14,8 +14,8 @@ use intake_journal::Group;
 use std::alloc::Global;
 use zbx_types::{Conf, Entry, Many, Moment, Numbered, OutOfMemory, Text};
 
-/// What the groups of a journal come to that were read: their entries, numbered from 1, and the place of the first group
-/// whose entries don't fit the configuration, where there is one.
+/// What the groups of a journal come to that were read: their entries, numbered from 1, and the place of the first
+/// group whose entries don't fit the configuration, where there is one.
 #[derive(Drop)]
 pub(crate) struct Numbering {
     pub entries: Many<Numbered>,
@@ -32,9 +32,11 @@ fn reached(entries: &[Numbered]) -> Option<Moment>
     }
 }
 
-/// A group that fits each configuration and reaches this moment: what entries have to be behind it depends on that alone.
+/// A group that fits each configuration and reaches this moment: what entries have to be behind it depends on that
+/// alone.
 fn configured_at(alloc: Global, now: Moment) -> Result<Group, OutOfMemory>
-    ensures { IfOk result (λ made. (reached (log_of (numbered_of (made ∷ []))) ≡ Some now) × ((conf : Conf) → GroupsFit conf (made ∷ []))) }
+    ensures { IfOk result (λ made. (reached (log_of (numbered_of (made ∷ []))) ≡ Some now)
+        × ((conf : Conf) → GroupsFit conf (made ∷ []))) }
 {
     let mut entries = Many::new(alloc);
     entries.push(Entry::Config {
@@ -59,8 +61,8 @@ fn begun_at(alloc: Global, last: Option<Moment>) -> Result<Many<Group>, OutOfMem
     }
 }
 
-/// The place of a group behind groups that fit a configuration and have reached this moment, or None where it fits too. The
-/// group comes back.
+/// The place of a group behind groups that fit a configuration and have reached this moment, or None where it fits
+/// too. The group comes back.
 fn misfit_behind(
     alloc: Global,
     conf: &Conf,
@@ -68,7 +70,8 @@ fn misfit_behind(
     group: Group,
 ) -> Result<(Group, Option<u64>), OutOfMemory>
     ensures same { IfOk result (λ judged. judged.0 ≡ group) }
-    ensures misfit { IfOk result (λ judged. (groups : List Group) → last ≡ reached (log_of (numbered_of groups)) → GroupsFit conf.now groups
+    ensures misfit { IfOk result (λ judged. (groups : List Group) → last ≡ reached (log_of (numbered_of groups))
+        → GroupsFit conf.now groups
         → IsFirstMisfit conf.now (groups ++ group ∷ []) judged.1) }
 {
     let mut both = begun_at(alloc, last)?;
@@ -81,8 +84,8 @@ fn misfit_behind(
     }
 }
 
-/// The place of the first misfit with one more group, where entries and the place are those of the groups before it. The
-/// group comes back.
+/// The place of the first misfit with one more group, where entries and the place are those of the groups before it.
+/// The group comes back.
 fn misfit_with(
     alloc: Global,
     conf: &Conf,
@@ -90,7 +93,8 @@ fn misfit_with(
     group: Group,
 ) -> Result<(Group, Option<u64>), OutOfMemory>
     ensures same { IfOk result (λ judged. judged.0 ≡ group) }
-    ensures misfit { IfOk result (λ judged. (groups : List Group) → IsNumbered conf.now groups numbering.now → IsFirstMisfit conf.now (groups ++ group ∷ []) judged.1) }
+    ensures misfit { IfOk result (λ judged. (groups : List Group) → IsNumbered conf.now groups numbering.now
+        → IsFirstMisfit conf.now (groups ++ group ∷ []) judged.1) }
 {
     match numbering.misfit {
         Some(at) => Ok((group, Some(at))),
@@ -127,7 +131,8 @@ impl Numbering {
         conf: &Conf,
         group: Group,
     ) -> Result<(), OutOfMemory>
-        ensures { OnOk result ((groups : List Group) → 0 < length group.entries → IsNumbered conf.now groups self.old → IsNumbered conf.now (groups ++ group ∷ []) self.new) }
+        ensures { OnOk result ((groups : List Group) → 0 < length group.entries → IsNumbered conf.now groups self.old
+            → IsNumbered conf.now (groups ++ group ∷ []) self.new) }
     {
         let (group, misfit) = misfit_with(alloc, conf, self, group)?;
         self.misfit = misfit;

@@ -25,8 +25,8 @@ fn status_of(error: JournalError) -> Status
     }
 }
 
-/// Reads all groups of a journal that was opened, none of which was read before, and numbers and judges their entries. It is
-/// ready then.
+/// Reads all groups of a journal that was opened, none of which was read before, and numbers and judges their
+/// entries. It is ready then.
 fn read_all<D: Disk>(
     alloc: Global,
     conf: &Conf,
@@ -38,7 +38,8 @@ fn read_all<D: Disk>(
     ensures read { IfOk result (IsReadThrough D.bytes conf.now journal.old journal.new) }
     ensures before { IsAsBefore D.bytes D.images D.moment D.images_since journal.old.disk journal.new.disk }
     ensures later { D.faults journal.old.disk ≤ D.faults journal.new.disk }
-    ensures why { IfErr result (StopsReading (D.bytes journal.old.disk) (D.faults journal.old.disk) (D.faults journal.new.disk)) }
+    ensures why { IfErr result (StopsReading (D.bytes journal.old.disk) (D.faults journal.old.disk)
+        (D.faults journal.new.disk)) }
 {
     let mut numbering = Numbering::new(alloc);
     for _ in 0..u64::MAX {
@@ -54,8 +55,9 @@ fn read_all<D: Disk>(
     Err(Status::OutOfMemory)
 }
 
-/// Opens the journal on a disk, which is to have at most so many entries, reads all its groups, and numbers their entries and
-/// judges them beside a configuration. The disk comes back with the status that ends the run where that can't be done.
+/// Opens the journal on a disk, which is to have at most so many entries, reads all its groups, and numbers their
+/// entries and judges them beside a configuration. The disk comes back with the status that ends the run where that
+/// can't be done.
 pub(crate) fn recover<D: Disk>(
     alloc: Global,
     conf: &Conf,

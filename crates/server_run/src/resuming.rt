@@ -72,16 +72,18 @@ fn judged(conf: &Conf, numbering: &Numbering) -> Option<Status>
     }
 }
 
-/// Opens the journal on a disk, which is to have at most so many entries, and reads the entries that it kept, where they are
-/// those of a run with this configuration.
+/// Opens the journal on a disk, which is to have at most so many entries, and reads the entries that it kept, where
+/// they are those of a run with this configuration.
 fn accepted<D: Disk>(
     alloc: Global,
     conf: &Conf,
     disk: D,
     max_entries: u64,
 ) -> Result<(Journal<D>, Many<Numbered>), Refused<D>>
-    ensures ok { IfOk result (λ made. IsTakenUp D.bytes D.images D.moment D.images_since D.faults conf.now max_entries disk made.0 made.1) }
-    ensures err { IfErr result (λ r. (held : ℕ) → TurnedAway D.bytes D.images D.moment D.images_since D.faults conf.now max_entries held disk r.disk r.entries r.status) }
+    ensures ok { IfOk result (λ made. IsTakenUp D.bytes D.images D.moment D.images_since D.faults conf.now
+        max_entries disk made.0 made.1) }
+    ensures err { IfErr result (λ r. (held : ℕ) → TurnedAway D.bytes D.images D.moment D.images_since D.faults
+        conf.now max_entries held disk r.disk r.entries r.status) }
 {
     let (journal, numbering) = match recover(alloc, conf, disk, max_entries) {
         Ok(recovered) => recovered,
@@ -123,10 +125,13 @@ fn begin<D: Disk>(
 ) -> Result<Front<D>, Refused<D>>
     requires read { journal.state ≡ state.Ready }
     requires journaled { HasJournaled D.bytes D.images journal kept (journal.at + 1) }
-    ensures ok { IfOk result (λ f. (most : ℕ) (old : D) → IsTakenUp D.bytes D.images D.moment D.images_since D.faults ready.now most old journal kept
+    ensures ok { IfOk result (λ f. (most : ℕ) (old : D)
+        → IsTakenUp D.bytes D.images D.moment D.images_since D.faults ready.now most old journal kept
         → HasBegun D.bytes D.images D.moment D.images_since D.faults ready.now most old f) }
-    ensures err { IfErr result (λ r. (most held : ℕ) (old : D) → IsTakenUp D.bytes D.images D.moment D.images_since D.faults ready.now most old journal kept
-        → TurnedAway D.bytes D.images D.moment D.images_since D.faults ready.now most held old r.disk r.entries r.status) }
+    ensures err { IfErr result (λ r. (most held : ℕ) (old : D)
+        → IsTakenUp D.bytes D.images D.moment D.images_since D.faults ready.now most old journal kept
+        → TurnedAway D.bytes D.images D.moment D.images_since D.faults ready.now most held old r.disk r.entries
+        r.status) }
 {
     match Front::new(alloc, ready, journal, kept) {
         Ok(front) => Ok(front),
@@ -146,7 +151,8 @@ pub(crate) fn resume<D: Disk>(
     max_entries: u64,
 ) -> Result<Front<D>, Refused<D>>
     ensures ok { IfOk result (HasBegun D.bytes D.images D.moment D.images_since D.faults ready.now max_entries disk) }
-    ensures err { IfErr result (λ r. (held : ℕ) → TurnedAway D.bytes D.images D.moment D.images_since D.faults ready.now max_entries held disk r.disk r.entries r.status) }
+    ensures err { IfErr result (λ r. (held : ℕ) → TurnedAway D.bytes D.images D.moment D.images_since D.faults
+        ready.now max_entries held disk r.disk r.entries r.status) }
 {
     let (journal, kept) = match accepted(alloc, ready.conf(), disk, max_entries) {
         Ok(taken) => taken,

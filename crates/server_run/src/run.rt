@@ -54,8 +54,8 @@ pub struct Ended<D, O> {
     pub disk: D,
     /// The outbox that was handed in.
     pub outbox: O,
-    /// All entries, in the order of their numbers. Entry 1 holds the configuration's text. Where the run didn't begin they are
-    /// none, or those that its journal kept.
+    /// All entries, in the order of their numbers. Entry 1 holds the configuration's text. Where the run didn't begin
+    /// they are none, or those that its journal kept.
     pub entries: Many<Numbered>,
 }
 
@@ -76,13 +76,16 @@ fn go<S: Source, W: Wire, D: Disk, O: Sink>(
     ensures outbox { result.status ≡ Status.OutboxFault → Rose (O.tells outbox).faults (O.tells result.outbox).faults }
     ensures unprinted { IsUnprinted result.status }
     ensures not_begun { result.began ≡ false
-        → Unbegun D.bytes D.images D.moment D.images_since D.faults words.now (S.left config.old) (S.faults config.old) (S.faults config.new) (O.tells outbox).held disk result.disk result.entries result.status
+        → Unbegun D.bytes D.images D.moment D.images_since D.faults words.now (S.left config.old)
+        (S.faults config.old) (S.faults config.new) (O.tells outbox).held disk result.disk result.entries result.status
         × (wire.new ≡ wire.old) × (result.outbox ≡ outbox) }
     ensures followed { result.began ≡ true
-        → Followed words.now (S.left config.old) (D.bytes disk) (O.tells outbox).held (Journals D.bytes D.images D.moment D.images_since D.faults (KeepsAsOneOf (D.images disk)) disk result.disk)
+        → Followed words.now (S.left config.old) (D.bytes disk) (O.tells outbox).held
+        (Journals D.bytes D.images D.moment D.images_since D.faults (KeepsAsOneOf (D.images disk)) disk result.disk)
         (W.tells wire.old) (W.tells wire.new) result.status result.entries }
     ensures lines { result.began ≡ true
-        → LinesAre (course_of result.status).out (O.tells outbox) (O.tells result.outbox) (drop (O.tells outbox).held (run_lines result.entries)) }
+        → LinesAre (course_of result.status).out (O.tells outbox) (O.tells result.outbox)
+        (drop (O.tells outbox).held (run_lines result.entries)) }
     ensures counts { result.status ≡ Status.Ok → result.counts ≡ run_counts result.entries }
 {
     let Begun {
@@ -143,13 +146,16 @@ where
     ensures outbox { result.status ≡ Status.OutboxFault → Rose (O.tells outbox).faults (O.tells result.outbox).faults }
     ensures unprinted { IsUnprinted result.status }
     ensures not_begun { result.began ≡ false
-        → Unbegun D.bytes D.images D.moment D.images_since D.faults words.now (S.left config.old) (S.faults config.old) (S.faults config.new) (O.tells outbox).held disk result.disk result.entries result.status
+        → Unbegun D.bytes D.images D.moment D.images_since D.faults words.now (S.left config.old)
+        (S.faults config.old) (S.faults config.new) (O.tells outbox).held disk result.disk result.entries result.status
         × (wire.new ≡ wire.old) × (result.outbox ≡ outbox) }
     ensures followed { result.began ≡ true
-        → Followed words.now (S.left config.old) (D.bytes disk) (O.tells outbox).held (Journals D.bytes D.images D.moment D.images_since D.faults (KeepsAsOneOf (D.images disk)) disk result.disk)
+        → Followed words.now (S.left config.old) (D.bytes disk) (O.tells outbox).held
+        (Journals D.bytes D.images D.moment D.images_since D.faults (KeepsAsOneOf (D.images disk)) disk result.disk)
         (W.tells wire.old) (W.tells wire.new) result.status result.entries }
     ensures lines { result.began ≡ true
-        → LinesAre (course_of result.status).out (O.tells outbox) (O.tells result.outbox) (drop (O.tells outbox).held (run_lines result.entries)) }
+        → LinesAre (course_of result.status).out (O.tells outbox) (O.tells result.outbox)
+        (drop (O.tells outbox).held (run_lines result.entries)) }
     ensures counts { result.status ≡ Status.Ok → result.counts ≡ run_counts result.entries }
 {
     let Begun {
@@ -213,20 +219,22 @@ fn cut_short(status: Status) -> Status
     }
 }
 
-/// Runs the server on one thread: reads the configuration, opens the journal, takes the wire's events, journals their entries
-/// on the disk, answers their senders, writes the lines of their records to the outbox and prints one line. It reads at most
-/// 16,777,217 bytes of the configuration, takes at most as many events as the plan of the words allows, and always returns.
+/// Runs the server on one thread: reads the configuration, opens the journal, takes the wire's events, journals their
+/// entries on the disk, answers their senders, writes the lines of their records to the outbox and prints one line.
+/// It reads at most 16,777,217 bytes of the configuration, takes at most as many events as the plan of the words
+/// allows, and always returns.
 ///
-/// Where the journal kept entries the run goes on behind them. The bytes that the outbox holds are taken for the first of
-/// their lines, and those that it lacks are written first.
+/// Where the journal kept entries the run goes on behind them. The bytes that the outbox holds are taken for the
+/// first of their lines, and those that it lacks are written first.
 ///
 /// # Statuses
 ///
-/// `Usage`, `SourceFault`, `ConfigRefused`, `PatternRefused` and `PatternTooLarge`, and then `NotOurs`, `Damaged`, `ConfigDiffers` and `OutboxAhead`, end
-/// the opening: no event was taken, and wire and outbox are as they were. `Ok` comes where the wire was read to its end.
-/// `TurnLimit` comes where as many events as the plan allows were taken and none closed the wire. `Full` comes where the next
-/// group would have made the journal larger than the plan allows, or than 1,073,741,824 bytes. `DiskFault`, `WireFault`,
-/// `OutboxFault` and `PrintFault` come where that object failed. `OutOfMemory` may come wherever memory is taken.
+/// `Usage`, `SourceFault`, `ConfigRefused`, `PatternRefused` and `PatternTooLarge`, and then `NotOurs`, `Damaged`,
+/// `ConfigDiffers` and `OutboxAhead`, end the opening: no event was taken, and wire and outbox are as they were. `Ok`
+/// comes where the wire was read to its end. `TurnLimit` comes where as many events as the plan allows were taken and
+/// none closed the wire. `Full` comes where the next group would have made the journal larger than the plan allows,
+/// or than 1,073,741,824 bytes. `DiskFault`, `WireFault`, `OutboxFault` and `PrintFault` come where that object
+/// failed. `OutOfMemory` may come wherever memory is taken.
 pub fn run_single<S: Source, W: Wire, D: Disk, O: Sink, P: Sink>(
     alloc: Global,
     words: &[Text],
@@ -238,7 +246,8 @@ pub fn run_single<S: Source, W: Wire, D: Disk, O: Sink, P: Sink>(
 ) -> Ended<D, O>
     // Usage comes exactly where the words have no plan, and then nothing was read.
     ensures usage { result.status ≡ Status.Usage → plan_of words.now ≡ None }
-    ensures not_command { plan_of words.now ≡ None → (result.status ≡ Status.Usage) ⊎ (result.status ≡ Status.OutOfMemory) }
+    ensures not_command { plan_of words.now ≡ None → (result.status ≡ Status.Usage)
+        ⊎ (result.status ≡ Status.OutOfMemory) }
     ensures unread { plan_of words.now ≡ None → config.new ≡ config.old }
 
     // At most 16,777,217 bytes of the configuration were read; all of them, where the run began.
@@ -248,20 +257,26 @@ pub fn run_single<S: Source, W: Wire, D: Disk, O: Sink, P: Sink>(
     // ConfigRefused comes exactly where the configuration is refused, with its path and cause.
     ensures config_refused { (path : List ℕ) (cause : Cause) → result.status ≡ Status.ConfigRefused path cause
         → IfSome (S.left config.old) (λ text. flat_of text ≡ refuse path cause) }
-    ensures refused_text { (text path : List ℕ) (cause : Cause) → S.left config.old ≡ Some text → flat_of text ≡ refuse path cause
+    ensures refused_text { (text path : List ℕ) (cause : Cause) → S.left config.old ≡ Some text
+        → flat_of text ≡ refuse path cause
         → (result.status ≡ Status.ConfigRefused path cause) ⊎ ((result.status ≡ Status.SourceFault)
         ⊎ ((result.status ≡ Status.Usage) ⊎ (result.status ≡ Status.OutOfMemory))) }
 
-    // PatternRefused comes only where a pattern isn't one, and PatternTooLarge where one holds a brace; the path is where the
-    // first such pattern is used first.
-    ensures pattern_refused { (path : List ℕ) → result.status ≡ Status.PatternRefused path → IfSome (S.left config.old) (HasFlawAt IsNoPattern path) }
-    ensures pattern_too_large { (path : List ℕ) → result.status ≡ Status.PatternTooLarge path → IfSome (S.left config.old) (HasFlawAt HoldsBrace path) }
+    // PatternRefused comes only where a pattern isn't one, and PatternTooLarge where one holds a brace; the path is
+    // where the first such pattern is used first.
+    ensures pattern_refused { (path : List ℕ) → result.status ≡ Status.PatternRefused path
+        → IfSome (S.left config.old) (HasFlawAt IsNoPattern path) }
+    ensures pattern_too_large { (path : List ℕ) → result.status ≡ Status.PatternTooLarge path
+        → IfSome (S.left config.old) (HasFlawAt HoldsBrace path) }
 
-    // NotOurs, Damaged, ConfigDiffers, OutboxAhead, and Full at the opening, come exactly where the journal or the outbox is
-    // so, with the place or the numbers.
-    ensures barred { result.began ≡ false → IsBarring result.status → IsBarred words.now (S.left config.old) (D.bytes disk) (O.tells outbox).held result.status }
-    ensures bars { (plan : Plan) (text : List ℕ) (conf : Conf) (file : List ℕ) (status : Status) → plan_of words.now ≡ Some plan → 0 < plan.max_entries → S.left config.old ≡ Some text → flat_of text ≡ Ok conf
-        → D.bytes disk ≡ Some file → Bars conf plan.max_entries (Some file) (O.tells outbox).held status → (result.status ≡ status) ⊎ YieldsTo result.status }
+    // NotOurs, Damaged, ConfigDiffers, OutboxAhead, and Full at the opening, come exactly where the journal or the
+    // outbox is so, with the place or the numbers.
+    ensures barred { result.began ≡ false → IsBarring result.status
+        → IsBarred words.now (S.left config.old) (D.bytes disk) (O.tells outbox).held result.status }
+    ensures bars { (plan : Plan) (text : List ℕ) (conf : Conf) (file : List ℕ) (status : Status)
+        → plan_of words.now ≡ Some plan → 0 < plan.max_entries → S.left config.old ≡ Some text → flat_of text ≡ Ok conf
+        → D.bytes disk ≡ Some file → Bars conf plan.max_entries (Some file) (O.tells outbox).held status
+        → (result.status ≡ status) ⊎ YieldsTo result.status }
 
     // A fault comes only where the count of its object rose.
     ensures source { result.status ≡ Status.SourceFault → Rose (S.faults config.old) (S.faults config.new) }
@@ -270,44 +285,56 @@ pub fn run_single<S: Source, W: Wire, D: Disk, O: Sink, P: Sink>(
     ensures outbox { result.status ≡ Status.OutboxFault → Rose (O.tells outbox).faults (O.tells result.outbox).faults }
     ensures print { result.status ≡ Status.PrintFault → Rose (P.tells print.old).faults (P.tells print.new).faults }
 
-    // A run that hasn't begun was refused at its opening, and left the wire and the outbox alone. It has no entries, or those
-    // that it found. A crash at any moment of it left what one before it might have, or entries that it found.
-    ensures not_begun { result.began ≡ false → IsRefusal result.status × (wire.new ≡ wire.old) × (result.outbox ≡ outbox) }
-    ensures has_found { result.began ≡ false → (result.entries ≡ []) ⊎ FoundBy words.now (S.left config.old) (D.bytes disk) result.entries }
-    ensures stopped { result.began ≡ false → IfSome (D.bytes disk) (λ _. LeavesOnly D.moment D.images_since disk result.disk (λ c. KeepsAsOneOf (D.images disk) c
+    // A run that hasn't begun was refused at its opening, and left the wire and the outbox alone. It has no entries,
+    // or those that it found. A crash at any moment of it left what one before it might have, or entries that it
+    // found.
+    ensures not_begun { result.began ≡ false → IsRefusal result.status × (wire.new ≡ wire.old)
+        × (result.outbox ≡ outbox) }
+    ensures has_found { result.began ≡ false → (result.entries ≡ [])
+        ⊎ FoundBy words.now (S.left config.old) (D.bytes disk) result.entries }
+    ensures stopped { result.began ≡ false → IfSome (D.bytes disk)
+        (λ _. LeavesOnly D.moment D.images_since disk result.disk (λ c. KeepsAsOneOf (D.images disk) c
         ⊎ KeepsSome (FoundBy words.now (S.left config.old) (D.bytes disk)) c)) }
     ensures begun { result.began ≡ true → IsCourse result.status }
 
-    // Events taken, replies, closings and entries behind those that the journal kept; reading to the end; the limits of turns,
-    // entries and bytes. A crash at any moment left what one before the run might have, or the entries behind some of the events,
-    // those of the opening among them, or all that the events add whose groups the disk refused; and unless it did, the disk
-    // keeps the run's entries, and each crash leaves them.
+    // Events taken, replies, closings and entries behind those that the journal kept; reading to the end; the limits
+    // of turns, entries and bytes. A crash at any moment left what one before the run might have, or the entries
+    // behind some of the events, those of the opening among them, or all that the events add whose groups the disk
+    // refused; and unless it did, the disk keeps the run's entries, and each crash leaves them.
     ensures followed { result.began ≡ true
-        → Followed words.now (S.left config.old) (D.bytes disk) (O.tells outbox).held (Journals D.bytes D.images D.moment D.images_since D.faults (KeepsAsOneOf (D.images disk)) disk result.disk)
+        → Followed words.now (S.left config.old) (D.bytes disk) (O.tells outbox).held
+        (Journals D.bytes D.images D.moment D.images_since D.faults (KeepsAsOneOf (D.images disk)) disk result.disk)
         (W.tells wire.old) (W.tells wire.new) result.status result.entries }
-    ensures keeps { result.began ≡ true → (Rose (D.faults disk) (D.faults result.disk) → ⊥) → IfSome (D.bytes result.disk) (Keeps result.entries) }
+    ensures keeps { result.began ≡ true → (Rose (D.faults disk) (D.faults result.disk) → ⊥)
+        → IfSome (D.bytes result.disk) (Keeps result.entries) }
     ensures told { is_some (D.bytes result.disk) ≡ is_some (D.bytes disk) }
 
     // The outbox has the lines of one thread that replays the entries, but for as many of their first bytes as it held.
     ensures lines { result.began ≡ true
-        → LinesAre (course_of result.status).out (O.tells outbox) (O.tells result.outbox) (drop (O.tells outbox).held (run_lines result.entries)) }
+        → LinesAre (course_of result.status).out (O.tells outbox) (O.tells result.outbox)
+        (drop (O.tells outbox).held (run_lines result.entries)) }
     ensures size { result.began ≡ true
-        → SizeIs (course_of result.status).out (O.tells outbox) (O.tells result.outbox) (drop (O.tells outbox).held (run_lines result.entries)) }
+        → SizeIs (course_of result.status).out (O.tells outbox) (O.tells result.outbox)
+        (drop (O.tells outbox).held (run_lines result.entries)) }
 
     // The printed line is that of the status, over the counts of the entries.
     ensures printed { Prints result.status (run_counts result.entries) (P.tells print.old) (P.tells print.new) }
 
     // What is accepted and doesn't fail ends well, if memory is there.
-    ensures complete { (plan : Plan) (text : List ℕ) (conf : Conf) (file : List ℕ) (groups : List Group) (all : List WireEvent)
+    ensures complete { (plan : Plan) (text : List ℕ) (conf : Conf) (file : List ℕ) (groups : List Group)
+        (all : List WireEvent)
         → plan_of words.now ≡ Some plan → 0 < plan.max_entries → S.left config.old ≡ Some text → flat_of text ≡ Ok conf
-        → D.bytes disk ≡ Some file → groups_of (kept file) ≡ Some groups → IsAccepted conf groups → (O.tells outbox).held ≤ length (opening_lines conf groups)
-        → (W.tells wire.old).left ≡ Some all → (served (limits_by plan) conf (opening_intake conf groups) (take plan.turns all)).stop ≡ Some stop.Closed
+        → D.bytes disk ≡ Some file → groups_of (kept file) ≡ Some groups → IsAccepted conf groups
+        → (O.tells outbox).held ≤ length (opening_lines conf groups)
+        → (W.tells wire.old).left ≡ Some all → (served (limits_by plan) conf (opening_intake conf groups)
+        (take plan.turns all)).stop ≡ Some stop.Closed
         → (Rose (S.faults config.old) (S.faults config.new) → ⊥)
         → (Rose (W.tells wire.old).faults (W.tells wire.new).faults → ⊥)
         → (Rose (D.faults disk) (D.faults result.disk) → ⊥)
         → (Rose (O.tells outbox).faults (O.tells result.outbox).faults → ⊥)
         → (Rose (P.tells print.old).faults (P.tells print.new).faults → ⊥) → All IsPattern conf.patterns
-        → (result.status ≡ Status.Ok) ⊎ ((result.status ≡ Status.OutOfMemory) ⊎ ((path : List ℕ) × (result.status ≡ Status.PatternTooLarge path))) }
+        → (result.status ≡ Status.Ok) ⊎ ((result.status ≡ Status.OutOfMemory)
+        ⊎ ((path : List ℕ) × (result.status ≡ Status.PatternTooLarge path))) }
 {
     let course = go(alloc, words, config, wire, disk, outbox);
     let status = report(alloc, course.status, &course.counts, print);
@@ -320,12 +347,12 @@ pub fn run_single<S: Source, W: Wire, D: Disk, O: Sink, P: Sink>(
     }
 }
 
-/// Runs the server as [`run_single`] does, while as many history syncers as the plan says work entries out, each in a thread of
-/// its own. Where the plan says 0, or no thread can be started, this thread does all. If it returns, the same is true of it as of
-/// `run_single`, whatever the threads do and when.
+/// Runs the server as [`run_single`] does, while as many history syncers as the plan says work entries out, each in a
+/// thread of its own. Where the plan says 0, or no thread can be started, this thread does all. If it returns, the
+/// same is true of it as of `run_single`, whatever the threads do and when.
 ///
-/// A syncer calls the gate, with its number from 1 on and the number of the first entry, between taking an order and working it
-/// out.
+/// A syncer calls the gate, with its number from 1 on and the number of the first entry, between taking an order and
+/// working it out.
 pub fn run_syncers<S, W, D, O, P, R, G>(
     rt: &R,
     alloc: Global,
@@ -347,7 +374,8 @@ where
     G: Gate + Sync,
     // Usage comes exactly where the words have no plan, and then nothing was read.
     ensures usage { result.status ≡ Status.Usage → plan_of words.now ≡ None }
-    ensures not_command { plan_of words.now ≡ None → (result.status ≡ Status.Usage) ⊎ (result.status ≡ Status.OutOfMemory) }
+    ensures not_command { plan_of words.now ≡ None → (result.status ≡ Status.Usage)
+        ⊎ (result.status ≡ Status.OutOfMemory) }
     ensures unread { plan_of words.now ≡ None → config.new ≡ config.old }
 
     // At most 16,777,217 bytes of the configuration were read; all of them, where the run began.
@@ -357,20 +385,26 @@ where
     // ConfigRefused comes exactly where the configuration is refused, with its path and cause.
     ensures config_refused { (path : List ℕ) (cause : Cause) → result.status ≡ Status.ConfigRefused path cause
         → IfSome (S.left config.old) (λ text. flat_of text ≡ refuse path cause) }
-    ensures refused_text { (text path : List ℕ) (cause : Cause) → S.left config.old ≡ Some text → flat_of text ≡ refuse path cause
+    ensures refused_text { (text path : List ℕ) (cause : Cause) → S.left config.old ≡ Some text
+        → flat_of text ≡ refuse path cause
         → (result.status ≡ Status.ConfigRefused path cause) ⊎ ((result.status ≡ Status.SourceFault)
         ⊎ ((result.status ≡ Status.Usage) ⊎ (result.status ≡ Status.OutOfMemory))) }
 
-    // PatternRefused comes only where a pattern isn't one, and PatternTooLarge where one holds a brace; the path is where the
-    // first such pattern is used first.
-    ensures pattern_refused { (path : List ℕ) → result.status ≡ Status.PatternRefused path → IfSome (S.left config.old) (HasFlawAt IsNoPattern path) }
-    ensures pattern_too_large { (path : List ℕ) → result.status ≡ Status.PatternTooLarge path → IfSome (S.left config.old) (HasFlawAt HoldsBrace path) }
+    // PatternRefused comes only where a pattern isn't one, and PatternTooLarge where one holds a brace; the path is
+    // where the first such pattern is used first.
+    ensures pattern_refused { (path : List ℕ) → result.status ≡ Status.PatternRefused path
+        → IfSome (S.left config.old) (HasFlawAt IsNoPattern path) }
+    ensures pattern_too_large { (path : List ℕ) → result.status ≡ Status.PatternTooLarge path
+        → IfSome (S.left config.old) (HasFlawAt HoldsBrace path) }
 
-    // NotOurs, Damaged, ConfigDiffers, OutboxAhead, and Full at the opening, come exactly where the journal or the outbox is
-    // so, with the place or the numbers.
-    ensures barred { result.began ≡ false → IsBarring result.status → IsBarred words.now (S.left config.old) (D.bytes disk) (O.tells outbox).held result.status }
-    ensures bars { (plan : Plan) (text : List ℕ) (conf : Conf) (file : List ℕ) (status : Status) → plan_of words.now ≡ Some plan → 0 < plan.max_entries → S.left config.old ≡ Some text → flat_of text ≡ Ok conf
-        → D.bytes disk ≡ Some file → Bars conf plan.max_entries (Some file) (O.tells outbox).held status → (result.status ≡ status) ⊎ YieldsTo result.status }
+    // NotOurs, Damaged, ConfigDiffers, OutboxAhead, and Full at the opening, come exactly where the journal or the
+    // outbox is so, with the place or the numbers.
+    ensures barred { result.began ≡ false → IsBarring result.status
+        → IsBarred words.now (S.left config.old) (D.bytes disk) (O.tells outbox).held result.status }
+    ensures bars { (plan : Plan) (text : List ℕ) (conf : Conf) (file : List ℕ) (status : Status)
+        → plan_of words.now ≡ Some plan → 0 < plan.max_entries → S.left config.old ≡ Some text → flat_of text ≡ Ok conf
+        → D.bytes disk ≡ Some file → Bars conf plan.max_entries (Some file) (O.tells outbox).held status
+        → (result.status ≡ status) ⊎ YieldsTo result.status }
 
     // A fault comes only where the count of its object rose.
     ensures source { result.status ≡ Status.SourceFault → Rose (S.faults config.old) (S.faults config.new) }
@@ -379,44 +413,56 @@ where
     ensures outbox { result.status ≡ Status.OutboxFault → Rose (O.tells outbox).faults (O.tells result.outbox).faults }
     ensures print { result.status ≡ Status.PrintFault → Rose (P.tells print.old).faults (P.tells print.new).faults }
 
-    // A run that hasn't begun was refused at its opening, and left the wire and the outbox alone. It has no entries, or those
-    // that it found. A crash at any moment of it left what one before it might have, or entries that it found.
-    ensures not_begun { result.began ≡ false → IsRefusal result.status × (wire.new ≡ wire.old) × (result.outbox ≡ outbox) }
-    ensures has_found { result.began ≡ false → (result.entries ≡ []) ⊎ FoundBy words.now (S.left config.old) (D.bytes disk) result.entries }
-    ensures stopped { result.began ≡ false → IfSome (D.bytes disk) (λ _. LeavesOnly D.moment D.images_since disk result.disk (λ c. KeepsAsOneOf (D.images disk) c
+    // A run that hasn't begun was refused at its opening, and left the wire and the outbox alone. It has no entries,
+    // or those that it found. A crash at any moment of it left what one before it might have, or entries that it
+    // found.
+    ensures not_begun { result.began ≡ false → IsRefusal result.status × (wire.new ≡ wire.old)
+        × (result.outbox ≡ outbox) }
+    ensures has_found { result.began ≡ false → (result.entries ≡ [])
+        ⊎ FoundBy words.now (S.left config.old) (D.bytes disk) result.entries }
+    ensures stopped { result.began ≡ false → IfSome (D.bytes disk)
+        (λ _. LeavesOnly D.moment D.images_since disk result.disk (λ c. KeepsAsOneOf (D.images disk) c
         ⊎ KeepsSome (FoundBy words.now (S.left config.old) (D.bytes disk)) c)) }
     ensures begun { result.began ≡ true → IsCourse result.status }
 
-    // Events taken, replies, closings and entries behind those that the journal kept; reading to the end; the limits of turns,
-    // entries and bytes. A crash at any moment left what one before the run might have, or the entries behind some of the events,
-    // those of the opening among them, or all that the events add whose groups the disk refused; and unless it did, the disk
-    // keeps the run's entries, and each crash leaves them.
+    // Events taken, replies, closings and entries behind those that the journal kept; reading to the end; the limits
+    // of turns, entries and bytes. A crash at any moment left what one before the run might have, or the entries
+    // behind some of the events, those of the opening among them, or all that the events add whose groups the disk
+    // refused; and unless it did, the disk keeps the run's entries, and each crash leaves them.
     ensures followed { result.began ≡ true
-        → Followed words.now (S.left config.old) (D.bytes disk) (O.tells outbox).held (Journals D.bytes D.images D.moment D.images_since D.faults (KeepsAsOneOf (D.images disk)) disk result.disk)
+        → Followed words.now (S.left config.old) (D.bytes disk) (O.tells outbox).held
+        (Journals D.bytes D.images D.moment D.images_since D.faults (KeepsAsOneOf (D.images disk)) disk result.disk)
         (W.tells wire.old) (W.tells wire.new) result.status result.entries }
-    ensures keeps { result.began ≡ true → (Rose (D.faults disk) (D.faults result.disk) → ⊥) → IfSome (D.bytes result.disk) (Keeps result.entries) }
+    ensures keeps { result.began ≡ true → (Rose (D.faults disk) (D.faults result.disk) → ⊥)
+        → IfSome (D.bytes result.disk) (Keeps result.entries) }
     ensures told { is_some (D.bytes result.disk) ≡ is_some (D.bytes disk) }
 
     // The outbox has the lines of one thread that replays the entries, but for as many of their first bytes as it held.
     ensures lines { result.began ≡ true
-        → LinesAre (course_of result.status).out (O.tells outbox) (O.tells result.outbox) (drop (O.tells outbox).held (run_lines result.entries)) }
+        → LinesAre (course_of result.status).out (O.tells outbox) (O.tells result.outbox)
+        (drop (O.tells outbox).held (run_lines result.entries)) }
     ensures size { result.began ≡ true
-        → SizeIs (course_of result.status).out (O.tells outbox) (O.tells result.outbox) (drop (O.tells outbox).held (run_lines result.entries)) }
+        → SizeIs (course_of result.status).out (O.tells outbox) (O.tells result.outbox)
+        (drop (O.tells outbox).held (run_lines result.entries)) }
 
     // The printed line is that of the status, over the counts of the entries.
     ensures printed { Prints result.status (run_counts result.entries) (P.tells print.old) (P.tells print.new) }
 
     // What is accepted and doesn't fail ends well, if memory is there.
-    ensures complete { (plan : Plan) (text : List ℕ) (conf : Conf) (file : List ℕ) (groups : List Group) (all : List WireEvent)
+    ensures complete { (plan : Plan) (text : List ℕ) (conf : Conf) (file : List ℕ) (groups : List Group)
+        (all : List WireEvent)
         → plan_of words.now ≡ Some plan → 0 < plan.max_entries → S.left config.old ≡ Some text → flat_of text ≡ Ok conf
-        → D.bytes disk ≡ Some file → groups_of (kept file) ≡ Some groups → IsAccepted conf groups → (O.tells outbox).held ≤ length (opening_lines conf groups)
-        → (W.tells wire.old).left ≡ Some all → (served (limits_by plan) conf (opening_intake conf groups) (take plan.turns all)).stop ≡ Some stop.Closed
+        → D.bytes disk ≡ Some file → groups_of (kept file) ≡ Some groups → IsAccepted conf groups
+        → (O.tells outbox).held ≤ length (opening_lines conf groups)
+        → (W.tells wire.old).left ≡ Some all → (served (limits_by plan) conf (opening_intake conf groups)
+        (take plan.turns all)).stop ≡ Some stop.Closed
         → (Rose (S.faults config.old) (S.faults config.new) → ⊥)
         → (Rose (W.tells wire.old).faults (W.tells wire.new).faults → ⊥)
         → (Rose (D.faults disk) (D.faults result.disk) → ⊥)
         → (Rose (O.tells outbox).faults (O.tells result.outbox).faults → ⊥)
         → (Rose (P.tells print.old).faults (P.tells print.new).faults → ⊥) → All IsPattern conf.patterns
-        → (result.status ≡ Status.Ok) ⊎ ((result.status ≡ Status.OutOfMemory) ⊎ ((path : List ℕ) × (result.status ≡ Status.PatternTooLarge path))) }
+        → (result.status ≡ Status.Ok) ⊎ ((result.status ≡ Status.OutOfMemory)
+        ⊎ ((path : List ℕ) × (result.status ≡ Status.PatternTooLarge path))) }
 {
     let course = go_beside(rt, alloc, words, config, wire, disk, outbox, gate);
     let status = report(alloc, course.status, &course.counts, print);

@@ -67,8 +67,8 @@ fn ended_with(
     }
 }
 
-/// Takes events, at most so many, commits them together, answers them, and sends their entries. Answers how many they were,
-/// or the status with which the run ends.
+/// Takes events, at most so many, commits them together, answers them, and sends their entries. Answers how many they
+/// were, or the status with which the run ends.
 fn serve_batch<S: StartName, N: RunName, W: Wire, D: Disk, K: Worker<S, N>>(
     alloc: Global,
     most: u64,
@@ -83,7 +83,9 @@ fn serve_batch<S: StartName, N: RunName, W: Wire, D: Disk, K: Worker<S, N>>(
     ensures wire_later { (W.tells wire.old).faults ≤ (W.tells wire.new).faults }
     ensures wire { IsErrOf result Status.WireFault → Rose (W.tells wire.old).faults (W.tells wire.new).faults }
     ensures cause { IfErr result IsCause }
-    ensures took { TookOrEnded (limits_of front.old.journal 0) S.conf front.old.intake front.new.intake (Journals D.bytes D.images D.moment D.images_since D.faults (λ c. ⊥) front.old.journal.disk front.new.journal.disk)
+    ensures took { TookOrEnded (limits_of front.old.journal 0) S.conf front.old.intake front.new.intake
+        (Journals D.bytes D.images D.moment D.images_since D.faults (λ c. ⊥) front.old.journal.disk
+        front.new.journal.disk)
         (W.tells wire.old) (W.tells wire.new) most result }
     ensures sent { IsSentBy S.kept head.new.sent front.new.intake.entries result }
     ensures serving { OnOk result (IsServing S.conf S.kept front.new head.new) }
@@ -107,8 +109,8 @@ fn serve_batch<S: StartName, N: RunName, W: Wire, D: Disk, K: Worker<S, N>>(
 /// The most events that are committed together.
 const MOST_TOGETHER: u64 = 128;
 
-/// Takes events until one ends the run, at most `turns`, or the worker can't go on, and answers how far that came. The worker
-/// proceeds before each of them that are committed together.
+/// Takes events until one ends the run, at most `turns`, or the worker can't go on, and answers how far that came.
+/// The worker proceeds before each of them that are committed together.
 pub(crate) fn serve<S: StartName, N: RunName, W: Wire, D: Disk, K: Worker<S, N>>(
     alloc: Global,
     turns: u64,
@@ -119,7 +121,8 @@ pub(crate) fn serve<S: StartName, N: RunName, W: Wire, D: Disk, K: Worker<S, N>>
     worker: &mut K,
 ) -> Taken
     requires { IsServing S.conf S.kept front.old head.old }
-    ensures served { HasServed D.bytes D.images D.moment D.images_since D.faults S.conf S.kept front.old front.new (W.tells wire.old) (W.tells wire.new) head.new turns result }
+    ensures served { HasServed D.bytes D.images D.moment D.images_since D.faults S.conf S.kept front.old front.new
+        (W.tells wire.old) (W.tells wire.new) head.new turns result }
     ensures stops { IsGoing result → K.stops worker.new }
 {
     let mut collection = Collection::new(prepared.ready());

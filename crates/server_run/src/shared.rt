@@ -151,11 +151,11 @@ impl<S: StartName, N: RunName, O: Sink> Shared<S, N, O> {
         Ok(())
     }
 
-    /// Waits for an order, and takes it, and wakes another syncer, which looks for more; or none, where the run ends and there
-    /// will be nothing to take.
+    /// Waits for an order, and takes it, and wakes another syncer, which looks for more; or none, where the run ends
+    /// and there will be nothing to take.
     ///
-    /// So whenever entries may be taken a syncer looks for them: the one that brought an order back, or that was woken for
-    /// what was sent, or by one that took an order.
+    /// So whenever entries may be taken a syncer looks for them: the one that brought an order back, or that was
+    /// woken for what was sent, or by one that took an order.
     pub(crate) fn next_order<R: Wait>(
         &self,
         rt: &R,

@@ -30,8 +30,8 @@ fn do_order<S: StartName, N: RunName, O: Sink, L: Ledger, R: Wait>(
     }
 }
 
-/// Works orders out until there is no more to do, or the outbox fails. Between taking an order and working it out the syncer
-/// says so at the gate.
+/// Works orders out until there is no more to do, or the outbox fails. Between taking an order and working it out the
+/// syncer says so at the gate.
 fn do_orders<S: StartName, N: RunName, O: Sink, L: Ledger, R: Wait, G: Gate>(
     rt: &R,
     alloc: Global,
@@ -58,8 +58,8 @@ fn do_orders<S: StartName, N: RunName, O: Sink, L: Ledger, R: Wait, G: Gate>(
     unreachable!()
 }
 
-/// One syncer, whose steps nobody reads. It ends where the run ends and it finds nothing to do, where the outbox fails, and
-/// where memory is refused. The run ends then too.
+/// One syncer, whose steps nobody reads. It ends where the run ends and it finds nothing to do, where the outbox
+/// fails, and where memory is refused. The run ends then too.
 pub(crate) fn work<S: StartName, N: RunName, O: Sink, R: Wait, G: Gate>(
     rt: &R,
     alloc: Global,

@@ -17,8 +17,8 @@ use outside::{Disk, Trouble, Wire};
 use std::alloc::Global;
 use zbx_types::OutOfMemory;
 
-/// How it went with events that were committed together: how many they were, why no event follows the last of them, where one
-/// doesn't, and whether the wire failed or memory was refused behind them.
+/// How it went with events that were committed together: how many they were, why no event follows the last of them,
+/// where one doesn't, and whether the wire failed or memory was refused behind them.
 #[derive(Drop)]
 pub(crate) struct Batch {
     pub count: u64,
@@ -40,7 +40,8 @@ fn take_one<W: Wire, D: Disk>(
     requires going { front.old.journal.state ≡ state.Ready }
     ensures cause { HasNextCause (W.tells wire.old).faults (W.tells wire.new).faults result }
     ensures same { collection.new ≡ collection.old }
-    ensures gathered { (begun : Fronted D) (before : WireTells) (count : ℕ) → Gathered collection.old begun front.old before (W.tells wire.old) count None None anywhere
+    ensures gathered { (begun : Fronted D) (before : WireTells) (count : ℕ)
+        → Gathered collection.old begun front.old before (W.tells wire.old) count None None anywhere
         → GatheredMore collection.old begun front.new before (W.tells wire.new) count result }
 {
     let event = wire.next(alloc)?;
@@ -50,8 +51,9 @@ fn take_one<W: Wire, D: Disk>(
     }
 }
 
-/// Takes events that wait for one commit, at most so many: one, and more while the last one doesn't stop the run, another
-/// stands ready, and the commit can wait. Answers how many, and whether the wire failed or memory was refused behind them.
+/// Takes events that wait for one commit, at most so many: one, and more while the last one doesn't stop the run,
+/// another stands ready, and the commit can wait. Answers how many, and whether the wire failed or memory was refused
+/// behind them.
 fn gather<W: Wire, D: Disk>(
     alloc: Global,
     most: u64,
@@ -63,7 +65,8 @@ fn gather<W: Wire, D: Disk>(
     requires idle { IsIdle front.old }
     ensures cause { HasNextCause (W.tells wire.old).faults (W.tells wire.new).faults result.1 }
     ensures same { collection.new ≡ collection.old }
-    ensures gathered { GatheredBy collection.old front.old front.new (W.tells wire.old) (W.tells wire.new) result.0 result.1 }
+    ensures gathered { GatheredBy collection.old front.old front.new (W.tells wire.old) (W.tells wire.new) result.0
+        result.1 }
     ensures few { result.0 ≤ most }
     ensures fewer { OnErr result.1 (result.0 < most) }
     ensures some { IfOk result.1 (λ _. 0 < most → 0 < result.0) }
@@ -95,7 +98,9 @@ pub(crate) fn take_batch<W: Wire, D: Disk>(
     requires idle { IsIdle front.old }
     ensures cause { HasNextCause (W.tells wire.old).faults (W.tells wire.new).faults result.gathered }
     ensures same { collection.new ≡ collection.old }
-    ensures took { Took (limits_of front.old.journal 0) collection.old front.old.intake front.new.intake (Journals D.bytes D.images D.moment D.images_since D.faults (λ c. ⊥) front.old.journal.disk front.new.journal.disk)
+    ensures took { Took (limits_of front.old.journal 0) collection.old front.old.intake front.new.intake
+        (Journals D.bytes D.images D.moment D.images_since D.faults (λ c. ⊥) front.old.journal.disk
+        front.new.journal.disk)
         (W.tells wire.old) (W.tells wire.new) most result.count result.stop result.gathered }
     ensures idle { IsIdle front.new }
     ensures state { result.stop ≢ Some stop.DiskFault → IsReady front.old.journal front.new.journal }

@@ -4,25 +4,26 @@
 //! zabbix_server --mode feed --config CONFIG --script SCRIPT --journal JOURNAL --outbox OUTBOX
 //! ```
 //!
-//! reads the configuration document in the file CONFIG, takes the events of the script in the file SCRIPT, keeps what it took
-//! in the file JOURNAL, adds a line for each failure, problem, recovery, step and message to the file OUTBOX, and writes one
-//! line with the status of the run and its counts to standard output. Started again it goes on behind what the journal kept.
-//! Without a journal that is gone with the run, and without an outbox the lines go to standard output. With
-//! `--mode serve --listen ADDRESS` the events come over sockets, and `--mode workload --number N --values V` makes
-//! configuration and events from a number.
+//! reads the configuration document in the file CONFIG, takes the events of the script in the file SCRIPT, keeps what
+//! it took in the file JOURNAL, adds a line for each failure, problem, recovery, step and message to the file OUTBOX,
+//! and writes one line with the status of the run and its counts to standard output. Started again it goes on behind
+//! what the journal kept. Without a journal that is gone with the run, and without an outbox the lines go to standard
+//! output. With `--mode serve --listen ADDRESS` the events come over sockets, and `--mode workload --number N
+//! --values V` makes configuration and events from a number.
 //!
-//! In each mode `--syncers N` says how many history syncers, 0 to 16, work the entries out, each in a thread of its own. Without
-//! it they are 4; with 0 of them the thread that takes the events does all. The same entries come to the same lines whatever
-//! their number.
+//! In each mode `--syncers N` says how many history syncers, 0 to 16, work the entries out, each in a thread of its
+//! own. Without it they are 4; with 0 of them the thread that takes the events does all. The same entries come to the
+//! same lines whatever their number.
 //!
 //! It exits with the number of the status, 0 for Ok; `docs/FORMATS.md` has them all. Nothing goes to standard error.
 //!
 //! All that the run does is [`server_run::run_syncers`]. This crate hands it the files and standard output:
-//! [`FileSource`](wire_mio::FileSource) reads a file, [`FileSink`](wire_mio::FileSink) adds to one, [`FileDisk`](wire_mio::FileDisk)
-//! keeps one, and [`StdSink`](wire_mio::StdSink) writes to standard output.
+//! [`FileSource`](wire_mio::FileSource) reads a file, [`FileSink`](wire_mio::FileSink) adds to one,
+//! [`FileDisk`](wire_mio::FileDisk) keeps one, and [`StdSink`](wire_mio::StdSink) writes to standard output.
 //!
 //! The one contract: the program exits with the number of its status, which is that of a run over its words, and the
-//! clauses of the whole run are true of it. So it is Usage exactly where the words have no plan, unless memory was refused.
+//! clauses of the whole run are true of it. So it is Usage exactly where the words have no plan, unless memory was
+//! refused.
 #![tactic(auto)]
 
 mod arguments;
@@ -44,8 +45,8 @@ fn main(rt: HostRuntime) -> ExitCode {
     exit(status(&rt, &rt))
 }
 
-/// The program's exit: the number of the status of its run, or of OutOfMemory where there was no memory for its words or
-/// for what they name.
+/// The program's exit: the number of the status of its run, or of OutOfMemory where there was no memory for its words
+/// or for what they name.
 fn exit(ended: Result<Status, OutOfMemory>) -> ExitCode
     ensures { exit_status result ≡ exit_of (status_in ended) }
 {
@@ -55,8 +56,8 @@ fn exit(ended: Result<Status, OutOfMemory>) -> ExitCode
     }
 }
 
-/// How the program ended: with the status of a run over its words. [`OutOfMemory`] where there is no memory for its words
-/// or what they name; nothing was printed then.
+/// How the program ended: with the status of a run over its words. [`OutOfMemory`] where there is no memory for its
+/// words or what they name; nothing was printed then.
 fn status<R: Threads + Wait + Sync>(rt: &HostRuntime, threads: &R) -> Result<Status, OutOfMemory>
     ensures { IfOk result (λ status. (words : List (List ℕ)) × IsRunStatus words status) }
 {

@@ -18,8 +18,8 @@ use std::thread::Threads;
 use wire_mio::{FileDisk, FileSink, FileSource, MioWire, StdSink};
 use zbx_types::{Bytes, Many, OutOfMemory, Text};
 
-/// Runs the server as the words ask, over files and standard output, and answers how the run ended. [`OutOfMemory`] where
-/// there is no memory for what the words name; nothing was printed then.
+/// Runs the server as the words ask, over files and standard output, and answers how the run ended. [`OutOfMemory`]
+/// where there is no memory for what the words name; nothing was printed then.
 pub(crate) fn run<R: Threads + Wait + Sync>(
     rt: &HostRuntime,
     threads: &R,
@@ -27,7 +27,8 @@ pub(crate) fn run<R: Threads + Wait + Sync>(
     words: &[Text],
 ) -> Result<Status, OutOfMemory>
     ensures usage { IfOk result (λ status. status ≡ Status.Usage → plan_of words.now ≡ None) }
-    ensures not_command { plan_of words.now ≡ None → IfOk result (λ status. (status ≡ Status.Usage) ⊎ (status ≡ Status.OutOfMemory)) }
+    ensures not_command { plan_of words.now ≡ None → IfOk result
+        (λ status. (status ≡ Status.Usage) ⊎ (status ≡ Status.OutOfMemory)) }
     ensures ran { IfOk result (IsRunStatus words.now) }
 {
     match plan(alloc, words) {
@@ -54,7 +55,8 @@ fn run_planned<R: Threads + Wait + Sync>(
     }
 }
 
-/// Runs the server over the script that a plan names. A path that it doesn't name is the empty one, at which no file is.
+/// Runs the server over the script that a plan names. A path that it doesn't name is the empty one, at which no file
+/// is.
 fn run_feed<R: Threads + Wait + Sync>(
     rt: &HostRuntime,
     threads: &R,
