@@ -18,7 +18,7 @@ use Rattle.entry_step.specs.Cells.{Cells, ItemKey, TriggerKey}
 use Rattle.entry_step.specs.Laws.{any_touches}
 use Rattle.entry_step.specs.Represents.{CellsView, Represents}
 use Rattle.entry_step.specs.Parts.{PartView, cell_in, marks_in, problems_in, IsPartOf, IsSame}
-use Rattle.entry_step.proofs.Items.{at_zero, at_suc}
+use Rattle.zbx_types.proofs.RowLemmas.{at_zero, at_suc}
 use Rattle.entry_step.proofs.Members.{map_cong, in_map}
 use Rattle.syncer_gate.specs.declared.marks.Mark.{Mark}
 use Rattle.syncer_gate.specs.declared.marks.Mark.TheVariants.{Pending, Taken}

@@ -18,7 +18,7 @@ use std::alloc::Global;
 use std::marker::PhantomData;
 use std::sync::ledger::Ledger;
 use syncer_gate::{Batch, Claims};
-use zbx_types::{Entry, Many, Numbered, OutOfMemory, Rec};
+use zbx_types::{Many, Numbered, OutOfMemory, Rec, same_entry};
 
 /// The entry with a number.
 #[tactic(auto, using(crate::proofs::Batches::read_at))]
@@ -45,49 +45,13 @@ fn copies(
     Ok(made)
 }
 
-/// Whether two entries are the same.
-fn is_same(a: &Entry, b: &Entry) -> bool
-    ensures { (result ≡ true) ↔ (a.now ≡ b.now) }
-{
-    match a {
-        Entry::Config { now, text } => match b {
-            Entry::Config {
-                now: other_now,
-                text: other,
-            } => *now == *other_now && *text == *other,
-            Entry::Value { .. } | Entry::Tick { .. } => false,
-        },
-        Entry::Value {
-            now,
-            item,
-            time,
-            value,
-        } => match b {
-            Entry::Value {
-                now: other_now,
-                item: other_item,
-                time: other_time,
-                value: other,
-            } => *now == *other_now
-                && *item == *other_item
-                && *time == *other_time
-                && *value == *other,
-            Entry::Config { .. } | Entry::Tick { .. } => false,
-        },
-        Entry::Tick { now } => match b {
-            Entry::Tick { now: other_now } => *now == *other_now,
-            Entry::Config { .. } | Entry::Value { .. } => false,
-        },
-    }
-}
-
 /// Whether an entry is the one with its number here.
 fn is_here(entries: &[Numbered], one: &Numbered) -> bool
     requires within { (0 < one.now.number) × (one.now.number ≤ length entries.now) }
     ensures { (result ≡ true) ↔ (entry_at entries.now one.now.number ≡ one.now) }
 {
     let own = at(entries, one.number);
-    own.number == one.number && is_same(&own.entry, &one.entry)
+    own.number == one.number && same_entry(&own.entry, &one.entry)
 }
 
 /// Whether each of these entries is the one with its number here.

@@ -30,6 +30,7 @@ macros_of at = named_list (λ (m : RawMacro). m.name) macro_of [] at
 -- the key of the master item, which a dependent item alone needs and uses
 unfoldable pub master_of : ItemKind → Place → Result (List ℕ) Fault
 master_of kinds.Trapper at = unused_text at
+master_of kinds.Active at = unused_text at
 master_of kinds.Dependent at = text at
 
 -- where values come from, and the master item

@@ -18,7 +18,7 @@ fn master(alloc: Global, kind: ItemKind, at: &At<'_, '_>) -> Result<Text, ReadEr
     ensures { Gives result (master_of kind (place_of at.now)) }
 {
     match kind {
-        ItemKind::Trapper => unused_text(alloc, at),
+        ItemKind::Trapper | ItemKind::Active => unused_text(alloc, at),
         ItemKind::Dependent => at.text(alloc),
     }
 }

@@ -3,7 +3,7 @@ use Rattle.std.specs.Prelude.{ℕ, zero, suc, ◌+◌, ◌-◌, ◌==◌, nat_le
 use Rattle.std.specs.Prelude.{length, take, filter, map, position, find, Option, Some, None, option_map, option_and_then, if◌then◌else◌, Result, Ok, codes}
 use Rattle.std.specs.Option.{option_map_or}
 use Rattle.zbx_types.specs.Ids.{at_id, ids_from}
-use Rattle.zbx_types.specs.Items.{is_trapper_kind}
+use Rattle.zbx_types.specs.Items.{is_received_kind}
 use Rattle.zbx_types.specs.Limits.{longest_key}
 use Rattle.zbx_types.specs.declared.items.Item.{Item}
 use Rattle.zbx_types.specs.declared.causes.Cause.{Cause}
@@ -41,7 +41,7 @@ key_place names host key = if nat_le (length key) longest_key then position (is_
 -- which it names; 0 of a trapper item
 unfoldable pub master_of : List Named → OwnedItem → Result ℕ Flaw
 master_of names o =
-    if is_trapper_kind o.item.body.kind then Ok 0
+    if is_received_kind o.item.body.kind then Ok 0
     else master_found (master_path o) (key_place names o.host (expanded o.macros o.item.body.master))
 
 -- the ids of the masters of all items
@@ -50,7 +50,7 @@ masters_of raw items = each_list (adding (master_of (named_items items))) [] (ow
 
 -- an item with its master
 abbrev pub with_master : Item → ℕ → Item
-with_master i master = record { host = i.host; key = i.key; kind = i.kind; master = master; value_type = i.value_type; enabled = i.enabled; steps = i.steps }
+with_master i master = record { host = i.host; key = i.key; kind = i.kind; master = master; value_type = i.value_type; enabled = i.enabled; steps = i.steps; delay = i.delay }
 
 -- what is wrong at the master of the item with an id
 abbrev pub master_fault : RawConf → Cause → ℕ → Option Fault

@@ -129,7 +129,7 @@ all_steps raw = each_list (adding steps_of) [] (owned_items raw)
 
 -- an item with its steps
 abbrev pub with_steps : Item → List StepSpec → Item
-with_steps i steps = record { host = i.host; key = i.key; kind = i.kind; master = i.master; value_type = i.value_type; enabled = i.enabled; steps = steps }
+with_steps i steps = record { host = i.host; key = i.key; kind = i.kind; master = i.master; value_type = i.value_type; enabled = i.enabled; steps = steps; delay = i.delay }
 
 -- the items with their steps
 unfoldable pub prepared : RawConf → List Item → Result (List Item) Flaw

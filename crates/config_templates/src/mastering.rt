@@ -58,7 +58,7 @@ fn master(
 ) -> Result<u32, FlatError>
     ensures { Gives result (master_of names.now (owned owner.now.id owner.now.macros (placed_item source.now index raw.now))) }
 {
-    if raw.kind.is_trapper() {
+    if raw.kind.is_received() {
         return Ok(0);
     }
     match named_master(alloc, names, owner, raw)? {

@@ -23,7 +23,7 @@ use Rattle.entry_step.specs.Asked.{places_of, IsAsked, AreAsked}
 use Rattle.entry_step.specs.Evaluation.{call_value}
 use Rattle.entry_step.specs.History.{with_stored}
 use Rattle.entry_step.specs.Kept.{Sees, IsCalled, SeesFor}
-use Rattle.entry_step.proofs.Items.{at_zero}
+use Rattle.zbx_types.proofs.RowLemmas.{at_zero}
 use Rattle.entry_step.proofs.Loops.{get_behind}
 
 -- A call without a pattern, and one whose pattern was found

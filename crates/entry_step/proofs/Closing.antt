@@ -26,7 +26,7 @@ use Rattle.entry_step.specs.Index.{some_reaches}
 use Rattle.entry_step.specs.Records.{closed_records, problems_open, ruled, ruled_records, begun_with, begun_records}
 use Rattle.entry_step.specs.Represents.{AllAtHome, IsTagged, AllTagged}
 use Rattle.entry_step.proofs.Members.{each_at, each_append, each_filter, each_map, each_all, each_both, each_sub, each_from, each_kept, filter_none, filter_map, filter_flat_map, flat_maps, flat_map_cong, or_false_left, or_false_right, true_or_false}
-use Rattle.entry_step.proofs.Items.{at_zero, at_suc}
+use Rattle.zbx_types.proofs.RowLemmas.{at_zero, at_suc}
 use Rattle.entry_step.proofs.Said.{each_flat_map}
 use Rattle.entry_step.proofs.Sorting.{filter_by, each_sorted, sorted_map}
 

@@ -20,7 +20,7 @@ use Rattle.preprocess.specs.declared.visit.Visit.{Visit}
 use Rattle.preprocess.proofs.Logs.{at_map}
 use Rattle.entry_step.specs.History.{with_stored}
 use Rattle.entry_step.specs.Kept.{Keeps, roomless, Sees, CameIn}
-use Rattle.entry_step.proofs.Items.{at_suc}
+use Rattle.zbx_types.proofs.RowLemmas.{at_suc}
 
 -- two lists whose ids have something at the same places are of one length
 pub same_length : {A B : Type 0} (xs : List A) (ys : List B) → ((id : ℕ) → is_some (at_id xs id) ≡ is_some (at_id ys id)) → length xs ≡ length ys

@@ -7,7 +7,7 @@ use Rattle.zbx_types.specs.declared.conf.Conf.{Conf}
 use Rattle.zbx_types.specs.declared.triggers.Trigger.{Trigger}
 use Rattle.zbx_types.proofs.MasterLemmas.{no_masters}
 use Rattle.entry_step.specs.Index.{listed}
-use Rattle.entry_step.proofs.Items.{at_zero, at_suc}
+use Rattle.zbx_types.proofs.RowLemmas.{at_zero, at_suc}
 
 -- the ids of a list's items
 length_ids : (first : ℕ) (ts : List Trigger) → length (ids_from first ts) ≡ length ts

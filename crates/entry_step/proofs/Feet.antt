@@ -15,7 +15,7 @@ use Rattle.entry_step.specs.Each.{In}
 use Rattle.entry_step.specs.Kept.{IsCalled}
 use Rattle.entry_step.specs.Records.{is_over}
 use Rattle.entry_step.proofs.Members.{or_left, or_right, and_left, and_right, and_both, any_intro, any_elim}
-use Rattle.entry_step.proofs.Items.{at_zero, at_suc}
+use Rattle.zbx_types.proofs.RowLemmas.{at_zero, at_suc}
 
 -- the id of what is there is one of the list's
 pub there : {A : Type 0} (xs : List A) (id : ℕ) (x : A) → at_id xs id ≡ Some x → is_one xs id ≡ true

@@ -11,7 +11,6 @@ pub mod Represented
 pub mod Orders
 pub mod Meeting
 pub mod Replays
-pub mod Items
 pub mod Feet
 pub mod Naming
 pub mod Listing

@@ -35,7 +35,7 @@ use Rattle.entry_step.proofs.Landing.{LandIn, land_append, land_sub, land_off}
 use Rattle.entry_step.proofs.Histories.{SameTo}
 use Rattle.entry_step.proofs.Closing.{AllTidy, Covers}
 use Rattle.entry_step.proofs.Covered.{phase_lands, phase_same}
-use Rattle.entry_step.proofs.Items.{at_suc}
+use Rattle.zbx_types.proofs.RowLemmas.{at_suc}
 use Rattle.entry_step.proofs.Represented.{calls_touched, own_touched, absent_after, stays_tidy, failures_land, records_are, after_is}
 use Rattle.entry_step.specs.Occasions.{occasion_of}
 

@@ -18,7 +18,7 @@ use Rattle.entry_step.specs.Changes.{with_row, with_all, outcome_records, outcom
 use Rattle.entry_step.specs.declared.changes.Fresh.{Fresh}
 use Rattle.trigger_state.specs.declared.problems.Open.{Open}
 use Rattle.entry_step.specs.declared.changes.TriggerOutcome.{TriggerOutcome}
-use Rattle.entry_step.proofs.Items.{at_zero, at_suc, slice_get_set_same, slice_get_set_other}
+use Rattle.zbx_types.proofs.RowLemmas.{at_zero, at_suc, slice_get_set_same, slice_get_set_other}
 use Rattle.entry_step.proofs.Problems.{open_append, absorbed_append, home_all}
 use Rattle.entry_step.specs.declared.occasions.Occasion.{Occasion}
 

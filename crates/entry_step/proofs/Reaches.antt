@@ -9,7 +9,7 @@ use Rattle.zbx_types.specs.declared.triggers.Trigger.{Trigger}
 use Rattle.footprint.specs.Feet.{reach_by, is_reached}
 use Rattle.entry_step.specs.Index.{listed, reach_from}
 use Rattle.entry_step.specs.Packed.{row_at}
-use Rattle.entry_step.proofs.Items.{at_zero, at_suc}
+use Rattle.zbx_types.proofs.RowLemmas.{at_zero, at_suc}
 
 reach_low : (rule : Rule) (k x : ℕ) (ts : List Trigger) → x < k → has_id (reach_from rule k ts) x ≡ false
 reach_low rule k x [] h = refl

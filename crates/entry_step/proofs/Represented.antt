@@ -43,7 +43,7 @@ use Rattle.entry_step.specs.Cells.{Key, ItemKey, TriggerKey, TickKey, ItemCell, 
 use Rattle.entry_step.specs.Represents.{CellsView, problems_at, AllAtHome, IsTidy, Represents, Holds, ComesAfter, StepsTo}
 use Rattle.entry_step.specs.Changes.{with_rows, put_back, AreTidy, Runs, RunsOver, Absorbed, TakesIn, TakesTick}
 use Rattle.entry_step.proofs.Members.{or_left, or_right, each_append, each_from, each_sub}
-use Rattle.entry_step.proofs.Items.{at_zero, at_suc}
+use Rattle.zbx_types.proofs.RowLemmas.{at_zero, at_suc}
 use Rattle.entry_step.proofs.Feet.{there, calls_in_foot}
 use Rattle.entry_step.proofs.Visited.{Memory, untouched, absent, each_triggered}
 use Rattle.entry_step.proofs.Problems.{open_append, absorbed_append, home_all}

@@ -18,7 +18,7 @@ use Rattle.trigger_state.specs.declared.answer.Verdict.TheVariants.{Nothing}
 use Rattle.trigger_state.specs.declared.problems.Open.{Open}
 use Rattle.entry_step.specs.Changes.{Serve}
 use Rattle.entry_step.specs.Seen.{HasTexts, ArePatterned}
-use Rattle.entry_step.proofs.Items.{at_zero, at_suc}
+use Rattle.zbx_types.proofs.RowLemmas.{at_zero, at_suc}
 
 pub all_more : {X : Type 0} (P : X → Type 0) (xs : List X) (i : ℕ) (d : X) → i < length xs → All P (take i xs) → P (get_or xs i d) → All P (take (i + 1) xs)
 all_more P xs i d l h p = All-more P xs i d l h p

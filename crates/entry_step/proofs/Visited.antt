@@ -12,7 +12,7 @@ use Rattle.zbx_types.specs.declared.entries.Entry.TheVariants.{Config, Value, Ti
 use Rattle.prep_steps.specs.declared.memory.StepMemory.{StepMemory}
 use Rattle.preprocess.specs.Visits.{visited}
 use Rattle.preprocess.specs.Walks.{takes}
-use Rattle.zbx_types.specs.Items.{is_trapper_item}
+use Rattle.zbx_types.specs.Items.{is_received_item}
 use Rattle.preprocess.specs.Draft.{stored_at, stored_of as stored_by, visit_at}
 use Rattle.preprocess.specs.declared.visit.Visit.{Visit}
 use Rattle.preprocess.proofs.Apart.{Under, depends_by, master_by as master_in, all_map}
@@ -28,7 +28,7 @@ use Rattle.entry_step.specs.Index.{with_masters, is_over_below, triggers_under}
 use Rattle.entry_step.specs.Changes.{is_asked}
 use Rattle.entry_step.proofs.Members.{or_left, or_right, and_left, and_right, and_both, each_filter, any_intro, any_elim}
 use Rattle.entry_step.proofs.Feet.{there, has_of, has_over}
-use Rattle.entry_step.proofs.Items.{at_zero, at_suc}
+use Rattle.zbx_types.proofs.RowLemmas.{at_zero, at_suc}
 
 -- ---- the items below an item
 
@@ -43,7 +43,7 @@ depends_there (Some x) e = (x, refl)
 takes_there : (conf : Conf) (item : ℕ) → takes conf item ≡ true → (x : Item) × (at_id conf.items item ≡ Some x)
 takes_there conf item t = go (at_id conf.items item) t
   where
-    go : (o : Option Item) → is_trapper_item o ≡ true → (x : Item) × (o ≡ Some x)
+    go : (o : Option Item) → is_received_item o ≡ true → (x : Item) × (o ≡ Some x)
     go None e = cc
     go (Some x) e = (x, refl)
 

@@ -25,16 +25,16 @@ is_config (Config now text) = true
 is_config (Value now item time value) = false
 is_config (Tick now) = false
 
--- there is an item, and it takes values from senders
-abbrev pub is_trapper : Option Item → Bool
-is_trapper None = false
-is_trapper (Some item) = takes_values item
+-- there is an item, and an entry may bring a value for it
+abbrev pub is_taking : Option Item → Bool
+is_taking None = false
+is_taking (Some item) = takes_values item
 
--- a value is of an enabled trapper item, and isn't later than the moment at which it was taken
+-- a value is of an item that takes values, and isn't later than the moment at which it was taken
 abbrev pub IsFitting : Conf → Entry → Type 0
 IsFitting conf (Config now text) = Unit {0}
 IsFitting conf (Tick now) = Unit {0}
-IsFitting conf (Value now item time value) = (is_trapper (at_id conf.items item) ≡ true) × (time ≤ now)
+IsFitting conf (Value now item time value) = (is_taking (at_id conf.items item) ≡ true) × (time ≤ now)
 
 -- the moment of an entry, where it is a Tick
 abbrev pub tick_of : Entry → Option ℕ

@@ -6,7 +6,7 @@ ghost use Rattle.entry_step.specs.Represents.{problems_at};
 
 use std::alloc::Global;
 use trigger_state::{Open, Opens, absorb_into};
-use zbx_types::{Conf, Many, OutOfMemory, Rec, by_id, copy_records};
+use zbx_types::{Conf, Many, OutOfMemory, Rec, by_id};
 
 /// The open problems of the trigger with an id.
 #[tactic(auto, unfolding(crate::specs::Represents::problems_at))]
@@ -33,24 +33,13 @@ impl<'a> Opens for Looked<'a> {
     }
 }
 
-/// A copy of an open problem.
-fn copied(alloc: Global, one: &Open) -> Result<Open, OutOfMemory>
-    ensures { IfOk result (λ made. made ≡ one.now) }
-{
-    Ok(Open {
-        problem: one.problem.copy(alloc)?,
-        steps: copy_records(alloc, one.steps.as_slice())?,
-        depth: one.depth,
-    })
-}
-
 /// Copies of open problems.
 pub(crate) fn copies(alloc: Global, opens: &[Open]) -> Result<Many<Open>, OutOfMemory>
     ensures { IfOk result (λ made. made ≡ opens.now) }
 {
     let mut made = Many::new(alloc);
     for one in opens {
-        made.push(copied(alloc, one)?)?;
+        made.push(one.copy(alloc)?)?;
     }
     Ok(made)
 }

@@ -395,6 +395,7 @@ fn items(alloc: Global) -> Result<Many<Item>, OutOfMemory> {
             value_type: ValueType::Number,
             enabled: true,
             steps: Many::new(alloc),
+            delay: 0,
         },
     )
 }

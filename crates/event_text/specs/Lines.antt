@@ -6,7 +6,7 @@ use Rattle.zbx_types.specs.Digits.{digit_at, last_six_digits}
 use Rattle.zbx_types.specs.declared.entries.EventId.{EventId}
 use Rattle.zbx_types.specs.declared.entries.Tag.{Tag}
 use Rattle.zbx_types.specs.declared.entries.Cause2.{Cause2}
-use Rattle.zbx_types.specs.declared.entries.Cause2.TheVariants.{Expression, Correlation}
+use Rattle.zbx_types.specs.declared.entries.Cause2.TheVariants.{Expression, Correlation, Removed}
 use Rattle.zbx_types.specs.declared.entries.Rec.{Rec}
 use Rattle.zbx_types.specs.declared.entries.Rec.TheVariants.{Failure, Problem, Recovery, Step, Message}
 
@@ -46,6 +46,7 @@ suppressed_text suppressed = if suppressed then codes "1" else codes "0"
 abbrev pub cause_text : Cause2 → List ℕ
 cause_text Expression = codes "e"
 cause_text Correlation = codes "c"
+cause_text Removed = codes "r"
 
 -- the two fields of a tag
 abbrev pub tag_fields : Tag → List (List ℕ)

@@ -23,6 +23,7 @@ fn cause_text(cause: Cause2) -> &'static [u8]
     match cause {
         Cause2::Expression => b"e",
         Cause2::Correlation => b"c",
+        Cause2::Removed => b"r",
     }
 }
 

@@ -65,6 +65,7 @@ fn items(alloc: Global, count: u32) -> Result<Many<Item>, OutOfMemory> {
             value_type: ValueType::Number,
             enabled: true,
             steps: Many::new(alloc),
+            delay: 0,
         })?;
     }
     Ok(made)

@@ -23,6 +23,7 @@ pub(crate) fn conf(alloc: Global, enabled: bool) -> Result<Conf, OutOfMemory> {
         value_type: ValueType::Number,
         enabled: true,
         steps: Many::new(alloc),
+        delay: 0,
     })?;
     Ok(Conf {
         text: Text::new(alloc),

@@ -28,7 +28,7 @@ use Rattle.sender_json.specs.declared.request.Request.{Request}
 use Rattle.sender_json.specs.declared.request.Request.TheVariants as request
 use Rattle.sender_json.specs.Requests.{request_of}
 use Rattle.zbx_types.specs.Entries.{moment_of}
-use Rattle.entry_step.specs.Log.{log_of, last_moment, is_config, is_trapper, IsFitting, IsFull, Fits}
+use Rattle.entry_step.specs.Log.{log_of, last_moment, is_config, is_taking, IsFitting, IsFull, Fits}
 use Rattle.maintenance.specs.Suppression.{is_collected}
 use Rattle.entry_step.specs.Names.{host_named, item_keyed}
 use Rattle.intake_front.specs.Taking.{clocked, valued, keyed, hosted, taken_of, entry_in, group_of, is_enabled_host, is_enabled_item}
@@ -91,13 +91,13 @@ only_where P true cause r h = h
 only_where P false cause r h = All-nil P
 
 module _ (conf : Conf) (now : ℕ) where
-  clocked_fits : (item : ℕ) (value : List ℕ) (c : Clock) → is_trapper (at_id conf.items item) ≡ true → All (IsTakenAt conf now) (entry_in (clocked now item value c))
+  clocked_fits : (item : ℕ) (value : List ℕ) (c : Clock) → is_taking (at_id conf.items item) ≡ true → All (IsTakenAt conf now) (entry_in (clocked now item value c))
   unfolding clocked
   clocked_fits item value clock.Absent fits = All-cons (IsTakenAt conf now) _ [] (record { moment = refl; plain = refl; fitting = (fits, omega arith) }) (All-nil (IsTakenAt conf now))
   clocked_fits item value clock.Bad fits = All-nil (IsTakenAt conf now)
   clocked_fits item value (clock.At time) fits = All-cons (IsTakenAt conf now) _ [] (record { moment = refl; plain = refl; fitting = (fits, omega arith) }) (All-nil (IsTakenAt conf now))
 
-  valued_fits : (item : ℕ) (c : Clock) (value : Option (List ℕ)) → is_trapper (at_id conf.items item) ≡ true → All (IsTakenAt conf now) (entry_in (valued now item c value))
+  valued_fits : (item : ℕ) (c : Clock) (value : Option (List ℕ)) → is_taking (at_id conf.items item) ≡ true → All (IsTakenAt conf now) (entry_in (valued now item c value))
   unfolding valued
   valued_fits item c None fits = All-nil (IsTakenAt conf now)
   valued_fits item c (Some value) fits = only_where (IsTakenAt conf now) (nat_le (length value) longest_value) BadValue (clocked now item value c) (clocked_fits item value c fits)
@@ -110,8 +110,9 @@ both_true false b h = absurd (cc)
 only_trapper : (kind : ItemKind) → not (is_trapper_kind kind) ≡ false → kind ≡ kinds.Trapper
 only_trapper kinds.Trapper h = refl
 only_trapper kinds.Dependent h = absurd (cc)
+only_trapper kinds.Active h = absurd (cc)
 
-trapper : (o : Option Item) → is_enabled_item o ≡ true → not (is_trapper_item o) ≡ false → is_trapper o ≡ true
+trapper : (o : Option Item) → is_enabled_item o ≡ true → not (is_trapper_item o) ≡ false → is_taking o ≡ true
 trapper None enabled takes = absurd (cc)
 trapper (Some item) enabled takes = rw (only_trapper item.kind takes) enabled
 

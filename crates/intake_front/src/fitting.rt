@@ -1,7 +1,7 @@
 //! Whether the entries that a journal kept fit a configuration.
 
 ghost use Rattle.std.specs.Prelude.{◌≡◌, true, false, IsTrue, ◌↔◌, MatchBool, List};
-ghost use Rattle.entry_step.specs.Log.{Fits, IsFitting, is_config, is_trapper};
+ghost use Rattle.entry_step.specs.Log.{Fits, IsFitting, is_config, is_taking};
 ghost use Rattle.zbx_types.specs.Ids.{at_id};
 ghost use Rattle.zbx_types.specs.declared.entries.Numbered.{Numbered};
 ghost use Rattle.intake_front.specs.Misfit.{IsFirstMisfit, FitsBehind, reached, log_with};
@@ -49,9 +49,9 @@ fn is_config(entry: &Entry) -> bool
     }
 }
 
-/// Whether an item takes values from senders, and is enabled.
-fn is_trapper(conf: &Conf, item: u32) -> bool
-    ensures { result ≡ is_trapper (at_id conf.now.items item) }
+/// Whether an entry may bring a value for an item.
+fn is_taking(conf: &Conf, item: u32) -> bool
+    ensures { result ≡ is_taking (at_id conf.now.items item) }
 {
     match by_id(conf.items.as_slice(), item) {
         Some(item) => item.takes_values(),
@@ -70,7 +70,7 @@ fn is_fitting(conf: &Conf, entry: &Entry) -> bool
             item,
             time,
             ..
-        } => is_trapper(conf, *item) && *time <= *now,
+        } => is_taking(conf, *item) && *time <= *now,
     }
 }
 

@@ -3,7 +3,7 @@ use Rattle.std.proofs.Common.{◌≡◌, ◌≢◌, ◌≤◌, ◌+◌, ◌-◌,
 use Rattle.std.specs.Prelude.{⊤}
 use Rattle.std.specs.List.{cons_option, AllByRecursion}
 use Rattle.zbx_types.specs.Ids.{at_id}
-use Rattle.zbx_types.specs.Items.{is_trapper_item}
+use Rattle.zbx_types.specs.Items.{is_received_item}
 use Rattle.zbx_types.specs.declared.conf.Conf.{Conf}
 use Rattle.zbx_types.specs.declared.items.Item.{Item}
 use Rattle.preprocess.specs.Chains.{dependents_of, dependents_from, is_dependent, depends_on}
@@ -182,7 +182,7 @@ found_at conf memory arrival x v e = go (result_of conf memory arrival x) e
 pub visits_apart : (conf : Conf) (memory : Memory) (arrival : Arrival) → AreApart (visits_of conf memory arrival)
 visits_apart conf memory arrival = go (takes conf arrival.item) refl
   where
-    free_by : (o : Option Item) → is_trapper_item o ≡ true → depends_by o ≡ false
+    free_by : (o : Option Item) → is_received_item o ≡ true → depends_by o ≡ false
     free_by None t = refl
     free_by (Some item) t = rw t refl
 

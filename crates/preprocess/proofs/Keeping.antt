@@ -12,7 +12,8 @@ use Rattle.preprocess.specs.Draft.{Kept, kept_of, kept_with, kept_after, marks_a
 use Rattle.preprocess.specs.Putting.{kept_row, kept_put}
 use Rattle.preprocess.specs.Rows.{with_row}
 use Rattle.preprocess.specs.declared.visit.Visit.{Visit}
-use Rattle.preprocess.proofs.Rows.{at_zero, at_suc, there, row_same, row_other, with_suc, with_zero}
+use Rattle.zbx_types.proofs.RowLemmas.{at_zero, at_suc}
+use Rattle.preprocess.proofs.Rows.{there, row_same, row_other, with_suc, with_zero}
 
 -- ---- one cell that is another
 

@@ -14,7 +14,7 @@ use Rattle.preprocess.specs.Draft.{Kept, stored_of, kept_with, kept_after, marks
 use Rattle.preprocess.specs.Cells.{kept_in, no_marks, empty, visits_in}
 use Rattle.preprocess.specs.Laws.{Taken, marks_behind, memory_behind, visit_behind, insert_of, inserts_behind, kept_behind, HoldNothing, HoldOneMore}
 use Rattle.preprocess.specs.declared.visit.Visit.{Visit}
-use Rattle.preprocess.proofs.Rows.{at_zero, at_suc}
+use Rattle.zbx_types.proofs.RowLemmas.{at_zero, at_suc}
 use Rattle.preprocess.proofs.Keeping.{map_get}
 
 pub at_map : {A B : Type 0} (f : A → B) (xs : List A) (id : ℕ) → at_id (map f xs) id ≡ option_map f (at_id xs id)

@@ -6,7 +6,7 @@ use Rattle.zbx_types.specs.Ids.{at_id}
 use Rattle.zbx_types.specs.declared.items.Item.{Item}
 use Rattle.zbx_types.specs.declared.steps.StepSpec.{StepSpec}
 use Rattle.preprocess.specs.Ways.{HasPattern, HavePatterns, is_plain, are_plain}
-use Rattle.preprocess.proofs.Rows.{at_zero, at_suc}
+use Rattle.zbx_types.proofs.RowLemmas.{at_zero, at_suc}
 use Rattle.preprocess.proofs.Visiting.{both}
 
 plain_step : (patterns : List (List ℕ)) (step : StepSpec) → is_plain step ≡ true → HasPattern patterns step

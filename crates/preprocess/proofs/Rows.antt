@@ -4,32 +4,10 @@ use Rattle.std.specs.Option.{unwrap_or}
 use Rattle.zbx_types.specs.Ids.{at_id}
 use Rattle.std.proofs.lemmas.List.{set_past, length-set, drop_more}
 use Rattle.std.proofs.lemmas.Option.{get_or_from_slice_get}
+use Rattle.zbx_types.proofs.RowLemmas.{at_zero, at_suc, slice_get_set_same, slice_get_set_other}
 use Rattle.zbx_types.specs.declared.items.Item.{Item}
 use Rattle.preprocess.specs.Chains.{listed, is_dependent, depends_on, dependents_from}
 use Rattle.preprocess.specs.Rows.{with_row, with_id, noted}
-
-get_set_same : {A : Type 0} (xs : List A) (i : ℕ) (v : A) → slice_get (set xs i v) i ≡ option_map (λ _. v) (slice_get xs i)
-get_set_same [] i v = refl
-get_set_same (x ∷ xs) zero v = refl
-get_set_same (x ∷ xs) (suc i) v = get_set_same xs i v
-
-get_set_other : {A : Type 0} (xs : List A) (i j : ℕ) (v : A) → i ≢ j → slice_get (set xs i v) j ≡ slice_get xs j
-get_set_other [] i j v ne = refl
-get_set_other (x ∷ xs) zero zero v ne = absurd (ne refl)
-get_set_other (x ∷ xs) zero (suc j) v ne = refl
-get_set_other (x ∷ xs) (suc i) zero v ne = refl
-get_set_other (x ∷ xs) (suc i) (suc j) v ne = get_set_other xs i j v (λ e. ne (ap suc e))
-
-pub at_zero : {A : Type 0} (xs : List A) → at_id xs 0 ≡ None
-unfolding at_id
-at_zero xs = refl
-
-pub at_suc : {A : Type 0} (xs : List A) (k : ℕ) → at_id xs (suc k) ≡ slice_get xs k
-unfolding at_id
-at_suc xs k =
-    let t : (suc k == 0) ≡ false = ne_eqb (suc k) 0 (λ q. absurd (omega arith)) in
-    let m : suc k - 1 ≡ k = omega arith in
-    rw (t, m) refl
 
 pub with_suc : {A : Type 0} (rows : List A) (k : ℕ) (row : A) → with_row rows (suc k) row ≡ set rows k row
 unfolding with_row
@@ -46,13 +24,13 @@ with_zero rows row = refl
 pub row_same : {A : Type 0} (rows : List A) (id : ℕ) (row : A) → at_id (with_row rows id row) id ≡ option_map (λ _. row) (at_id rows id)
 row_same rows zero row = at_zero (with_row rows zero row) ∙ ap (option_map (λ _. row)) (sym (at_zero rows))
 row_same rows (suc k) row =
-    ap (λ xs. at_id xs (suc k)) (with_suc rows k row) ∙ at_suc (set rows k row) k ∙ get_set_same rows k row ∙ ap (option_map (λ _. row)) (sym (at_suc rows k))
+    ap (λ xs. at_id xs (suc k)) (with_suc rows k row) ∙ at_suc (set rows k row) k ∙ slice_get_set_same rows k row ∙ ap (option_map (λ _. row)) (sym (at_suc rows k))
 
 pub row_other : {A : Type 0} (rows : List A) (id other : ℕ) (row : A) → id ≢ other → at_id (with_row rows id row) other ≡ at_id rows other
 row_other rows zero other row ne = ap (λ xs. at_id xs other) (with_zero rows row)
 row_other rows (suc k) zero row ne = at_zero (with_row rows (suc k) row) ∙ sym (at_zero rows)
 row_other rows (suc k) (suc j) row ne =
-    ap (λ xs. at_id xs (suc j)) (with_suc rows k row) ∙ at_suc (set rows k row) j ∙ get_set_other rows k j row (λ e. ne (ap suc e)) ∙ sym (at_suc rows j)
+    ap (λ xs. at_id xs (suc j)) (with_suc rows k row) ∙ at_suc (set rows k row) j ∙ slice_get_set_other rows k j row (λ e. ne (ap suc e)) ∙ sym (at_suc rows j)
 
 -- a row that is there
 pub there : {A : Type 0} (xs : List A) (i : ℕ) → i < length xs → (x : A) × (slice_get xs i ≡ Some x)

@@ -3,7 +3,7 @@ use Rattle.std.proofs.Common.{◌≡◌, ◌≤◌, ◌+◌, ◌-◌, ◌==◌, 
 use Rattle.std.proofs.lemmas.List.Elements.{filter_map-append}
 use Rattle.std.specs.List.{cons_option, AllByRecursion}
 use Rattle.zbx_types.specs.Ids.{at_id}
-use Rattle.zbx_types.specs.Items.{is_trapper_kind, is_trapper_item}
+use Rattle.zbx_types.specs.Items.{is_received_kind, is_received_item}
 use Rattle.zbx_types.specs.declared.conf.Conf.{Conf}
 use Rattle.zbx_types.specs.declared.items.Item.{Item}
 use Rattle.prep_steps.specs.declared.memory.StepMemory.{StepMemory}
@@ -11,7 +11,7 @@ use Rattle.preprocess.specs.Chains.{dependents_of, dependents_from, is_dependent
 use Rattle.preprocess.specs.Visits.{Arrival, chained_by, text_of, came_by, came, result_of, visited, visit_of, visits_of}
 use Rattle.preprocess.specs.Walks.{walk, given, with_text, takes}
 use Rattle.preprocess.specs.declared.visit.Visit.{Visit}
-use Rattle.preprocess.proofs.Rows.{at_suc}
+use Rattle.zbx_types.proofs.RowLemmas.{at_suc}
 
 abbrev pub Memory : Type 0
 Memory = ℕ → ℕ → StepMemory
@@ -69,7 +69,7 @@ each_dependent P conf id h = dependents_at P conf.items id h [] conf.items refl
 came_dependent : (conf : Conf) (memory : Memory) (arrival : Arrival) (up id : ℕ) (item : Item) → at_id conf.items id ≡ Some item → is_dependent item ≡ true
     → came conf memory arrival (suc up) id ≡ text_of (chained_by (memory item.master) arrival.time (at_id conf.items item.master) (came conf memory arrival up item.master))
 unfolding came
-came_dependent conf memory arrival up id item e d = rw e (go (is_trapper_kind item.kind) item.enabled _ _ d)
+came_dependent conf memory arrival up id item e d = rw e (go (is_received_kind item.kind) item.enabled _ _ d)
   where
     go : (k on : Bool) (x y : Option (List ℕ)) → (not k && on) ≡ true → cond k x (cond on y None) ≡ y
     go true on x y h = absurd (true≢false (sym h))
@@ -141,13 +141,13 @@ walks conf memory arrival (suc f) d e id value h =
 
 -- ---- the entry's item
 
-came_first : (conf : Conf) (memory : Memory) (arrival : Arrival) (item : Item) → at_id conf.items arrival.item ≡ Some item → is_trapper_kind item.kind ≡ true
+came_first : (conf : Conf) (memory : Memory) (arrival : Arrival) (item : Item) → at_id conf.items arrival.item ≡ Some item → is_received_kind item.kind ≡ true
     → (k : ℕ) → came conf memory arrival k arrival.item ≡ Some arrival.value
 unfolding came
 came_first conf memory arrival item e t zero = rw e (rw t (rw (eq-eqb arrival.item arrival.item refl) refl))
 came_first conf memory arrival item e t (suc k) = rw e (rw t (rw (eq-eqb arrival.item arrival.item refl) refl))
 
-walk_first : (conf : Conf) (memory : Memory) (arrival : Arrival) (item : Item) → at_id conf.items arrival.item ≡ Some item → is_trapper_kind item.kind ≡ true
+walk_first : (conf : Conf) (memory : Memory) (arrival : Arrival) (item : Item) → at_id conf.items arrival.item ≡ Some item → is_received_kind item.kind ≡ true
     → walk conf memory arrival.time arrival.number (length conf.items - 1) arrival.item arrival.value ≡ visits_of conf memory arrival
 unfolding visits_of
 walk_first conf memory arrival item e t =
@@ -155,14 +155,14 @@ walk_first conf memory arrival item e t =
 
 -- an item that takes no values of entries: nothing comes anywhere
 abbrev TrapperAt : Conf → ℕ → Type 0
-TrapperAt conf id = (item : Item) × (at_id conf.items id ≡ Some item) × (is_trapper_kind item.kind ≡ true)
+TrapperAt conf id = (item : Item) × (at_id conf.items id ≡ Some item) × (is_received_kind item.kind ≡ true)
 
 nowhere_by : (conf : Conf) (arrival : Arrival) → (TrapperAt conf arrival.item → ⊥) → (down : ℕ → Option (List ℕ)) → ((master : ℕ) → down master ≡ None) → (id : ℕ)
     → (o : Option Item) → at_id conf.items id ≡ o → came_by arrival id down o ≡ None
 nowhere_by conf arrival refuted down none id None e = refl
-nowhere_by conf arrival refuted down none id (Some item) e = by_kind (is_trapper_kind item.kind) refl (id == arrival.item) refl item.enabled
+nowhere_by conf arrival refuted down none id (Some item) e = by_kind (is_received_kind item.kind) refl (id == arrival.item) refl item.enabled
   where
-    by_kind : (t : Bool) → is_trapper_kind item.kind ≡ t → (s : Bool) → (id == arrival.item) ≡ s → (on : Bool) → cond t (cond s (Some arrival.value) None) (cond on (down item.master) None) ≡ None
+    by_kind : (t : Bool) → is_received_kind item.kind ≡ t → (s : Bool) → (id == arrival.item) ≡ s → (on : Bool) → cond t (cond s (Some arrival.value) None) (cond on (down item.master) None) ≡ None
     by_kind true t true s on = absurd (refuted (item, ap (at_id conf.items) (sym (eqb-true id arrival.item s)) ∙ e, t))
     by_kind true t false s on = refl
     by_kind false t s q true = none item.master
@@ -184,12 +184,12 @@ pub first_taken : (conf : Conf) (memory : Memory) (arrival : Arrival) → takes 
     → walk conf memory arrival.time arrival.number (length conf.items - 1) arrival.item arrival.value ≡ visits_of conf memory arrival
 first_taken conf memory arrival h = go (at_id conf.items arrival.item) refl h
   where
-    go : (o : Option Item) → at_id conf.items arrival.item ≡ o → is_trapper_item o ≡ true → walk conf memory arrival.time arrival.number (length conf.items - 1) arrival.item arrival.value ≡ visits_of conf memory arrival
+    go : (o : Option Item) → at_id conf.items arrival.item ≡ o → is_received_item o ≡ true → walk conf memory arrival.time arrival.number (length conf.items - 1) arrival.item arrival.value ≡ visits_of conf memory arrival
     go None e t = absurd (true≢false (sym t))
     go (Some item) e t = walk_first conf memory arrival item e t
 
 pub first_refused : (conf : Conf) (memory : Memory) (arrival : Arrival) → takes conf arrival.item ≡ false → [] ≡ visits_of conf memory arrival
-first_refused conf memory arrival h = no_visits conf memory arrival (λ t. true≢false (sym t.2 ∙ sym (ap is_trapper_item t.1) ∙ h))
+first_refused conf memory arrival h = no_visits conf memory arrival (λ t. true≢false (sym t.2 ∙ sym (ap is_received_item t.1) ∙ h))
 
 pub visits_is : (conf : Conf) (memory : Memory) (arrival : Arrival) → visits_of conf memory arrival ≡ filter_map (found conf memory arrival) (visited conf (length conf.items - 1) arrival.item)
 unfolding visits_of

@@ -12,7 +12,8 @@ use Rattle.std.specs.Option.{unwrap_or}
 use Rattle.preprocess.specs.Chains.{dependents_of, listed, AreChainsOf}
 use Rattle.preprocess.specs.Ways.{way_for, ways_for}
 use Rattle.preprocess.specs.declared.chains.Chains.{Chains}
-use Rattle.preprocess.proofs.Rows.{at_zero, at_suc, row_within}
+use Rattle.zbx_types.proofs.RowLemmas.{at_zero, at_suc}
+use Rattle.preprocess.proofs.Rows.{row_within}
 use Rattle.preprocess.specs.Visits.{outcome_of, visit_of, ended_text}
 use Rattle.preprocess.specs.Walks.{walk, walk_below, with_text}
 use Rattle.preprocess.specs.declared.visit.Visit.{Visit}

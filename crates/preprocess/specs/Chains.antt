@@ -2,7 +2,7 @@
 use Rattle.std.specs.Prelude.{◌≡◌, ℕ, ◌+◌, ◌==◌, Bool, ◌&&◌, not, List, [], ◌∷◌, ◌++◌, ◌≤◌, length, map, if◌then◌else◌}
 use Rattle.std.specs.Option.{unwrap_or}
 use Rattle.zbx_types.specs.Ids.{at_id}
-use Rattle.zbx_types.specs.Items.{is_trapper_kind}
+use Rattle.zbx_types.specs.Items.{is_received_kind}
 use Rattle.zbx_types.specs.declared.conf.Conf.{Conf}
 use Rattle.zbx_types.specs.declared.items.Item.{Item}
 use Rattle.preprocess.specs.Ways.{ways_for}
@@ -10,7 +10,7 @@ use Rattle.preprocess.specs.declared.chains.Chains.{Chains}
 
 -- an item is an enabled dependent
 abbrev pub is_dependent : Item → Bool
-is_dependent item = not (is_trapper_kind item.kind) && item.enabled
+is_dependent item = not (is_received_kind item.kind) && item.enabled
 
 -- an item is an enabled dependent of the item with this id
 abbrev pub depends_on : ℕ → Item → Bool

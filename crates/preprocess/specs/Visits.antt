@@ -3,7 +3,7 @@
 use Rattle.std.specs.Prelude.{ℕ, zero, suc, ◌-◌, ◌==◌, List, [], ◌∷◌, length, flat_map, filter_map, Option, Some, None}
 use Rattle.std.specs.Prelude.{IfSome, option_map, if◌then◌else◌}
 use Rattle.zbx_types.specs.Ids.{at_id}
-use Rattle.zbx_types.specs.Items.{is_trapper_kind}
+use Rattle.zbx_types.specs.Items.{is_received_kind}
 use Rattle.zbx_types.specs.declared.conf.Conf.{Conf}
 use Rattle.zbx_types.specs.declared.items.Item.{Item}
 use Rattle.prep_steps.specs.declared.memory.StepMemory.{StepMemory}
@@ -49,7 +49,7 @@ text_of (Some chained) = ended_text chained.end
 abbrev pub came_by : Arrival → ℕ → (ℕ → Option (List ℕ)) → Option Item → Option (List ℕ)
 came_by arrival id given None = None
 came_by arrival id given (Some item) =
-    if is_trapper_kind item.kind then (if id == arrival.item then Some arrival.value else None)
+    if is_received_kind item.kind then (if id == arrival.item then Some arrival.value else None)
     else if item.enabled then given item.master else None
 
 -- what comes to an item, where so many masters are asked

@@ -2,7 +2,7 @@
 use Rattle.std.specs.Prelude.{ℕ, zero, suc, Bool, List, [], ◌++◌, flat_map, Option, Some, None, option_map}
 use Rattle.std.specs.Prelude.{option_to_list}
 use Rattle.zbx_types.specs.Ids.{at_id}
-use Rattle.zbx_types.specs.Items.{is_trapper_item}
+use Rattle.zbx_types.specs.Items.{is_received_item}
 use Rattle.zbx_types.specs.declared.conf.Conf.{Conf}
 use Rattle.prep_steps.specs.declared.memory.StepMemory.{StepMemory}
 use Rattle.preprocess.specs.Chains.{dependents_of}
@@ -38,4 +38,4 @@ walk_below conf memory time number (suc down) ids value = flat_map (λ d. walk c
 
 -- an item takes the values of entries, by its id
 abbrev pub takes : Conf → ℕ → Bool
-takes conf id = is_trapper_item (at_id conf.items id)
+takes conf id = is_received_item (at_id conf.items id)

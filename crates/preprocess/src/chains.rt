@@ -36,7 +36,7 @@ fn enter(below: &mut Vec<Many<u32>>, item: u32, id: u32) -> Result<(), OutOfMemo
 fn is_dependent(item: &Item) -> bool
     ensures { result ≡ is_dependent item.now }
 {
-    !item.kind.is_trapper() && item.enabled
+    !item.kind.is_received() && item.enabled
 }
 
 /// Adds the id of an item to the list of the item that it depends on.

@@ -249,7 +249,7 @@ fn takes(conf: &Conf, item: u32) -> bool
     ensures { result ≡ takes conf.now item }
 {
     match by_id(conf.items.as_slice(), item) {
-        Some(item) => item.kind.is_trapper(),
+        Some(item) => item.kind.is_received(),
         None => false,
     }
 }

@@ -60,6 +60,7 @@ fn item_of(alloc: Global, id: u32, row: &Row, steps: &[Step]) -> Result<Item, Ou
             ValueType::Words
         },
         enabled: *enabled,
+        delay: 0,
         steps: steps_of(alloc, id, steps)?,
     })
 }

@@ -31,6 +31,7 @@ pub(crate) fn item(alloc: Global, host: u32, master: u32) -> Item {
         value_type: ValueType::Number,
         enabled: true,
         steps: Many::new(alloc),
+        delay: 0,
     }
 }
 

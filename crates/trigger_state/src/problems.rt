@@ -1,10 +1,11 @@
 //! Open problems.
 
-ghost use Rattle.std.specs.Prelude.{◌≡◌};
+ghost use Rattle.std.specs.Prelude.{◌≡◌, ◌↔◌, IfOk, IsTrue};
 ghost use Rattle.zbx_types.specs.Records.{same_event};
 ghost use Rattle.trigger_state.specs.Problems.{event_in};
 
-use zbx_types::{EventId, Many, Rec};
+use std::alloc::Global;
+use zbx_types::{EventId, Many, OutOfMemory, Rec, copy_records, same_record, same_records};
 
 /// An open problem (this project's own).
 #[derive(Drop)]
@@ -17,6 +18,29 @@ pub struct Open {
     /// The depth of its trigger when it opened. With the number and the trigger of its event, the depth says where the
     /// problem stands in the order of making.
     pub depth: u32,
+}
+
+impl Open {
+    /// A copy. [`OutOfMemory`] where there is no room for it.
+    pub fn copy(&self, alloc: Global) -> Result<Open, OutOfMemory>
+        ensures { IfOk result (λ made. made ≡ self.now) }
+    {
+        let steps = copy_records(alloc, self.steps.as_slice())?;
+        Ok(Open {
+            problem: self.problem.copy(alloc)?,
+            steps,
+            depth: self.depth,
+        })
+    }
+
+    /// Whether two open problems are equal: their records, their steps and their depths.
+    pub fn is_same(&self, other: &Open) -> bool
+        ensures { IsTrue result ↔ (self.now ≡ other.now) }
+    {
+        self.depth == other.depth
+            && same_record(&self.problem, &other.problem)
+            && same_records(self.steps.as_slice(), other.steps.as_slice())
+    }
 }
 
 /// Whether two events are the same.

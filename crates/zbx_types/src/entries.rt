@@ -74,6 +74,8 @@ pub enum Cause2 {
     Expression,
     /// A rule of global correlation (the Zabbix 6.0 manual, "Global event correlation").
     Correlation,
+    /// No trigger of the configuration is that of the problem any more. Nothing closes so yet.
+    Removed,
 }
 
 /// A record: something that an entry made (this project's own). Each record becomes one line of the outbox.

@@ -28,6 +28,7 @@
 #![tactic(auto)]
 
 mod actions;
+mod base;
 mod blanks;
 mod bytes;
 mod calls;
@@ -36,6 +37,7 @@ mod conf;
 mod dependencies;
 mod digits;
 mod entries;
+mod equality;
 mod expr;
 mod fix;
 mod frames;
@@ -63,6 +65,7 @@ mod triggers;
 mod writing;
 
 pub use actions::{Action, ActionCond, Operation, Sending, SeverityOp};
+pub use base::{Base, BaseItem, BaseProblem, BaseStep, BaseValue, Ran};
 pub use blanks::unpadded;
 pub use bytes::Bytes;
 pub use calls::{Call, Fun, Range};
@@ -73,6 +76,7 @@ pub use digits::{all_digits, digit_at, last_six_digits, number_up_to, number_wit
 pub use entries::{
     Cause2, Entry, EventId, Held, Numbered, Rec, Stored, Tag, copy_records, copy_tags,
 };
+pub use equality::{same_entry, same_record, same_records, same_tags};
 pub use expr::{Expr, Op, Operand};
 pub use fix::Fix;
 pub use frames::{LONGEST_DATA, frame_header};

@@ -1,5 +1,5 @@
 use Rattle.std.proofs.Common.{◌≡◌, take}
-use Rattle.entry_step.proofs.same.same_tags.Given as goal
+use Rattle.zbx_types.proofs.equality.same_tags.Given as goal
 
 abbrev pub invariant-loop-index : goal.invariant-loop-index
 invariant-loop-index l = take l.index l.ones ≡ take l.index l.others
