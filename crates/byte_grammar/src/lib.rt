@@ -28,6 +28,3 @@ mod digits;
 
 pub use characters::{Character, is_whole, next};
 pub use digits::{is_digit, is_e};
-
-#[cfg(test)]
-mod tests;

@@ -38,6 +38,3 @@ mod matching;
 
 pub use answer::Closes;
 pub use closing::{closes, closes_among};
-
-#[cfg(test)]
-mod tests;

@@ -35,6 +35,3 @@ mod values;
 
 pub use operations::{negation, operation};
 pub use values::eval;
-
-#[cfg(test)]
-mod tests;

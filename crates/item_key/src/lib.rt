@@ -31,6 +31,3 @@ mod reading;
 
 pub use places::{InParameter, Place, may_end, next};
 pub use reading::read;
-
-#[cfg(test)]
-mod tests;

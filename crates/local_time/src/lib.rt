@@ -30,6 +30,3 @@ mod days;
 
 pub use clock::{Clock, local};
 pub use days::{date_in, date_of, local_day, monday_of, second_of};
-
-#[cfg(test)]
-mod tests;

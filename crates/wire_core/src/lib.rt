@@ -31,6 +31,3 @@ mod turn;
 
 pub use table::Table;
 pub use turn::Turn;
-
-#[cfg(test)]
-mod tests;

@@ -1,0 +1,57 @@
+//! Cases of calls, as rows of text: what the contracts say of a call, shown on values that come from outside.
+//!
+//! Each line of standard input is a row: the kind of the case, what is to come of it, and what it is of, with tabs
+//! between. An empty line, and one that begins with `#`, is none. Bytes that can't stand in a line are written as
+//! `%HH`, as in addresses of the web, and so is `%` itself. A row that comes to something else is printed with what it
+//! came to; at last the number of rows, and of those that differ.
+//!
+//! ```text
+//! read <tab> 1500000 <tab> 1.5
+//! ```
+#![tactic(auto)]
+
+mod numbers;
+mod rows;
+
+use crate::rows::Row;
+use std::alloc::Global;
+use std::io;
+use zbx_types::OutOfMemory;
+
+/// What the case of a row comes to; none where no kind has this name.
+fn answer(alloc: Global, row: &Row<'_>) -> Result<Option<String>, OutOfMemory> {
+    numbers::answer(alloc, row.kind, row.input)
+}
+
+/// What a row comes to, where that isn't what it says.
+fn other(alloc: Global, row: &Row<'_>) -> Result<Option<String>, OutOfMemory> {
+    match answer(alloc, row)? {
+        Some(came) if came.as_str() == row.wanted => Ok(None),
+        Some(came) => Ok(Some(came)),
+        None => Ok(Some(String::from_str(alloc, "no such kind")?)),
+    }
+}
+
+fn main(rt: HostRuntime) -> io::Result<()> {
+    let alloc = rt.alloc();
+    let mut count: u64 = 0;
+    let mut differ: u64 = 0;
+    for line in rt.lines(alloc) {
+        let line = line?;
+        if let Some(row) = rows::row_of(line.as_str()) {
+            count = count.saturating_add(1);
+            match other(alloc, &row) {
+                Ok(None) => {}
+                Ok(Some(came)) => {
+                    differ = differ.saturating_add(1);
+                    println!(rt; "{line}: {came}")?;
+                }
+                Err(OutOfMemory) => {
+                    differ = differ.saturating_add(1);
+                    println!(rt; "{line}: out of memory")?;
+                }
+            }
+        }
+    }
+    println!(rt; "{count} rows, {differ} differ")
+}
