@@ -325,12 +325,15 @@ impl Rec {
                 host,
                 key,
                 why,
-            } => Ok(Rec::Failure {
-                number: *number,
-                host: host.copy(alloc)?,
-                key: key.copy(alloc)?,
-                why: why.copy(alloc)?,
-            }),
+            } => {
+                let (host, key, why) = copy_three(alloc, host, key, why)?;
+                Ok(Rec::Failure {
+                    number: *number,
+                    host,
+                    key,
+                    why,
+                })
+            }
             Rec::Problem {
                 event,
                 now,
@@ -340,16 +343,20 @@ impl Rec {
                 trigger,
                 name,
                 tags,
-            } => Ok(Rec::Problem {
-                event: *event,
-                now: *now,
-                severity: *severity,
-                suppressed: *suppressed,
-                host: host.copy(alloc)?,
-                trigger: trigger.copy(alloc)?,
-                name: name.copy(alloc)?,
-                tags: copy_tags(alloc, tags)?,
-            }),
+            } => {
+                let tags = copy_tags(alloc, tags)?;
+                let (host, trigger, name) = copy_three(alloc, host, trigger, name)?;
+                Ok(Rec::Problem {
+                    event: *event,
+                    now: *now,
+                    severity: *severity,
+                    suppressed: *suppressed,
+                    host,
+                    trigger,
+                    name,
+                    tags,
+                })
+            }
             Rec::Recovery {
                 event,
                 by,
@@ -379,16 +386,35 @@ impl Rec {
                 recipient,
                 subject,
                 body,
-            } => Ok(Rec::Message {
-                event: *event,
-                action: action.copy(alloc)?,
-                step: *step,
-                recipient: recipient.copy(alloc)?,
-                subject: subject.copy(alloc)?,
-                body: body.copy(alloc)?,
-            }),
+            } => {
+                let action = action.copy(alloc)?;
+                let (recipient, subject, body) = copy_three(alloc, recipient, subject, body)?;
+                Ok(Rec::Message {
+                    event: *event,
+                    action,
+                    step: *step,
+                    recipient,
+                    subject,
+                    body,
+                })
+            }
         }
     }
+}
+
+/// Copies of three texts. [`OutOfMemory`] where there is no room for all of them.
+fn copy_three(
+    alloc: Global,
+    one: &Text,
+    two: &Text,
+    three: &Text,
+) -> Result<(Text, Text, Text), OutOfMemory>
+    ensures { IfOk result (λ made. (made.0 ≡ one.now) × ((made.1 ≡ two.now) × (made.2 ≡ three.now))) }
+{
+    let one = one.copy(alloc)?;
+    let two = two.copy(alloc)?;
+    let three = three.copy(alloc)?;
+    Ok((one, two, three))
 }
 
 /// A copy of a list of records. [`OutOfMemory`] where there is no room for all of them.

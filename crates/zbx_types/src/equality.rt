@@ -1,8 +1,11 @@
 //! Whether two entries, tags or records are equal: whether contracts see one value.
 
 ghost use Rattle.std.specs.Prelude.{◌≡◌, ◌↔◌, IsTrue};
+ghost use Rattle.zbx_types.specs.declared.entries.Rec.TheVariants as Rec;
 
-use crate::entries::{Entry, Rec, Tag};
+use crate::entries::{Cause2, Entry, EventId, Rec, Tag};
+use crate::moment::Moment;
+use crate::text::Text;
 
 /// Whether two entries are equal.
 pub fn same_entry(one: &Entry, other: &Entry) -> bool
@@ -56,6 +59,51 @@ pub fn same_tags(ones: &[Tag], others: &[Tag]) -> bool
     true
 }
 
+/// Whether a record is the failure of these parts.
+fn is_failure(rec: &Rec, number: u64, host: &Text, key: &Text, why: &Text) -> bool
+    ensures { IsTrue result ↔ (rec.now ≡ Rec.Failure number host.now key.now why.now) }
+{
+    match rec {
+        Rec::Failure {
+            number: n,
+            host: h,
+            key: k,
+            why: w,
+        } => number == *n && *host == *h && *key == *k && *why == *w,
+        _ => false,
+    }
+}
+
+/// Whether a record is the recovery of these parts.
+fn is_recovery(rec: &Rec, event: EventId, by: u64, now: Moment, cause: Cause2) -> bool
+    ensures { IsTrue result ↔ (rec.now ≡ Rec.Recovery event by now cause) }
+{
+    match rec {
+        Rec::Recovery {
+            event: e,
+            by: b,
+            now: m,
+            cause: c,
+        } => event == *e && by == *b && now == *m && cause == *c,
+        _ => false,
+    }
+}
+
+/// Whether a record is the step of these parts.
+fn is_step(rec: &Rec, event: EventId, action: &Text, step: u32, now: Moment) -> bool
+    ensures { IsTrue result ↔ (rec.now ≡ Rec.Step event action.now step now) }
+{
+    match rec {
+        Rec::Step {
+            event: e,
+            action: a,
+            step: s,
+            now: m,
+        } => event == *e && *action == *a && step == *s && now == *m,
+        _ => false,
+    }
+}
+
 /// Whether two records are equal.
 pub fn same_record(one: &Rec, other: &Rec) -> bool
     ensures { IsTrue result ↔ (one.now ≡ other.now) }
@@ -66,15 +114,7 @@ pub fn same_record(one: &Rec, other: &Rec) -> bool
             host,
             key,
             why,
-        } => match other {
-            Rec::Failure {
-                number: n,
-                host: h,
-                key: k,
-                why: w,
-            } => *number == *n && *host == *h && *key == *k && *why == *w,
-            _ => false,
-        },
+        } => is_failure(other, *number, host, key, why),
         Rec::Problem {
             event,
             now,
@@ -111,29 +151,13 @@ pub fn same_record(one: &Rec, other: &Rec) -> bool
             by,
             now,
             cause,
-        } => match other {
-            Rec::Recovery {
-                event: e,
-                by: b,
-                now: m,
-                cause: c,
-            } => *event == *e && *by == *b && *now == *m && *cause == *c,
-            _ => false,
-        },
+        } => is_recovery(other, *event, *by, *now, *cause),
         Rec::Step {
             event,
             action,
             step,
             now,
-        } => match other {
-            Rec::Step {
-                event: e,
-                action: a,
-                step: s,
-                now: m,
-            } => *event == *e && *action == *a && *step == *s && *now == *m,
-            _ => false,
-        },
+        } => is_step(other, *event, action, *step, *now),
         Rec::Message {
             event,
             action,
