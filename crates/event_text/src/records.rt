@@ -116,6 +116,47 @@ fn put_step(
     add_moment(now, out)
 }
 
+fn put_problem(
+    event: EventId,
+    now: Moment,
+    severity: u8,
+    suppressed: bool,
+    host: &Text,
+    trigger: &Text,
+    name: &Text,
+    tags: &[Tag],
+    out: &mut Page,
+) -> Result<(), OutOfMemory>
+    ensures ok { OnOk result (out.new.back ≡ out.old.back ++ joined (fields_of (Rec.Problem event now severity suppressed host.now trigger.now name.now tags.now))) }
+    ensures front { out.new.front ≡ out.old.front }
+{
+    out.extend(b"P")?;
+    add_event(event, out)?;
+    add_moment(now, out)?;
+    add_kind(severity, suppressed, out)?;
+    add_names(host, trigger, name, out)?;
+    add_tags(tags, out)
+}
+
+fn put_message(
+    event: EventId,
+    action: &Text,
+    step: u32,
+    recipient: &Text,
+    subject: &Text,
+    body: &Text,
+    out: &mut Page,
+) -> Result<(), OutOfMemory>
+    ensures ok { OnOk result (out.new.back ≡ out.old.back ++ joined (fields_of (Rec.Message event action.now step recipient.now subject.now body.now))) }
+    ensures front { out.new.front ≡ out.old.front }
+{
+    out.extend(b"M")?;
+    add_event(event, out)?;
+    add_text(action, out)?;
+    add_number(u64::from(step), out)?;
+    add_names(recipient, subject, body, out)
+}
+
 fn put_fields(rec: &Rec, out: &mut Page) -> Result<(), OutOfMemory>
     ensures ok { OnOk result (out.new.back ≡ out.old.back ++ joined (fields_of rec.now)) }
     ensures front { out.new.front ≡ out.old.front }
@@ -136,14 +177,17 @@ fn put_fields(rec: &Rec, out: &mut Page) -> Result<(), OutOfMemory>
             trigger,
             name,
             tags,
-        } => {
-            out.extend(b"P")?;
-            add_event(*event, out)?;
-            add_moment(*now, out)?;
-            add_kind(*severity, *suppressed, out)?;
-            add_names(host, trigger, name, out)?;
-            add_tags(tags.as_slice(), out)
-        }
+        } => put_problem(
+            *event,
+            *now,
+            *severity,
+            *suppressed,
+            host,
+            trigger,
+            name,
+            tags.as_slice(),
+            out,
+        ),
         Rec::Recovery {
             event,
             by,
@@ -163,13 +207,7 @@ fn put_fields(rec: &Rec, out: &mut Page) -> Result<(), OutOfMemory>
             recipient,
             subject,
             body,
-        } => {
-            out.extend(b"M")?;
-            add_event(*event, out)?;
-            add_text(action, out)?;
-            add_number(u64::from(*step), out)?;
-            add_names(recipient, subject, body, out)
-        }
+        } => put_message(*event, action, *step, recipient, subject, body, out),
     }
 }
 
