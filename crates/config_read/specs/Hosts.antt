@@ -1,9 +1,11 @@
 -- User macros, items, templates and hosts.
-use Rattle.std.specs.Prelude.{ℕ, true, List, [], map, Result, Ok, codes}
+use Rattle.std.specs.Prelude.{ℕ, Bool, true, List, [], map, Result, Ok, codes}
 use Rattle.zbx_types.specs.declared.causes.Cause.TheVariants.{TooMany}
 use Rattle.zbx_types.specs.declared.items.ItemKind.{ItemKind}
 use Rattle.zbx_types.specs.declared.items.ItemKind.TheVariants as kinds
+use Rattle.zbx_types.specs.declared.items.ValueType.{ValueType}
 use Rattle.zbx_types.specs.declared.items.ValueType.TheVariants as types
+use Rattle.zbx_types.specs.declared.steps.StepSpec.{StepSpec}
 use Rattle.json_form.specs.Faults.{Fault, ◌>>=◌}
 use Rattle.json_form.specs.Places.{Place, Object, ◌▸◌, an_object, text, truth, word, given_or, free_text}
 use Rattle.json_form.specs.Lists.{list_of, named_list, at_most}
@@ -40,16 +42,28 @@ source_of o = do
   master ← master_of kind (o ▸ codes "master")
   Ok (kind, master)
 
+-- the key, where values come from, and the master item
+unfoldable pub item_front_of : Object → Result (List ℕ × ItemKind × List ℕ) Fault
+item_front_of o = do
+  key ← text (o ▸ codes "key")
+  source ← source_of o
+  Ok (key, source.0, source.1)
+
+-- what values are, whether they are taken, and the steps
+unfoldable pub item_back_of : Object → Result (ValueType × Bool × List StepSpec) Fault
+item_back_of o = do
+  type ← given_or types.Number (word value_type) (o ▸ codes "value_type")
+  enabled ← given_or true truth (o ▸ codes "enabled")
+  steps ← steps_of (o ▸ codes "steps")
+  Ok (type, enabled, steps)
+
 -- an item
 unfoldable pub item_of : Place → Result RawItem Fault
 item_of at = do
   o ← an_object at
-  key ← text (o ▸ codes "key")
-  source ← source_of o
-  type ← given_or types.Number (word value_type) (o ▸ codes "value_type")
-  enabled ← given_or true truth (o ▸ codes "enabled")
-  steps ← steps_of (o ▸ codes "steps")
-  Ok (record { key = key; kind = source.0; master = source.1; value_type = type; enabled = enabled; steps = steps })
+  front ← item_front_of o
+  back ← item_back_of o
+  Ok (record { key = front.0; kind = front.1; master = front.2; value_type = back.0; enabled = back.1; steps = back.2 })
 
 -- the templates of a host, each once
 unfoldable pub templates_of : Place → Result (List (List ℕ)) Fault
@@ -64,23 +78,34 @@ content_of o = do
   triggers ← triggers_of (o ▸ codes "triggers")
   Ok (templates, macros, items, triggers)
 
+-- the name, which isn't taken, and what hosts and templates have in common
+unfoldable pub front_of : List (List ℕ) → Object → Result (List ℕ × List (List ℕ) × List RawMacro × List RawItem × List RawTrigger) Fault
+front_of taken o = do
+  name ← new_name is_host_name taken (o ▸ codes "name")
+  content ← content_of o
+  Ok (name, content.0, content.1, content.2, content.3)
+
 -- a template is in no group, and is enabled
 unfoldable pub template_of : List (List ℕ) → Place → Result RawHost Fault
 template_of taken at = do
   o ← an_object at
-  name ← new_name is_host_name taken (o ▸ codes "name")
-  content ← content_of o
-  Ok (record { name = name; templates = content.0; macros = content.1; items = content.2; triggers = content.3; groups = []; enabled = true })
+  front ← front_of taken o
+  Ok (record { name = front.0; templates = front.1; macros = front.2; items = front.3; triggers = front.4; groups = []; enabled = true })
+
+-- the groups that a host is in, and whether it is monitored
+unfoldable pub membership_of : Object → Result (List (List ℕ) × Bool) Fault
+membership_of o = do
+  groups ← list_of text (o ▸ codes "groups")
+  enabled ← given_or true truth (o ▸ codes "enabled")
+  Ok (groups, enabled)
 
 -- a host whose name isn't taken
 unfoldable pub host_of : List (List ℕ) → Place → Result RawHost Fault
 host_of taken at = do
   o ← an_object at
-  name ← new_name is_host_name taken (o ▸ codes "name")
-  content ← content_of o
-  groups ← list_of text (o ▸ codes "groups")
-  enabled ← given_or true truth (o ▸ codes "enabled")
-  Ok (record { name = name; templates = content.0; macros = content.1; items = content.2; triggers = content.3; groups = groups; enabled = enabled })
+  front ← front_of taken o
+  membership ← membership_of o
+  Ok (record { name = front.0; templates = front.1; macros = front.2; items = front.3; triggers = front.4; groups = membership.0; enabled = membership.1 })
 
 -- the name of a host or template
 abbrev pub name_of : RawHost → List ℕ

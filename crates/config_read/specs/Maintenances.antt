@@ -122,16 +122,28 @@ tests_of collect o = do
   tags ← tags_of collect (o ▸ codes "tags")
   Ok (matching, tags)
 
+-- the name, which isn't taken, and from when till when it is active
+unfoldable pub front_of : List (List ℕ) → Object → Result (List ℕ × ℕ × ℕ) Fault
+front_of taken o = do
+  name ← new_name is_title taken (o ▸ codes "name")
+  span ← span_of o
+  Ok (name, span.0, span.1)
+
+-- how the tests of tags are joined, the tests, and the periods
+unfoldable pub back_of : Bool → Object → Result (Matching × List TagTest × List Period) Fault
+back_of collect o = do
+  tests ← tests_of collect o
+  periods ← periods_of (o ▸ codes "periods")
+  Ok (tests.0, tests.1, periods)
+
 -- a maintenance whose name isn't taken
 unfoldable pub maintenance_of : List (List ℕ) → Place → Result Maintenance Fault
 maintenance_of taken at = do
   o ← an_object at
-  name ← new_name is_title taken (o ▸ codes "name")
-  span ← span_of o
+  front ← front_of taken o
   scope ← scope_of o
-  tests ← tests_of scope.0 o
-  periods ← periods_of (o ▸ codes "periods")
-  Ok (record { name = name; since = span.0; till = span.1; collect = scope.0; hosts = scope.1; groups = scope.2; matching = tests.0; tags = tests.1; periods = periods })
+  back ← back_of scope.0 o
+  Ok (record { name = front.0; since = front.1; till = front.2; collect = scope.0; hosts = scope.1; groups = scope.2; matching = back.0; tags = back.1; periods = back.2 })
 
 -- maintenances of distinct names, 256 at most
 unfoldable pub maintenances_of : Object → Result (List Maintenance) Fault

@@ -62,18 +62,36 @@ links_of o = do
   depends ← list_of depend_of (o ▸ codes "depends")
   Ok (tags, depends)
 
+-- the name, which isn't taken, the expression, how problems close, and the recovery expression
+unfoldable pub front_of : List (List ℕ) → Object → Result (List ℕ × List ℕ × RecoveryMode × List ℕ) Fault
+front_of taken o = do
+  name ← new_name is_title taken (o ▸ codes "name")
+  expression ← text (o ▸ codes "expression")
+  recovery ← recovery_of o
+  Ok (name, expression, recovery.0, recovery.1)
+
+-- how its problems stand: side by side or not, the tag by which they close, and how severe they are
+unfoldable pub problems_of : Object → Result (Bool × List ℕ × ℕ) Fault
+problems_of o = do
+  closing ← closing_of o
+  severity ← given_or 0 (number_between 0 5) (o ▸ codes "severity")
+  Ok (closing.0, closing.1, severity)
+
+-- the tags, the triggers that it depends on, and whether it is evaluated
+unfoldable pub back_of : Object → Result (List Tag × List RawDepend × Bool) Fault
+back_of o = do
+  links ← links_of o
+  enabled ← given_or true truth (o ▸ codes "enabled")
+  Ok (links.0, links.1, enabled)
+
 -- a trigger whose name isn't taken
 unfoldable pub trigger_of : List (List ℕ) → Place → Result RawTrigger Fault
 trigger_of taken at = do
   o ← an_object at
-  name ← new_name is_title taken (o ▸ codes "name")
-  expression ← text (o ▸ codes "expression")
-  recovery ← recovery_of o
-  closing ← closing_of o
-  severity ← given_or 0 (number_between 0 5) (o ▸ codes "severity")
-  links ← links_of o
-  enabled ← given_or true truth (o ▸ codes "enabled")
-  Ok (record { name = name; expression = expression; recovery = recovery.0; recovery_expression = recovery.1; multiple = closing.0; close_tag = closing.1; severity = severity; tags = links.0; depends = links.1; enabled = enabled })
+  front ← front_of taken o
+  problems ← problems_of o
+  back ← back_of o
+  Ok (record { name = front.0; expression = front.1; recovery = front.2; recovery_expression = front.3; multiple = problems.0; close_tag = problems.1; severity = problems.2; tags = back.0; depends = back.1; enabled = back.2 })
 
 -- triggers of distinct names
 unfoldable pub triggers_of : Place → Result (List RawTrigger) Fault

@@ -1,9 +1,9 @@
 //! User macros, templates and hosts.
 
-ghost use Rattle.std.specs.Prelude.{◌≡◌, ◌++◌, map, IfOk};
+ghost use Rattle.std.specs.Prelude.{◌≡◌, ◌++◌, ◌∷◌, [], map, IfOk};
 ghost use Rattle.json_form.specs.Faults.{Gives};
 ghost use Rattle.json_form.specs.Places.{place_of, object_of};
-ghost use Rattle.config_read.specs.Hosts.{macro_of, macros_of, templates_of, content_of, template_of, host_of, name_of, thousand_of, hosts_of};
+ghost use Rattle.config_read.specs.Hosts.{macro_of, macros_of, templates_of, content_of, front_of, template_of, membership_of, host_of, name_of, thousand_of, hosts_of};
 
 use crate::items::ItemReader;
 use crate::naming::{Form, new_name};
@@ -67,6 +67,25 @@ fn content(alloc: Global, object: &Object<'_, '_>) -> Result<Content, ReadError>
     Ok((templates, macros, items, triggers))
 }
 
+/// The name, and with it templates, macros, items, triggers.
+type Front = (
+    Text,
+    Many<Text>,
+    Many<RawMacro>,
+    Many<RawItem>,
+    Many<RawTrigger>,
+);
+
+#[tactic(auto, unfolding(crate::specs::Hosts::front_of))]
+fn front(alloc: Global, taken: &mut Names, object: &Object<'_, '_>) -> Result<Front, ReadError>
+    ensures gives { Gives result (front_of taken.old (object_of object.now)) }
+    ensures taken { IfOk result (λ front. taken.new ≡ taken.old ++ front.0 ∷ []) }
+{
+    let name = new_name(alloc, Form::Host, taken, &object.member("name"))?;
+    let (templates, macros, items, triggers) = content(alloc, object)?;
+    Ok((name, templates, macros, items, triggers))
+}
+
 /// The reader of templates.
 struct TemplateReader;
 
@@ -85,8 +104,7 @@ impl Named for TemplateReader {
         value: &Value,
     ) -> Result<RawHost, ReadError> {
         let object = Object::at(alloc, path, value)?;
-        let name = new_name(alloc, Form::Host, taken, &object.member("name"))?;
-        let (templates, macros, items, triggers) = content(alloc, &object)?;
+        let (name, templates, macros, items, triggers) = front(alloc, taken, &object)?;
         Ok(RawHost {
             name,
             templates,
@@ -97,6 +115,16 @@ impl Named for TemplateReader {
             enabled: true,
         })
     }
+}
+
+/// The groups that a host is in, and whether it is monitored.
+#[tactic(auto, unfolding(crate::specs::Hosts::membership_of))]
+fn membership(alloc: Global, object: &Object<'_, '_>) -> Result<(Many<Text>, bool), ReadError>
+    ensures { Gives result (membership_of (object_of object.now)) }
+{
+    let groups = list::<Texts>(alloc, &object.member("groups"))?;
+    let enabled = object.member("enabled").truth_or(alloc, true)?;
+    Ok((groups, enabled))
 }
 
 /// The reader of hosts.
@@ -117,10 +145,8 @@ impl Named for HostReader {
         value: &Value,
     ) -> Result<RawHost, ReadError> {
         let object = Object::at(alloc, path, value)?;
-        let name = new_name(alloc, Form::Host, taken, &object.member("name"))?;
-        let (templates, macros, items, triggers) = content(alloc, &object)?;
-        let groups = list::<Texts>(alloc, &object.member("groups"))?;
-        let enabled = object.member("enabled").truth_or(alloc, true)?;
+        let (name, templates, macros, items, triggers) = front(alloc, taken, &object)?;
+        let (groups, enabled) = membership(alloc, &object)?;
         Ok(RawHost {
             name,
             templates,

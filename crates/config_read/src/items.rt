@@ -2,7 +2,7 @@
 
 ghost use Rattle.json_form.specs.Faults.{Gives};
 ghost use Rattle.json_form.specs.Places.{place_of, object_of};
-ghost use Rattle.config_read.specs.Hosts.{master_of, source_of, item_of};
+ghost use Rattle.config_read.specs.Hosts.{master_of, source_of, item_front_of, item_back_of, item_of};
 
 use crate::raw::RawItem;
 use crate::steps::steps;
@@ -11,7 +11,7 @@ use crate::words::{ItemKinds, ValueTypes};
 use json_form::{At, Element, Object, ReadError};
 use serde_json::Value;
 use std::alloc::Global;
-use zbx_types::{ItemKind, Text, ValueType};
+use zbx_types::{ItemKind, Many, StepSpec, Text, ValueType};
 
 #[tactic(auto, unfolding(crate::specs::Hosts::master_of))]
 fn master(alloc: Global, kind: ItemKind, at: &At<'_, '_>) -> Result<Text, ReadError>
@@ -35,6 +35,31 @@ fn source(alloc: Global, object: &Object<'_, '_>) -> Result<(ItemKind, Text), Re
     Ok((kind, master))
 }
 
+/// The key, where values come from, and the master item.
+#[tactic(auto, unfolding(crate::specs::Hosts::item_front_of))]
+fn front(alloc: Global, object: &Object<'_, '_>) -> Result<(Text, ItemKind, Text), ReadError>
+    ensures { Gives result (item_front_of (object_of object.now)) }
+{
+    let key = object.member("key").text(alloc)?;
+    let (kind, master) = source(alloc, object)?;
+    Ok((key, kind, master))
+}
+
+/// What values are, whether they are taken, and the steps.
+type Back = (ValueType, bool, Many<StepSpec>);
+
+#[tactic(auto, unfolding(crate::specs::Hosts::item_back_of))]
+fn back(alloc: Global, object: &Object<'_, '_>) -> Result<Back, ReadError>
+    ensures { Gives result (item_back_of (object_of object.now)) }
+{
+    let value_type = object
+        .member("value_type")
+        .word_or::<ValueTypes>(alloc, ValueType::Number)?;
+    let enabled = object.member("enabled").truth_or(alloc, true)?;
+    let steps = steps(alloc, &object.member("steps"))?;
+    Ok((value_type, enabled, steps))
+}
+
 /// The reader of items.
 pub(crate) struct ItemReader;
 
@@ -46,13 +71,8 @@ impl Element for ItemReader {
     #[tactic(auto, unfolding(crate::specs::Hosts::item_of))]
     fn read(alloc: Global, path: &str, value: &Value) -> Result<RawItem, ReadError> {
         let object = Object::at(alloc, path, value)?;
-        let key = object.member("key").text(alloc)?;
-        let (kind, master) = source(alloc, &object)?;
-        let value_type = object
-            .member("value_type")
-            .word_or::<ValueTypes>(alloc, ValueType::Number)?;
-        let enabled = object.member("enabled").truth_or(alloc, true)?;
-        let steps = steps(alloc, &object.member("steps"))?;
+        let (key, kind, master) = front(alloc, &object)?;
+        let (value_type, enabled, steps) = back(alloc, &object)?;
         Ok(RawItem {
             key,
             kind,

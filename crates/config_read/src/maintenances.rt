@@ -1,9 +1,10 @@
 //! Maintenances.
 
+ghost use Rattle.std.specs.Prelude.{◌≡◌, ◌++◌, ◌∷◌, [], IfOk};
 ghost use Rattle.json_form.specs.Faults.{Gives};
 ghost use Rattle.json_form.specs.Places.{place_of, object_of, number_between};
 ghost use Rattle.config_read.specs.Maintenances.{period_kind, plain_tag_op, seconds, daytime_of, once_of, daily_of, weekly_of, monthly_of, period_parts, period_of};
-ghost use Rattle.config_read.specs.Maintenances.{periods_of, tag_test_of, tags_of, span_of, scope_of, tests_of, maintenance_of, maintenances_of};
+ghost use Rattle.config_read.specs.Maintenances.{periods_of, tag_test_of, tags_of, span_of, scope_of, tests_of, front_of, back_of, maintenance_of, maintenances_of};
 
 use crate::naming::{Form, new_name};
 use crate::ranges::{length, one_to_16};
@@ -269,6 +270,33 @@ fn tests(
     Ok((matching, tags))
 }
 
+/// The name, and from when till when it is active.
+#[tactic(auto, unfolding(crate::specs::Maintenances::front_of))]
+fn front(
+    alloc: Global,
+    taken: &mut Names,
+    object: &Object<'_, '_>,
+) -> Result<(Text, u32, u32), ReadError>
+    ensures gives { Gives result (front_of taken.old (object_of object.now)) }
+    ensures taken { IfOk result (λ front. taken.new ≡ taken.old ++ front.0 ∷ []) }
+{
+    let name = new_name(alloc, Form::Title, taken, &object.member("name"))?;
+    let (since, till) = span(alloc, object)?;
+    Ok((name, since, till))
+}
+
+/// How the tests of tags are joined, the tests, and the periods.
+type Back = (Matching, Many<TagTest>, Many<Period>);
+
+#[tactic(auto, unfolding(crate::specs::Maintenances::back_of))]
+fn back(alloc: Global, collect: bool, object: &Object<'_, '_>) -> Result<Back, ReadError>
+    ensures { Gives result (back_of collect (object_of object.now)) }
+{
+    let (matching, tags) = tests(alloc, collect, object)?;
+    let periods = periods(alloc, &object.member("periods"))?;
+    Ok((matching, tags, periods))
+}
+
 /// The reader of maintenances.
 struct MaintenanceReader;
 
@@ -287,11 +315,9 @@ impl Named for MaintenanceReader {
         value: &Value,
     ) -> Result<Maintenance, ReadError> {
         let object = Object::at(alloc, path, value)?;
-        let name = new_name(alloc, Form::Title, taken, &object.member("name"))?;
-        let (since, till) = span(alloc, &object)?;
+        let (name, since, till) = front(alloc, taken, &object)?;
         let (collect, hosts, groups) = scope(alloc, &object)?;
-        let (matching, tags) = tests(alloc, collect, &object)?;
-        let periods = periods(alloc, &object.member("periods"))?;
+        let (matching, tags, periods) = back(alloc, collect, &object)?;
         Ok(Maintenance {
             name,
             since,

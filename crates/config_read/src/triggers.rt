@@ -1,8 +1,10 @@
 //! Triggers.
 
+ghost use Rattle.std.specs.Prelude.{◌≡◌, ◌++◌, ◌∷◌, [], IfOk};
 ghost use Rattle.json_form.specs.Faults.{Gives};
 ghost use Rattle.json_form.specs.Places.{place_of, object_of, given_or, number_between};
-ghost use Rattle.config_read.specs.Triggers.{tag_of, depend_of, unused_text, recovery_text, recovery_of, closing_of, tags_of, links_of, trigger_of, triggers_of};
+ghost use Rattle.config_read.specs.Triggers.{tag_of, depend_of, unused_text, recovery_text, recovery_of, closing_of, tags_of, links_of};
+ghost use Rattle.config_read.specs.Triggers.{front_of, problems_of, back_of, trigger_of, triggers_of};
 
 use crate::naming::{Form, new_name};
 use crate::raw::{RawDepend, RawTrigger};
@@ -112,6 +114,42 @@ fn links(alloc: Global, object: &Object<'_, '_>) -> Result<(Many<Tag>, Many<RawD
     Ok((tags, depends))
 }
 
+/// The name, the expression, how problems close, and the recovery expression.
+type Front = (Text, Text, RecoveryMode, Text);
+
+#[tactic(auto, unfolding(crate::specs::Triggers::front_of))]
+fn front(alloc: Global, taken: &mut Names, object: &Object<'_, '_>) -> Result<Front, ReadError>
+    ensures gives { Gives result (front_of taken.old (object_of object.now)) }
+    ensures taken { IfOk result (λ front. taken.new ≡ taken.old ++ front.0 ∷ []) }
+{
+    let name = new_name(alloc, Form::Title, taken, &object.member("name"))?;
+    let expression = object.member("expression").text(alloc)?;
+    let (recovery, recovery_expression) = recovery(alloc, object)?;
+    Ok((name, expression, recovery, recovery_expression))
+}
+
+/// Whether problems stand side by side, the tag by which they close, and how severe they are.
+#[tactic(auto, unfolding(crate::specs::Triggers::problems_of))]
+fn problems(alloc: Global, object: &Object<'_, '_>) -> Result<(bool, Text, u8), ReadError>
+    ensures { Gives result (problems_of (object_of object.now)) }
+{
+    let (multiple, close_tag) = closing(alloc, object)?;
+    let severity = severity(alloc, &object.member("severity"))?;
+    Ok((multiple, close_tag, severity))
+}
+
+/// The tags, the triggers that it depends on, and whether it is evaluated.
+type Back = (Many<Tag>, Many<RawDepend>, bool);
+
+#[tactic(auto, unfolding(crate::specs::Triggers::back_of))]
+fn back(alloc: Global, object: &Object<'_, '_>) -> Result<Back, ReadError>
+    ensures { Gives result (back_of (object_of object.now)) }
+{
+    let (tags, depends) = links(alloc, object)?;
+    let enabled = object.member("enabled").truth_or(alloc, true)?;
+    Ok((tags, depends, enabled))
+}
+
 /// The reader of triggers.
 struct TriggerReader;
 
@@ -130,13 +168,9 @@ impl Named for TriggerReader {
         value: &Value,
     ) -> Result<RawTrigger, ReadError> {
         let object = Object::at(alloc, path, value)?;
-        let name = new_name(alloc, Form::Title, taken, &object.member("name"))?;
-        let expression = object.member("expression").text(alloc)?;
-        let (recovery, recovery_expression) = recovery(alloc, &object)?;
-        let (multiple, close_tag) = closing(alloc, &object)?;
-        let severity = severity(alloc, &object.member("severity"))?;
-        let (tags, depends) = links(alloc, &object)?;
-        let enabled = object.member("enabled").truth_or(alloc, true)?;
+        let (name, expression, recovery, recovery_expression) = front(alloc, taken, &object)?;
+        let (multiple, close_tag, severity) = problems(alloc, &object)?;
+        let (tags, depends, enabled) = back(alloc, &object)?;
         Ok(RawTrigger {
             name,
             expression,
