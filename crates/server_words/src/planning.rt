@@ -1,6 +1,6 @@
 //! From words to a plan.
 
-ghost use Rattle.std.specs.Prelude.{◌≡◌, IfOk, IsErrOf, Some, None, option_and_then, codes};
+ghost use Rattle.std.specs.Prelude.{◌≡◌, [], IfOk, IsErrOf, Some, None, option_and_then, unwrap_or, codes};
 ghost use Rattle.clap.specs.Words.{found_of, first_of, rows_of};
 ghost use Rattle.server_words.specs.Words.{plan_of, plan_in, plan_with, mode_of, number_in, numbers_in, has_needed};
 
@@ -137,6 +137,28 @@ fn text_in(alloc: Global, matches: &ArgMatches, name: &str) -> Result<Option<Tex
     }
 }
 
+/// Copies of the texts of two options.
+fn texts_in(
+    alloc: Global,
+    matches: &ArgMatches,
+    one: &str,
+    other: &str,
+) -> Result<(Option<Text>, Option<Text>), OutOfMemory>
+    ensures one { IfOk result (λ made. made.0 ≡ first_of one.now (rows_of (found_of matches.now))) }
+    ensures other { IfOk result (λ made. made.1 ≡ first_of other.now (rows_of (found_of matches.now))) }
+{
+    let first = text_in(alloc, matches, one)?;
+    let second = text_in(alloc, matches, other)?;
+    Ok((first, second))
+}
+
+/// A copy of the outbox's path.
+fn outbox_in(alloc: Global, matches: &ArgMatches) -> Result<Text, OutOfMemory>
+    ensures { IfOk result (λ made. made ≡ unwrap_or (first_of (codes "outbox") (rows_of (found_of matches.now))) []) }
+{
+    Ok(text_in(alloc, matches, "outbox")?.unwrap_or(Text::new(alloc)))
+}
+
 /// The plan with this mode and these numbers, and with copies of the options' texts.
 fn plan_with(
     alloc: Global,
@@ -146,13 +168,16 @@ fn plan_with(
 ) -> Result<Plan, OutOfMemory>
     ensures { IfOk result (λ plan. plan ≡ plan_with (rows_of (found_of matches.now)) mode numbers) }
 {
+    let outbox = outbox_in(alloc, matches)?;
+    let (config, script) = texts_in(alloc, matches, "config", "script")?;
+    let (listen, journal) = texts_in(alloc, matches, "listen", "journal")?;
     Ok(Plan {
         mode,
-        config: text_in(alloc, matches, "config")?,
-        script: text_in(alloc, matches, "script")?,
-        listen: text_in(alloc, matches, "listen")?,
-        journal: text_in(alloc, matches, "journal")?,
-        outbox: text_in(alloc, matches, "outbox")?.unwrap_or(Text::new(alloc)),
+        config,
+        script,
+        listen,
+        journal,
+        outbox,
         syncers: numbers.syncers,
         turns: numbers.turns,
         max_entries: numbers.max_entries,
