@@ -1,5 +1,5 @@
 -- A text goes on exactly as far as the machine does.
-use Rattle.std.proofs.Math.Seq.{take-add}
+use Rattle.std.proofs.Math.Seq.{take-add, take-length}
 use Rattle.std.proofs.lemmas.List.{get_or-drop, take_all, length-drop}
 use Rattle.std.proofs.lemmas.Str.{encode_ascii, IsUtf8-append, IsUtf8-encode, IsUtf8-nil}
 use Rattle.std.proofs.lemmas.Bool.Decides.{nat_tests}
@@ -48,6 +48,10 @@ tells = record { lives = viable; stops = not_viable }
 
 pub reached_start : (text : List ℕ) → Reached step start text 0 start
 reached_start text = runs.reached_start step start text start refl
+
+-- the state behind a whole text
+pub reached_whole : (text : List ℕ) (i : ℕ) (s : State) → i ≡ length text → after (Some start) text ≡ Some s → Reached step start text i s
+reached_whole text i s e r = record { is = rw (e, take-length text) r }
 
 -- what is left behind the first i bytes
 pub left : (text : List ℕ) (i : ℕ) → take (length text - i) (drop i text) ≡ drop i text

@@ -53,7 +53,7 @@ impl State {
     fn to(&mut self, mode: Mode) -> Moved
         ensures { IfOk result (λ on. reach on self.new ≡ machine.to mode self.old.stack) }
     {
-        self.mode = mode;
+        drop(replace(&mut self.mode, mode));
         Ok(true)
     }
 
@@ -65,6 +65,7 @@ impl State {
         if self.stack.len() < DEEPEST {
             self.to(mode)
         } else {
+            drop(mode);
             Ok(false)
         }
     }
@@ -101,7 +102,10 @@ impl State {
         ensures { IfOk result (λ on. reach on self.new ≡ machine.comma value self.old.stack) }
     {
         match self.stack.pop() {
-            None => Ok(false),
+            None => {
+                drop(value);
+                Ok(false)
+            }
             Some(Frame::Array(items)) => {
                 let items = with_item(items, value)?;
                 self.stack.push(Frame::Array(items))?;
@@ -119,12 +123,15 @@ impl State {
         ensures { IfOk result (λ on. reach on self.new ≡ machine.close_array value self.old.stack) }
     {
         match self.stack.pop() {
-            None => Ok(false),
             Some(Frame::Array(items)) => {
                 let items = with_item(items, value)?;
                 self.to(Mode::Done(Read::new(Tree::List(items))))
             }
-            Some(Frame::Object(_, _)) => Ok(false),
+            other => {
+                drop(other);
+                drop(value);
+                Ok(false)
+            }
         }
     }
 
@@ -133,11 +140,14 @@ impl State {
         ensures { IfOk result (λ on. reach on self.new ≡ machine.close_object value self.old.stack) }
     {
         match self.stack.pop() {
-            None => Ok(false),
-            Some(Frame::Array(_)) => Ok(false),
             Some(Frame::Object(members, name)) => {
                 let members = members.put(name, value)?.into_members(alloc)?;
                 self.to(Mode::Done(Read::new(Tree::Object(members))))
+            }
+            other => {
+                drop(other);
+                drop(value);
+                Ok(false)
             }
         }
     }
@@ -151,7 +161,10 @@ impl State {
             b']' => self.close_array(value),
             b'}' => self.close_object(alloc, value),
             _ if is_blank(byte) => self.to(Mode::Done(value)),
-            _ => Ok(false),
+            _ => {
+                drop(value);
+                Ok(false)
+            }
         }
     }
 
@@ -163,6 +176,7 @@ impl State {
         if byte == want {
             self.to(mode)
         } else {
+            drop(mode);
             Ok(false)
         }
     }
@@ -331,7 +345,8 @@ impl State {
             None => Ok(0),
             Some(text) => {
                 let length = text.len() + 2;
-                self.mode = behind_string(alloc, replace(&mut self.mode, Mode::Value), text);
+                let mode = replace(&mut self.mode, Mode::Value);
+                drop(replace(&mut self.mode, behind_string(alloc, mode, text)));
                 Ok(length)
             }
         }
@@ -374,13 +389,19 @@ impl State {
         ensures { option_map json_of result ≡ machine.ends self }
     {
         let State { mode, stack } = self;
-        if stack.len() > 0 {
+        let open_ones = stack.len();
+        drop(stack);
+        if open_ones > 0 {
+            drop(mode);
             return None;
         }
         match mode {
             Mode::Number(place, text) if may_end(place) => Some(Tree::Number(text_of(text))),
             Mode::Done(value) => Some(value.into_tree()),
-            _ => None,
+            other => {
+                drop(other);
+                None
+            }
         }
     }
 }

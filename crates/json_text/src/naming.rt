@@ -1,7 +1,10 @@
 //! The members of an object, and their names.
 
-ghost use Rattle.std.specs.Prelude.{◌≡◌, IfOk, OnOk, IsTrue};
+ghost use Rattle.std.specs.Prelude.{◌≡◌, IfOk, OnOk, IsTrue, Some};
+ghost use Rattle.std.specs.BTreeMap.{Updates};
+ghost use Rattle.std.specs.Cmp.Lexicographic.{slice_cmp};
 ghost use Rattle.std.specs.List.{list_any};
+ghost use Rattle.std.specs.Ordering.{nat_cmp};
 ghost use Rattle.std.specs.Str.{bytes_eq};
 ghost use Rattle.json_text.specs.Json.{no_members, put};
 ghost use Rattle.json_text.specs.Naming.{Finds, put_all};
@@ -12,6 +15,7 @@ use crate::tree::{Member, Members};
 use std::alloc::Global;
 use std::collections::BTreeMap;
 use std::marker::Model;
+use std::mem::replace;
 use zbx_types::{OutOfMemory, Text};
 
 /// The most members whose names are compared with each other.
@@ -58,6 +62,19 @@ fn are_distinct(pairs: &[Member]) -> bool
     true
 }
 
+/// Notes the place of a name.
+fn note(
+    alloc: Global,
+    places: &mut BTreeMap<Text, usize>,
+    name: &Text,
+    place: usize,
+) -> Result<(), OutOfMemory>
+    ensures { OnOk result (Updates (slice_cmp nat_cmp) places.old places.new name.now (Some place)) }
+{
+    places.insert(name.copy(alloc)?, place)?;
+    Ok(())
+}
+
 /// Puts a member among others, whose places are known by their names.
 fn put_member(
     alloc: Global,
@@ -72,13 +89,21 @@ fn put_member(
 {
     let found = places.get(&pair.name).copied();
     match found {
-        Some(place) => members[place].value = pair.value,
-        None => {
-            places.insert(pair.name.copy(alloc)?, members.len())?;
-            members.push(pair)?;
+        Some(place) => {
+            drop(replace(&mut members[place].value, pair.value));
+            Ok(())
         }
+        None => match note(alloc, places, &pair.name, members.len()) {
+            Ok(()) => {
+                members.push(pair)?;
+                Ok(())
+            }
+            Err(OutOfMemory) => {
+                drop(pair);
+                Err(OutOfMemory)
+            }
+        },
     }
-    Ok(())
 }
 
 /// The members that these make, in order.

@@ -1,9 +1,10 @@
 //! Reading of JSON texts.
 
-ghost use Rattle.std.specs.Prelude.{◌≡◌, IfOk, IfErr, ℕ};
+ghost use Rattle.std.specs.Prelude.{◌≡◌, ◌≤◌, ◌<◌, IfOk, IfErr, Some, ℕ, length};
 ghost use Rattle.byte_grammar.specs.Fault.{IsFault};
 ghost use Rattle.json_text.specs.Grammar.{IsJson, IsText};
 ghost use Rattle.json_text.specs.Json.{Json};
+ghost use Rattle.json_text.specs.Machine as machine;
 ghost use Rattle.json_text.specs.declared.reading.ReadError.TheVariants.{At};
 ghost use Rattle.json_text.specs.Trees.{json_of};
 
@@ -11,6 +12,7 @@ use crate::machine::State;
 use crate::tree::Tree;
 use std::alloc::Global;
 use thiserror::Error;
+use zbx_types::OutOfMemory;
 
 /// Why a text was not read.
 #[derive(Clone, Copy, Debug, PartialEq, Eq, Error)]
@@ -22,6 +24,25 @@ pub enum ReadError {
     /// No memory was to be had.
     #[error("out of memory")]
     OutOfMemory,
+}
+
+/// Takes the bytes of a text from its beginning for as long as a JSON text goes on with them, and answers how many.
+fn front(alloc: Global, state: &mut State, bytes: &[u8]) -> Result<usize, OutOfMemory>
+    requires { state.old ≡ machine.start }
+    ensures within { IfOk result (λ n. n ≤ length bytes.now) }
+    ensures whole { IfOk result (λ n. n ≡ length bytes.now → machine.after (Some machine.start) bytes.now ≡ Some state.new) }
+    ensures none { IfOk result (λ n. n < length bytes.now → IsText bytes.now → ⊥) }
+    ensures place { IfOk result (λ n. n < length bytes.now → IsFault IsText bytes.now n) }
+{
+    let mut count = 0;
+    while count < bytes.len() {
+        let taken = state.advance(alloc, &bytes[count..])?;
+        if taken == 0 {
+            return Ok(count);
+        }
+        count += taken;
+    }
+    Ok(count)
 }
 
 /// Reads a JSON text (RFC 8259), in a time that grows as its length does, and as n log n with the names of an object,
@@ -39,16 +60,18 @@ pub fn read(alloc: Global, bytes: &[u8]) -> Result<Tree, ReadError>
     ensures place { IfErr result (λ e. (at : ℕ) → e ≡ At at → IsFault IsText bytes.now at) }
 {
     let mut state = State::start(alloc);
-    let mut count = 0;
-    while count < bytes.len() {
-        match state.advance(alloc, &bytes[count..]) {
-            Ok(0) => return Err(ReadError::At(count as u64)),
-            Ok(taken) => count += taken,
-            Err(_) => return Err(ReadError::OutOfMemory),
+    match front(alloc, &mut state, bytes) {
+        Ok(count) if count < bytes.len() => {
+            drop(state);
+            Err(ReadError::At(count as u64))
         }
-    }
-    match state.end() {
-        Some(tree) => Ok(tree),
-        None => Err(ReadError::At(count as u64)),
+        Ok(count) => match state.end() {
+            Some(tree) => Ok(tree),
+            None => Err(ReadError::At(count as u64)),
+        },
+        Err(OutOfMemory) => {
+            drop(state);
+            Err(ReadError::OutOfMemory)
+        }
     }
 }

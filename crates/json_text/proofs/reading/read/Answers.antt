@@ -1,59 +1,46 @@
-use Rattle.std.proofs.Common.{arith, rules, sym, ◌≡◌, ℕ, subst, length}
+use Rattle.std.proofs.Common.{rules, sym, ◌≡◌, ℕ, subst, length}
 use Rattle.byte_grammar.specs.Fault.{IsFault}
 use Rattle.json_text.specs.Grammar.{IsText}
 use Rattle.json_text.specs.Trees.{json_of}
 use Rattle.json_text.proofs.Complete.{one_value}
-use Rattle.json_text.proofs.Places.{left, reached_start, reached_on, fault_stop, none_stop, fault_end, none_end, found_end, sane}
+use Rattle.json_text.proofs.Places.{reached_whole, fault_end, none_end, found_end, sane}
 use Rattle.json_text.proofs.reading.read.Goals as goal
 
-pub loop-count-init : goal.loop-count-init
-loop-count-init c = record { within = omega arith; reached = rw c.start-state.ensures (reached_start c.args.bytes.now) }
+pub front-requires : goal.front-requires
+front-requires c = c.start-state.ensures
 
-pub advance-requires-clause-sane : goal.advance-requires-clause-sane
-advance-requires-clause-sane c = sane c.args.bytes.now c.loop-count.count c.loop-count.state c.loop-count.invariant.reached
+pub returns-in-Ok-clause-none : goal.returns-in-Ok-clause-none
+returns-in-Ok-clause-none c = λ at e t. c.in-Ok.ensures.none (search rules) t
 
-pub returns-in-Ok-eq0-clause-none : goal.returns-in-Ok-eq0-clause-none
-returns-in-Ok-eq0-clause-none c = λ at e t.
-    let stops = c.in-Ok-eq0.ensures.stops c.in-Ok-eq0.field-0-test in
-    none_stop c.args.bytes.now c.loop-count.count c.loop-count.state (search rules) c.loop-count.invariant.reached (rw (left c.args.bytes.now c.loop-count.count) at stops) t
-
-pub returns-in-Ok-eq0-clause-place : goal.returns-in-Ok-eq0-clause-place
-returns-in-Ok-eq0-clause-place c = λ at e.
-    let stops = c.in-Ok-eq0.ensures.stops c.in-Ok-eq0.field-0-test in
-    let f : c.loop-count.count ≡ at = cc in
-    subst (λ (i : ℕ). IsFault IsText c.args.bytes.now i) f
-    (fault_stop c.args.bytes.now c.loop-count.count c.loop-count.state (search rules) c.loop-count.invariant.reached (rw (left c.args.bytes.now c.loop-count.count) at stops))
-
-pub loop-count-preserved : goal.loop-count-preserved
-loop-count-preserved c =
-    let goes = c.in-Ok.ensures.goes (search rules) in
-    record {
-      within = search rules;
-      reached = reached_on c.args.bytes.now c.loop-count.count c.in-Ok.taken c.loop-count.state c.advance.new.self c.loop-count.invariant.reached (rw (left c.args.bytes.now c.loop-count.count) at goes);
-    }
+pub returns-in-Ok-clause-place : goal.returns-in-Ok-clause-place
+returns-in-Ok-clause-place c = λ at e.
+    let f : c.in-Ok.count ≡ at = cc in
+    subst (λ (i : ℕ). IsFault IsText c.args.bytes.now i) f (c.in-Ok.ensures.place (search rules))
 
 pub end-requires : goal.end-requires
-end-requires c = sane c.args.bytes.now c.loop-count.count c.loop-count.state c.loop-count.invariant.reached
+end-requires c =
+    let all : c.in-Ok-2.count ≡ length c.args.bytes.now = search rules in
+    sane c.args.bytes.now c.in-Ok-2.count c.front.new.state (reached_whole c.args.bytes.now c.in-Ok-2.count c.front.new.state all (c.in-Ok-2.ensures.whole all))
 
 pub returns-in-Some-clause-found : goal.returns-in-Some-clause-found
 returns-in-Some-clause-found c =
-    let all : c.loop-count.count ≡ length c.args.bytes.now = search rules in
-    found_end c.args.bytes.now c.loop-count.count c.loop-count.state (json_of c.in-Some.tree) all c.loop-count.invariant.reached (sym c.in-Some.ensures)
+    let all : c.in-Ok-2.count ≡ length c.args.bytes.now = search rules in
+    found_end c.args.bytes.now c.in-Ok-2.count c.front.new.state (json_of c.in-Some.tree) all (reached_whole c.args.bytes.now c.in-Ok-2.count c.front.new.state all (c.in-Ok-2.ensures.whole all)) (sym c.in-Some.ensures)
 
 pub returns-in-Some-clause-only : goal.returns-in-Some-clause-only
 returns-in-Some-clause-only c = λ j g.
-    let all : c.loop-count.count ≡ length c.args.bytes.now = search rules in
+    let all : c.in-Ok-2.count ≡ length c.args.bytes.now = search rules in
     one_value c.args.bytes.now j (json_of c.in-Some.tree) g
-    (found_end c.args.bytes.now c.loop-count.count c.loop-count.state (json_of c.in-Some.tree) all c.loop-count.invariant.reached (sym c.in-Some.ensures))
+    (found_end c.args.bytes.now c.in-Ok-2.count c.front.new.state (json_of c.in-Some.tree) all (reached_whole c.args.bytes.now c.in-Ok-2.count c.front.new.state all (c.in-Ok-2.ensures.whole all)) (sym c.in-Some.ensures))
 
 pub returns-in-None-clause-none : goal.returns-in-None-clause-none
 returns-in-None-clause-none c = λ at e t.
-    let all : c.loop-count.count ≡ length c.args.bytes.now = search rules in
-    none_end c.args.bytes.now c.loop-count.count c.loop-count.state all c.loop-count.invariant.reached (sym c.in-None.ensures) t
+    let all : c.in-Ok-2.count ≡ length c.args.bytes.now = search rules in
+    none_end c.args.bytes.now c.in-Ok-2.count c.front.new.state all (reached_whole c.args.bytes.now c.in-Ok-2.count c.front.new.state all (c.in-Ok-2.ensures.whole all)) (sym c.in-None.ensures) t
 
 pub returns-in-None-clause-place : goal.returns-in-None-clause-place
 returns-in-None-clause-place c = λ at e.
-    let f : c.loop-count.count ≡ at = cc in
-    let all : c.loop-count.count ≡ length c.args.bytes.now = search rules in
+    let f : c.in-Ok-2.count ≡ at = cc in
+    let all : c.in-Ok-2.count ≡ length c.args.bytes.now = search rules in
     subst (λ (i : ℕ). IsFault IsText c.args.bytes.now i) f
-    (fault_end c.args.bytes.now c.loop-count.count c.loop-count.state all c.loop-count.invariant.reached)
+    (fault_end c.args.bytes.now c.in-Ok-2.count c.front.new.state all (reached_whole c.args.bytes.now c.in-Ok-2.count c.front.new.state all (c.in-Ok-2.ensures.whole all)))

@@ -14,5 +14,5 @@ returns-in-None-clause-goes c = no_step _
 pub returns-in-Some-clause-goes : goal.returns-in-Some-clause-goes
 returns-in-Some-clause-goes c =
     let found : IsQuoted c.in-Some.text c.args.rest.now = search rules in
-    string_front c.args.self.now.mode c.behind_string.result c.in-Some.text c.args.self.now.stack c.args.rest.now (c.len-length.result + 2)
-    (search rules) found (c.behind_string.ensures ∙ ap (λ (m : Mode). behind_string m c.in-Some.text) c.replace.ensures.value) (ap (λ (n : ℕ). n + 2) c.len-length.ensures)
+    string_front c.args.self.now.mode c.replace.new.dest c.in-Some.text c.args.self.now.stack c.args.rest.now (c.len-length.result + 2)
+    (search rules) found (c.replace.ensures.after ∙ c.behind_string.ensures ∙ ap (λ (m : Mode). behind_string m c.in-Some.text) c.replace-mode.ensures.value) (ap (λ (n : ℕ). n + 2) c.len-length.ensures)

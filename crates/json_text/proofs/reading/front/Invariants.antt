@@ -1,7 +1,7 @@
 use Rattle.std.proofs.Common.{length, ◌-◌, ◌≤◌}
 use Rattle.byte_grammar.proofs.Faults.{Reached}
 use Rattle.json_text.specs.Machine.{step, start}
-use Rattle.json_text.proofs.reading.read.Given as goal
+use Rattle.json_text.proofs.reading.front.Given as goal
 
 abbrev pub invariant-loop-count : goal.invariant-loop-count
 invariant-loop-count l = record {
