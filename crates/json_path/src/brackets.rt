@@ -61,6 +61,7 @@ fn over(selector: Selector, byte: u8) -> Chosen
     } else if byte == b']' {
         Chosen::Closed(selector)
     } else {
+        drop(selector);
         Chosen::Wrong
     }
 }

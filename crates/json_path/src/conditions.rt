@@ -235,6 +235,7 @@ fn literal_over(condition: Condition, byte: u8) -> Checked
     } else if byte == b')' {
         Checked::Met(condition)
     } else {
+        drop(condition);
         Checked::Wrong
     }
 }

@@ -255,11 +255,7 @@ fn inside(
 fn only(done: Many<Segment>, place: Place, wanted: u8, byte: u8) -> Option<State>
     ensures { result ≡ (if byte == wanted then Some (state done place) else None) }
 {
-    if byte == wanted {
-        Some(State { done, place })
-    } else {
-        None
-    }
+    (byte == wanted).then_some(State { done, place })
 }
 
 /// The state behind one byte more, or none where no path goes on with it.
@@ -311,6 +307,9 @@ pub fn ended(alloc: Global, now: State) -> Result<Option<Path>, OutOfMemory>
         Place::Behind => Ok(whole(done, None)),
         Place::Name(deep, spelling) => named(alloc, done, deep, text_of(alloc, &spelling.bytes)?),
         Place::Called(function) => Ok(whole(done, Some(function))),
-        _ => Ok(None),
+        other => {
+            drop(other);
+            Ok(None)
+        }
     }
 }
