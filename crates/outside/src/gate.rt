@@ -36,6 +36,7 @@ pub struct HoldGate {
     after: u64,
     turns: u64,
     calls: AtomicU64,
+    waited: AtomicU64,
     hold: AtomicU64,
 }
 
@@ -46,6 +47,7 @@ impl HoldGate {
             after,
             turns,
             calls: AtomicU64::new(0),
+            waited: AtomicU64::new(0),
             hold: AtomicU64::new(NOBODY),
         }
     }
@@ -60,6 +62,11 @@ impl HoldGate {
         self.calls.load(SeqCst)
     }
 
+    /// How many turns the syncer that was held has waited so far.
+    pub fn turns_waited(&self) -> u64 {
+        self.waited.load(SeqCst)
+    }
+
     /// Waits until another syncer ends the hold, or the turns are spent.
     fn wait(&self, held: u64) {
         for _ in 0..self.turns {
@@ -67,6 +74,7 @@ impl HoldGate {
                 return;
             }
             yield_now();
+            self.waited.fetch_add(1, SeqCst);
         }
         let _ = self.hold.compare_exchange(held, SPENT, SeqCst, SeqCst);
     }

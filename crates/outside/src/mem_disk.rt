@@ -16,10 +16,11 @@ use crate::overwriting::{lay, stretch};
 use crate::tally::Tally;
 use std::alloc::Global;
 use std::marker::Model;
+use std::mem::replace;
 use zbx_types::{Bytes, Many, OutOfMemory};
 
 /// A call that changed a disk, or that made what it held durable.
-#[derive(Debug, Drop)]
+#[derive(Drop)]
 pub enum Call {
     /// A write at a place.
     Wrote { at: u64, bytes: Bytes },
@@ -87,7 +88,8 @@ impl MemDisk {
         ensures err { OnErr result (self.new ≡ self.old) }
     {
         if self.written.is_none() {
-            self.written = Some(Bytes::of(self.alloc, self.first.as_slice())?);
+            let copy = Bytes::of(self.alloc, self.first.as_slice())?;
+            drop(replace(&mut self.written, Some(copy)));
         }
         match &mut self.written {
             Some(bytes) => put_and_keep(self.alloc, bytes, &mut self.kept, at, piece),
@@ -115,7 +117,7 @@ fn put_and_keep(
     let copy = Bytes::of(alloc, piece)?;
     let length = bytes.len();
     stretch(alloc, bytes, end)?;
-    if kept.push(Call::Wrote { at, bytes: copy }).is_err() {
+    if kept.push(Call::Wrote { at, bytes: copy }).ok().is_none() {
         bytes.truncate(length);
         return Err(OutOfMemory);
     }
@@ -211,7 +213,7 @@ impl Disk for MemDisk {
             self.faults = self.faults.saturating_add(1);
             return Err(Failed);
         }
-        if self.kept.push(Call::Synced).is_err() {
+        if self.kept.push(Call::Synced).ok().is_none() {
             self.refused.rise();
             self.faults = self.faults.saturating_add(1);
             return Err(Failed);

@@ -1,6 +1,6 @@
 //! The workload of a number: a source that has its configuration, and a wire that makes its events.
 
-ghost use Rattle.std.specs.Prelude.{◌≡◌, ◌≤◌, ◌+◌, None, Some, [], IsOk, IfOk, OnErr, IsErrOf};
+ghost use Rattle.std.specs.Prelude.{◌≡◌, ◌≤◌, ◌+◌, false, None, Some, [], IsOk, IfOk, OnErr, IsErrOf};
 ghost use Rattle.outside.specs.Calls.{no_calls};
 ghost use Rattle.outside.specs.Causes.{HasCause};
 ghost use Rattle.outside.specs.Events.{Gives, CountsGiven};
@@ -84,7 +84,9 @@ impl Wire for WorkWire {
     }
 
     /// Never.
-    fn ready(&self) -> bool {
+    fn ready(&self) -> bool
+        ensures { result ≡ false }
+    {
         false
     }
 

@@ -302,7 +302,7 @@ fn a_gate_holds_the_first_later_caller_for_its_turns(rt: HostRuntime) -> Result<
     gate.reached(1, 6);
     gate.reached(0, 7);
     gate.reached(1, 8);
-    assert_eq!(rt; gate.calls(), 4);
+    assert_eq!(rt; (gate.calls(), gate.turns_waited()), (4, 3));
     assert!(rt; !gate.ended_by_other());
     Ok(())
 }

@@ -1,3 +1,4 @@
 pub mod Adapters
 pub mod Pieces
 pub mod Queues
+pub mod SinkLaws

@@ -4,6 +4,7 @@ ghost use Rattle.std.specs.Prelude.{◌≡◌, ◌≤◌, ◌<◌, true, false, 
 ghost use Rattle.std.specs.Option.{option_and_then};
 ghost use Rattle.std.specs.Io.KnownBytes.{WriteAppends};
 ghost use Rattle.wire_mio.specs.Adapters.{counted};
+ghost use Rattle.wire_mio.specs.SinkLaws.{counted_held};
 
 use outside::{Failed, Sink};
 use std::io::Write;
@@ -54,7 +55,9 @@ impl<W: Write> WriterSink<W> {
 }
 
 impl<W: Write> Sink for WriterSink<W> {
-    ghost tells = { λ s. record { bytes = s.bytes; held = s.held; faults = s.faults } };
+    ghost tells = { λ s. record { bytes = counted s.held s.bytes; held = s.held; faults = s.faults } };
+
+    ghost held_is = { λ s. counted_held s.held s.bytes };
 
     fn faults(&self) -> u64 {
         self.faults
