@@ -3,10 +3,8 @@
 use mio::net::TcpStream;
 use mio::{Events, Interest, Poll, Token};
 use outside::Failed;
-use std::alloc::Global;
 use std::io::{ErrorKind, Write};
 use std::time::Duration;
-use zbx_types::OutOfMemory;
 
 /// How often a send waits for room, and how many milliseconds each time.
 const ROOM_WAITS: u32 = 1_000;
@@ -21,12 +19,9 @@ pub(crate) struct Room {
 }
 
 impl Room {
-    /// Looks at no connection yet. It takes what the system looks with.
-    pub(crate) fn new(alloc: Global, poll: Poll) -> Result<Room, OutOfMemory> {
-        Ok(Room {
-            poll,
-            events: Events::with_capacity(alloc, 1)?,
-        })
+    /// Looks at no connection yet. It takes what the system looks with, and the place of what it reports.
+    pub(crate) fn new(poll: Poll, events: Events) -> Room {
+        Room { poll, events }
     }
 
     /// Sends bytes on a connection, and waits for room where there is none.

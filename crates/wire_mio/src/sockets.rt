@@ -52,6 +52,35 @@ pub(crate) struct Sockets {
     room: Room,
 }
 
+/// The places for what is reported. They are allocated once.
+#[derive(Drop)]
+struct Places {
+    events: Events,
+    reported: VecDeque<u64>,
+    room_events: Events,
+}
+
+impl Places {
+    fn new(alloc: Global) -> Result<Places, OutOfMemory> {
+        let events = Events::with_capacity(alloc, REPORTS)?;
+        let reported = VecDeque::with_capacity(alloc, REPORTS)?;
+        let room_events = Events::with_capacity(alloc, 1)?;
+        Ok(Places {
+            events,
+            reported,
+            room_events,
+        })
+    }
+}
+
+/// What the system looks at sockets with.
+#[derive(Drop)]
+struct Handles {
+    poll: Poll,
+    listener: TcpListener,
+    room: Poll,
+}
+
 impl Sockets {
     /// Listens on an address. None where no socket is to be had there.
     pub(crate) fn listen<N: Net>(
@@ -62,18 +91,37 @@ impl Sockets {
         let Ok(address) = address.parse::<SocketAddr>() else {
             return Ok(None);
         };
-        let Ok((poll, listener, room)) = opened(net, address) else {
-            return Ok(None);
-        };
-        Ok(Some(Sockets {
+        let places = Places::new(alloc)?;
+        match opened(net, address).ok() {
+            Some(handles) => Ok(Some(Sockets::of(alloc, handles, places))),
+            None => {
+                drop(places);
+                Ok(None)
+            }
+        }
+    }
+
+    /// Sockets of which nothing is reported yet. Takes no memory.
+    fn of(alloc: Global, handles: Handles, places: Places) -> Sockets {
+        let Handles {
             poll,
-            events: Events::with_capacity(alloc, REPORTS)?,
             listener,
-            reported: VecDeque::with_capacity(alloc, REPORTS)?,
+            room,
+        } = handles;
+        let Places {
+            events,
+            reported,
+            room_events,
+        } = places;
+        Sockets {
+            poll,
+            events,
+            listener,
+            reported,
             unsettled: VecDeque::new(alloc),
             buffer: Vec::new(alloc),
-            room: Room::new(alloc, room)?,
-        }))
+            room: Room::new(room, room_events),
+        }
     }
 
     /// Looks once at the sockets, for a tenth of a second at most where nothing comes, and adds what they brought to a
@@ -395,10 +443,14 @@ impl Sockets {
 }
 
 /// A listening socket, with what reports on it, and what looks for room.
-fn opened<N: Net>(net: &N, address: SocketAddr) -> io::Result<(Poll, TcpListener, Poll)> {
+fn opened<N: Net>(net: &N, address: SocketAddr) -> io::Result<Handles> {
+    let room = Poll::new(net)?;
     let poll = Poll::new(net)?;
     let mut listener = TcpListener::bind(net, address)?;
     poll.registry().register(&mut listener, Token(LISTENER as usize), Interest::READABLE)?;
-    let room = Poll::new(net)?;
-    Ok((poll, listener, room))
+    Ok(Handles {
+        poll,
+        listener,
+        room,
+    })
 }
