@@ -1,6 +1,6 @@
 //! The cells of triggers.
 
-ghost use Rattle.std.specs.Prelude.{◌≡◌, [], ◌∷◌, None, Some, replicate, IfOk, OnOk, OnErr};
+ghost use Rattle.std.specs.Prelude.{◌≡◌, [], ◌∷◌, None, Some, length, replicate, IfOk, OnOk, OnErr};
 ghost use Rattle.std.specs.Option.{option_or};
 ghost use Rattle.trigger_state.specs.Cells.{opens_in, HasOpen, none_open};
 ghost use Rattle.trigger_state.specs.Problems.{grown};
@@ -45,6 +45,7 @@ impl TriggerCells {
     pub fn new(alloc: Global, conf: &Conf) -> Result<TriggerCells, OutOfMemory>
         ensures opens { IfOk result (λ cells. HasOpen cells none_open) }
         ensures first_tick { IfOk result (λ cells. cells.first_tick ≡ None) }
+        ensures rows { IfOk result (λ cells. length cells.rows ≡ length conf.now.triggers) }
     {
         Ok(TriggerCells {
             rows: no_rows(alloc, conf.triggers.len())?,
