@@ -15,7 +15,10 @@ use Rattle.trigger_state.specs.declared.problems.Open.{Open}
 use Rattle.entry_step.specs.Each.{Each}
 use Rattle.entry_step.specs.Records.{problem_of, closed_records, ruled, ruled_records, last_records, begun_with}
 use Rattle.entry_step.specs.Represents.{problems_at}
-use Rattle.entry_step.specs.Changes.{with_row, with_all, IsAbsorbed, has_fresh, Absorbed}
+use Rattle.entry_step.specs.Changes.{with_row, with_all, changed, outcome_rows, IsAbsorbed, has_fresh, Absorbed, Adds, Leaves, Lands}
+use Rattle.entry_step.specs.declared.changes.Change.{Change}
+use Rattle.entry_step.specs.declared.changes.Change.TheVariants as change
+use Rattle.entry_step.specs.declared.changes.TriggerOutcome.{TriggerOutcome}
 use Rattle.entry_step.specs.declared.changes.Fresh.{Fresh}
 use Rattle.entry_step.proofs.Members.{or_left, or_right, or_cases, or_false_left, each_append, each_sub}
 use Rattle.std.proofs.lemmas.List.{take_more}
@@ -121,14 +124,13 @@ module _ (conf : Conf) (number now : ℕ) (values : List (Option Held)) (id : �
       alone = is ∙ none more (sym (ap length is) ∙ one)
 
   -- as the code has them
-  pub starts_from : (other : Conf) (os own : List Open) (one two : List Rec) (old : List EventId) (others : List Fresh) → other ≡ conf → os ≡ problems_at rows id → one ≡ records → two ≡ records → old ≡ closes.old
-      → own ≡ absorbed_all other id os one → Each (IsAbsorbed other rows two) others → Each (λ (e : EventId). ((id == e.trigger) || has_fresh others e.trigger) ≡ true) old → Absorbed conf rows records (with_all (with_row rows id own) others)
-  starts_from other os own one two old others c o a b d made each whole =
-      starts own others (made ∙ ap (λ x. absorbed_all x id os one) c ∙ ap (λ xs. absorbed_all conf id xs one) o ∙ ap (absorbed_all conf id (problems_at rows id)) a)
-      (subst (λ x. Each (IsAbsorbed x rows records) others) c (subst (λ rs. Each (IsAbsorbed other rows rs) others) b each))
-      (subst (Each (λ (e : EventId). ((id == e.trigger) || has_fresh others e.trigger) ≡ true)) d whole)
+  leaves_from : (other : Conf) (o : TriggerOutcome) → other ≡ conf → Leaves other rows id closes.old records o → Absorbed conf rows o.records (outcome_rows rows id (Some o))
+  leaves_from other o c l =
+      subst (λ rs. Absorbed conf rows rs (outcome_rows rows id (Some o))) (sym l.made)
+      (subst (λ ch. Absorbed conf rows records (with_all (with_row rows id (changed (problems_at rows id) ch)) o.others)) (sym l.own)
+      (starts (absorbed_all other id (problems_at rows id) records) o.others (ap (λ x. absorbed_all x id (problems_at rows id) records) c) (subst (λ x. Each (IsAbsorbed x rows records) o.others) c l.others) l.whole))
 
-  pub alone_from : (made : Rec) (steps : List Rec) (others : List Fresh) → length records ≡ 1 → made ≡ problem → steps ≡ [] → others ≡ []
+  alone_from : (made : Rec) (steps : List Rec) (others : List Fresh) → length records ≡ 1 → made ≡ problem → steps ≡ [] → others ≡ []
       → Absorbed conf rows records (with_all (with_row rows id (problems_at rows id ++ record { problem = made; steps = steps; depth = trigger.depth } ∷ [])) others)
   alone_from made steps others one p s o =
       subst (λ fs. Absorbed conf rows records (with_all (with_row rows id (problems_at rows id ++ open_with made steps ∷ [])) fs)) (sym o)
@@ -137,6 +139,32 @@ module _ (conf : Conf) (number now : ℕ) (values : List (Option Held)) (id : �
     where
       open_with : Rec → List Rec → Open
       open_with x ss = record { problem = x; steps = ss; depth = trigger.depth }
+
+  adds_from : (made : Rec) (o : TriggerOutcome) → made ≡ problem → Adds (record { problem = made; steps = []; depth = trigger.depth }) records o → Absorbed conf rows o.records (outcome_rows rows id (Some o))
+  adds_from made o p a =
+      subst (λ rs. Absorbed conf rows rs (outcome_rows rows id (Some o))) (sym a.made)
+      (subst (λ ch. Absorbed conf rows records (with_all (with_row rows id (changed (problems_at rows id) ch)) o.others)) (sym a.own)
+      (alone_from made [] o.others a.alone p refl a.others))
+
+  pub lands_from : (other : Conf) (made : Rec) (o : TriggerOutcome) → other ≡ conf → made ≡ problem → Lands other rows id (record { problem = made; steps = []; depth = trigger.depth }) closes.old records o
+      → Absorbed conf rows o.records (outcome_rows rows id (Some o))
+  lands_from other made o c p (inl a) = adds_from made o p a
+  lands_from other made o c p (inr l) = leaves_from other o c l
+
+-- the records of an outcome
+pub lands_made : (conf : Conf) (rows : List (List Open)) (id : ℕ) (one : Open) (events : List EventId) (records : List Rec) (o : TriggerOutcome) → Lands conf rows id one events records o → o.records ≡ records
+lands_made conf rows id one events records o (inl a) = a.made
+lands_made conf rows id one events records o (inr l) = l.made
+
+pub leaves_with : (conf : Conf) (rows : List (List Open)) (id : ℕ) (events : List EventId) (records more : List Rec) (all : List Open) (others : List Fresh) → more ≡ records → all ≡ absorbed_all conf id (problems_at rows id) more
+    → Each (IsAbsorbed conf rows more) others → Each (λ (e : EventId). ((id == e.trigger) || has_fresh others e.trigger) ≡ true) events
+    → Leaves conf rows id events records (record { records = records; change = change.Leave all; others = others })
+leaves_with conf rows id events records more all others e own each whole = record {
+  made = refl;
+  own = ap (λ os. change.Leave os) (own ∙ ap (absorbed_all conf id (problems_at rows id)) e);
+  others = subst (λ rs. Each (IsAbsorbed conf rows rs) others) e each;
+  whole = whole;
+}
 
 -- The ends of a trigger's own problems
 pub ends : (conf : Conf) (number now id : ℕ) (rows : List (List Open)) (events : List EventId) (records : List Rec) (own : List Open) → records ≡ flat_map (closed_records conf number now causes.Expression (problems_at rows id)) events

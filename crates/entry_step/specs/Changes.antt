@@ -1,5 +1,5 @@
 -- How a step changes what is kept of the triggers, and how that is put back.
-use Rattle.std.specs.Prelude.{◌≡◌, ℕ, ◌-◌, ◌==◌, Bool, true, List, [], ◌∷◌, ◌++◌, reverse, take, length, Option, Some, None, is_some, ℤ, if◌then◌else◌, slice_set, slice_index_or}
+use Rattle.std.specs.Prelude.{◌≡◌, ◌⊎◌, ℕ, ◌-◌, ◌==◌, ◌||◌, Bool, true, List, [], ◌∷◌, ◌++◌, reverse, take, length, Option, Some, None, is_some, ℤ, if◌then◌else◌, slice_set, slice_index_or}
 use Rattle.std.specs.List.{list_any}
 use Rattle.std.specs.Option.{unwrap_or}
 use Rattle.zbx_types.specs.declared.conf.Conf.{Conf}
@@ -80,6 +80,26 @@ IsAbsorbed conf rows more f = f.opens ≡ absorbed_all conf f.id (problems_at ro
 -- the trigger with an id has fresh ones
 abbrev pub has_fresh : List Fresh → ℕ → Bool
 has_fresh fresh id = list_any (λ f. f.id == id) fresh
+
+-- the outcome of a new problem with its record alone: the problem is one more
+pub record Adds (one : Open) (records : List Rec) (o : TriggerOutcome) : Type 0 where
+  pub made : o.records ≡ records
+  pub alone : length records ≡ 1
+  pub own : o.change ≡ change.Add one
+  pub others : o.others ≡ []
+
+-- the outcome of some records: the open problems of the trigger with an id behind them, and those of the triggers of
+-- these events
+pub record Leaves (conf : Conf) (rows : List (List Open)) (id : ℕ) (events : List EventId) (records : List Rec)
+    (o : TriggerOutcome) : Type 0 where
+  pub made : o.records ≡ records
+  pub own : o.change ≡ change.Leave (absorbed_all conf id (problems_at rows id) records)
+  pub others : Each (IsAbsorbed conf rows records) o.others
+  pub whole : Each (λ (e : EventId). ((id == e.trigger) || has_fresh o.others e.trigger) ≡ true) events
+
+-- the outcome of a new problem that makes these records, as rules close the problems of these events
+abbrev pub Lands : Conf → List (List Open) → ℕ → Open → List EventId → List Rec → TriggerOutcome → Type 0
+Lands conf rows id one events records o = Adds one records o ⊎ Leaves conf rows id events records o
 
 -- each event that a verdict closes has the property
 abbrev pub EachClosed : (EventId → Type 0) → Verdict → Type 0

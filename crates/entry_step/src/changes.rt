@@ -1,8 +1,8 @@
 //! What a step changes, and how that is put back.
 
-ghost use Rattle.std.specs.Prelude.{◌≡◌, ◌++◌, ◌∷◌, [], OnOk};
+ghost use Rattle.std.specs.Prelude.{◌≡◌, ◌++◌, ◌∷◌, [], OnOk, OnErr};
 ghost use Rattle.entry_step.specs.Represents.{problems_at};
-ghost use Rattle.entry_step.specs.Changes.{with_row, with_all, restored, put_back, outcome_records, outcome_rows};
+ghost use Rattle.entry_step.specs.Changes.{with_row, with_all, changed, restored, put_back, outcome_records, outcome_rows};
 
 use std::alloc::Global;
 use std::mem::replace;
@@ -61,7 +61,7 @@ fn restore(alloc: Global, opens: &mut Many<Open>, before: Before)
     ensures { opens.new ≡ restored opens.old before }
 {
     match before {
-        Before::All(all) => *opens = all,
+        Before::All(all) => drop(replace(opens, all)),
         Before::First(count) => {
             let mut items = replace(opens, Many::new(alloc)).into_vec();
             items.truncate(count);
@@ -103,6 +103,37 @@ fn exchange(
     }
 }
 
+/// Adds an open problem to some.
+fn push_open(opens: &mut Many<Open>, one: Open) -> Result<(), OutOfMemory>
+    ensures ok { OnOk result (opens.new ≡ opens.old ++ one ∷ []) }
+    ensures err { OnErr result (opens.new ≡ opens.old) }
+{
+    match opens.push(one) {
+        Ok(()) => Ok(()),
+        Err(failed) => {
+            drop(failed);
+            Err(OutOfMemory)
+        }
+    }
+}
+
+/// Keeps how many open problems a row had.
+fn keep_count(taken: &mut Many<Row>, index: usize, count: usize) -> Result<(), OutOfMemory>
+    ensures ok { OnOk result (taken.new ≡ taken.old ++ (record { index = index; before = Before.First count }) ∷ []) }
+    ensures err { OnErr result (taken.new ≡ taken.old) }
+{
+    match taken.push(Row {
+        index,
+        before: Before::First(count),
+    }) {
+        Ok(()) => Ok(()),
+        Err(failed) => {
+            drop(failed);
+            Err(OutOfMemory)
+        }
+    }
+}
+
 /// Adds an open problem to the row of the trigger with an id, and keeps how many it had. At `Err` the row is as before.
 #[tactic(auto, using(crate::proofs::Writes::row_none, crate::proofs::Writes::row_past, crate::proofs::Writes::row_more, crate::proofs::Writes::back_first, crate::proofs::Writes::back_refused))]
 fn add(
@@ -116,19 +147,21 @@ fn add(
     ensures same { put_back problems.new.items taken.new ≡ put_back problems.old.items taken.old }
 {
     if id == 0 {
+        drop(one);
         return Ok(());
     }
     let index = id as usize - 1;
     if index >= problems.len() {
+        drop(one);
         return Ok(());
     }
-    let count = problems[index].len();
-    taken.push(Row {
-        index,
-        before: Before::First(count),
-    })?;
-    problems[index].push(one)?;
-    Ok(())
+    match keep_count(taken, index, problems[index].len()) {
+        Ok(()) => push_open(&mut problems[index], one),
+        Err(OutOfMemory) => {
+            drop(one);
+            Err(OutOfMemory)
+        }
+    }
 }
 
 /// Puts other open problems into the rows of some triggers, and keeps what they had, also at `Err`.
@@ -149,6 +182,48 @@ fn exchange_all(
 }
 
 impl Draft {
+    /// Changes the open problems of the trigger with an id.
+    fn change(
+        &mut self,
+        alloc: Global,
+        problems: &mut Vec<Many<Open>>,
+        id: u32,
+        change: Change,
+    ) -> Result<(), OutOfMemory>
+        ensures rows { OnOk result (problems.new.items ≡ with_row problems.old.items id
+            (changed (problems_at problems.old.items id) change)) }
+        ensures same { put_back problems.new.items self.new.taken ≡ put_back problems.old.items self.old.taken }
+        ensures records { self.new.records ≡ self.old.records }
+    {
+        match change {
+            Change::Add(one) => add(problems, &mut self.taken, id, one),
+            Change::Leave(all) => exchange(alloc, problems, &mut self.taken, id, all),
+        }
+    }
+
+    /// Changes the open problems of the trigger with an id, and those of others.
+    fn change_all(
+        &mut self,
+        alloc: Global,
+        problems: &mut Vec<Many<Open>>,
+        id: u32,
+        change: Change,
+        others: Many<Fresh>,
+    ) -> Result<(), OutOfMemory>
+        ensures rows { OnOk result (problems.new.items ≡ with_all (with_row problems.old.items id
+            (changed (problems_at problems.old.items id) change)) others) }
+        ensures same { put_back problems.new.items self.new.taken ≡ put_back problems.old.items self.old.taken }
+        ensures records { self.new.records ≡ self.old.records }
+    {
+        match self.change(alloc, problems, id, change) {
+            Ok(()) => exchange_all(alloc, problems, &mut self.taken, others),
+            Err(OutOfMemory) => {
+                drop(others);
+                Err(OutOfMemory)
+            }
+        }
+    }
+
     /// Adds the outcome of the trigger with an id, whose open problems change with it, and those of others.
     pub(crate) fn take(
         &mut self,
@@ -161,20 +236,22 @@ impl Draft {
         ensures rows { OnOk result (problems.new.items ≡ outcome_rows problems.old.items id outcome) }
         ensures same { put_back problems.new.items self.new.taken ≡ put_back problems.old.items self.old.taken }
     {
-        if let Some(outcome) = outcome {
-            let TriggerOutcome {
-                records,
-                change,
-                others,
-            } = outcome;
-            self.records.append(records)?;
-            match change {
-                Change::Add(one) => add(problems, &mut self.taken, id, one)?,
-                Change::Leave(all) => exchange(alloc, problems, &mut self.taken, id, all)?,
+        let Some(outcome) = outcome else {
+            return Ok(());
+        };
+        let TriggerOutcome {
+            records,
+            change,
+            others,
+        } = outcome;
+        match self.records.append(records) {
+            Ok(()) => self.change_all(alloc, problems, id, change, others),
+            Err(OutOfMemory) => {
+                drop(change);
+                drop(others);
+                Err(OutOfMemory)
             }
-            exchange_all(alloc, problems, &mut self.taken, others)?;
         }
-        Ok(())
     }
 }
 

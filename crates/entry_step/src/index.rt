@@ -21,23 +21,16 @@ ghost use Rattle.preprocess.specs.Draft.{AreApart, HaveRoom};
 ghost use Rattle.entry_step.specs.Index.{triggers_under};
 ghost use Rattle.entry_step.specs.Records.{timed_triggers};
 
-use crate::asked::{near, place_in, places_of_all};
+use crate::asked::place_in;
 use crate::fault::BuildError;
-use crate::lists::lists_of;
-use crate::masters::masters_of_all;
-use crate::names::{hosts_of, keys_of};
-use crate::order::order;
-use crate::packed::{Packed, row};
-use crate::patterned::{patterned, stepped};
-use crate::plans::{Node, plans_of, recovery_plans_of};
-use crate::reached::{feet_of_all, reached, reaches_of_all};
-use crate::timed::timed_triggers;
+use crate::indexes::{Indexes, indexes_of};
+use crate::packed::row;
+use crate::plans::Node;
 use event_text::{name, tags};
 use footprint::Feet;
 use pattern_set::Patterns;
-use preprocess::{Chains, Prepared, prepare};
+use preprocess::{Prepared, prepare};
 use std::alloc::Global;
-use std::collections::HashMap;
 use std::convert::AsStr;
 use std::marker::Model;
 use zbx_types::{Conf, Held, Many, Moment, OutOfMemory, Tag, Text, by_id};
@@ -70,20 +63,8 @@ fn patterns_of(alloc: Global, texts: &Many<Text>) -> Result<Patterns, BuildError
 #[derive(Drop)]
 pub struct Ready {
     conf: Conf,
-    hosts: HashMap<String, u32>,
-    keys: Vec<HashMap<String, u32>>,
-    over: Packed<u32>,
-    plans: Packed<Node>,
-    recoveries: Packed<Node>,
-    masters: Packed<u32>,
     patterns: Patterns,
-    places: Packed<u32>,
-    timed: Many<u32>,
-    all: Many<u32>,
-    reached: Many<bool>,
-    chains: Chains,
-    feet: Feet,
-    reaches: Packed<u32>,
+    indexes: Indexes,
 }
 
 impl Model for Ready {
@@ -98,7 +79,7 @@ impl Model for Ready {
 
     ghost view = { λ r. r.conf };
 
-    ghost invariant = { λ r. IsIndex r.conf r.hosts r.keys.items r.over r.plans r.recoveries r.masters r.patterns r.places r.timed r.all r.reached r.chains r.feet r.reaches };
+    ghost invariant = { λ r. IsIndex r.conf r.indexes.items.hosts r.indexes.items.keys.items r.indexes.triggers.turns.over r.indexes.triggers.expressions.plans r.indexes.triggers.expressions.recoveries r.indexes.triggers.turns.masters r.patterns r.indexes.triggers.expressions.places r.indexes.triggers.turns.timed r.indexes.triggers.turns.all r.indexes.triggers.rules.reached r.indexes.items.chains r.indexes.items.feet r.indexes.triggers.rules.reaches };
 }
 
 impl Ready {
@@ -127,40 +108,32 @@ impl Ready {
         ensures first_large { (place : ℕ) → result ≡ Err (BuildError.TooLarge place)
             → All IsPattern (take (place - 1) conf.patterns) }
     {
-        near(&conf)?;
-        let patterns = patterns_of(alloc, &conf.patterns)?;
-        patterned(alloc, &conf)?;
-        stepped(&conf)?;
-        let places = places_of_all(alloc, &conf, &patterns)?;
-        let timed = timed_triggers(alloc, &conf)?;
-        let all = order(alloc, &conf)?;
-        let hosts = hosts_of(alloc, &conf)?;
-        let keys = keys_of(alloc, &conf)?;
-        let over = lists_of(alloc, &conf)?;
-        let plans = plans_of(alloc, conf.triggers.as_slice())?;
-        let recoveries = recovery_plans_of(alloc, conf.triggers.as_slice())?;
-        let masters = masters_of_all(alloc, &conf)?;
-        let reached = reached(alloc, &conf)?;
-        let chains = Chains::build(alloc, &conf, &patterns)?;
-        let feet = feet_of_all(alloc, &conf)?;
-        let reaches = reaches_of_all(alloc, &conf)?;
-        Ok(Ready {
-            conf,
-            hosts,
-            keys,
-            over,
-            plans,
-            recoveries,
-            masters,
-            patterns,
-            places,
-            timed,
-            all,
-            reached,
-            chains,
-            feet,
-            reaches,
-        })
+        match patterns_of(alloc, &conf.patterns) {
+            Ok(patterns) => Ok(Ready::indexed(alloc, conf, patterns)?),
+            Err(error) => {
+                drop(conf);
+                Err(error)
+            }
+        }
+    }
+
+    /// A configuration with its patterns and its indexes.
+    fn indexed(alloc: Global, conf: Conf, patterns: Patterns) -> Result<Ready, OutOfMemory>
+        requires { patterns ≡ conf.patterns }
+        ensures { IfOk result (λ ready. ready ≡ conf) }
+    {
+        match indexes_of(alloc, &conf, &patterns) {
+            Ok(indexes) => Ok(Ready {
+                conf,
+                patterns,
+                indexes,
+            }),
+            Err(OutOfMemory) => {
+                drop(conf);
+                drop(patterns);
+                Err(OutOfMemory)
+            }
+        }
     }
 
     /// The configuration.
@@ -174,14 +147,14 @@ impl Ready {
     pub fn host_named(&self, name: &Text) -> Option<u32>
         ensures { result ≡ host_named self.now name.now }
     {
-        self.hosts.get(name.as_str()).copied()
+        self.indexes.items.hosts.get(name.as_str()).copied()
     }
 
     /// The id of a host's first item with a key. Ids count from 1, in the order of the configuration.
     pub fn item_keyed(&self, host: u32, key: &Text) -> Option<u32>
         ensures { result ≡ item_keyed self.now host key.now }
     {
-        match self.keys.get(host as usize) {
+        match self.indexes.items.keys.get(host as usize) {
             None => None,
             Some(ids) => ids.get(key.as_str()).copied(),
         }
@@ -191,7 +164,7 @@ impl Ready {
     pub(crate) fn over(&self, item: u32) -> &[u32]
         ensures { result.now ≡ triggers_under self.now item }
     {
-        row(&self.over, item)
+        row(&self.indexes.triggers.turns.over, item)
     }
 
     /// Finds what a value of an item is to leave in the cells, and takes all memory for it. They keep what they do.
@@ -214,7 +187,7 @@ impl Ready {
             alloc,
             &self.conf,
             &self.patterns,
-            &self.chains,
+            &self.indexes.items.chains,
             cells,
             item,
             value,
@@ -227,28 +200,28 @@ impl Ready {
     pub(crate) fn plan(&self, id: u32) -> &[Node]
         ensures { (trigger : Trigger) → at_id self.now.triggers id ≡ Some trigger → result.now ≡ plan_of trigger }
     {
-        row(&self.plans, id.saturating_sub(1))
+        row(&self.indexes.triggers.expressions.plans, id.saturating_sub(1))
     }
     /// The nodes of the recovery expression of the trigger with an id, none where it has none.
     pub(crate) fn recovery_plan(&self, id: u32) -> &[Node]
         ensures { (trigger : Trigger) → at_id self.now.triggers id ≡ Some trigger
             → result.now ≡ recovery_plan_of trigger }
     {
-        row(&self.recoveries, id.saturating_sub(1))
+        row(&self.indexes.triggers.expressions.recoveries, id.saturating_sub(1))
     }
 
     /// The ids of the triggers that a Tick evaluates, in the order of evaluation.
     pub(crate) fn timed(&self) -> &[u32]
         ensures { result.now ≡ timed_triggers self.now }
     {
-        self.timed.as_slice()
+        self.indexes.triggers.turns.timed.as_slice()
     }
 
     /// The ids of all triggers, in the order of evaluation.
     pub(crate) fn order(&self) -> &[u32]
         ensures { result.now ≡ order self.now }
     {
-        self.all.as_slice()
+        self.indexes.triggers.turns.all.as_slice()
     }
 
     /// Whether the reach of some rule of global correlation holds the trigger with an id.
@@ -256,7 +229,7 @@ impl Ready {
         ensures { (trigger : Trigger) → at_id self.now.triggers id ≡ Some trigger
             → result ≡ some_reaches self.now.correlations trigger }
     {
-        match by_id(self.reached.as_slice(), id) {
+        match by_id(self.indexes.triggers.rules.reached.as_slice(), id) {
             None => false,
             Some(reached) => *reached,
         }
@@ -276,7 +249,7 @@ impl Ready {
             → slice_get trigger.calls place ≡ Some call → (at_id self.now.patterns result ≡ call_pattern call)
             × (call.shift + seconds_in call.range ≤ most_seconds) }
     {
-        place_in(row(&self.places, id.saturating_sub(1)), place)
+        place_in(row(&self.indexes.triggers.expressions.places, id.saturating_sub(1)), place)
     }
 
     /// The patterns of the configuration.
@@ -316,20 +289,20 @@ impl Ready {
     pub(crate) fn masters(&self, id: u32) -> &[u32]
         ensures { result.now ≡ masters_of self.now id }
     {
-        row(&self.masters, id)
+        row(&self.indexes.triggers.turns.masters, id)
     }
 
     /// The feet of the items: what the work on one of their values may read or change.
     pub fn feet(&self) -> &Feet
         ensures { told_by result.now ≡ feet_of self.now }
     {
-        &self.feet
+        &self.indexes.items.feet
     }
 
     /// The ids of the triggers that the reach of the rule with an id holds.
     pub(crate) fn reach(&self, rule: u32) -> &[u32]
         ensures { (id : ℕ) → has_id result.now id ≡ is_reached self.now rule id }
     {
-        row(&self.reaches, rule)
+        row(&self.indexes.triggers.rules.reaches, rule)
     }
 }

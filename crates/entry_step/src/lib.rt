@@ -51,6 +51,7 @@ mod evaluation;
 mod exchange;
 mod fault;
 mod index;
+mod indexes;
 pub mod laws;
 mod lists;
 mod masters;

@@ -1,15 +1,18 @@
 //! The records that an entry makes.
 
-ghost use Rattle.std.specs.Prelude.{◌≡◌, ◌++◌, ℕ, List, filter, flat_map, length, Some, IfOk, OnOk};
+ghost use Rattle.std.specs.Prelude.{◌≡◌, ◌++◌, ◌==◌, ◌||◌, [], ℕ, List, filter, flat_map, length, true, Some, IfOk, OnOk};
 ghost use Rattle.escalations.specs.Escalations.{recovered_records};
 ghost use Rattle.zbx_types.specs.declared.conf.Conf.{Conf};
 ghost use Rattle.zbx_types.specs.Ids.{at_id};
 ghost use Rattle.zbx_types.specs.Records.{same_event};
-ghost use Rattle.trigger_state.specs.Problems.{home, event_in};
-ghost use Rattle.entry_step.specs.Records.{problem_of, recovery_of, begun_with, begun_records, closed_records, ruled_records, last_records, verdict_records};
+ghost use Rattle.zbx_types.specs.declared.entries.EventId.{EventId};
+ghost use Rattle.event_correlation.specs.Laws.{HasTagsOf};
+ghost use Rattle.trigger_state.specs.Problems.{home, event_in, absorbed_all};
+ghost use Rattle.entry_step.specs.Records.{problem_of, recovery_of, ruled, begun_with, begun_records, closed_records, ruled_records, last_records, verdict_records};
 ghost use Rattle.entry_step.specs.Each.{Each};
 ghost use Rattle.entry_step.specs.Represents.{problems_at};
-ghost use Rattle.entry_step.specs.Changes.{outcome_records, outcome_rows, EachClosed, judged, Serve, AreTidy, Absorbed};
+ghost use Rattle.zbx_types.specs.declared.triggers.Trigger.{Trigger};
+ghost use Rattle.entry_step.specs.Changes.{IsAbsorbed, has_fresh, Leaves, Lands, outcome_records, outcome_rows, EachClosed, judged, Serve, AreTidy, Absorbed};
 ghost use Rattle.event_text.specs.Titles.{event_tags};
 ghost use Rattle.zbx_types.specs.declared.entries.Stored.{Stored};
 ghost use Rattle.entry_step.specs.Calls.{Shown, sight_of};
@@ -17,7 +20,7 @@ ghost use Rattle.entry_step.specs.Seen.{shown_values};
 ghost use Rattle.entry_step.specs.Plans.{plan_of, recovery_plan_of};
 
 use crate::calls::Calls;
-use crate::changes::{Change, TriggerOutcome};
+use crate::changes::{Change, Fresh, TriggerOutcome};
 use crate::evaluation::{plan_value, recovery_value};
 use crate::index::Ready;
 use crate::opens::{absorbed_row, problems_at};
@@ -210,8 +213,123 @@ fn begun(
     Ok(made)
 }
 
-/// A new problem of a trigger, behind those that are open. Where no rule and no action does anything about it, they
-/// stay where they are.
+/// What a new problem of the trigger with an id makes, and what rules close for it.
+#[derive(Drop)]
+struct Beginning {
+    records: Many<Rec>,
+    closes: Closes,
+}
+
+/// What a new problem of the trigger with an id makes, and what rules close for it.
+fn begun_by(
+    alloc: Global,
+    ready: &Ready,
+    number: u64,
+    now: Moment,
+    problems: &[Many<Open>],
+    id: u32,
+    problem: &Rec,
+) -> Result<Beginning, OutOfMemory>
+    ensures records { IfOk result (λ made. made.records ≡ begun_with ready.now number now (problems_at problems.now) id
+        problem.now made.closes) }
+    ensures closes { IfOk result (λ made. (trigger : Trigger) → at_id ready.now.triggers id ≡ Some trigger
+        → HasTagsOf trigger problem.now → made.closes ≡ ruled ready.now problem.now (problems_at problems.now)) }
+{
+    let conf = ready.conf();
+    let closes = ruled(alloc, ready, id, problem, problems)?;
+    let records = begun(alloc, conf, number, now, problems, id, problem, &closes)?;
+    Ok(Beginning { records, closes })
+}
+
+/// The open problems of a trigger behind some records, and those of other triggers.
+#[derive(Drop)]
+struct Left {
+    all: Many<Open>,
+    others: Many<Fresh>,
+}
+
+/// The open problems of the trigger with an id behind some records, and those of the triggers of these events.
+fn left_by(
+    alloc: Global,
+    conf: &Conf,
+    id: u32,
+    problems: &[Many<Open>],
+    events: &[EventId],
+    records: &[Rec],
+) -> Result<Left, OutOfMemory>
+    ensures all { IfOk result (λ left. left.all ≡ absorbed_all conf.now id (problems_at problems.now id) records.now) }
+    ensures others { IfOk result (λ left. Each (IsAbsorbed conf.now problems.now records.now) left.others) }
+    ensures whole { IfOk result (λ left. Each (λ (e : EventId). ((id == e.trigger) || has_fresh left.others
+        e.trigger) ≡ true) events.now) }
+{
+    let all = absorbed_row(alloc, conf, id, problems_at(problems, id), records)?;
+    match others_of(alloc, conf, id, problems, events, records) {
+        Ok(others) => Ok(Left { all, others }),
+        Err(OutOfMemory) => {
+            drop(all);
+            Err(OutOfMemory)
+        }
+    }
+}
+
+/// The outcome of a trigger that adds some records: its open problems behind them, and those of the triggers of these
+/// events.
+#[tactic(auto, using(crate::proofs::Started::leaves_with))]
+fn outcome_with(
+    alloc: Global,
+    conf: &Conf,
+    id: u32,
+    problems: &[Many<Open>],
+    events: &[EventId],
+    records: Many<Rec>,
+) -> Result<TriggerOutcome, OutOfMemory>
+    ensures { IfOk result (λ made. Leaves conf.now problems.now id events.now records made) }
+{
+    match left_by(alloc, conf, id, problems, events, records.as_slice()) {
+        Ok(Left { all, others }) => Ok(TriggerOutcome {
+            records,
+            change: Change::Leave(all),
+            others,
+        }),
+        Err(OutOfMemory) => {
+            drop(records);
+            Err(OutOfMemory)
+        }
+    }
+}
+
+/// The outcome of a trigger, of this depth, with a new problem that makes this. Where no rule and no action does
+/// anything about it, the open problems stay where they are.
+fn landed(
+    alloc: Global,
+    conf: &Conf,
+    id: u32,
+    depth: u32,
+    problems: &[Many<Open>],
+    problem: Rec,
+    made: Beginning,
+) -> Result<TriggerOutcome, OutOfMemory>
+    ensures { IfOk result (λ o. Lands conf.now problems.now id (record { problem = problem; steps = []; depth = depth })
+        made.closes.old made.records o) }
+{
+    let Beginning { records, closes } = made;
+    if records.len() == 1 {
+        return Ok(TriggerOutcome {
+            records,
+            change: Change::Add(Open {
+                problem,
+                steps: Many::new(alloc),
+                depth,
+            }),
+            others: Many::new(alloc),
+        });
+    }
+    drop(problem);
+    let old = closes.old.as_slice();
+    outcome_with(alloc, conf, id, problems, old, records)
+}
+
+/// A new problem of a trigger, behind those that are open.
 fn begin(
     alloc: Global,
     ready: &Ready,
@@ -230,33 +348,13 @@ fn begin(
 {
     let conf = ready.conf();
     let problem = problem_of(alloc, ready, number, now, values, id, trigger)?;
-    let closes = ruled(alloc, ready, id, &problem, problems)?;
-    let records = begun(alloc, conf, number, now, problems, id, &problem, &closes)?;
-    if records.len() == 1 {
-        return Ok(TriggerOutcome {
-            records,
-            change: Change::Add(Open {
-                problem,
-                steps: Many::new(alloc),
-                depth: trigger.depth,
-            }),
-            others: Many::new(alloc),
-        });
+    match begun_by(alloc, ready, number, now, problems, id, &problem) {
+        Ok(made) => landed(alloc, conf, id, trigger.depth, problems, problem, made),
+        Err(OutOfMemory) => {
+            drop(problem);
+            Err(OutOfMemory)
+        }
     }
-    let old = closes.old.as_slice();
-    let all = absorbed_row(
-        alloc,
-        conf,
-        id,
-        problems_at(problems, id),
-        records.as_slice(),
-    )?;
-    let others = others_of(alloc, conf, id, problems, old, records.as_slice())?;
-    Ok(TriggerOutcome {
-        records,
-        change: Change::Leave(all),
-        others,
-    })
 }
 
 /// The end of the open problems of a trigger with these events.

@@ -6,11 +6,11 @@ use Rattle.entry_step.proofs.index.Ready.is_reached.Goals as goal
 pub returns-in-None : goal.returns-in-None
 returns-in-None c = λ trigger there.
     let none : Option Bool = None in
-    let found : at_id c.self.inside.reached c.args.id ≡ none = search rules in
-    reached_is c.args.self.now c.self.inside.conf c.self.inside.reached c.args.id trigger none c.self.view_is c.self.invariant.by_reach found there
+    let found : at_id c.self.inside.indexes.triggers.rules.reached c.args.id ≡ none = search rules in
+    reached_is c.args.self.now c.self.inside.conf c.self.inside.indexes.triggers.rules.reached c.args.id trigger none c.self.view_is c.self.invariant.by_reach found there
 
 pub returns-in-Some : goal.returns-in-Some
 returns-in-Some c = λ trigger there.
     let some : Option Bool = Some c.in-Some.reached.now in
-    let found : at_id c.self.inside.reached c.args.id ≡ some = search rules in
-    reached_is c.args.self.now c.self.inside.conf c.self.inside.reached c.args.id trigger some c.self.view_is c.self.invariant.by_reach found there
+    let found : at_id c.self.inside.indexes.triggers.rules.reached c.args.id ≡ some = search rules in
+    reached_is c.args.self.now c.self.inside.conf c.self.inside.indexes.triggers.rules.reached c.args.id trigger some c.self.view_is c.self.invariant.by_reach found there
