@@ -3,8 +3,8 @@
 
 usage: samples/documents.py PROGRAM
 
-The documents are those of samples/documents.txt, and others that are made here: at a limit and one above it, with long macros,
-and with an expression or a pattern each.
+The documents are those of samples/documents.txt, and others that are made here: at a limit and one above it, with long keys and
+macros, and with an expression or a pattern each.
 """
 
 import json
@@ -63,6 +63,18 @@ def steps():
     ):
         macros = [{"name": "{$M}", "value": "m" * size}]
         yield cause, pointer, json.dumps({"macros": macros, "hosts": [{"name": "h", "items": [{"key": "k", "steps": [step]}]}]})
+
+
+def keys():
+    """A key has 2,048 bytes at most, and what stands behind the longest front that is one is at fault."""
+    for key, cause in (
+        ("k" * 2048, TAKEN),
+        ("k" * 2049, "BadKey at 2048"),
+        (f"k[{'k' * 2045}]", TAKEN),
+        (f"k[{'k' * 2045}]k", "BadKey at 2048"),
+        (f"k[{'k' * 2046}]", "BadKey at 1"),
+    ):
+        yield cause, TAKEN if cause == TAKEN else "/hosts/0/items/0/key", json.dumps({"hosts": [{"name": "h", "items": [{"key": key}]}]})
 
 
 def long_macros():
@@ -165,7 +177,7 @@ def main():
         return 2
     program = os.path.realpath(sys.argv[1])
     cases = [*listed(f"{os.path.dirname(os.path.abspath(__file__))}/documents.txt")]
-    for made in (lists, dependents, steps, long_macros, expressions, patterns):
+    for made in (lists, dependents, steps, keys, long_macros, expressions, patterns):
         cases += made()
     with tempfile.TemporaryDirectory() as folder, ThreadPoolExecutor(os.cpu_count()) as pool:
         open(f"{folder}/script", "w").close()

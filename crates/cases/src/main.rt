@@ -2,8 +2,9 @@
 //!
 //! Each line of standard input is a row: the kind of the case, what is to come of it, and what it is of, with tabs
 //! between. An empty line, and one that begins with `#`, is none. Bytes that can't stand in a line are written as
-//! `%HH`, as in addresses of the web, and so is `%` itself. A row that comes to something else is printed with what it
-//! came to; at last the number of rows, and of those that differ.
+//! `%HH`, as in addresses of the web, and so is `%` itself; in some kinds a long text is written in short, with
+//! `<N*PIECE>` for a piece N times. A row that comes to something else is printed with what it came to; at last the
+//! number of rows, and of those that differ.
 //!
 //! ```text
 //! read <tab> 1500000 <tab> 1.5
@@ -11,7 +12,9 @@
 #![tactic(auto)]
 
 mod numbers;
+mod readers;
 mod rows;
+mod texts;
 
 use crate::rows::Row;
 use std::alloc::Global;
@@ -20,7 +23,10 @@ use zbx_types::OutOfMemory;
 
 /// What the case of a row comes to; none where no kind has this name.
 fn answer(alloc: Global, row: &Row<'_>) -> Result<Option<String>, OutOfMemory> {
-    numbers::answer(alloc, row.kind, row.input)
+    if let Some(came) = numbers::answer(alloc, row.kind, row.input)? {
+        return Ok(Some(came));
+    }
+    readers::answer(alloc, row.kind, row.input)
 }
 
 /// What a row comes to, where that isn't what it says.
