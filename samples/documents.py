@@ -97,10 +97,82 @@ def long_macros():
 
 
 EXPRESSIONS = """\
+BadExpression at 0	 last(/h/k)
+BadExpression at 4	last (/h/k)
+BadExpression at 9	last(/h/k )
+BadExpression at 4	now( )>last(/h/k)
+-	last(/h/k)or 1
+BadExpression at 1	1or last(/h/k)
+BadExpression at 4	1 or2
+BadExpression at 4	1 or
+BadExpression at 3	1 ox
+BadExpression at 4	1+not last(/h/k)
+-	1+ not last(/h/k)
+BadExpression at 6	not not last(/h/k)
+-	not -last(/h/k)
+BadExpression at 3	not-last(/h/k)
+BadExpression at 1	--last(/h/k)
+BadExpression at 4	- not last(/h/k)
+BadExpression at 12	last(/h/k)< =1
+-	last(/h/k)<=1
+BadExpression at 11	last(/h/k)=>1
+BadExpression at 12	last(/h/k)>2)
 BadExpression at 0	now()>0
+BadExpression at 0	now()>1
+BadExpression at 0	1
 BadExpression at 11	last(/h/k)>
 BadExpression at 12	last(/h/k)>1e3
+-	last(/h/k,#10000)
+BadExpression at 15	last(/h/k,#10001)
+BadExpression at 12	last(/h/k,#0)
+-	last(/h/k,#01)
+BadExpression at 10	last(/h/k,5m)
+-	avg(/h/k,31d)
+BadExpression at 11	avg(/h/k,32d)
+BadExpression at 10	avg(/h/k,0)
+BadExpression at 10	avg(/h/k,0m)
+-	avg(/h/k,5m:now-0)
+BadExpression at 18	avg(/h/k,5m:now-32d)
+BadExpression at 15	avg(/h/k,5m:now)
+BadExpression at 8	avg(/h/k)
 BadExpression at 8	avg(/h/k)>1
+BadExpression at 9	avg(/h/k,)
+BadExpression at 14	nodata(/h/k,29)
+-	nodata(/h/k,30s)
+BadExpression at 14	nodata(/h/k,29s)
+BadExpression at 14	nodata(/h/k,1m:now-1h)
+BadExpression at 12	nodata(/h/k,#1)
+BadExpression at 13	last(/h/k)>1.
+-	last(/h/k)>1.5K
+BadExpression at 13	last(/h/k)>1KK
+-	last(/h/k)>1000000000000000000000000
+BadExpression at 35	last(/h/k)>1000000000000000000000001
+BadExpression at 33	last(/h/k)>1000000000000000000000T
+-	last(/h/k,)
+-	last(/h/k, #2)
+BadExpression at 10	last(/h/k,,)
+BadExpression at 11	change(/h/k,)
+BadExpression at 18	count(/h/k,5m,"likx")
+-	count(/h/w,5m,"","a")
+BadExpression at 14	count(/h/k,5m,eq)
+-	count(/h/k,5m,"gt",5K)
+BadExpression at 25	count(/h/k,5m,"gt","a\\\\")
+-	percentile(/h/k,5m,95)
+-	percentile(/h/k,5m,"1m")
+BadExpression at 21	percentile(/h/k,5m,101)
+BadExpression at 20	percentile(/h/k,5m,"")
+BadExpression at 18	percentile(/h/k,5m)
+-	monoinc(/h/k,5m,"strict")
+BadExpression at 17	monoinc(/h/k,5m,"all")
+-	changecount(/h/k,5m,"dec")
+BadExpression at 13	last(/h/k["a"x
+BadExpression at 6	last(//k)
+BadExpression at 8	last(/h/)
+BadExpression at 6	last(/é/k)
+-	last(/h/k[é])
+-	nodata(/h/k,3m)=1
+-	avg(/h/k,1h)/avg(/h/k,1h:now-1d)>2
+-	count(/h/w,#10,"eq","a\\"b\\c")=-1
 BadExpression at 0	count(/h/k,5m,"eq","x")>0
 BadExpression at 0	count(/h/k,5m,"le")>0
 BadExpression at 0	find(/h/k,,,"x")
@@ -131,7 +203,7 @@ WrongValueType	find(/h/k,5m,"like","1")
 
 
 def with_triggers(triggers):
-    items = [{"key": "k"}, {"key": "w", "value_type": "text"}]
+    items = [{"key": "k"}, {"key": "w", "value_type": "text"}, {"key": "k[é]"}]
     host = {"name": "h", "templates": ["T"], "items": items, "triggers": triggers}
     return json.dumps({"templates": [{"name": "T"}, {"name": "U"}], "hosts": [host]})
 
@@ -141,8 +213,34 @@ def expressions():
     pointer = "/hosts/0/triggers/0/expression"
     cases = [line.split("\t") for line in EXPRESSIONS.splitlines()]
     cases += [[TAKEN, "+".join(["last(/h/k)"] * 32)], ["BadExpression at 352", "+".join(["last(/h/k)"] * 33)]]
+    cases += [["BadExpression at 0", ""], ["BadExpression at 11", "last(/h/k) "]]
     for cause, text in cases:
         yield cause, TAKEN if cause == TAKEN else pointer, with_triggers([{"name": "t", "expression": text}])
+
+
+def limits_of_expressions():
+    """An expression has 32 open parentheses and 32 calls at most, a host 128 bytes and a key 2,048."""
+
+    def nested(depth):
+        return "(" * depth + "last(/h/k)" + ")" * depth
+
+    def call(host, key):
+        """A call with a host and a key of that many bytes, in which the key has a bracket that isn't closed."""
+        return "last(/" + "h" * host + "/k[" + "x" * (key - 2)
+
+    for cause, text in (
+        (TAKEN, nested(32)),
+        ("BadExpression at 32", nested(33)),
+        (TAKEN, "1" + "+last(/h/k)" * 32),
+        ("BadExpression at 354", "1" + "+last(/h/k)" * 33),
+        ("BadExpression at 144", call(128, 9)),
+        ("BadExpression at 134", call(129, 9)),
+        ("BadExpression at 2056", call(1, 2048)),
+        ("BadExpression at 2056", call(1, 2050)),
+        ("BadExpression at 4096", call(1, 2047) + "])+" + call(1, 2050)),
+    ):
+        pointer = TAKEN if cause == TAKEN else "/hosts/0/triggers/0/expression"
+        yield cause, pointer, with_triggers([{"name": "t", "expression": text}])
 
 
 def patterns():
@@ -177,7 +275,7 @@ def main():
         return 2
     program = os.path.realpath(sys.argv[1])
     cases = [*listed(f"{os.path.dirname(os.path.abspath(__file__))}/documents.txt")]
-    for made in (lists, dependents, steps, keys, long_macros, expressions, patterns):
+    for made in (lists, dependents, steps, keys, long_macros, expressions, limits_of_expressions, patterns):
         cases += made()
     with tempfile.TemporaryDirectory() as folder, ThreadPoolExecutor(os.cpu_count()) as pool:
         open(f"{folder}/script", "w").close()

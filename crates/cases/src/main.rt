@@ -11,19 +11,61 @@
 //! ```
 #![tactic(auto)]
 
+mod cells;
+mod expressions;
+mod functions;
+mod moments;
 mod numbers;
+mod long_texts;
+mod patterns;
+mod plain;
 mod readers;
 mod rows;
 mod texts;
+mod words;
 
 use crate::rows::Row;
 use std::alloc::Global;
 use std::io;
 use zbx_types::OutOfMemory;
 
+/// What a case of plain values comes to; none where none of these kinds has this name.
+fn of_values(alloc: Global, kind: &str, input: &str) -> Result<Option<String>, OutOfMemory> {
+    if let Some(came) = numbers::answer(alloc, kind, input)? {
+        return Ok(Some(came));
+    }
+    if let Some(came) = texts::answer(alloc, kind, input)? {
+        return Ok(Some(came));
+    }
+    if let Some(came) = moments::answer(alloc, kind, input)? {
+        return Ok(Some(came));
+    }
+    plain::answer(alloc, kind, input)
+}
+
+/// What a case of texts that are read, or of values over time, comes to; none where none of these kinds has this name.
+fn of_texts(alloc: Global, kind: &str, input: &str) -> Result<Option<String>, OutOfMemory> {
+    if let Some(came) = words::answer(alloc, kind, input)? {
+        return Ok(Some(came));
+    }
+    if let Some(came) = expressions::answer(alloc, kind, input)? {
+        return Ok(Some(came));
+    }
+    if let Some(came) = cells::answer(alloc, kind, input)? {
+        return Ok(Some(came));
+    }
+    if let Some(came) = patterns::answer(alloc, kind, input)? {
+        return Ok(Some(came));
+    }
+    functions::answer(alloc, kind, input)
+}
+
 /// What the case of a row comes to; none where no kind has this name.
 fn answer(alloc: Global, row: &Row<'_>) -> Result<Option<String>, OutOfMemory> {
-    if let Some(came) = numbers::answer(alloc, row.kind, row.input)? {
+    if let Some(came) = of_values(alloc, row.kind, row.input)? {
+        return Ok(Some(came));
+    }
+    if let Some(came) = of_texts(alloc, row.kind, row.input)? {
         return Ok(Some(came));
     }
     readers::answer(alloc, row.kind, row.input)

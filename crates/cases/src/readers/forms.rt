@@ -4,7 +4,7 @@ ghost use Rattle.json_form.specs.Places.{number_between};
 ghost use Rattle.json_form.specs.Wording.{first_of_word};
 ghost use Rattle.std.specs.Prelude.{codes, ◌∷◌, [], true, false};
 
-use crate::texts::long_text;
+use crate::long_texts::long_text;
 use json_form::{At, Following, Object, ReadError, Texts, Words, distinct, list, parse, sequence};
 use serde_json::Value;
 use std::alloc::Global;

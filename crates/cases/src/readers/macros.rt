@@ -2,7 +2,7 @@
 //!
 //! Definitions are written as `{$A}=a {$B}=b`.
 
-use crate::texts::number;
+use crate::long_texts::number;
 use macro_text::{
     Expansion, Macro, MacroIndex, MacroRef, Macros, expand, expand_front, expand_within,
 };

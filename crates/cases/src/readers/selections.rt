@@ -1,6 +1,6 @@
 //! What paths give of values.
 
-use crate::texts::shown;
+use crate::long_texts::shown;
 use json_path::{LONGEST_PATH, Path, SelectError, read, select};
 use json_text::Tree;
 use std::alloc::Global;
