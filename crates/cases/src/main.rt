@@ -12,16 +12,25 @@
 #![tactic(auto)]
 
 mod cells;
+mod claims;
+mod closings;
+mod connections;
+mod escalation_steps;
 mod expressions;
+mod footprints;
 mod functions;
+mod links;
+mod long_texts;
 mod moments;
 mod numbers;
-mod long_texts;
+mod parts;
 mod patterns;
 mod plain;
 mod readers;
 mod rows;
+mod suppression;
 mod texts;
+mod verdicts;
 mod words;
 
 use crate::rows::Row;
@@ -60,12 +69,46 @@ fn of_texts(alloc: Global, kind: &str, input: &str) -> Result<Option<String>, Ou
     functions::answer(alloc, kind, input)
 }
 
+/// What a case of what decides on triggers comes to.
+fn of_triggers(alloc: Global, row: &Row<'_>) -> Result<Option<String>, OutOfMemory> {
+    if let Some(came) = verdicts::answer(alloc, row.kind, row.input)? {
+        return Ok(Some(came));
+    }
+    if let Some(came) = closings::answer(alloc, row.kind, row.input)? {
+        return Ok(Some(came));
+    }
+    if let Some(came) = escalation_steps::answer(alloc, row.kind, row.input)? {
+        return Ok(Some(came));
+    }
+    suppression::answer(alloc, row.kind, row.input)
+}
+
+/// What a case of the order of work comes to.
+fn of_work(alloc: Global, row: &Row<'_>) -> Result<Option<String>, OutOfMemory> {
+    if let Some(came) = claims::answer(alloc, row.kind, row.input)? {
+        return Ok(Some(came));
+    }
+    if let Some(came) = footprints::answer(alloc, row.kind, row.input)? {
+        return Ok(Some(came));
+    }
+    if let Some(came) = links::answer(alloc, row.kind, row.input)? {
+        return Ok(Some(came));
+    }
+    connections::answer(alloc, row.kind, row.input)
+}
+
 /// What the case of a row comes to; none where no kind has this name.
 fn answer(alloc: Global, row: &Row<'_>) -> Result<Option<String>, OutOfMemory> {
     if let Some(came) = of_values(alloc, row.kind, row.input)? {
         return Ok(Some(came));
     }
     if let Some(came) = of_texts(alloc, row.kind, row.input)? {
+        return Ok(Some(came));
+    }
+    if let Some(came) = of_triggers(alloc, row)? {
+        return Ok(Some(came));
+    }
+    if let Some(came) = of_work(alloc, row)? {
         return Ok(Some(came));
     }
     readers::answer(alloc, row.kind, row.input)

@@ -1,7 +1,7 @@
 //! Frames in pieces, faults at the first byte that shows them, and frames as they are written.
 
-use crate::rows::bytes_of;
 use crate::long_texts::shown;
+use crate::rows::bytes_of;
 use std::alloc::Global;
 use zbx_types::{Bytes, LONGEST_DATA, OutOfMemory};
 use zbxd_frame::{Fault, Fed, Feed, write};

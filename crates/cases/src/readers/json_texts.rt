@@ -1,7 +1,7 @@
 //! Texts of JSON: the place where one is refused, and what is written of one.
 
-use crate::rows::bytes_of;
 use crate::long_texts::{long_text, shown};
+use crate::rows::bytes_of;
 use json_text::{Members, ReadError, Tree, Trees, read, write};
 use std::alloc::Global;
 use std::convert::AsStr;

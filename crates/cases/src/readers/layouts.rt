@@ -1,7 +1,7 @@
 //! The flat configurations of documents, part by part.
 
-use crate::readers::documents::{put_length, put_number, put_state, put_text, put_word};
 use crate::long_texts::long_text;
+use crate::readers::documents::{put_length, put_number, put_state, put_text, put_word};
 use config_templates::{FlatError, flat};
 use std::alloc::Global;
 use std::convert::AsStr;

@@ -1,7 +1,7 @@
 //! Requests of senders, and the replies to them.
 
-use crate::rows::bytes_of;
 use crate::long_texts::{long_text, number, shown};
+use crate::rows::bytes_of;
 use json::{Reader, Scratch};
 use sender_json::{
     Asked, Clock, ElementError, Refusal, Request, read, read_element, refusal, reply,

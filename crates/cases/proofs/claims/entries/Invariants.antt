@@ -1,7 +1,7 @@
 use Rattle.std.proofs.Common.{◌≡◌, length, map}
 use Rattle.zbx_types.specs.Ids.{ids_from}
 use Rattle.zbx_types.specs.declared.entries.Numbered.{Numbered}
-use Rattle.trigger_examples.proofs.batches.entries.Given as goal
+use Rattle.cases.proofs.claims.entries.Given as goal
 
 abbrev pub invariant-loop-place : goal.invariant-loop-place
 invariant-loop-place l = record {

@@ -1,7 +1,7 @@
 use Rattle.std.proofs.Common.{◌≡◌, ◌+◌, ◌∙◌, ℕ, List, [], ◌∷◌, ◌++◌, length, map, refl, sym, ap, arith, length-append}
 use Rattle.zbx_types.specs.Ids.{ids_from}
 use Rattle.zbx_types.specs.declared.entries.Numbered.{Numbered}
-use Rattle.trigger_examples.proofs.batches.entries.Goals as goal
+use Rattle.cases.proofs.claims.entries.Goals as goal
 
 one_more : (k : ℕ) (xs : List Numbered) (x : Numbered) → map (λ (e : Numbered). e.number) xs ≡ ids_from k xs → x.number ≡ k + length xs → map (λ (e : Numbered). e.number) (xs ++ x ∷ []) ≡ ids_from k (xs ++ x ∷ [])
 one_more k [] x off at = let q : x.number ≡ k = omega arith in rw q refl
