@@ -57,6 +57,7 @@ pub(crate) fn ended(call: Call, s: &mut State) -> Moved
         s.base.calls.push(call)?;
         Ok(to(s, Mode::Done(Expr::Call(place as u32)), b')'))
     } else {
+        drop(call);
         Ok(false)
     }
 }
@@ -66,7 +67,10 @@ pub(crate) fn next_slot(call: Call, slots: Slots, s: &mut State) -> bool
     ensures { reach result (state s.new) ≡ machine.next_slot call (slot_list slots) s.old.base.open_ones (reverse s.old.base.stack.items) s.old.base.calls }
 {
     let (slot, left) = match slots {
-        Slots::Zero => return false,
+        Slots::Zero => {
+            drop(call);
+            return false;
+        }
         Slots::OneSlot(a) => (a, Slots::Zero),
         Slots::TwoSlots(a, b) => (a, Slots::OneSlot(b)),
         Slots::ThreeSlots(a, b, c) => (a, Slots::TwoSlots(b, c)),
@@ -87,6 +91,7 @@ pub(crate) fn delivered(call: Call, slots: Slots, s: &mut State, byte: u8) -> Mo
     } else if byte == b')' && all_absent(slots) {
         ended(call, s)
     } else {
+        drop(call);
         Ok(false)
     }
 }
@@ -183,7 +188,10 @@ pub(crate) fn argument_on(made: Option<Part>, at: ArgumentPlace, s: &mut State, 
     let ArgumentPlace { call, slot, slots } = at;
     match made {
         Some(place) => to(s, Mode::Argument(false, call, slot, slots, place), byte),
-        None => false,
+        None => {
+            drop(call);
+            false
+        }
     }
 }
 
@@ -204,7 +212,10 @@ pub(crate) fn said(text: Bytes, at: ArgumentPlace, s: &mut State, byte: u8) -> M
     ensures { IfOk result (λ on. reach on (state s.new) ≡ machine.said text at.call at.slot (slot_list at.slots) s.old.base.open_ones (reverse s.old.base.stack.items) s.old.base.calls byte) }
 {
     match as_text(text) {
-        None => Ok(false),
+        None => {
+            drop(at);
+            Ok(false)
+        }
         Some(text) => delivered(put_text(at.slot, text, at.call), at.slots, s, byte),
     }
 }
@@ -306,6 +317,7 @@ pub(crate) fn close(call: Call, s: &mut State, byte: u8) -> Moved
     if byte == b')' {
         ended(call, s)
     } else {
+        drop(call);
         Ok(false)
     }
 }

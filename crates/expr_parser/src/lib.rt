@@ -46,5 +46,5 @@ mod staying;
 mod whole_numbers;
 mod writing;
 
-pub use reading::{LONGEST_EXPRESSION, ParseError, Parsed, one_expression, read};
+pub use reading::{ParseError, Parsed, one_expression, read};
 pub use writing::write;

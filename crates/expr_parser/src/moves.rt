@@ -52,6 +52,8 @@ pub(crate) fn last_whole(
     ensures { IfOk result (λ r. option_map whole_of r ≡ machine.ends_by (Some (tree_of left)) last (reverse base.stack.items) base.calls) }
 {
     if blank(last) {
+        drop(left);
+        drop(base);
         return Ok(None);
     }
     let made = reduce(alloc, 0, base.stack, left)?;
@@ -61,6 +63,7 @@ pub(crate) fn last_whole(
             calls: base.calls,
         }))
     } else {
+        drop(made);
         Ok(None)
     }
 }
@@ -74,9 +77,15 @@ pub(crate) fn number_whole(
     ensures { IfOk result (λ r. option_map whole_of r ≡ machine.ends_by (machine.constant_of value) last (reverse base.stack.items) base.calls) }
 {
     match value {
-        None => Ok(None),
+        None => {
+            drop(base);
+            Ok(None)
+        }
         Some(n) => match constant(n) {
-            None => Ok(None),
+            None => {
+                drop(base);
+                Ok(None)
+            }
             Some(left) => last_whole(alloc, left, last, base),
         },
     }
@@ -90,16 +99,10 @@ pub(crate) fn finished(alloc: Global, s: State) -> Result<Option<Whole>, OutOfMe
     match mode {
         Mode::Number(figures) => number_whole(alloc, value(&figures), last, base),
         Mode::Done(left) => last_whole(alloc, left, last, base),
-        Mode::Begin => Ok(None),
-        Mode::Operand => Ok(None),
-        Mode::Word(_, _) => Ok(None),
-        Mode::Slash(_) => Ok(None),
-        Mode::Host(_, _) => Ok(None),
-        Mode::Key(_, _, _, _, _) => Ok(None),
-        Mode::Argument(_, _, _, _, _) => Ok(None),
-        Mode::Close(_) => Ok(None),
-        Mode::Less(_) => Ok(None),
-        Mode::Greater(_) => Ok(None),
-        Mode::Joint(_, _, _) => Ok(None),
+        other => {
+            drop(other);
+            drop(base);
+            Ok(None)
+        }
     }
 }

@@ -51,7 +51,11 @@ pub(crate) fn closed(alloc: Global, left: Expr, s: &mut State) -> Moved
             s.base.open_ones -= 1;
             Ok(to(s, Mode::Done(made.operand), b')'))
         }
-        _ => Ok(false),
+        other => {
+            drop(other);
+            drop(made.operand);
+            Ok(false)
+        }
     }
 }
 
@@ -81,6 +85,7 @@ pub(crate) fn joint(op: Op, rest: Rest, left: Expr, byte: u8, s: &mut State) -> 
     if gap(s.last) {
         to(s, Mode::Joint(op, rest, left), byte)
     } else {
+        drop(left);
         false
     }
 }
@@ -98,6 +103,7 @@ pub(crate) fn behind_other(left: Expr, s: &mut State, byte: u8) -> bool
     } else if byte == b'a' {
         joint(Op::And, Rest::Nd, left, byte, s)
     } else {
+        drop(left);
         false
     }
 }
@@ -151,6 +157,7 @@ pub(crate) fn joint_on(want: u8, next: Rest, op: Op, left: Expr, s: &mut State, 
     if byte == want {
         to(s, Mode::Joint(op, next, left), byte)
     } else {
+        drop(left);
         false
     }
 }

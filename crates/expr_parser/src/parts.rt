@@ -149,7 +149,10 @@ fn more_number(slot: Slot, place: Figures, byte: u8) -> Result<Option<Part>, Out
     ensures { IfOk result (λ made. made ≡ parts.more_number (calls.number_limit slot) place byte) }
 {
     match number_limit(slot) {
-        None => Ok(None),
+        None => {
+            drop(place);
+            Ok(None)
+        }
         Some(most) => match figure(most, place, byte)? {
             Some(made) => Ok(Some(Part::Number(made))),
             None => Ok(None),
@@ -163,7 +166,10 @@ fn quoted_number(place: Figures, byte: u8) -> Result<Option<Part>, OutOfMemory>
     if byte == b'"' {
         match value(&place) {
             Some(_) => Ok(Some(Part::Closed(text_of(place)))),
-            None => Ok(None),
+            None => {
+                drop(place);
+                Ok(None)
+            }
         }
     } else {
         match figure(GREATEST_PERCENT, place, byte)? {

@@ -115,7 +115,10 @@ pub(crate) fn reduce(
     while floor(&stack) > level {
         match stack.pop() {
             Some(Pending::Waits(half)) => operand = applied(alloc, half, operand)?,
-            _ => return Ok(Reduced { stack, operand }),
+            other => {
+                drop(other);
+                return Ok(Reduced { stack, operand });
+            }
         }
     }
     Ok(Reduced { stack, operand })

@@ -23,10 +23,7 @@ use std::alloc::Global;
 use thiserror::Error;
 use zbx_types::{Call, Expr, Many, OutOfMemory};
 
-/// The most bytes of an expression (this project's own).
-pub const LONGEST_EXPRESSION: u32 = zbx_types::LONGEST_EXPRESSION as u32;
-
-/// The same, as a length.
+/// The most bytes of an expression.
 const LONGEST: usize = zbx_types::LONGEST_EXPRESSION;
 
 /// An expression, and the calls of functions in it.
@@ -88,10 +85,9 @@ fn started(alloc: Global, text: &[u8]) -> Result<State, OutOfMemory>
 fn begun(alloc: Global, text: &[u8]) -> Result<Box<State>, OutOfMemory>
     ensures { IfOk result (λ made. state made.value ≡ machine.start) }
 {
-    match Box::new(alloc, started(alloc, text)?) {
-        Ok(made) => Ok(made),
-        Err(_) => Err(OutOfMemory),
-    }
+    Box::new(alloc, started(alloc, text)?)
+        .ok()
+        .ok_or(OutOfMemory)
 }
 
 /// Goes on by one byte.
@@ -171,6 +167,7 @@ fn answer(alloc: Global, s: Box<State>, count: u32) -> Result<Parsed, ParseError
                     calls: whole.calls,
                 })
             } else {
+                drop(whole);
                 Err(ParseError::At(0))
             }
         }

@@ -14,6 +14,7 @@ use crate::pending::{Half, Pending, Rest};
 use crate::slots::{Slot, Slots};
 use byte_grammar::Character;
 use item_key::Place;
+use std::mem::replace;
 use zbx_types::{Bytes, Call, Expr, Fun, Many, Op, OutOfMemory};
 
 /// The most calls of functions in an expression (this project's own).
@@ -98,7 +99,7 @@ pub(crate) type Moved = Result<bool, OutOfMemory>;
 pub(crate) fn to(s: &mut State, mode: Mode, last: u8) -> bool
     ensures { reach result (state s.new) ≡ Some (machine.state (view.mode mode) last s.old.base.open_ones (reverse s.old.base.stack.items) s.old.base.calls) }
 {
-    s.mode = mode;
+    drop(replace(&mut s.mode, mode));
     s.last = last;
     true
 }

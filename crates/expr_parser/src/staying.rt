@@ -125,7 +125,7 @@ fn argument_on(fresh: &mut bool, slot: Slot, place: &mut Part, byte: u8) -> Opti
         Some(None) => Some(false),
         Some(Some(behind)) => {
             *fresh = false;
-            *place = behind;
+            drop(replace(place, behind));
             Some(true)
         }
     }
@@ -157,7 +157,7 @@ fn number_on(alloc: Global, figures: &mut Figures, byte: u8) -> Stay
     match figure(GREATEST, before, byte)? {
         None => Ok(Some(false)),
         Some(behind) => {
-            *figures = behind;
+            drop(replace(figures, behind));
             Ok(Some(true))
         }
     }

@@ -111,7 +111,7 @@ fn put_expr(expr: &Expr, calls: &[Call], out: &mut Text) -> Result<(), OutOfMemo
 ///
 /// The written form of what [`read`](crate::read) gave is again a text of that expression, and of no other, where at
 /// most 32 parentheses are open at one place; it may be longer than `read` takes,
-/// [`LONGEST_EXPRESSION`](crate::LONGEST_EXPRESSION). A call whose place isn't in the list, which `read` never gives,
+/// [`LONGEST_EXPRESSION`](zbx_types::LONGEST_EXPRESSION). A call whose place isn't in the list, which `read` never gives,
 /// is written as nothing.
 ///
 /// The one error is want of memory. The recursion is as deep as the expression, at most 2,048 levels for what `read`
