@@ -17,7 +17,7 @@ pub(crate) struct Row<T> {
 }
 
 impl<T> Model for Row<T> {
-    ghost use Rattle.std.specs.Prelude.{◌-◌, ◌≤◌, drop};
+    ghost use Rattle.std.specs.Prelude.{◌-◌, ◌+◌, ◌≤◌, drop};
     ghost use Rattle.std.specs.Vec.{vec_capacity, vec_len};
     ghost use Rattle.zbx_types.specs.Reserved.{Roomy};
 
@@ -25,7 +25,7 @@ impl<T> Model for Row<T> {
 
     ghost view = { λ r. record { items = drop r.lost r.items.items; room = vec_capacity r.items - vec_len r.items } };
 
-    ghost invariant = { λ r. r.lost ≤ vec_len r.items };
+    ghost invariant = { λ r. r.lost + r.lost ≤ vec_len r.items };
 }
 
 impl<T: Drop> Row<T> {
