@@ -1,6 +1,6 @@
 //! Escalation steps that run for open problems.
 
-ghost use Rattle.std.specs.Prelude.{◌≡◌, ◌<◌, map, length, IfSome, IfOk, OnOk, OnErr};
+ghost use Rattle.std.specs.Prelude.{◌≡◌, ◌<◌, ◌++◌, ◌∷◌, [], map, length, IfSome, IfOk, OnOk, OnErr};
 ghost use Rattle.std.specs.List.{position_from};
 ghost use Rattle.zbx_types.specs.Records.{same_event};
 ghost use Rattle.trigger_state.specs.Problems.{action_of, same_action, event_in, with_step, stepped};
@@ -27,6 +27,14 @@ fn same_action(one: &Rec, other: &Rec) -> bool
     action_of(one) == action_of(other)
 }
 
+/// Adds a copy of a step.
+fn push_copy(alloc: Global, steps: &mut Many<Rec>, step: &Rec) -> Result<(), OutOfMemory>
+    ensures { OnOk result (steps.new ≡ steps.old ++ step.now ∷ []) }
+{
+    steps.push(step.copy(alloc)?)?;
+    Ok(())
+}
+
 /// Steps with one more: in the place of the one of its action, or behind them all.
 fn steps_with(alloc: Global, steps: &[Rec], step: &Rec) -> Result<Many<Rec>, OutOfMemory>
     ensures { IfOk result (λ made. made ≡ with_step steps.now step.now) }
@@ -35,14 +43,14 @@ fn steps_with(alloc: Global, steps: &[Rec], step: &Rec) -> Result<Many<Rec>, Out
     let mut taken = false;
     for one in steps {
         if !taken && same_action(one, step) {
-            made.push(step.copy(alloc)?)?;
+            push_copy(alloc, &mut made, step)?;
             taken = true;
         } else {
-            made.push(one.copy(alloc)?)?;
+            push_copy(alloc, &mut made, one)?;
         }
     }
     if !taken {
-        made.push(step.copy(alloc)?)?;
+        push_copy(alloc, &mut made, step)?;
     }
     Ok(made)
 }
