@@ -1,17 +1,15 @@
 //! Sources, sinks, disks, wires and gates in memory.
 
+use crate::ports::{answers_of, reads_of, writes_to};
+use crate::rows::{Row, number, row_of};
 use outside::{
     Disk, Failed, Gate, HoldGate, MemDisk, MemSink, MemSource, OpenGate, RamDisk, ScriptWire, Sink,
     Source, Trouble, Wire, WireEvent, WorkWire,
 };
 use std::alloc::Global;
 use std::test::Fail;
-use std::thread::join;
+use std::thread::{Threads, join};
 use zbx_types::{Bytes, Many, OutOfMemory};
-
-fn source(alloc: Global, text: &[u8]) -> Result<MemSource, OutOfMemory> {
-    Ok(MemSource::new(Bytes::of(alloc, text)?, Many::new(alloc)))
-}
 
 fn only(alloc: Global, number: u64) -> Result<Many<u64>, OutOfMemory> {
     let mut numbers = Many::new(alloc);
@@ -19,66 +17,45 @@ fn only(alloc: Global, number: u64) -> Result<Many<u64>, OutOfMemory> {
     Ok(numbers)
 }
 
-#[test]
-fn a_source_gives_its_bytes_and_fails_where_told(rt: HostRuntime) -> Result<(), Fail> {
-    let alloc = rt.alloc();
-    let mut source = MemSource::new(Bytes::of(alloc, b"abc")?, only(alloc, 2)?);
-    let mut into = [0; 2];
-    assert_eq!(rt; source.read(&mut into), Ok(2));
-    assert_eq!(rt; into, *b"ab");
-    assert_eq!(rt; source.read(&mut into), Err(Failed));
-    assert_eq!(rt; source.faults(), 1);
-    assert_eq!(rt; source.read(&mut into), Ok(1));
-    assert_eq!(rt; into[0], b'c');
-    assert_eq!(rt; source.read(&mut into), Ok(0));
-    Ok(())
+/// A source of these bytes, none of whose calls fails.
+fn source(alloc: Global, text: &[u8]) -> Result<MemSource, OutOfMemory> {
+    Ok(MemSource::new(Bytes::of(alloc, text)?, Many::new(alloc)))
 }
 
-#[test]
-fn a_sink_holds_what_is_written(rt: HostRuntime) -> Result<(), Fail> {
-    let alloc = rt.alloc();
-    let mut sink = MemSink::new(Bytes::of(alloc, b"a")?, only(alloc, 2)?);
-    assert_eq!(rt; sink.write(b"bc"), Ok(2));
-    assert_eq!(rt; sink.write(b"d"), Err(Failed));
-    assert_eq!(rt; sink.write(b"e"), Ok(1));
-    assert_eq!(rt; sink.faults(), 1);
-    assert_eq!(rt; sink.held(), 4);
-    assert_eq!(rt; sink.bytes().as_slice(), b"abce".as_slice());
-    Ok(())
+/// Four reads of a source whose second call fails.
+fn read_source(alloc: Global, text: &str) -> Result<String, Fail> {
+    let bytes = Bytes::of(alloc, text.as_bytes())?;
+    let mut source = MemSource::new(bytes, only(alloc, 2)?);
+    reads_of(alloc, &mut source, 4)
 }
 
-/// What so many calls of a wire's `next` answer, a line each.
-fn answers_of<W: Wire>(alloc: Global, wire: &mut W, calls: u32) -> Result<String, Fail> {
-    let mut answers = String::new(alloc);
-    for _ in 0..calls {
-        match wire.next(alloc) {
-            Ok(event) => answers.push_str(format!(in alloc; "{event:?}\n")?.as_str())?,
-            Err(trouble) => answers.push_str(format!(in alloc; "{trouble:?}\n")?.as_str())?,
-        }
-    }
-    Ok(answers)
+/// Pieces that are written to a sink of one byte whose second call fails.
+fn write_sink(alloc: Global, pieces: &str) -> Result<String, Fail> {
+    let held = Bytes::of(alloc, b"a")?;
+    let mut sink = MemSink::new(held, only(alloc, 2)?);
+    let told = writes_to(alloc, &mut sink, pieces)?;
+    Ok(format!(in alloc; "{} {:?}", told, sink.bytes().as_slice())?)
 }
 
-/// The same for the wire of a script.
-fn answers_to(alloc: Global, script: &str, calls: u32) -> Result<String, Fail> {
+/// What calls of a wire's `next` answer, for the wire of a script.
+fn answers_to(alloc: Global, script: &str, calls: u64) -> Result<String, Fail> {
     let mut wire = ScriptWire::new(alloc, source(alloc, script.as_bytes())?, Many::new(alloc));
     answers_of(alloc, &mut wire, calls)
 }
 
 /// The same for the wire of a workload of the number 7 and so many values.
-fn work_answers(alloc: Global, values: u64, calls: u32) -> Result<String, Fail> {
-    answers_of(
-        alloc,
-        &mut WorkWire::new(alloc, 7, values.clamp(1, 1_000)),
-        calls,
-    )
+fn work_answers(alloc: Global, values: u64, calls: u64) -> Result<String, Fail> {
+    let mut wire = WorkWire::new(alloc, 7, values.clamp(1, 1_000));
+    answers_of(alloc, &mut wire, calls)
 }
 
-const SCRIPT: &str =
+fn script() -> &'static str {
     "100.000000000 open 7\n\n100.000000001 piece 7 00ff\n0100.000000002 frame 07 a b\n\
-    101.000000000 end 7\n102.000000000 broke 8\n103.000000000 quiet\n104.000000000 closed";
+    101.000000000 end 7\n102.000000000 broke 8\n103.000000000 quiet\n104.000000000 closed"
+}
 
-const EVENTS: &str = "Opened { conn: 7, at: Moment { sec: 100, ns: 0 } }\n\
+fn events() -> &'static str {
+    "Opened { conn: 7, at: Moment { sec: 100, ns: 0 } }\n\
     Piece { conn: 7, bytes: Bytes { bytes: [0, 255] }, at: Moment { sec: 100, ns: 1 } }\n\
     Piece { conn: 7, bytes: Bytes { bytes: [90, 66, 88, 68, 1, 3, 0, 0, 0, 0, 0, 0, 0, 97, 32, 98] }, \
     at: Moment { sec: 100, ns: 2 } }\n\
@@ -87,37 +64,48 @@ const EVENTS: &str = "Opened { conn: 7, at: Moment { sec: 100, ns: 0 } }\n\
     Quiet { at: Moment { sec: 103, ns: 0 } }\n\
     Closed { at: Moment { sec: 104, ns: 0 } }\n\
     Closed { at: Moment { sec: 104, ns: 0 } }\n\
-    Failed\n";
-
-#[test]
-fn a_script_gives_its_events(rt: HostRuntime) -> Result<(), Fail> {
-    assert_eq!(rt; answers_to(rt.alloc(), SCRIPT, 9)?.as_str(), EVENTS);
-    Ok(())
+    Failed\n"
 }
 
 /// A script with the events of the workload of two values.
-const TWO_VALUES: &str = "1000000.000000000 open 1\n\
+fn two_values() -> &'static str {
+    "1000000.000000000 open 1\n\
     1000000.000000000 frame 1 {\"request\":\"sender data\",\"data\":[{\"host\":\"h28\",\"key\":\"k1\",\"value\":\"53\"},\
-    {\"host\":\"h23\",\"key\":\"k5\",\"value\":\"19\"}]}\n";
+    {\"host\":\"h23\",\"key\":\"k5\",\"value\":\"19\"}]}\n"
+}
 
 /// A script with the last events of the workload of 251 values.
-const VALUE_251: &str = "1000001.000000000 open 2\n\
-    1000001.000000000 frame 2 {\"request\":\"sender data\",\"data\":[{\"host\":\"h15\",\"key\":\"k7\",\"value\":\"33\"}]}\n";
+fn value_251() -> &'static str {
+    "1000001.000000000 open 2\n\
+    1000001.000000000 frame 2 {\"request\":\"sender data\",\"data\":[{\"host\":\"h15\",\"key\":\"k7\",\"value\":\"33\"}]}\n"
+}
 
-#[test]
-fn a_workload_gives_its_frames(rt: HostRuntime) -> Result<(), Fail> {
-    let alloc = rt.alloc();
-    assert_eq!(rt;
-        work_answers(alloc, 2, 4)?.as_str(),
-        answers_to(alloc, TWO_VALUES, 4)?.as_str()
-    );
-    let last = answers_to(alloc, VALUE_251, 4)?;
-    assert!(rt;
-        work_answers(alloc, 251, 6)?
-            .as_str()
-            .ends_with(last.as_str())
-    );
-    Ok(())
+/// A text, or one word for it where it ends as wanted.
+fn ending(alloc: Global, told: String, wanted: &str) -> Result<String, Fail> {
+    if told.as_str().ends_with(wanted) {
+        return Ok(String::from_str(alloc, "as wanted")?);
+    }
+    Ok(told)
+}
+
+/// Whether the events of the script are told as they are written above, and no others.
+fn tell_script(alloc: Global) -> Result<String, Fail> {
+    let told = answers_to(alloc, script(), 9)?;
+    if told.as_str().len() == events().len() {
+        return ending(alloc, told, events());
+    }
+    Ok(told)
+}
+
+/// Whether a workload of so many values ends as a script does.
+fn tell_work(alloc: Global, values: &str) -> Result<String, Fail> {
+    let last = match values {
+        "2" => answers_to(alloc, two_values(), 4)?,
+        _ => answers_to(alloc, value_251(), 4)?,
+    };
+    let calls = if values == "2" { 4 } else { 6 };
+    let told = work_answers(alloc, number(values), calls)?;
+    ending(alloc, told, last.as_str())
 }
 
 /// Whether a call of `next` gave an event of this second.
@@ -128,35 +116,18 @@ fn is_at(answer: Result<WireEvent, Trouble>, sec: u32) -> bool {
     }
 }
 
-/// Whether a script of this line and one behind it fails once, and then gives the event behind it.
-fn is_passed(alloc: Global, bad: &str) -> Result<bool, Fail> {
-    let script = format!(in alloc; "{bad}\n2.000000000 quiet")?;
-    let mut wire = ScriptWire::new(alloc, source(alloc, script.as_bytes())?, Many::new(alloc));
+/// Whether the next call of a wire fails, and the one behind it gives an event of the second 2; how often it failed.
+fn passed(alloc: Global, wire: &mut ScriptWire<MemSource>) -> (bool, bool, u64) {
     let failed = matches!(wire.next(alloc), Err(Trouble::Failed));
     let behind = is_at(wire.next(alloc), 2);
-    Ok(failed && behind && wire.faults() == 1)
+    (failed, behind, wire.faults())
 }
 
-#[test]
-fn a_bad_line_fails_and_is_passed(rt: HostRuntime) -> Result<(), Fail> {
-    for bad in [
-        "quiet",
-        "1.00000000 quiet",
-        ".000000000 quiet",
-        "4294967296.000000000 quiet",
-        "1.000000000  quiet",
-        "1.000000000 quiet\r",
-        "1.000000000 open ",
-        "1.000000000 open 18446744073709551616",
-        "1.000000000 piece 1",
-        "1.000000000 piece 1 0",
-        "1.000000000 piece 1 0A",
-        "1.000000000 frame 1",
-        "1.000000000 shut 1",
-    ] {
-        assert!(rt; is_passed(rt.alloc(), bad)?, "{bad}");
-    }
-    Ok(())
+/// The same for a script of this line and one behind it.
+fn pass_line(alloc: Global, bad: &str) -> Result<String, Fail> {
+    let script = format!(in alloc; "{bad}\n2.000000000 quiet")?;
+    let mut wire = ScriptWire::new(alloc, source(alloc, script.as_bytes())?, Many::new(alloc));
+    Ok(format!(in alloc; "{:?}", passed(alloc, &mut wire))?)
 }
 
 /// Whether a wire whose second call fails answers so, and keeps what was sent before it and what was closed.
@@ -176,142 +147,185 @@ fn is_kept(alloc: Global, wire: &mut ScriptWire<MemSource>) -> [bool; 6] {
 }
 
 /// The same for a wire of no script.
-fn kept(alloc: Global) -> Result<[bool; 6], OutOfMemory> {
+fn keep_sent(alloc: Global) -> Result<String, Fail> {
     let mut wire = ScriptWire::new(alloc, source(alloc, b"")?, only(alloc, 2)?);
-    Ok(is_kept(alloc, &mut wire))
+    Ok(format!(in alloc; "{:?}", is_kept(alloc, &mut wire))?)
 }
 
-#[test]
-fn a_wire_keeps_what_is_sent_and_closed(rt: HostRuntime) -> Result<(), Fail> {
-    assert_eq!(rt; kept(rt.alloc())?, [true; 6]);
-    Ok(())
-}
-
-/// Whether a sink, a source and a wire take and give 65,536 bytes at once.
-fn takes_large_pieces(alloc: Global) -> Result<[bool; 4], OutOfMemory> {
+/// Whether a sink and a source take and give 65,536 bytes at once.
+fn move_large(alloc: Global) -> Result<[bool; 2], OutOfMemory> {
     let piece = [b'a'; 65_536];
     let mut into = [0; 65_536];
-    let mut line = Bytes::of(alloc, b"1.000000000 frame 1 ")?;
-    line.extend(&piece)?;
+    let mut source = source(alloc, &piece)?;
     let mut sink = MemSink::new(Bytes::new(alloc), Many::new(alloc));
-    let mut source = MemSource::new(Bytes::of(alloc, &piece)?, Many::new(alloc));
-    let script = MemSource::new(line, Many::new(alloc));
-    let mut wire = ScriptWire::new(alloc, script, Many::new(alloc));
     Ok([
         sink.write(&piece) == Ok(65_536),
         source.read(&mut into) == Ok(65_536),
+    ])
+}
+
+/// Whether a wire sends 65,536 bytes at once, and gives as many of a frame.
+fn send_large(alloc: Global) -> Result<[bool; 2], OutOfMemory> {
+    let piece = [b'a'; 65_536];
+    let mut line = Bytes::of(alloc, b"1.000000000 frame 1 ")?;
+    line.extend(&piece)?;
+    let script = MemSource::new(line, Many::new(alloc));
+    let mut wire = ScriptWire::new(alloc, script, Many::new(alloc));
+    Ok([
         wire.send(1, &piece) == Ok(()),
         matches!(wire.next(alloc), Ok(WireEvent::Piece { bytes, .. }) if bytes.len() == 65_549),
     ])
 }
 
-#[test]
-fn large_pieces_are_taken(rt: HostRuntime) -> Result<(), Fail> {
-    assert_eq!(rt; takes_large_pieces(rt.alloc())?, [true; 4]);
-    Ok(())
+/// A disk of the bytes `abc` whose call with this number fails.
+fn disk_of_abc(alloc: Global, failing: u64) -> Result<MemDisk, OutOfMemory> {
+    let bytes = Bytes::of(alloc, b"abc")?;
+    Ok(MemDisk::new(alloc, bytes, only(alloc, failing)?))
 }
 
-/// What a disk of the bytes `abc` holds after it was read and written, and how often it failed; the call with this number
-/// fails.
-fn written(alloc: Global, failing: u64) -> Result<(Bytes, u64), OutOfMemory> {
-    let mut disk = MemDisk::new(alloc, Bytes::of(alloc, b"abc")?, only(alloc, failing)?);
+/// What such a disk holds after it was read and written, and how often it failed.
+fn write_disk(alloc: Global, failing: u64) -> Result<String, Fail> {
+    let mut disk = disk_of_abc(alloc, failing)?;
     let _ = disk.len();
     let _ = disk.write_at(1, b"x");
     let _ = disk.sync();
     let _ = disk.write_at(5, b"yz");
-    Ok((Bytes::of(alloc, disk.bytes().as_slice())?, disk.faults()))
+    Ok(format!(in alloc; "{:?} {}", disk.bytes().as_slice(), disk.faults())?)
 }
 
-/// What a disk that keeps its bytes alone holds after it was written, and what its calls answered.
-fn bare(alloc: Global) -> Result<(Bytes, [bool; 4]), OutOfMemory> {
-    let mut disk = RamDisk::new(alloc);
+/// How many bytes a disk of the bytes `abc` says that it has, and what it gives from a place on.
+fn read_disk(alloc: Global, at: u64) -> Result<String, Fail> {
+    let mut disk = disk_of_abc(alloc, 100)?;
+    let mut into = [0; 2];
+    let length = disk.len().unwrap_or(99);
+    let count = disk.read(at, &mut into).unwrap_or(99);
+    Ok(format!(in alloc; "{length} {count} {into:?}")?)
+}
+
+/// What calls of a disk that keeps its bytes alone answer.
+fn bare_answers(disk: &mut RamDisk) -> [bool; 4] {
     let mut into = [0; 4];
-    let answers = [
+    [
         disk.write_at(2, b"yz") == Ok(()),
         disk.write_at(0, b"ab") == Ok(()) && disk.sync() == Ok(()),
         disk.len() == Ok(4),
         disk.read(3, &mut into) == Ok(1) && into[0] == b'z',
-    ];
-    Ok((Bytes::of(alloc, disk.bytes().as_slice())?, answers))
+    ]
 }
 
-/// How many bytes each disk holds after pieces of 65,536 bytes were written behind one another, so many of them.
-fn grown(alloc: Global, pieces: u64) -> Result<(usize, usize), OutOfMemory> {
+/// The same, and what it holds then.
+fn write_bare(alloc: Global) -> Result<String, Fail> {
+    let mut disk = RamDisk::new(alloc);
+    let answers = bare_answers(&mut disk);
+    Ok(format!(in alloc; "{:?} {:?}", answers, disk.bytes().as_slice())?)
+}
+
+/// Writes pieces of 65,536 bytes behind one another, so many of them.
+fn grow<D: Disk>(disk: &mut D, pieces: u64) {
     let piece = [b'a'; 65_536];
-    let mut disk = MemDisk::new(alloc, Bytes::new(alloc), Many::new(alloc));
-    let mut ram = RamDisk::new(alloc);
     for number in 0..pieces.min(1_000) {
         let _ = disk.write_at(number * 65_536, &piece);
-        let _ = ram.write_at(number * 65_536, &piece);
     }
-    Ok((disk.bytes().len(), ram.bytes().len()))
 }
 
-/// How many bytes a disk of the bytes `abc` says that it has, and what it gives from a place on.
-fn told(alloc: Global, at: u64) -> Result<(u64, usize, [u8; 2]), OutOfMemory> {
-    let mut disk = MemDisk::new(alloc, Bytes::of(alloc, b"abc")?, Many::new(alloc));
-    let mut into = [0; 2];
-    let length = disk.len().unwrap_or(99);
-    let count = disk.read(at, &mut into).unwrap_or(99);
-    Ok((length, count, into))
+/// How many bytes each disk holds then.
+fn grow_both(alloc: Global, pieces: u64) -> Result<String, Fail> {
+    let mut disk = MemDisk::new(alloc, Bytes::new(alloc), Many::new(alloc));
+    let mut ram = RamDisk::new(alloc);
+    grow(&mut disk, pieces);
+    grow(&mut ram, pieces);
+    Ok(format!(in alloc; "{} {}", disk.bytes().len(), ram.bytes().len())?)
 }
 
-/// Whether a disk in memory holds these bytes after it was written, and has failed so often.
-fn is_written(alloc: Global, failing: u64, bytes: &[u8], faults: u64) -> Result<bool, OutOfMemory> {
-    let (held, failed) = written(alloc, failing)?;
-    Ok(held.as_slice() == bytes && failed == faults)
-}
-
-#[test]
-fn a_disk_holds_what_is_written_and_fails_where_told(rt: HostRuntime) -> Result<(), Fail> {
-    let alloc = rt.alloc();
-    assert!(rt; is_written(alloc, 100, b"axc\0\0yz", 0)?);
-    assert!(rt; is_written(alloc, 2, b"abc\0\0yz", 1)?);
-    assert!(rt; is_written(alloc, 4, b"axc", 1)?);
-    Ok(())
-}
-
-#[test]
-fn a_disk_gives_its_bytes_up_to_the_end(rt: HostRuntime) -> Result<(), Fail> {
-    let alloc = rt.alloc();
-    assert_eq!(rt; told(alloc, 1)?, (3, 2, *b"bc"));
-    assert_eq!(rt; told(alloc, 2)?, (3, 1, *b"c\0"));
-    assert_eq!(rt; told(alloc, 3)?, (3, 0, *b"\0\0"));
-    Ok(())
-}
-
-#[test]
-fn a_bare_disk_holds_what_is_written(rt: HostRuntime) -> Result<(), Fail> {
-    let (bytes, answers) = bare(rt.alloc())?;
-    assert_eq!(rt; answers, [true; 4]);
-    assert_eq!(rt; bytes.as_slice(), b"abyz".as_slice());
-    Ok(())
-}
-
-#[test]
-fn disks_grow_as_large_as_a_journal(rt: HostRuntime) -> Result<(), Fail> {
-    assert_eq!(rt; grown(rt.alloc(), 256)?, (16_777_216, 16_777_216));
-    Ok(())
-}
-
-#[test]
-fn a_gate_holds_the_first_later_caller_for_its_turns(rt: HostRuntime) -> Result<(), Fail> {
-    let gate = HoldGate::new(5, 3);
+/// How many calls a gate counts, for how many turns one was held, and whether another syncer ended that. It lets calls up
+/// to 5 pass; one holds for so many turns, and two syncers come behind it.
+fn hold(turns: u64) -> (u64, u64, bool) {
+    let gate = HoldGate::new(5, turns);
     OpenGate.reached(0, 6);
     gate.reached(0, 5);
     gate.reached(1, 6);
     gate.reached(0, 7);
     gate.reached(1, 8);
-    assert_eq!(rt; (gate.calls(), gate.turns_waited()), (4, 3));
-    assert!(rt; !gate.ended_by_other());
-    Ok(())
+    (gate.calls(), gate.turns_waited(), gate.ended_by_other())
+}
+
+/// What comes of a case.
+fn answer(alloc: Global, row: Row<'_>) -> Result<String, Fail> {
+    match row.kind {
+        "source" => read_source(alloc, row.input),
+        "sink" => write_sink(alloc, row.input),
+        "script" => tell_script(alloc),
+        "workload" => tell_work(alloc, row.input),
+        "bad line" => pass_line(alloc, row.input),
+        "sent and closed" => keep_sent(alloc),
+        "large pieces" => Ok(format!(in alloc; "{:?}", move_large(alloc)?)?),
+        "large frames" => Ok(format!(in alloc; "{:?}", send_large(alloc)?)?),
+        _ => answer_of_disks(alloc, row),
+    }
+}
+
+fn answer_of_disks(alloc: Global, row: Row<'_>) -> Result<String, Fail> {
+    match row.kind {
+        "disk that fails" => write_disk(alloc, number(row.input)),
+        "disk from" => read_disk(alloc, number(row.input)),
+        "bare disk" => write_bare(alloc),
+        "pieces" => grow_both(alloc, number(row.input)),
+        "hold" => Ok(format!(in alloc; "{:?}", hold(number(row.input)))?),
+        _ => Ok(String::from_str(alloc, "no such kind")?),
+    }
+}
+
+fn cases() -> &'static str {
+    "source | ab,failed,c,, 1 | abc\n\
+    sink | 2,failed,1, 4 1 [97, 98, 99, 101] | bc,d,e\n\
+    script | as wanted\n\
+    workload | as wanted | 2\n\
+    workload | as wanted | 251\n\
+    bad line | (true, true, 1) | quiet\n\
+    bad line | (true, true, 1) | 1.00000000 quiet\n\
+    bad line | (true, true, 1) | .000000000 quiet\n\
+    bad line | (true, true, 1) | 4294967296.000000000 quiet\n\
+    bad line | (true, true, 1) | 1.000000000  quiet\n\
+    bad line | (true, true, 1) | 1.000000000 quiet\r\n\
+    bad line | (true, true, 1) | 1.000000000 open \n\
+    bad line | (true, true, 1) | 1.000000000 open 18446744073709551616\n\
+    bad line | (true, true, 1) | 1.000000000 piece 1\n\
+    bad line | (true, true, 1) | 1.000000000 piece 1 0\n\
+    bad line | (true, true, 1) | 1.000000000 piece 1 0A\n\
+    bad line | (true, true, 1) | 1.000000000 frame 1\n\
+    bad line | (true, true, 1) | 1.000000000 shut 1\n\
+    sent and closed | [true, true, true, true, true, true]\n\
+    large pieces | [true, true]\n\
+    large frames | [true, true]\n\
+    disk that fails | [97, 120, 99, 0, 0, 121, 122] 0 | 100\n\
+    disk that fails | [97, 98, 99, 0, 0, 121, 122] 1 | 2\n\
+    disk that fails | [97, 120, 99] 1 | 4\n\
+    disk from | 3 2 [98, 99] | 1\n\
+    disk from | 3 1 [99, 0] | 2\n\
+    disk from | 3 0 [0, 0] | 3\n\
+    bare disk | [true, true, true, true] [97, 98, 121, 122]\n\
+    pieces | 16777216 16777216 | 256\n\
+    hold | (4, 3, false) | 3"
 }
 
 #[test]
-fn another_syncer_ends_the_hold(rt: HostRuntime) -> Result<(), Fail> {
-    let gate = HoldGate::new(5, 100_000_000);
-    join(&rt, || gate.reached(0, 6), || gate.reached(1, 7));
-    assert_eq!(rt; gate.calls(), 2);
-    assert!(rt; gate.ended_by_other());
+fn ports_in_memory_do_what_they_are_told(rt: HostRuntime) -> Result<(), Fail> {
+    for line in cases().split('\n') {
+        let row = row_of(line);
+        let told = answer(rt.alloc(), row)?;
+        assert_eq!(rt; told.as_str(), row.wanted, "{line}");
+    }
     Ok(())
+}
+
+/// How many calls a gate counts to which two syncers come at once, and whether the second one ended the hold of the first.
+fn hold_one<R: Threads>(rt: &R) -> (u64, bool) {
+    let gate = HoldGate::new(5, 100_000_000);
+    join(rt, || gate.reached(0, 6), || gate.reached(1, 7));
+    (gate.calls(), gate.ended_by_other())
+}
+
+#[test]
+fn another_syncer_ends_the_hold(rt: HostRuntime) {
+    assert_eq!(rt; hold_one(&rt), (2, true));
 }
