@@ -1,0 +1,286 @@
+#!/usr/bin/env python3
+"""Runs a program as no folder of samples can say it: again over what an earlier run left, beside more and fewer syncers, on
+files that take nothing, and over sockets.
+
+usage: samples/runs.py PROGRAM    prints a line for each case that comes to something else, and how many cases there are; exit
+                                  status 0 where none differs
+
+What is expected is written out here, or is what another run printed.
+"""
+
+import os
+import re
+import socket
+import struct
+import subprocess
+import sys
+import tempfile
+import time
+
+SAMPLES = os.path.dirname(os.path.abspath(__file__))
+
+LINE = b"P|3-1|100.000000000|3|0|h|hot|hot\n"
+ONE_PROBLEM = b"status: Ok; entries: 3; problems: 1; recoveries: 0; messages: 0; outbox bytes: 34\n"
+
+
+class Differs(Exception):
+    """Something that isn't as expected."""
+
+
+def same(what, came, wanted):
+    if came != wanted:
+        raise Differs(f"{what}: {came!r} in place of {wanted!r}")
+
+
+def data_of(name):
+    with open(f"{SAMPLES}/one_frame/{name}", "rb") as file:
+        return file.read()
+
+
+def put(name, data):
+    with open(name, "wb") as file:
+        file.write(data)
+
+
+def held(name):
+    with open(name, "rb") as file:
+        return file.read()
+
+
+def run(program, *words):
+    """The exit status and the standard output of a run in the current folder."""
+    ran = subprocess.run([program, *words], stdin=subprocess.DEVNULL, capture_output=True, timeout=120)
+    same("standard error", ran.stderr, b"")
+    return ran.returncode, ran.stdout
+
+
+def feed(program, *words):
+    return run(program, "--mode", "feed", "--config", "config.json", "--script", "script", *words)
+
+
+# ---- cases: each runs in a folder with the configuration and the script of the first example
+
+
+def restart(program, kept):
+    """A run over the journal of an earlier one, whose outbox kept so many bytes, writes the lines that are missing."""
+    put("outbox", b"")
+    same("the first run", feed(program, "--journal", "journal", "--outbox", "outbox"), (0, ONE_PROBLEM))
+    same("its outbox", held("outbox"), LINE)
+    put("outbox", LINE[:kept])
+    put("script", b"100.000000000 closed\n")
+    same("the second run", feed(program, "--journal", "journal", "--outbox", "outbox"), (0, ONE_PROBLEM))
+    same("its outbox", held("outbox"), LINE)
+
+
+def restarts_keep_the_file(program):
+    """Each run over a journal reads what the one before added, and one that adds nothing leaves the file as it was."""
+    feed(program, "--journal", "journal")
+    first = held("journal")
+    put("script", b"100.000000000 closed\n")
+    same("a run without values", feed(program, "--journal", "journal"), (0, LINE + ONE_PROBLEM))
+    same("the journal", held("journal"), first)
+
+
+def workload(program, number, values, entries):
+    """A workload has the same lines beside any number of syncers, and each of its values is an entry."""
+    words = ["--mode", "workload", "--number", str(number), "--values", str(values)]
+    status, alone = run(program, *words, "--syncers", "0")
+    same("exit", status, 0)
+    last = alone.splitlines()[-1]
+    if not last.startswith(b"status: Ok; entries: %d; " % entries):
+        raise Differs(f"the last line: {last!r}")
+    same("problem lines", alone.count(b"\nP|") + alone.startswith(b"P|"), int(re.search(rb"problems: (\d+)", last)[1]))
+    for syncers in ("1", "4", "8"):
+        if run(program, *words, "--syncers", syncers) != (0, alone):
+            raise Differs(f"beside {syncers} syncers: other output than on one thread")
+
+
+def full_outbox(program, syncers):
+    """Where the outbox takes nothing the run ends with OutboxFault."""
+    same("the run", feed(program, "--outbox", "/dev/full", "--syncers", syncers), (11, b"status: OutboxFault\n"))
+
+
+def frame(data):
+    return b"ZBXD\x01" + struct.pack("<II", len(data), 0) + data
+
+
+def asked(*values):
+    pairs = ",".join('{"host":"h","key":"k","value":%s}' % value for value in values)
+    return frame(b'{"request":"sender data","data":[%s]}' % pairs.encode())
+
+
+class Server:
+    """A program that listens at a free port of this machine, until it is stopped."""
+
+    def __init__(self, program, *words):
+        for _ in range(20):
+            with socket.socket() as free:
+                free.bind(("127.0.0.1", 0))
+                self.port = free.getsockname()[1]
+            address = f"127.0.0.1:{self.port}"
+            self.program = subprocess.Popen(
+                [program, "--mode", "serve", "--config", "config.json", "--listen", address, *words],
+                stdin=subprocess.DEVNULL,
+                stdout=subprocess.PIPE,
+                stderr=subprocess.STDOUT,
+            )
+            if self.is_there():
+                return
+            self.stop()
+        raise Differs("no port could be listened at")
+
+    def is_there(self):
+        for _ in range(600):
+            if self.program.poll() is not None:
+                return False
+            try:
+                self.connect().close()
+                return True
+            except ConnectionRefusedError:
+                time.sleep(0.1)
+        return False
+
+    def connect(self):
+        made = socket.create_connection(("127.0.0.1", self.port), timeout=60)
+        return made
+
+    def stop(self):
+        self.program.kill()
+        self.program.wait()
+        self.program.stdout.close()
+
+    def __enter__(self):
+        return self
+
+    def __exit__(self, *_):
+        self.stop()
+
+
+def rest(conn):
+    """What comes on a connection up to its end."""
+    got = b""
+    while True:
+        try:
+            piece = conn.recv(65536)
+        except ConnectionResetError:
+            return got
+        if not piece:
+            return got
+        got += piece
+
+
+def same_reply(conn, processed, failed):
+    got = rest(conn)
+    wanted = rb'\{"response":"success","info":"processed: %d; failed: %d; total: %d; seconds spent: \d+\.\d{6}"\}'
+    if got != frame(got[13:]) or not re.fullmatch(wanted % (processed, failed, processed + failed), got[13:]):
+        raise Differs(f"the reply {got!r} for {processed} and {failed} values")
+
+
+def replies(program, syncers):
+    """Over sockets each connection gets its reply and is closed; one that brings no frame is closed without; a later run over
+    the journal has what was answered."""
+    with Server(program, "--journal", "journal", "--outbox", "outbox", "--syncers", syncers) as server:
+        first, second = server.connect(), server.connect()
+        data = asked('"1"')
+        first.sendall(data[:20])
+        second.sendall(asked('"10"'))
+        same_reply(second, 1, 0)
+        first.sendall(data[20:])
+        same_reply(first, 1, 0)
+        for sent, wanted in (
+            (asked(), None),
+            (frame(b"[1"), b'{"response":"failed","info":"not JSON"}'),
+            (frame(b"{}"), b'{"response":"failed","info":"unsupported request"}'),
+            (b"ZBXD\x03", b""),
+            (b"ZBXD\x01\x01\x00\x00\x01", b""),
+        ):
+            with server.connect() as conn:
+                conn.sendall(sent)
+                if wanted is None:
+                    same_reply(conn, 0, 0)
+                else:
+                    same(f"the reply to {sent!r}", rest(conn), wanted and frame(wanted))
+        with server.connect() as conn:
+            conn.sendall(asked('"10"', "1.5"))
+            conn.shutdown(socket.SHUT_WR)
+            same_reply(conn, 1, 1)
+        first.close()
+        second.close()
+    put("outbox", b"")
+    put("script", b"0.000000000 closed\n")
+    status, printed = feed(program, "--journal", "journal", "--outbox", "outbox")
+    same("exit of the run over the journal", status, 0)
+    same("its lines", [line.split(b"|")[0] for line in held("outbox").splitlines()], [b"P", b"R", b"P"])
+    if not printed.endswith(b"problems: 2; recoveries: 1; messages: 0; outbox bytes: %d\n" % len(held("outbox"))):
+        raise Differs(f"the printed line: {printed!r}")
+
+
+def reset(program):
+    """A connection that is reset in the midst of a frame comes to nothing, and others go on."""
+    with Server(program) as server:
+        lost = server.connect()
+        lost.sendall(asked('"10"')[:30])
+        lost.setsockopt(socket.SOL_SOCKET, socket.SO_LINGER, struct.pack("ii", 1, 0))
+        lost.close()
+        with server.connect() as conn:
+            conn.sendall(asked('"1"'))
+            same_reply(conn, 1, 0)
+
+
+def taken_port(program):
+    """Where the address can't be had the run ends with WireFault."""
+    with socket.socket() as other:
+        other.bind(("127.0.0.1", 0))
+        other.listen()
+        address = "127.0.0.1:%d" % other.getsockname()[1]
+        ran = run(program, "--mode", "serve", "--config", "config.json", "--listen", address)
+    same("the run", ran, (13, b"status: WireFault\n"))
+
+
+CASES = [
+    ("a restart behind no line", restart, 0),
+    ("a restart behind a third of a line", restart, 10),
+    ("a restart behind all lines", restart, 34),
+    ("a restart that adds nothing", restarts_keep_the_file),
+    ("a workload of 2,000 values", workload, 7, 2000, 2002),
+    ("a workload of 250 values", workload, 1, 250, 252),
+    ("an outbox that is full", full_outbox, "4"),
+    ("an outbox that is full, on one thread", full_outbox, "0"),
+    ("replies over sockets", replies, "4"),
+    ("replies over sockets, on one thread", replies, "0"),
+    ("a connection that is reset", reset),
+    ("an address that is taken", taken_port),
+]
+
+
+def flaw(program, case, arguments):
+    """What isn't as expected in a case, or nothing."""
+    with tempfile.TemporaryDirectory() as folder:
+        os.chdir(folder)
+        try:
+            for name in ("config.json", "script"):
+                put(name, data_of(name))
+            case(program, *arguments)
+        except (Differs, OSError, subprocess.TimeoutExpired) as error:
+            return str(error)
+        finally:
+            os.chdir("/")
+    return None
+
+
+def main():
+    if len(sys.argv) != 2:
+        sys.exit("usage: samples/runs.py PROGRAM")
+    program = os.path.abspath(sys.argv[1])
+    differing = 0
+    for name, case, *arguments in CASES:
+        what = flaw(program, case, arguments)
+        if what is not None:
+            differing += 1
+            print(f"{name}: {what}")
+    print(f"{len(CASES)} runs, {differing} differ")
+    sys.exit(1 if differing else 0)
+
+
+if __name__ == "__main__":
+    main()
