@@ -1,23 +1,33 @@
 //! Which kept entries `intake_front` finds not to fit their configuration.
 
+use crate::rows::row_of;
 use intake_front::first_misfit;
 use intake_journal::Group;
 use std::alloc::Global;
 use std::test::Fail;
-use zbx_types::{Conf, Entry, Host, Item, ItemKind, Many, Moment, OutOfMemory, Text, ValueType};
+use zbx_types::{
+    Conf, Entry, Host, Item, ItemKind, Maintenance, Many, Moment, OutOfMemory, Text, ValueType,
+};
 
-/// One host, `h`, with one enabled trapper item, `k`.
-pub(crate) fn conf(alloc: Global, enabled: bool) -> Result<Conf, OutOfMemory> {
+/// The host `h`.
+fn hosts(alloc: Global, enabled: bool) -> Result<Many<Host>, OutOfMemory> {
+    let name = Text::of(alloc, "h")?;
     let mut hosts = Many::new(alloc);
     hosts.push(Host {
-        name: Text::of(alloc, "h")?,
+        name,
         groups: Many::new(alloc),
         enabled,
     })?;
+    Ok(hosts)
+}
+
+/// The trapper item `k` of the first host.
+fn items(alloc: Global) -> Result<Many<Item>, OutOfMemory> {
+    let key = Text::of(alloc, "k")?;
     let mut items = Many::new(alloc);
     items.push(Item {
         host: 1,
-        key: Text::of(alloc, "k")?,
+        key,
         kind: ItemKind::Trapper,
         master: 0,
         value_type: ValueType::Number,
@@ -25,6 +35,17 @@ pub(crate) fn conf(alloc: Global, enabled: bool) -> Result<Conf, OutOfMemory> {
         steps: Many::new(alloc),
         delay: 0,
     })?;
+    Ok(items)
+}
+
+/// One host, `h`, with one enabled trapper item, `k`, and these maintenances.
+pub(crate) fn conf(
+    alloc: Global,
+    enabled: bool,
+    maintenances: Many<Maintenance>,
+) -> Result<Conf, OutOfMemory> {
+    let hosts = hosts(alloc, enabled)?;
+    let items = items(alloc)?;
     Ok(Conf {
         text: Text::new(alloc),
         utc_offset: 0,
@@ -32,7 +53,7 @@ pub(crate) fn conf(alloc: Global, enabled: bool) -> Result<Conf, OutOfMemory> {
         items,
         triggers: Many::new(alloc),
         correlations: Many::new(alloc),
-        maintenances: Many::new(alloc),
+        maintenances,
         actions: Many::new(alloc),
         patterns: Many::new(alloc),
         pattern_paths: Many::new(alloc),
@@ -67,12 +88,19 @@ fn entry(alloc: Global, letter: u8) -> Result<Entry, OutOfMemory> {
     })
 }
 
+/// The entries of a group of one.
+fn group(alloc: Global, letter: u8) -> Result<Many<Entry>, OutOfMemory> {
+    let entry = entry(alloc, letter)?;
+    let mut entries = Many::new(alloc);
+    entries.push(entry)?;
+    Ok(entries)
+}
+
 /// Groups of one entry each, the n-th at place n.
 fn groups(alloc: Global, letters: &[u8]) -> Result<Vec<Group>, OutOfMemory> {
     let mut made = Vec::new(alloc);
     for letter in letters {
-        let mut entries = Many::new(alloc);
-        entries.push(entry(alloc, *letter)?)?;
+        let entries = group(alloc, *letter)?;
         let at = made.len() as u64 + 1;
         made.push(Group { at, entries })?;
     }
@@ -80,21 +108,31 @@ fn groups(alloc: Global, letters: &[u8]) -> Result<Vec<Group>, OutOfMemory> {
 }
 
 /// The place of the first misfit in a table of letters, where the host is disabled.
-fn told(alloc: Global, letters: &[u8]) -> Result<Option<u64>, OutOfMemory> {
-    let conf = conf(alloc, false)?;
-    let kept = groups(alloc, letters)?;
-    Ok(first_misfit(&conf, kept.as_slice()))
+fn misfit(alloc: Global, letters: &str) -> Result<Option<u64>, OutOfMemory> {
+    let kept = groups(alloc, letters.as_bytes())?;
+    let conf = conf(alloc, false, Many::new(alloc))?;
+    let place = first_misfit(&conf, kept.as_slice());
+    drop(conf);
+    Ok(place)
+}
+
+fn cases() -> &'static str {
+    "groups | None\n\
+    groups | None | ctvu\n\
+    groups | Some(1) | tc\n\
+    groups | Some(3) | ctc\n\
+    groups | Some(3) | cuv\n\
+    groups | Some(4) | ctvw\n\
+    groups | Some(3) | ctx"
 }
 
 #[test]
 fn the_first_group_that_does_not_fit_is_told(rt: HostRuntime) -> Result<(), Fail> {
     let alloc = rt.alloc();
-    assert!(rt; told(alloc, b"")? == None);
-    assert!(rt; told(alloc, b"ctvu")? == None);
-    assert!(rt; told(alloc, b"tc")? == Some(1));
-    assert!(rt; told(alloc, b"ctc")? == Some(3));
-    assert!(rt; told(alloc, b"cuv")? == Some(3));
-    assert!(rt; told(alloc, b"ctvw")? == Some(4));
-    assert!(rt; told(alloc, b"ctx")? == Some(3));
+    for line in cases().split('\n') {
+        let row = row_of(line);
+        let told = format!(in alloc; "{:?}", misfit(alloc, row.input)?)?;
+        assert_eq!(rt; told.as_str(), row.wanted, "{line}");
+    }
     Ok(())
 }

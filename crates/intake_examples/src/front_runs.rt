@@ -5,13 +5,20 @@ ghost use Rattle.intake_journal.specs.declared.state.State.TheVariants as state;
 ghost use Rattle.intake_front.specs.Batch.{IsIdle};
 
 use crate::front_misfits::{conf, second};
+use crate::front_taking::{put_event, put_piece, tell_taken};
+use crate::journal_files::count_all;
+use crate::rows::{Row, number, numbers, row_of};
 use entry_step::Ready;
 use intake_front::{Answer, Collection, Front, FrontError, Stop};
 use intake_journal::{Journal, LONGEST_JOURNAL};
 use outside::{Disk, Failed, RamDisk, WireEvent};
 use std::alloc::Global;
+use std::convert::AsStr;
 use std::test::Fail;
-use zbx_types::{Bytes, Entry, LONGEST_DATA, Many, Moment, Numbered, OutOfMemory, frame_header};
+use zbx_types::{
+    Bytes, Entry, LONGEST_DATA, Maintenance, Many, Moment, Numbered, OutOfMemory, Text,
+    frame_header,
+};
 
 /// A disk in memory, of which so many writes and syncs succeed. It tells neither its bytes nor what a crash leaves.
 #[derive(Drop)]
@@ -69,15 +76,6 @@ impl Disk for Frail {
     }
 }
 
-/// A run's disk and entries behind its events, and the answer to the last one.
-#[derive(Drop)]
-struct Outcome {
-    disk: Frail,
-    entries: Many<Numbered>,
-    listed: usize,
-    answer: Answer,
-}
-
 /// Reads all groups of a journal, of which there are fewer than ten.
 fn is_read(alloc: Global, journal: &mut Journal<Frail>) -> bool
     ensures { IsTrue result → journal.new.state ≡ state.Ready }
@@ -103,47 +101,62 @@ pub(crate) fn opened(
     ensures going { IfOk result (λ f. f.journal.state ≡ state.Ready) }
     ensures idle { IfOk result (λ f. IsIdle f) }
 {
-    let mut journal = match Journal::recover(alloc, disk, max_entries, LONGEST_JOURNAL) {
-        Ok(journal) => journal,
-        Err(_) => return Err(FrontError::OutOfMemory),
-    };
+    match Journal::recover(alloc, disk, max_entries, LONGEST_JOURNAL) {
+        Ok(journal) => front_over(alloc, ready, journal, kept),
+        Err(refused) => {
+            drop(refused);
+            drop(kept);
+            Err(FrontError::OutOfMemory)
+        }
+    }
+}
+
+/// The intake over a journal of which nothing was read yet.
+fn front_over(
+    alloc: Global,
+    ready: &Ready,
+    journal: Journal<Frail>,
+    kept: Many<Numbered>,
+) -> Result<Front<Frail>, FrontError>
+    ensures going { IfOk result (λ f. f.journal.state ≡ state.Ready) }
+    ensures idle { IfOk result (λ f. IsIdle f) }
+{
+    let mut journal = journal;
     if !is_read(alloc, &mut journal) {
+        drop((journal, kept));
         return Err(FrontError::OutOfMemory);
     }
     if journal.entries() != kept.as_slice().len() as u64 {
+        drop((journal, kept));
         return Err(FrontError::OutOfMemory);
     }
     match Front::new(alloc, ready, journal, kept) {
         Ok(front) => Ok(front),
-        Err(unmade) => Err(unmade.error),
+        Err(unmade) => {
+            let error = unmade.error;
+            drop(unmade);
+            Err(error)
+        }
     }
 }
 
-/// What is behind two events, or behind the first where no event follows it.
-fn after(
+/// The answer to two events, or to the first where no event follows it.
+fn answer_after(
     alloc: Global,
     ready: &Ready,
-    front: Front<Frail>,
+    front: &mut Front<Frail>,
     first: &WireEvent,
     second: &WireEvent,
-) -> Result<Outcome, OutOfMemory>
-    requires going { front.journal.state ≡ state.Ready }
-    requires idle { IsIdle front }
+) -> Result<Answer, OutOfMemory>
+    requires going { front.old.journal.state ≡ state.Ready }
+    requires idle { IsIdle front.old }
 {
-    let mut front = front;
     let answer = front.on_event(alloc, ready, first)?;
-    let answer = match answer.stop {
-        None => front.on_event(alloc, ready, second)?,
-        Some(_) => answer,
-    };
-    let listed = front.entries().len();
-    let (disk, entries) = front.end();
-    Ok(Outcome {
-        disk,
-        entries,
-        listed,
-        answer,
-    })
+    if answer.stop.is_none() {
+        drop(answer);
+        return front.on_event(alloc, ready, second);
+    }
+    Ok(answer)
 }
 
 /// A frame of a request with one value, as a piece of a connection.
@@ -162,6 +175,15 @@ pub(crate) fn piece(
     Ok(WireEvent::Piece { conn, bytes, at })
 }
 
+/// What is behind a run's events: its disk, its entries, how many it lists, and the answer to the last event.
+#[derive(Drop)]
+struct Outcome {
+    disk: Frail,
+    entries: Many<Numbered>,
+    listed: usize,
+    answer: Result<Answer, OutOfMemory>,
+}
+
 /// What is behind the opening of connection 1 at 100 seconds and its piece.
 fn run(
     alloc: Global,
@@ -171,20 +193,25 @@ fn run(
     max_entries: u64,
     piece: &WireEvent,
 ) -> Result<Outcome, FrontError> {
-    let front = opened(alloc, ready, disk, kept, max_entries)?;
-    let open = WireEvent::Opened {
-        conn: 1,
-        at: second(100),
-    };
-    Ok(after(alloc, ready, front, &open, piece)?)
+    let mut front = opened(alloc, ready, disk, kept, max_entries)?;
+    let answer = answer_after(alloc, ready, &mut front, &opening(1), piece);
+    let listed = front.entries().len();
+    let (disk, entries) = front.end();
+    Ok(Outcome {
+        disk,
+        entries,
+        listed,
+        answer,
+    })
 }
 
-/// The configuration, made ready. It has no patterns, so only memory can be refused.
-fn made_ready(alloc: Global) -> Result<Ready, OutOfMemory> {
-    match Ready::build(alloc, conf(alloc, true)?) {
-        Ok(ready) => Ok(ready),
-        Err(_) => Err(OutOfMemory),
-    }
+/// The configuration of one item with maintenances, made ready. It has no patterns, so only memory can be refused.
+pub(crate) fn ready_with(
+    alloc: Global,
+    maintenances: Many<Maintenance>,
+) -> Result<Ready, OutOfMemory> {
+    let conf = conf(alloc, true, maintenances)?;
+    Ready::build(alloc, conf).ok().ok_or(OutOfMemory)
 }
 
 /// A new disk, of which so many calls succeed.
@@ -197,31 +224,46 @@ pub(crate) fn new_disk(alloc: Global, calls: u32) -> Frail {
 }
 
 /// What is behind a new run that was sent the value 10 at once.
-fn new_run(alloc: Global, calls: u32, max_entries: u64) -> Result<Outcome, FrontError> {
+fn new_run(
+    alloc: Global,
+    ready: &Ready,
+    calls: u32,
+    max_entries: u64,
+) -> Result<Outcome, FrontError> {
     let piece = piece(alloc, 1, b"10", second(100))?;
-    let ready = made_ready(alloc)?;
     let disk = new_disk(alloc, calls);
-    run(alloc, &ready, disk, Many::new(alloc), max_entries, &piece)
+    run(alloc, ready, disk, Many::new(alloc), max_entries, &piece)
 }
 
 /// What is behind a run that goes on and was sent the value 7 half a minute later.
-fn next_run(alloc: Global, before: Outcome) -> Result<Outcome, FrontError> {
-    let piece = piece(alloc, 1, b"7", second(130))?;
-    let ready = made_ready(alloc)?;
-    run(alloc, &ready, before.disk, before.entries, 5, &piece)
+fn next_run(alloc: Global, ready: &Ready, before: Outcome) -> Result<Outcome, FrontError> {
+    let Outcome {
+        disk,
+        entries,
+        listed: _,
+        answer,
+    } = before;
+    drop(answer);
+    match piece(alloc, 1, b"7", second(130)) {
+        Ok(piece) => run(alloc, ready, disk, entries, 5, &piece),
+        Err(OutOfMemory) => {
+            drop((disk, entries));
+            Err(FrontError::OutOfMemory)
+        }
+    }
 }
 
 /// Writes entries as their numbers and letters: a Config, a Tick, or a value and its text.
-fn write_entries(told: &mut Bytes, entries: &[Numbered]) -> Result<(), OutOfMemory> {
+fn write_entries(told: &mut Text, entries: &[Numbered]) -> Result<(), OutOfMemory> {
     for numbered in entries {
         told.push_decimal(numbered.number)?;
         match &numbered.entry {
-            Entry::Config { .. } => told.extend(b"c ")?,
-            Entry::Tick { .. } => told.extend(b"t ")?,
+            Entry::Config { .. } => told.push_str("c ")?,
+            Entry::Tick { .. } => told.push_str("t ")?,
             Entry::Value { value, .. } => {
-                told.extend(b"v")?;
-                told.extend(value.as_bytes())?;
-                told.extend(b" ")?;
+                told.push_str("v")?;
+                told.push_str(value.as_str())?;
+                told.push_str(" ")?;
             }
         }
     }
@@ -229,57 +271,83 @@ fn write_entries(told: &mut Bytes, entries: &[Numbered]) -> Result<(), OutOfMemo
 }
 
 /// Writes why no event follows.
-fn write_stop(told: &mut Bytes, stop: Option<Stop>) -> Result<(), OutOfMemory> {
+fn write_stop(told: &mut Text, stop: Option<Stop>) -> Result<(), OutOfMemory> {
     match stop {
         None => Ok(()),
-        Some(Stop::Closed) => told.extend(b"closed "),
-        Some(Stop::DiskFault) => told.extend(b"fault "),
+        Some(Stop::Closed) => told.push_str("closed "),
+        Some(Stop::DiskFault) => told.push_str("fault "),
         Some(Stop::Full { entries, bytes }) => {
-            told.extend(b"full ")?;
+            told.push_str("full ")?;
             told.push_decimal(entries)?;
-            told.extend(b" ")?;
+            told.push_str(" ")?;
             told.push_decimal(bytes)?;
-            told.extend(b" ")
+            told.push_str(" ")
         }
     }
 }
 
 /// Writes an answer: what it added, which connection it shuts, why it stops, and its reply.
-fn write_answer(told: &mut Bytes, answer: &Answer) -> Result<(), OutOfMemory> {
-    told.extend(b"added ")?;
+fn write_answer(told: &mut Text, answer: &Answer) -> Result<(), OutOfMemory> {
+    told.push_str("added ")?;
     write_entries(told, answer.added.as_slice())?;
     if let Some(conn) = answer.shut {
-        told.extend(b"shut ")?;
+        told.push_str("shut ")?;
         told.push_decimal(conn)?;
-        told.extend(b" ")?;
+        told.push_str(" ")?;
     }
     write_stop(told, answer.stop)?;
     match &answer.reply {
-        Some(reply) => told.extend(reply.bytes.as_slice()),
+        Some(reply) => told.push_str(str::from_utf8(reply.bytes.as_slice()).unwrap_or("?")),
         None => Ok(()),
     }
 }
 
-/// How many entries there are, all of them, and the answer to the last event.
-fn told(alloc: Global, outcome: &Outcome) -> Result<Bytes, OutOfMemory> {
-    let mut told = Bytes::new(alloc);
+/// Writes how many entries there are, all of them, and the answer to the last event.
+fn write_outcome(told: &mut Text, outcome: &Outcome) -> Result<(), OutOfMemory> {
     told.push_decimal(outcome.listed as u64)?;
-    told.extend(b": ")?;
-    write_entries(&mut told, outcome.entries.as_slice())?;
-    write_answer(&mut told, &outcome.answer)?;
+    told.push_str(": ")?;
+    write_entries(told, outcome.entries.as_slice())?;
+    match &outcome.answer {
+        Ok(answer) => write_answer(told, answer),
+        Err(OutOfMemory) => Err(OutOfMemory),
+    }
+}
+
+/// What a run comes to, or why it didn't begin.
+fn tell(alloc: Global, outcome: Result<Outcome, FrontError>) -> Result<Text, OutOfMemory> {
+    let mut told = Text::new(alloc);
+    let written = match &outcome {
+        Ok(outcome) => write_outcome(&mut told, outcome),
+        Err(FrontError::Full { entries, bytes }) => write_stop(
+            &mut told,
+            Some(Stop::Full {
+                entries: *entries,
+                bytes: *bytes,
+            }),
+        ),
+        Err(FrontError::DiskFault) => write_stop(&mut told, Some(Stop::DiskFault)),
+        Err(FrontError::OutOfMemory) => Err(OutOfMemory),
+    };
+    drop(outcome);
+    written?;
     Ok(told)
 }
 
-/// What a new run tells.
-fn told_new(alloc: Global, calls: u32, max_entries: u64) -> Result<Bytes, FrontError> {
-    let outcome = new_run(alloc, calls, max_entries)?;
-    Ok(told(alloc, &outcome)?)
+/// What a new run tells, of whose disk so many calls succeed, and which has room for so many entries.
+fn tell_new(alloc: Global, ready: &Ready, input: (u64, u64)) -> Result<Text, OutOfMemory> {
+    let (calls, max_entries) = input;
+    tell(
+        alloc,
+        new_run(alloc, ready, calls.min(100) as u32, max_entries),
+    )
 }
 
 /// What a run tells that goes on behind a new one.
-fn told_next(alloc: Global) -> Result<Bytes, FrontError> {
-    let outcome = next_run(alloc, new_run(alloc, 100, 5)?)?;
-    Ok(told(alloc, &outcome)?)
+fn tell_next(alloc: Global, ready: &Ready) -> Result<Text, OutOfMemory> {
+    match new_run(alloc, ready, 100, 5) {
+        Ok(before) => tell(alloc, next_run(alloc, ready, before)),
+        Err(_) => Err(OutOfMemory),
+    }
 }
 
 /// The opening of a connection at 100 seconds.
@@ -309,10 +377,10 @@ pub(crate) fn take_all(
 /// The opening of connection 2, a value of each connection, and the end of the wire.
 fn four_events(alloc: Global) -> Result<Many<WireEvent>, OutOfMemory> {
     let mut events = Many::new(alloc);
-    events.push(opening(2))?;
-    events.push(piece(alloc, 1, b"10", second(100))?)?;
-    events.push(piece(alloc, 2, b"7", second(100))?)?;
-    events.push(WireEvent::Closed { at: second(100) })?;
+    put_event(&mut events, opening(2))?;
+    put_piece(alloc, &mut events, 1, b"10", 100)?;
+    put_piece(alloc, &mut events, 2, b"7", 100)?;
+    put_event(&mut events, WireEvent::Closed { at: second(100) })?;
     Ok(events)
 }
 
@@ -335,18 +403,7 @@ fn answers_behind(
     Ok(answers)
 }
 
-/// How many groups a journal gives, of which there are fewer than ten.
-fn count_groups(alloc: Global, journal: &mut Journal<Frail>) -> u64 {
-    for count in 0u64..10 {
-        match journal.read_next(alloc) {
-            Ok(Some(_)) => {}
-            Ok(None) | Err(_) => return count,
-        }
-    }
-    10
-}
-
-/// How many groups a disk keeps.
+/// How many groups a disk keeps, and 10 where its journal isn't read.
 fn groups_kept(alloc: Global, disk: RamDisk) -> u64 {
     let disk = Frail {
         disk,
@@ -354,7 +411,21 @@ fn groups_kept(alloc: Global, disk: RamDisk) -> u64 {
         faults: 0,
     };
     match Journal::recover(alloc, disk, 9, LONGEST_JOURNAL) {
-        Ok(mut journal) => count_groups(alloc, &mut journal),
+        Ok(journal) => groups_left(alloc, journal),
+        Err(refused) => {
+            drop(refused);
+            10
+        }
+    }
+}
+
+/// How many groups a journal gives, and 10 where it isn't read to its end.
+fn groups_left(alloc: Global, journal: Journal<Frail>) -> u64 {
+    let mut journal = journal;
+    let counted = count_all(alloc, &mut journal);
+    drop(journal);
+    match counted {
+        Ok((groups, _)) => groups,
         Err(_) => 10,
     }
 }
@@ -364,7 +435,7 @@ fn groups_kept(alloc: Global, disk: RamDisk) -> u64 {
 struct Together {
     disk: Frail,
     entries: Many<Numbered>,
-    answers: Many<Answer>,
+    answers: Result<Many<Answer>, OutOfMemory>,
 }
 
 /// What is behind four events that are committed together in a new run over a disk.
@@ -375,17 +446,13 @@ fn run_together(
     disk: Frail,
 ) -> Result<Together, FrontError> {
     let mut front = opened(alloc, ready, disk, Many::new(alloc), 9)?;
-    match answers_behind(alloc, ready, &mut front, events) {
-        Ok(answers) => {
-            let (disk, entries) = front.end();
-            Ok(Together {
-                disk,
-                entries,
-                answers,
-            })
-        }
-        Err(OutOfMemory) => Err(FrontError::OutOfMemory),
-    }
+    let answers = answers_behind(alloc, ready, &mut front, events);
+    let (disk, entries) = front.end();
+    Ok(Together {
+        disk,
+        entries,
+        answers,
+    })
 }
 
 /// The same over a new disk, of which so many calls succeed.
@@ -394,54 +461,57 @@ fn run_over(alloc: Global, ready: &Ready, calls: u32) -> Result<Together, FrontE
     run_together(alloc, ready, events.as_slice(), new_disk(alloc, calls))
 }
 
-/// The same with a configuration of its own.
-fn run_failing(alloc: Global, calls: u32) -> Result<Together, FrontError> {
-    let ready = made_ready(alloc)?;
-    run_over(alloc, &ready, calls)
-}
-
-/// So many groups, entries, and answers.
-fn told_of(
-    alloc: Global,
+/// Writes so many groups, entries, and answers.
+fn write_all(
+    told: &mut Text,
     kept: u64,
     entries: &[Numbered],
     answers: &[Answer],
-) -> Result<Bytes, OutOfMemory> {
-    let mut told = Bytes::new(alloc);
+) -> Result<(), OutOfMemory> {
     told.push_decimal(kept)?;
-    told.extend(b": ")?;
-    write_entries(&mut told, entries)?;
+    told.push_str(": ")?;
+    write_entries(told, entries)?;
     for answer in answers {
-        told.extend(b"| ")?;
-        write_answer(&mut told, answer)?;
+        told.push_str("then ")?;
+        write_answer(told, answer)?;
     }
-    Ok(told)
+    Ok(())
 }
 
-/// What a new run over a disk of which so many calls succeed tells of four events that are committed together: how many
-/// groups the disk keeps, the entries, and the answers.
-fn told_together(alloc: Global, calls: u32) -> Result<Bytes, FrontError> {
+/// Writes what four events that were committed together came to: how many groups the disk keeps, the entries, and the
+/// answers.
+fn write_together(alloc: Global, told: &mut Text, together: Together) -> Result<(), OutOfMemory> {
     let Together {
         disk,
         entries,
         answers,
-    } = run_failing(alloc, calls)?;
+    } = together;
     let kept = groups_kept(alloc, disk.disk);
-    Ok(told_of(alloc, kept, entries.as_slice(), answers.as_slice())?)
+    let written = match &answers {
+        Ok(answers) => write_all(told, kept, entries.as_slice(), answers.as_slice()),
+        Err(OutOfMemory) => Err(OutOfMemory),
+    };
+    drop((entries, answers));
+    written
 }
 
-/// How many groups the disk keeps behind such a run, by how many calls succeed, from none to 16. A
-/// minus stands for a run that didn't begin.
-fn kept_by_calls(alloc: Global) -> Result<Bytes, OutOfMemory> {
-    let mut kept = Bytes::new(alloc);
-    for calls in 0u32..17 {
-        match told_together(alloc, calls) {
-            Ok(told) => match told.as_slice().first() {
-                Some(count) => kept.extend(&[*count])?,
-                None => kept.extend(b"?")?,
-            },
-            Err(_) => kept.extend(b"-")?,
-        }
+/// What a new run over a disk of which so many calls succeed tells of four events that are committed together. A minus
+/// stands for a run that didn't begin.
+fn tell_together(alloc: Global, ready: &Ready, calls: u64) -> Result<Text, OutOfMemory> {
+    let mut told = Text::new(alloc);
+    match run_over(alloc, ready, calls.min(100) as u32) {
+        Ok(together) => write_together(alloc, &mut told, together)?,
+        Err(_) => told.push_str("-")?,
+    }
+    Ok(told)
+}
+
+/// How many groups the disk keeps behind such a run, by how many calls succeed, from none to 16.
+fn tell_kept(alloc: Global, ready: &Ready) -> Result<Text, OutOfMemory> {
+    let mut kept = Text::new(alloc);
+    for calls in 0u64..17 {
+        let told = tell_together(alloc, ready, calls)?;
+        kept.push_str(told.as_str().get(..1).unwrap_or("?"))?;
     }
     Ok(kept)
 }
@@ -449,75 +519,77 @@ fn kept_by_calls(alloc: Global) -> Result<Bytes, OutOfMemory> {
 const REQUEST: &[u8] =
     b"{\"request\":\"sender data\",\"data\":[{\"host\":\"h\",\"key\":\"k\",\"value\":\"";
 
-const ONE_VALUE: &[u8] = b"3: 1c 2t 3v10 added 3v10 shut 1 ZBXD\x01\x5a\0\0\0\0\0\0\0\
-    {\"response\":\"success\",\"info\":\"processed: 1; failed: 0; total: 1; seconds spent: 0.000000\"}";
+/// What comes of a case over the configuration without a maintenance.
+fn answer_of(alloc: Global, ready: &Ready, row: Row<'_>) -> Result<Text, OutOfMemory> {
+    match row.kind {
+        "new" => tell_new(alloc, ready, numbers(row.input)),
+        "behind another" => tell_next(alloc, ready),
+        "together" => tell_together(alloc, ready, number(row.input)),
+        "groups kept" => tell_kept(alloc, ready),
+        _ => Text::of(alloc, "no such kind"),
+    }
+}
 
-const ONE_MORE: &[u8] = b"5: 1c 2t 3v10 4t 5v7 added 4t 5v7 shut 1 ZBXD\x01\x5b\0\0\0\0\0\0\0\
-    {\"response\":\"success\",\"info\":\"processed: 1; failed: 0; total: 1; seconds spent: 30.000000\"}";
+/// What comes of a case.
+fn answer(alloc: Global, row: Row<'_>) -> Result<Text, OutOfMemory> {
+    match row.kind {
+        "without collection" => tell_taken(alloc, false, row.input),
+        "with collection" => tell_taken(alloc, true, row.input),
+        _ => {
+            let ready = ready_with(alloc, Many::new(alloc))?;
+            let told = answer_of(alloc, &ready, row);
+            drop(ready);
+            told
+        }
+    }
+}
 
-const FULL: &[u8] = b"2: 1c 2t added shut 1 full 3 85 ZBXD\x01\x5a\0\0\0\0\0\0\0\
-    {\"response\":\"success\",\"info\":\"processed: 0; failed: 1; total: 1; seconds spent: 0.000000\"}";
-
-const FAULT: &[u8] = b"2: 1c 2t added shut 1 fault ZBXD\x01\x5a\0\0\0\0\0\0\0\
-    {\"response\":\"success\",\"info\":\"processed: 0; failed: 1; total: 1; seconds spent: 0.000000\"}";
-
-const ALL_KEPT: &[u8] = b"4: 1c 2t 3v10 4v7 | added | added 3v10 shut 1 ZBXD\x01\x5a\0\0\0\0\0\0\0\
+/// First a new run that is sent a value, and one that goes on behind it: numbers go on in a journal that is opened again.
+///
+/// Then runs whose disk has no room or fails. What isn't kept counts as failed, and stops the run. The journal's beginning
+/// takes three calls, and each append four. A configuration that isn't kept is told.
+///
+/// Then four events that are committed together, or not at all: seven calls are for the journal with its configuration, and
+/// four each for the Tick and for what is committed together. Where the last sync fails, the disk keeps what is answered as
+/// refused.
+///
+/// Last, values before and in a maintenance, by the seconds of two values and what stands behind the second one's quote:
+/// one that is in force refuses those that come in it, whatever their clocks say, unless it collects.
+fn cases() -> &'static str {
+    "new | 3: 1c 2t 3v10 added 3v10 shut 1 ZBXD\x01\x5a\0\0\0\0\0\0\0\
+    {\"response\":\"success\",\"info\":\"processed: 1; failed: 0; total: 1; seconds spent: 0.000000\"} | 100 3\n\
+    behind another | 5: 1c 2t 3v10 4t 5v7 added 4t 5v7 shut 1 ZBXD\x01\x5b\0\0\0\0\0\0\0\
+    {\"response\":\"success\",\"info\":\"processed: 1; failed: 0; total: 1; seconds spent: 30.000000\"}\n\
+    new | 2: 1c 2t added shut 1 full 3 85 ZBXD\x01\x5a\0\0\0\0\0\0\0\
+    {\"response\":\"success\",\"info\":\"processed: 0; failed: 1; total: 1; seconds spent: 0.000000\"} | 100 2\n\
+    new | 2: 1c 2t added shut 1 fault ZBXD\x01\x5a\0\0\0\0\0\0\0\
+    {\"response\":\"success\",\"info\":\"processed: 0; failed: 1; total: 1; seconds spent: 0.000000\"} | 11 3\n\
+    new | 1: 1c added fault  | 9 3\n\
+    new | full 1 31  | 100 0\n\
+    new | fault  | 5 3\n\
+    groups kept | -------1112222444\n\
+    together | 4: 1c 2t 3v10 4v7 then added then added 3v10 shut 1 ZBXD\x01\x5a\0\0\0\0\0\0\0\
     {\"response\":\"success\",\"info\":\"processed: 1; failed: 0; total: 1; seconds spent: 0.000000\"}\
-    | added 4v7 shut 2 ZBXD\x01\x5a\0\0\0\0\0\0\0\
+    then added 4v7 shut 2 ZBXD\x01\x5a\0\0\0\0\0\0\0\
     {\"response\":\"success\",\"info\":\"processed: 1; failed: 0; total: 1; seconds spent: 0.000000\"}\
-    | added closed ";
-
-const NONE_KEPT: &[u8] = b"2: 1c 2t | added | added shut 1 fault ZBXD\x01\x5a\0\0\0\0\0\0\0\
-    {\"response\":\"success\",\"info\":\"processed: 0; failed: 1; total: 1; seconds spent: 0.000000\"}";
-
-#[test]
-fn numbers_go_on_in_a_journal_that_is_opened_again(rt: HostRuntime) -> Result<(), Fail> {
-    let alloc = rt.alloc();
-    assert_eq!(rt; told_new(alloc, 100, 3)?.as_slice(), ONE_VALUE);
-    assert_eq!(rt; told_next(alloc)?.as_slice(), ONE_MORE);
-    Ok(())
+    then added closed  | 15\n\
+    together | 2: 1c 2t then added then added shut 1 fault ZBXD\x01\x5a\0\0\0\0\0\0\0\
+    {\"response\":\"success\",\"info\":\"processed: 0; failed: 1; total: 1; seconds spent: 0.000000\"} | 11\n\
+    together | 4: 1c 2t then added then added shut 1 fault ZBXD\x01\x5a\0\0\0\0\0\0\0\
+    {\"response\":\"success\",\"info\":\"processed: 0; failed: 1; total: 1; seconds spent: 0.000000\"} | 14\n\
+    without collection | Ok(1) | 999 999, 7\n\
+    without collection | Ok(0) | 999 1000, 7\n\
+    without collection | Ok(0) | 1000 1299, 7\",\"clock\":\"999\n\
+    without collection | Ok(1) | 1299 1300, 7\",\"clock\":\"1299\n\
+    with collection | Ok(1) | 999 1000, 7"
 }
 
 #[test]
-fn what_is_not_kept_counts_as_failed_and_stops_the_run(rt: HostRuntime) -> Result<(), Fail> {
-    let alloc = rt.alloc();
-    assert_eq!(rt; told_new(alloc, 100, 2)?.as_slice(), FULL);
-    // three calls for the journal's beginning, and four for each append
-    assert_eq!(rt; told_new(alloc, 11, 3)?.as_slice(), FAULT);
-    assert_eq!(rt;
-        told_new(alloc, 9, 3)?.as_slice(),
-        b"1: 1c added fault ".as_slice()
-    );
-    Ok(())
-}
-
-#[test]
-fn a_configuration_that_is_not_kept_is_told(rt: HostRuntime) -> Result<(), Fail> {
-    let alloc = rt.alloc();
-    let full = FrontError::Full {
-        entries: 1,
-        bytes: 31,
-    };
-    assert!(rt; told_new(alloc, 100, 0).err() == Some(full));
-    assert!(rt; told_new(alloc, 5, 3).err() == Some(FrontError::DiskFault));
-    Ok(())
-}
-
-#[test]
-fn events_are_committed_together_or_not_at_all(rt: HostRuntime) -> Result<(), Fail> {
-    let alloc = rt.alloc();
-    // seven calls for the journal with its configuration, and four each for the Tick and for what is committed together
-    assert_eq!(rt;
-        kept_by_calls(alloc)?.as_slice(),
-        b"-------1112222444".as_slice()
-    );
-    assert_eq!(rt; told_together(alloc, 15)?.as_slice(), ALL_KEPT);
-    assert_eq!(rt; told_together(alloc, 11)?.as_slice(), NONE_KEPT);
-    // the last sync fails: the disk keeps what is answered as refused
-    assert!(rt;
-        told_together(alloc, 14)?
-            .as_slice()
-            .ends_with(&NONE_KEPT[1..])
-    );
+fn what_is_taken_is_kept_answered_and_numbered(rt: HostRuntime) -> Result<(), Fail> {
+    for line in cases().split('\n') {
+        let row = row_of(line);
+        let told = answer(rt.alloc(), row)?;
+        assert_eq!(rt; told.as_str(), row.wanted, "{line}");
+    }
     Ok(())
 }

@@ -1,23 +1,36 @@
 //! Which values `intake_front` takes by a configuration with a maintenance.
 
-use crate::front_misfits::{conf, second};
-use crate::front_runs::{new_disk, opened, opening, piece, take_all};
+use crate::front_misfits::second;
+use crate::front_runs::{new_disk, opened, opening, piece, ready_with, take_all};
+use crate::rows::numbers;
 use entry_step::Ready;
 use intake_front::{Answer, FrontError};
 use outside::WireEvent;
 use std::alloc::Global;
-use std::test::Fail;
 use zbx_types::{Entry, Maintenance, Many, Matching, OutOfMemory, Period, Text};
 
-/// A maintenance of the host `h` that is in force from second 1000 on for five minutes.
-fn maintenance(alloc: Global, collect: bool) -> Result<Maintenance, OutOfMemory> {
+/// The host `h` alone.
+fn hosts(alloc: Global) -> Result<Many<Text>, OutOfMemory> {
+    let name = Text::of(alloc, "h")?;
     let mut hosts = Many::new(alloc);
-    hosts.push(Text::of(alloc, "h")?)?;
+    hosts.push(name)?;
+    Ok(hosts)
+}
+
+/// A period from second 1000 on for five minutes.
+fn periods(alloc: Global) -> Result<Many<Period>, OutOfMemory> {
     let mut periods = Many::new(alloc);
     periods.push(Period::Once {
         start: 1000,
         length: 300,
     })?;
+    Ok(periods)
+}
+
+/// A maintenance of the host `h` that is in force in this period.
+fn maintenance(alloc: Global, collect: bool) -> Result<Maintenance, OutOfMemory> {
+    let hosts = hosts(alloc)?;
+    let periods = periods(alloc)?;
     Ok(Maintenance {
         name: Text::new(alloc),
         since: 0,
@@ -31,29 +44,45 @@ fn maintenance(alloc: Global, collect: bool) -> Result<Maintenance, OutOfMemory>
     })
 }
 
-/// The configuration of one item with such a maintenance. It has no patterns, so only memory can be refused.
+/// The configuration of one item with such a maintenance.
 fn in_maintenance(alloc: Global, collect: bool) -> Result<Ready, OutOfMemory> {
-    let mut conf = conf(alloc, true)?;
-    conf.maintenances.push(maintenance(alloc, collect)?)?;
-    match Ready::build(alloc, conf) {
-        Ok(ready) => Ok(ready),
-        Err(_) => Err(OutOfMemory),
-    }
+    let maintenance = maintenance(alloc, collect)?;
+    let mut all = Many::new(alloc);
+    all.push(maintenance)?;
+    ready_with(alloc, all)
 }
 
 /// Two connections, and a value of each: the first at a second, and the second, which is this one, at another.
 fn events(
     alloc: Global,
-    seconds: (u32, u32),
+    seconds: (u64, u64),
     value: &[u8],
 ) -> Result<Many<WireEvent>, OutOfMemory> {
     let (before, now) = seconds;
     let mut events = Many::new(alloc);
-    events.push(opening(1))?;
-    events.push(opening(2))?;
-    events.push(piece(alloc, 1, b"7", second(before))?)?;
-    events.push(piece(alloc, 2, value, second(now))?)?;
+    put_event(&mut events, opening(1))?;
+    put_event(&mut events, opening(2))?;
+    put_piece(alloc, &mut events, 1, b"7", before)?;
+    put_piece(alloc, &mut events, 2, value, now)?;
     Ok(events)
+}
+
+/// Adds an event.
+pub(crate) fn put_event(events: &mut Many<WireEvent>, event: WireEvent) -> Result<(), OutOfMemory> {
+    events.push(event)?;
+    Ok(())
+}
+
+/// Adds a piece with a value, at this second.
+pub(crate) fn put_piece(
+    alloc: Global,
+    events: &mut Many<WireEvent>,
+    conn: u64,
+    value: &[u8],
+    sec: u64,
+) -> Result<(), OutOfMemory> {
+    let piece = piece(alloc, conn, value, second(sec.min(10_000) as u32))?;
+    put_event(events, piece)
 }
 
 /// How many values an answer added.
@@ -67,13 +96,22 @@ fn values_added(answer: &Answer) -> u64 {
     values
 }
 
+/// How many values the last one of these answers adds.
+fn last_added(answers: &[Answer]) -> u64 {
+    match answers.last() {
+        Some(answer) => values_added(answer),
+        None => 0,
+    }
+}
+
 /// How many values the last event adds.
 fn taken_behind(alloc: Global, ready: &Ready, events: &[WireEvent]) -> Result<u64, FrontError> {
     let mut front = opened(alloc, ready, new_disk(alloc, 100), Many::new(alloc), 9)?;
-    let answers = take_all(alloc, ready, &mut front, events)?;
-    match answers.as_slice().last() {
-        Some(answer) => Ok(values_added(answer)),
-        None => Ok(0),
+    let answers = take_all(alloc, ready, &mut front, events);
+    drop(front);
+    match answers {
+        Ok(answers) => Ok(last_added(answers.as_slice())),
+        Err(OutOfMemory) => Err(FrontError::OutOfMemory),
     }
 }
 
@@ -82,30 +120,20 @@ fn taken_behind(alloc: Global, ready: &Ready, events: &[WireEvent]) -> Result<u6
 fn taken_in(
     alloc: Global,
     collect: bool,
-    seconds: (u32, u32),
+    seconds: (u64, u64),
     value: &[u8],
 ) -> Result<u64, FrontError> {
-    let ready = in_maintenance(alloc, collect)?;
     let events = events(alloc, seconds, value)?;
-    taken_behind(alloc, &ready, events.as_slice())
+    let ready = in_maintenance(alloc, collect)?;
+    let taken = taken_behind(alloc, &ready, events.as_slice());
+    drop(ready);
+    taken
 }
 
-#[test]
-fn a_value_is_refused_while_a_maintenance_without_collection_is_in_force(
-    rt: HostRuntime,
-) -> Result<(), Fail> {
-    let alloc = rt.alloc();
-    assert_eq!(rt; taken_in(alloc, false, (999, 999), b"7")?, 1);
-    assert_eq!(rt; taken_in(alloc, false, (999, 1000), b"7")?, 0);
-    // with a clock before the maintenance, and with one in it
-    assert_eq!(rt;
-        taken_in(alloc, false, (1000, 1299), b"7\",\"clock\":\"999")?,
-        0
-    );
-    assert_eq!(rt;
-        taken_in(alloc, false, (1299, 1300), b"7\",\"clock\":\"1299")?,
-        1
-    );
-    assert_eq!(rt; taken_in(alloc, true, (999, 1000), b"7")?, 1);
-    Ok(())
+/// How many values are taken where the input is two seconds and a value, as far as its end, maybe with a clock; with a
+/// maintenance that collects, or one that doesn't.
+pub(crate) fn tell_taken(alloc: Global, collect: bool, input: &str) -> Result<Text, OutOfMemory> {
+    let (seconds, value) = input.split_once(", ").unwrap_or((input, ""));
+    let taken = taken_in(alloc, collect, numbers(seconds), value.as_bytes());
+    Ok(Text::from(format!(in alloc; "{taken:?}")?))
 }

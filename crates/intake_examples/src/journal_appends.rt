@@ -5,10 +5,12 @@ ghost use Rattle.intake_journal.specs.Bytes.{HasShortValue};
 ghost use Rattle.intake_journal.specs.declared.state.State.TheVariants.{Reading};
 
 use crate::journal_files::counted;
+use crate::rows::{Row, bytes_of, number, row_of};
 use intake_journal::{AppendError, Block, Journal, JournalError};
 use outside::MemDisk;
 use std::alloc::Global;
-use std::test::*;
+use std::convert::AsStr;
+use std::test::Fail;
 use zbx_types::{Bytes, Entry, Many, Moment, OutOfMemory, Text};
 
 /// A journal of no group, a Tick's group behind its first gate, and the gate behind it.
@@ -111,84 +113,6 @@ fn add_three(alloc: Global, journal: Journal<MemDisk>) -> (MemDisk, Result<(), A
     (journal.end(), answer)
 }
 
-/// What adding three groups answers from the disk on, and what the disk holds then.
-fn added_three(
-    alloc: Global,
-    failing: u64,
-    max_entries: u16,
-) -> Result<(Result<(), AppendError>, Bytes), OutOfMemory> {
-    let disk = disk_of(alloc, b"ZTSJRN01\0\x05\x05", failing)?;
-    let (disk, answer) = match ready(alloc, disk, max_entries, 63) {
-        Ok(journal) => add_three(alloc, journal),
-        Err(disk) => (disk, Err(AppendError::DiskFault)),
-    };
-    Ok((answer, Bytes::of(alloc, disk.bytes().as_slice())?))
-}
-
-/// How many groups the file keeps after three were added and the call with this number failed.
-fn kept_after_three(alloc: Global, failing: u64) -> Result<u64, JournalError> {
-    let (_, bytes) = added_three(alloc, failing, 3)?;
-    Ok(counted(alloc, bytes.as_slice())?.0)
-}
-
-/// Adds a group of values, a Tick's and one of values, and answers the disk.
-fn add_values(
-    alloc: Global,
-    journal: Journal<MemDisk>,
-    values: &[Entry],
-    tick: &[Entry],
-) -> Result<MemDisk, AppendError>
-    requires read { journal.state ≢ Reading }
-    requires some { (0 < length values.now) × (0 < length tick.now) }
-    requires short { All HasShortValue values.now × All HasShortValue tick.now }
-{
-    let mut journal = journal;
-    journal.append_group(alloc, values)?;
-    journal.append_group(alloc, tick)?;
-    journal.append_group(alloc, values)?;
-    Ok(journal.end())
-}
-
-/// How many groups and entries a file keeps to which 250 values, a Tick and 250 values more were added.
-fn with_values(alloc: Global) -> Result<Result<(u64, u64), JournalError>, AppendError> {
-    let many = values(alloc, 250)?;
-    let one = tick(alloc)?;
-    let disk = disk_of(alloc, b"", 100)?;
-    match ready(alloc, disk, 501, 60_000) {
-        Ok(journal) => {
-            let disk = add_values(alloc, journal, many.as_slice(), one.as_slice())?;
-            Ok(counted(alloc, disk.bytes().as_slice()))
-        }
-        Err(_) => Err(AppendError::DiskFault),
-    }
-}
-
-/// The answer of adding three groups.
-fn answer_three(
-    alloc: Global,
-    failing: u64,
-    max_entries: u16,
-) -> Result<Result<(), AppendError>, OutOfMemory> {
-    Ok(added_three(alloc, failing, max_entries)?.0)
-}
-
-/// Whether the disk then holds the journal with the three groups, behind which nothing was.
-fn holds_three(alloc: Global) -> Result<bool, OutOfMemory> {
-    Ok(added_three(alloc, 100, 3)?.1.as_slice() == WITH_THREE_TICKS)
-}
-
-/// The same from the disk on.
-fn open_and_add(
-    alloc: Global,
-    disk: MemDisk,
-    max_bytes: u16,
-) -> (MemDisk, Result<(), AppendError>) {
-    match ready(alloc, disk, 1, max_bytes) {
-        Ok(journal) => add(alloc, journal),
-        Err(disk) => (disk, Err(AppendError::DiskFault)),
-    }
-}
-
 /// A disk of these bytes, whose call with this number fails.
 fn disk_of(alloc: Global, file: &[u8], failing: u64) -> Result<MemDisk, OutOfMemory> {
     let mut fails = Many::new(alloc);
@@ -196,36 +120,144 @@ fn disk_of(alloc: Global, file: &[u8], failing: u64) -> Result<MemDisk, OutOfMem
     Ok(MemDisk::new(alloc, Bytes::of(alloc, file)?, fails))
 }
 
-/// The answer of a call that adds a Tick's group, and what the disk holds then.
+/// What adding a Tick's group, or three of them, answers from the disk on, and the disk.
+fn open_and_add(
+    alloc: Global,
+    disk: MemDisk,
+    thrice: bool,
+    limits: (u16, u16),
+) -> (MemDisk, Result<(), AppendError>) {
+    let (max_entries, max_bytes) = limits;
+    match ready(alloc, disk, max_entries, max_bytes) {
+        Ok(journal) => {
+            if thrice {
+                add_three(alloc, journal)
+            } else {
+                add(alloc, journal)
+            }
+        }
+        Err(disk) => (disk, Err(AppendError::DiskFault)),
+    }
+}
+
+/// What adding to a file answers, and what the file holds then.
+#[derive(Drop)]
+struct Addition {
+    answer: Result<(), AppendError>,
+    file: Bytes,
+}
+
+/// Adds a Tick's group, or three of them, to a file. The call with this number fails.
 fn added(
     alloc: Global,
     file: &[u8],
     failing: u64,
-    max_bytes: u16,
-) -> Result<(Result<(), AppendError>, Bytes), OutOfMemory> {
-    let (disk, answer) = open_and_add(alloc, disk_of(alloc, file, failing)?, max_bytes);
-    Ok((answer, Bytes::of(alloc, disk.bytes().as_slice())?))
+    thrice: bool,
+    limits: (u16, u16),
+) -> Result<Addition, OutOfMemory> {
+    let disk = disk_of(alloc, file, failing)?;
+    let (disk, answer) = open_and_add(alloc, disk, thrice, limits);
+    let file = Bytes::of(alloc, disk.bytes().as_slice());
+    drop(disk);
+    Ok(Addition {
+        answer,
+        file: file?,
+    })
 }
 
-/// The answer of a call that adds a Tick's group.
-fn answer(
+/// A file that keeps no group, and has bytes behind its gate.
+fn empty_journal() -> &'static [u8] {
+    b"ZTSJRN01\0\x05\x05"
+}
+
+/// How many groups a file keeps, or why it isn't read.
+fn groups_of(alloc: Global, file: &[u8]) -> Result<u64, JournalError> {
+    match counted(alloc, file) {
+        Ok((groups, _)) => Ok(groups),
+        Err(why) => Err(why),
+    }
+}
+
+/// The answer where the call with this number fails, and how many groups the file keeps then.
+fn fail_at(alloc: Global, thrice: bool, failing: u64) -> Result<Text, OutOfMemory> {
+    let limits = if thrice { (3, 63) } else { (1, 1_000) };
+    let Addition { answer, file } = added(alloc, empty_journal(), failing, thrice, limits)?;
+    let kept = groups_of(alloc, file.as_slice());
+    Ok(Text::from(format!(in alloc; "{answer:?} {kept:?}")?))
+}
+
+/// The answer of adding a Tick's group to a new file of at most so many bytes.
+fn fill_bytes(alloc: Global, max_bytes: u16) -> Result<Text, OutOfMemory> {
+    let added = added(alloc, b"", 100, false, (1, max_bytes))?;
+    Ok(Text::from(format!(in alloc; "{:?}", added.answer)?))
+}
+
+/// The answer of adding three groups where there is room for so many entries.
+fn fill_entries(alloc: Global, max_entries: u16) -> Result<Text, OutOfMemory> {
+    let added = added(alloc, empty_journal(), 100, true, (max_entries, 63))?;
+    Ok(Text::from(format!(in alloc; "{:?}", added.answer)?))
+}
+
+/// Whether a file then holds the journal with the group and nothing else.
+fn make_anew(alloc: Global, text: &str) -> Result<Text, OutOfMemory> {
+    let file = bytes_of(alloc, text)?;
+    let added = added(alloc, file.as_slice(), 100, false, (1, 1_000))?;
+    let is_new = added.file.as_slice() == WITH_A_TICK;
+    Ok(Text::from(format!(in alloc; "{is_new}")?))
+}
+
+/// Whether a file then holds the journal with three groups, behind which nothing is.
+fn hold_three(alloc: Global) -> Result<Text, OutOfMemory> {
+    let added = added(alloc, empty_journal(), 100, true, (3, 63))?;
+    let holds = added.file.as_slice() == WITH_THREE_TICKS;
+    Ok(Text::from(format!(in alloc; "{holds}")?))
+}
+
+/// Adds a group of values, a Tick's and one of values.
+fn add_values(
     alloc: Global,
-    file: &[u8],
-    failing: u64,
-    max_bytes: u16,
-) -> Result<Result<(), AppendError>, OutOfMemory> {
-    Ok(added(alloc, file, failing, max_bytes)?.0)
+    journal: &mut Journal<MemDisk>,
+    values: &[Entry],
+    tick: &[Entry],
+) -> Result<(), AppendError>
+    requires read { journal.old.state ≢ Reading }
+    requires some { (0 < length values.now) × (0 < length tick.now) }
+    requires short { All HasShortValue values.now × All HasShortValue tick.now }
+{
+    journal.append_group(alloc, values)?;
+    journal.append_group(alloc, tick)?;
+    journal.append_group(alloc, values)
 }
 
-/// Whether the disk then holds the journal with the group and nothing else.
-fn holds_a_tick(alloc: Global, file: &[u8]) -> Result<bool, OutOfMemory> {
-    Ok(added(alloc, file, 100, 1_000)?.1.as_slice() == WITH_A_TICK)
+/// What adding them answers, and the disk.
+fn with_values(
+    alloc: Global,
+    journal: Journal<MemDisk>,
+    values: &[Entry],
+    tick: &[Entry],
+) -> (MemDisk, Result<(), AppendError>)
+    requires read { journal.state ≢ Reading }
+    requires some { (0 < length values.now) × (0 < length tick.now) }
+    requires short { All HasShortValue values.now × All HasShortValue tick.now }
+{
+    let mut journal = journal;
+    let answer = add_values(alloc, &mut journal, values, tick);
+    (journal.end(), answer)
 }
 
-/// How many groups the file keeps after the call with this number failed.
-fn kept_after(alloc: Global, failing: u64) -> Result<u64, JournalError> {
-    let (_, bytes) = added(alloc, b"ZTSJRN01\0\x05\x05", failing, 1_000)?;
-    Ok(counted(alloc, bytes.as_slice())?.0)
+/// The answer of adding 250 values, a Tick and 250 values more to a new file, and how many groups and entries the file keeps
+/// then.
+fn add_many(alloc: Global) -> Result<Text, OutOfMemory> {
+    let many = values(alloc, 250)?;
+    let one = tick(alloc)?;
+    let disk = disk_of(alloc, b"", 100)?;
+    let (disk, answer) = match ready(alloc, disk, 501, 60_000) {
+        Ok(journal) => with_values(alloc, journal, many.as_slice(), one.as_slice()),
+        Err(disk) => (disk, Err(AppendError::DiskFault)),
+    };
+    let kept = counted(alloc, disk.bytes().as_slice());
+    drop(disk);
+    Ok(Text::from(format!(in alloc; "{answer:?} {kept:?}")?))
 }
 
 /// How many groups a file keeps whose gate has this byte, before so many bytes of the block that stands behind it.
@@ -233,90 +265,86 @@ fn kept_of_image(alloc: Global, gate: u8, behind: usize) -> Result<u64, JournalE
     let mut image = Bytes::of(alloc, &WITH_THREE_TICKS[..8])?;
     image.extend(&[gate])?;
     image.extend(&WITH_THREE_TICKS[9..][..behind.min(54)])?;
-    Ok(counted(alloc, image.as_slice())?.0)
+    groups_of(alloc, image.as_slice())
 }
 
-#[test]
-fn a_short_file_is_made_anew(rt: HostRuntime) -> Result<(), Fail> {
-    let alloc = rt.alloc();
-    for file in [
-        b"".as_slice(),
-        b"ZTSJRN01\x01".as_slice(),
-        b"\0\0\0".as_slice(),
-    ] {
-        assert!(rt; holds_a_tick(alloc, file)?);
-    }
-    Ok(())
-}
-
-#[test]
-fn a_journal_is_full_at_its_limits(rt: HostRuntime) -> Result<(), Fail> {
-    let alloc = rt.alloc();
-    assert_eq!(rt; answer(alloc, b"", 100, 27)?, Ok(()));
-    assert_eq!(rt;
-        answer(alloc, b"", 100, 26)?,
-        Err(AppendError::Full {
-            entries: 1,
-            bytes: 27
-        })
-    );
-    Ok(())
-}
-
-#[test]
-fn each_failing_call_leaves_the_group_whole_or_not_at_all(rt: HostRuntime) -> Result<(), Fail> {
-    let alloc = rt.alloc();
-    // sync, length, magic, gate, end, block, sync, gate
-    for failing in 1u64..9 {
-        assert_eq!(rt; kept_after(alloc, failing), Ok(0));
-    }
-    // the last sync: the gate was written, and the answer is a fault all the same
-    assert_eq!(rt; kept_after(alloc, 9), Ok(1));
-    for failing in 1u64..10 {
-        assert_eq!(rt;
-            answer(alloc, b"ZTSJRN01\0\x05\x05", failing, 1_000)?,
-            Err(AppendError::DiskFault)
-        );
-    }
-    // there is no tenth
-    assert_eq!(rt; answer(alloc, b"ZTSJRN01\0\x05\x05", 10, 1_000)?, Ok(()));
-    Ok(())
-}
-
-#[test]
-fn each_failing_call_leaves_all_groups_of_a_block_or_none(rt: HostRuntime) -> Result<(), Fail> {
-    let alloc = rt.alloc();
-    // the nine calls of one group: a block of three takes no more
-    for failing in 1u64..9 {
-        assert_eq!(rt; kept_after_three(alloc, failing), Ok(0));
-    }
-    assert_eq!(rt; kept_after_three(alloc, 9), Ok(3));
-    assert_eq!(rt; answer_three(alloc, 9, 3)?, Err(AppendError::DiskFault));
-    assert_eq!(rt; answer_three(alloc, 10, 3)?, Ok(()));
-    assert!(rt; holds_three(alloc)?);
-    assert_eq!(rt;
-        answer_three(alloc, 100, 2)?,
-        Err(AppendError::Full {
-            entries: 3,
-            bytes: 63
-        })
-    );
-    Ok(())
-}
-
-#[test]
-fn groups_of_many_values_are_read_again(rt: HostRuntime) {
-    let alloc = rt.alloc();
-    assert_eq!(rt; with_values(alloc), Ok(Ok((3, 501))));
-}
-
-#[test]
-fn a_stop_at_any_moment_leaves_all_groups_or_none(rt: HostRuntime) {
-    let alloc = rt.alloc();
+/// How many groups are kept behind a closed gate, whatever length of the block stands there.
+fn kept_behind_closed(alloc: Global) -> Result<u64, JournalError> {
+    let mut kept = 0u64;
     for behind in 0usize..55 {
-        assert_eq!(rt; kept_of_image(alloc, 0, behind), Ok(0));
+        kept = kept.saturating_add(kept_of_image(alloc, 0, behind)?);
     }
-    assert_eq!(rt; kept_of_image(alloc, 1, 54), Ok(3));
-    assert_eq!(rt; kept_of_image(alloc, 2, 54), Ok(0));
-    assert_eq!(rt; kept_of_image(alloc, 255, 54), Ok(0));
+    Ok(kept)
+}
+
+/// How many groups are kept behind a gate of this byte.
+fn tell_gate(alloc: Global, gate: u64) -> Result<Text, OutOfMemory> {
+    let kept = kept_of_image(alloc, gate.min(255) as u8, 54);
+    Ok(Text::from(format!(in alloc; "{kept:?}")?))
+}
+
+/// What comes of a case.
+fn answer(alloc: Global, row: Row<'_>) -> Result<Text, OutOfMemory> {
+    match row.kind {
+        "made anew" => make_anew(alloc, row.input),
+        "room for bytes" => fill_bytes(alloc, number(row.input).min(1_000) as u16),
+        "failing call" => fail_at(alloc, false, number(row.input)),
+        "failing call of three" => fail_at(alloc, true, number(row.input)),
+        "three" => hold_three(alloc),
+        "room for entries" => fill_entries(alloc, number(row.input).min(1_000) as u16),
+        "many values" => add_many(alloc),
+        "open gate" => tell_gate(alloc, number(row.input)),
+        _ => {
+            let kept = kept_behind_closed(alloc);
+            Ok(Text::from(format!(in alloc; "{kept:?}")?))
+        }
+    }
+}
+
+/// A short file is made anew. A journal is full at its limits. A group, or a block of three, takes nine calls of the disk:
+/// sync, length, magic, gate, end, block, sync, gate, sync. Where one of the first eight fails the file keeps nothing; at
+/// the last one the gate was written, and the answer is a fault all the same.
+fn cases() -> &'static str {
+    "made anew | true\n\
+    made anew | true | ZTSJRN01%01\n\
+    made anew | true | %00%00%00\n\
+    room for bytes | Ok(()) | 27\n\
+    room for bytes | Err(Full { entries: 1, bytes: 27 }) | 26\n\
+    failing call | Err(DiskFault) Ok(0) | 1\n\
+    failing call | Err(DiskFault) Ok(0) | 2\n\
+    failing call | Err(DiskFault) Ok(0) | 3\n\
+    failing call | Err(DiskFault) Ok(0) | 4\n\
+    failing call | Err(DiskFault) Ok(0) | 5\n\
+    failing call | Err(DiskFault) Ok(0) | 6\n\
+    failing call | Err(DiskFault) Ok(0) | 7\n\
+    failing call | Err(DiskFault) Ok(0) | 8\n\
+    failing call | Err(DiskFault) Ok(1) | 9\n\
+    failing call | Ok(()) Ok(1) | 10\n\
+    failing call of three | Err(DiskFault) Ok(0) | 1\n\
+    failing call of three | Err(DiskFault) Ok(0) | 2\n\
+    failing call of three | Err(DiskFault) Ok(0) | 3\n\
+    failing call of three | Err(DiskFault) Ok(0) | 4\n\
+    failing call of three | Err(DiskFault) Ok(0) | 5\n\
+    failing call of three | Err(DiskFault) Ok(0) | 6\n\
+    failing call of three | Err(DiskFault) Ok(0) | 7\n\
+    failing call of three | Err(DiskFault) Ok(0) | 8\n\
+    failing call of three | Err(DiskFault) Ok(3) | 9\n\
+    failing call of three | Ok(()) Ok(3) | 10\n\
+    three | true\n\
+    room for entries | Err(Full { entries: 3, bytes: 63 }) | 2\n\
+    many values | Ok(()) Ok((3, 501))\n\
+    closed gate | Ok(0)\n\
+    open gate | Ok(3) | 1\n\
+    open gate | Ok(0) | 2\n\
+    open gate | Ok(0) | 255"
+}
+
+#[test]
+fn all_groups_are_added_or_none(rt: HostRuntime) -> Result<(), Fail> {
+    for line in cases().split('\n') {
+        let row = row_of(line);
+        let told = answer(rt.alloc(), row)?;
+        assert_eq!(rt; told.as_str(), row.wanted, "{line}");
+    }
+    Ok(())
 }
