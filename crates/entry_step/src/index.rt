@@ -200,14 +200,20 @@ impl Ready {
     pub(crate) fn plan(&self, id: u32) -> &[Node]
         ensures { (trigger : Trigger) → at_id self.now.triggers id ≡ Some trigger → result.now ≡ plan_of trigger }
     {
-        row(&self.indexes.triggers.expressions.plans, id.saturating_sub(1))
+        row(
+            &self.indexes.triggers.expressions.plans,
+            id.saturating_sub(1),
+        )
     }
     /// The nodes of the recovery expression of the trigger with an id, none where it has none.
     pub(crate) fn recovery_plan(&self, id: u32) -> &[Node]
         ensures { (trigger : Trigger) → at_id self.now.triggers id ≡ Some trigger
             → result.now ≡ recovery_plan_of trigger }
     {
-        row(&self.indexes.triggers.expressions.recoveries, id.saturating_sub(1))
+        row(
+            &self.indexes.triggers.expressions.recoveries,
+            id.saturating_sub(1),
+        )
     }
 
     /// The ids of the triggers that a Tick evaluates, in the order of evaluation.
@@ -249,7 +255,13 @@ impl Ready {
             → slice_get trigger.calls place ≡ Some call → (at_id self.now.patterns result ≡ call_pattern call)
             × (call.shift + seconds_in call.range ≤ most_seconds) }
     {
-        place_in(row(&self.indexes.triggers.expressions.places, id.saturating_sub(1)), place)
+        place_in(
+            row(
+                &self.indexes.triggers.expressions.places,
+                id.saturating_sub(1),
+            ),
+            place,
+        )
     }
 
     /// The patterns of the configuration.

@@ -159,11 +159,7 @@ fn rules_of(alloc: Global, conf: &Conf) -> Result<Reaches, OutOfMemory>
 }
 
 /// What is found of triggers.
-fn triggers_of(
-    alloc: Global,
-    conf: &Conf,
-    patterns: &Patterns,
-) -> Result<TriggerIndex, OutOfMemory>
+fn triggers_of(alloc: Global, conf: &Conf, patterns: &Patterns) -> Result<TriggerIndex, OutOfMemory>
     ensures by_trigger { IfOk result (λ made. (number : ℕ) → row_at made.expressions.plans.starts
         made.expressions.plans.items number ≡ slice_index_or (map plan_of conf.now.triggers) number []) }
     ensures by_recovery { IfOk result (λ made. (number : ℕ) → row_at made.expressions.recoveries.starts

@@ -175,6 +175,7 @@ fn evaluated<L: Ledger>(
     ensures runs { IfOk result (λ draft. RunsOver ready.now occasion.entry.now items.now (still_to_come coming.now)
         problems.old.items (filter (is_asked ready.now coming.now) ids.now) draft.records problems.new.items) }
     ensures counted { OnOk result (steps.new ≡ steps.old + length (filter (is_asked ready.now coming.now) ids.now)) }
+    ensures most { steps.new ≤ steps.old + length (filter (is_asked ready.now coming.now) ids.now) }
     ensures err { OnErr result (problems.new.items ≡ problems.old.items) }
 {
     let mut draft = Draft {
@@ -213,6 +214,9 @@ fn take_value<L: Ledger>(
     ensures counted { OnOk result (steps.new ≡ steps.old + length
         (triggers_at ready.now (memory_in cells.old.memories) occasion.entry.now.number
         (Value occasion.entry.now.now item time value.now))) }
+    ensures most { steps.new ≤ steps.old + length
+        (triggers_at ready.now (memory_in cells.old.memories) occasion.entry.now.number
+        (Value occasion.entry.now.now item time value.now)) }
 {
     let Prepared { draft, failures } = ready.prepare(
         alloc,
@@ -257,6 +261,7 @@ fn take_draft<L: Ledger>(
         items.new)) }
     ensures counted { OnOk result (steps.new ≡ steps.old + length
         (filter (is_asked ready.now coming) (triggers_under ready.now item))) }
+    ensures most { steps.new ≤ steps.old + length (filter (is_asked ready.now coming) (triggers_under ready.now item)) }
     ensures items { OnErr result (items.new ≡ items.old) }
     ensures problems { OnErr result (problems.new.items ≡ problems.old.items) }
 {
@@ -316,6 +321,7 @@ fn take_tick<L: Ledger>(
     ensures ok { IfOk result (λ made. TakesTick ready.now occasion.entry.now cells.old made cells.new) }
     ensures err { OnErr result (cells.new ≡ cells.old) }
     ensures counted { OnOk result (steps.new ≡ steps.old + length (timed_triggers ready.now)) }
+    ensures most { steps.new ≤ steps.old + length (timed_triggers ready.now) }
 {
     let mut draft = evaluated(
         alloc,
@@ -351,6 +357,8 @@ fn advance<L: Ledger>(
     ensures made { IfOk result (λ made. StepsTo ready.now cells.old entry.now made cells.new) }
     ensures counted { OnOk result (steps.new ≡ steps.old + length
         (triggers_at ready.now (memory_in cells.old.memories) entry.now.number entry.now.entry)) }
+    ensures most { steps.new ≤ steps.old + length
+        (triggers_at ready.now (memory_in cells.old.memories) entry.now.number entry.now.entry) }
     ensures err { OnErr result (cells.new ≡ cells.old) }
 {
     let occasion = occasion_of(cells.tick, entry);
@@ -373,7 +381,7 @@ fn advance<L: Ledger>(
 /// log with the entry suits.
 ///
 /// One step is counted for each trigger that is evaluated. `Err` where no memory is to be had. The cells are then as
-/// before, and the entry may be taken again.
+/// before, no more steps are counted than the entry has triggers to evaluate, and the entry may be taken again.
 ///
 /// Only the triggers over a value's item are looked at, and at a Tick those with a function of time and, where there
 /// are actions, the problems that are open. For a new problem of a trigger that a rule of global correlation reaches,
@@ -393,6 +401,8 @@ pub fn step<L: Ledger>(
         → Suits ready.now (entry.now ∷ log) → Holds ready.now cells.new (entry.now ∷ log)) }
     ensures counted { OnOk result (steps.new ≡ steps.old + length
         (triggers_at ready.now (memory_in cells.old.memories) entry.now.number entry.now.entry)) }
+    ensures most { steps.new ≤ steps.old + length
+        (triggers_at ready.now (memory_in cells.old.memories) entry.now.number entry.now.entry) }
     ensures err { OnErr result (cells.new ≡ cells.old) }
 {
     advance(alloc, ready, cells, entry, steps)

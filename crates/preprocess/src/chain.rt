@@ -1,8 +1,9 @@
 //! One item's chain over one value.
 
-ghost use Rattle.std.specs.Prelude.{◌≡◌, ◌+◌, ◌++◌, IfOk, drop, map, slice_index_or};
-ghost use Rattle.preprocess.specs.Chain.{chain_of, comes_of, marks_of, unreached};
-ghost use Rattle.preprocess.specs.Ways.{way_for, memory_at, HavePatterns};
+ghost use Rattle.std.specs.Prelude.{◌≡◌, ◌+◌, ◌++◌, ◌∷◌, [], IfOk, OnOk, Ok, drop, map, slice_index_or};
+ghost use Rattle.preprocess.specs.Chain.{chain_of, comes_of, marks_of, settled, step_done, unreached};
+ghost use Rattle.preprocess.specs.Parsing.{IsParsed};
+ghost use Rattle.preprocess.specs.Ways.{way_for, memory_at, HasPattern, HavePatterns};
 
 use crate::ended::{Ended, end};
 use crate::json::{Parsed, kept_parsed};
@@ -60,6 +61,63 @@ fn with_unreached(
     Ok(marks)
 }
 
+/// What comes of a value at a step, and what is known of the text that came to it.
+#[derive(Drop)]
+struct Went {
+    outcome: Outcome,
+    parsed: Parsed,
+}
+
+/// A value at the step with a number, counted from 1: adds what the step remembers from then on.
+fn pass_step(
+    alloc: Global,
+    step: &StepSpec,
+    number: u64,
+    way: &Way,
+    patterns: &Patterns,
+    memory: &StepMemory,
+    text: &Text,
+    parsed: Parsed,
+    time: Moment,
+    marks: &mut Many<StepMemory>,
+) -> Result<Went, OutOfMemory>
+    requires way { way.now ≡ way_for patterns.now step.now }
+    requires pattern { HasPattern patterns.now step.now }
+    requires parsed { IsParsed text.now parsed }
+    ensures outcome { IfOk result (λ went. went.outcome ≡ settled step.now number (step_done step.now memory.now text.now time).outcome) }
+    ensures parsed { IfOk result (λ went. IsParsed text.now went.parsed) }
+    ensures marks { OnOk result (marks.new ≡ marks.old ++ (step_done step.now memory.now text.now time).memory ∷ []) }
+{
+    let Stepped {
+        outcome,
+        memory: mark,
+        parsed,
+    } = step_done(alloc, step, way, patterns, memory, text, parsed, time)?;
+    match marks.push(mark) {
+        Ok(()) => with_known(settle(alloc, step, number, outcome), parsed),
+        Err(refused) => {
+            drop(refused);
+            drop(outcome);
+            drop(parsed);
+            Err(OutOfMemory)
+        }
+    }
+}
+
+/// What came of a value, with what is known of the text before it.
+fn with_known(outcome: Result<Outcome, OutOfMemory>, parsed: Parsed) -> Result<Went, OutOfMemory>
+    ensures outcome { IfOk result (λ went. outcome ≡ Ok went.outcome) }
+    ensures parsed { IfOk result (λ went. went.parsed ≡ parsed) }
+{
+    match outcome {
+        Ok(outcome) => Ok(Went { outcome, parsed }),
+        Err(OutOfMemory) => {
+            drop(parsed);
+            Err(OutOfMemory)
+        }
+    }
+}
+
 /// A value at all steps, one after the other.
 #[tactic(auto, unfolding(crate::specs::Chain::comes_of, crate::specs::Chain::marks_of))]
 fn pass_steps(
@@ -83,31 +141,37 @@ fn pass_steps(
     for (index, step) in steps.iter().enumerate() {
         let memory = memory_at(memories, index, &unmarked);
         let way = &ways[index];
-        let Stepped {
+        let number = index as u64 + 1;
+        let Went {
             outcome,
-            memory: mark,
             parsed: known,
-        } = step_done(alloc, step, way, patterns, memory, &text, parsed, time)?;
-        marks.push(mark)?;
-        match settle(alloc, step, index as u64 + 1, outcome)? {
+        } = pass_step(
+            alloc, step, number, way, patterns, memory, &text, parsed, time, &mut marks,
+        )?;
+        match outcome {
             Outcome::Value(next) => {
                 parsed = kept_parsed(&text, &next, known);
                 text = next;
             }
             Outcome::Discard => {
+                drop(known);
+                let marks = with_unreached(alloc, marks, steps, memories, index + 1)?;
                 return Ok(Passed {
                     outcome: Outcome::Discard,
-                    marks: with_unreached(alloc, marks, steps, memories, index + 1)?,
+                    marks,
                 });
             }
             Outcome::Fail(why) => {
+                drop(known);
+                let marks = with_unreached(alloc, marks, steps, memories, index + 1)?;
                 return Ok(Passed {
                     outcome: Outcome::Fail(why),
-                    marks: with_unreached(alloc, marks, steps, memories, index + 1)?,
+                    marks,
                 });
             }
         }
     }
+    drop(parsed);
     Ok(Passed {
         outcome: Outcome::Value(text),
         marks,

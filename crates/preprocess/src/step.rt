@@ -1,12 +1,13 @@
 //! One step of any kind, and what comes of a failure at it.
 
-ghost use Rattle.std.specs.Prelude.{◌≡◌, ◌++◌, IfOk, codes};
+ghost use Rattle.std.specs.Prelude.{◌≡◌, ◌++◌, IfOk, Ok, codes};
 ghost use Rattle.std.specs.Fmt.{decimal};
 ghost use Rattle.preprocess.specs.Chain.{step_done, on_failure, settled};
+ghost use Rattle.preprocess.specs.JsonSteps.{selected, json_checked};
 ghost use Rattle.preprocess.specs.Parsing.{IsParsed};
 ghost use Rattle.preprocess.specs.Ways.{way_for, HasPattern};
 
-use crate::json::{Looked, Parsed, check, look, select};
+use crate::json::{Found, Looked, Parsed, check, look, select};
 use crate::ways::Way;
 use pattern_set::Patterns;
 use prep_steps::{Outcome, StepDone, StepMemory, apply_at};
@@ -43,29 +44,60 @@ pub(crate) fn step_done(
     match step.kind {
         StepKind::JsonPath => {
             let Looked { found, parsed } = look(alloc, text, parsed, way.path.as_ref())?;
-            Ok(Stepped {
-                outcome: select(alloc, found)?,
-                memory: memory.copy(alloc)?,
-                parsed,
-            })
+            with_parsed(selected_at(alloc, found, memory), parsed)
         }
         StepKind::JsonError => {
             let Looked { found, parsed } = look(alloc, text, parsed, way.path.as_ref())?;
-            Ok(Stepped {
-                outcome: check(alloc, found, text)?,
-                memory: memory.copy(alloc)?,
-                parsed,
-            })
+            with_parsed(checked_at(alloc, found, text, memory), parsed)
         }
-        _ => {
-            let StepDone { outcome, memory } = apply_at(
-                alloc, step, way.place, memory, text, time, patterns,
-            )?;
-            Ok(Stepped {
-                outcome,
-                memory,
-                parsed,
-            })
+        _ => with_parsed(
+            apply_at(alloc, step, way.place, memory, text, time, patterns),
+            parsed,
+        ),
+    }
+}
+
+/// What a JSONPath step makes of what it found.
+fn selected_at(alloc: Global, found: Found, memory: &StepMemory) -> Result<StepDone, OutOfMemory>
+    ensures outcome { IfOk result (λ done. done.outcome ≡ selected found) }
+    ensures memory { IfOk result (λ done. done.memory ≡ memory.now) }
+{
+    Ok(StepDone {
+        outcome: select(alloc, found)?,
+        memory: memory.copy(alloc)?,
+    })
+}
+
+/// What a check for an error makes of what it found.
+fn checked_at(
+    alloc: Global,
+    found: Found,
+    text: &Text,
+    memory: &StepMemory,
+) -> Result<StepDone, OutOfMemory>
+    ensures outcome { IfOk result (λ done. done.outcome ≡ json_checked found text.now) }
+    ensures memory { IfOk result (λ done. done.memory ≡ memory.now) }
+{
+    Ok(StepDone {
+        outcome: check(alloc, found, text)?,
+        memory: memory.copy(alloc)?,
+    })
+}
+
+/// What a step made, with what is known of its text.
+fn with_parsed(done: Result<StepDone, OutOfMemory>, parsed: Parsed) -> Result<Stepped, OutOfMemory>
+    ensures done { IfOk result (λ stepped. done ≡ Ok (record { outcome = stepped.outcome; memory = stepped.memory })) }
+    ensures parsed { IfOk result (λ stepped. stepped.parsed ≡ parsed) }
+{
+    match done {
+        Ok(StepDone { outcome, memory }) => Ok(Stepped {
+            outcome,
+            memory,
+            parsed,
+        }),
+        Err(OutOfMemory) => {
+            drop(parsed);
+            Err(OutOfMemory)
         }
     }
 }

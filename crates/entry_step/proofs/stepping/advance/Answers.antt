@@ -1,4 +1,4 @@
-use Rattle.std.proofs.Common.{ap, ◌∙◌, ◌+◌}
+use Rattle.std.proofs.Common.{ap, subst, ◌∙◌, ◌+◌, ◌≤◌}
 use Rattle.preprocess.specs.Visits.{memory_in}
 use Rattle.entry_step.specs.Occasions.{occasion_of}
 use Rattle.entry_step.proofs.Loops.{on_on}
@@ -26,3 +26,7 @@ returns-in-Value-clause-made g c =
 pub returns-in-Tick-clause-counted : goal.returns-in-Tick-clause-counted
 returns-in-Tick-clause-counted g c =
     on_on c.take_tick.result _ _ (λ p. p ∙ ap (λ n. c.args.steps.now + n) (tick_counted c.args.ready.now (memory_in c.args.cells.now.memories) c.args.entry.now.number c.in-Tick.now c.args.entry.now.entry c.in-Tick.is)) c.take_tick.ensures.counted
+
+pub returns-in-Tick-clause-most : goal.returns-in-Tick-clause-most
+returns-in-Tick-clause-most g c =
+    subst (λ n. c.take_tick.new.steps ≤ c.args.steps.now + n) (tick_counted c.args.ready.now (memory_in c.args.cells.now.memories) c.args.entry.now.number c.in-Tick.now c.args.entry.now.entry c.in-Tick.is) c.take_tick.ensures.most

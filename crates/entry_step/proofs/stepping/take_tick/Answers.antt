@@ -1,4 +1,4 @@
-use Rattle.std.proofs.Common.{◌∙◌, ◌+◌, ℕ, List, ap, map, length, refl}
+use Rattle.std.proofs.Common.{◌∙◌, ◌+◌, ◌≤◌, ℕ, List, ap, subst, map, length, refl}
 use Rattle.entry_step.specs.Kept.{roomless}
 use Rattle.entry_step.proofs.Taking.{takes_tick, asked_all}
 use Rattle.entry_step.proofs.stepping.take_tick.Goals as goal
@@ -11,3 +11,12 @@ returns-in-Ok-clause-ok g c =
 
 pub returns-in-Ok-clause-counted : goal.returns-in-Ok-clause-counted
 returns-in-Ok-clause-counted g c = c.in_ok-draft.ensures.counted ∙ ap (λ (ids : List ℕ). c.args.steps.now + length ids) (asked_all c.args.ready.now c.timed.result.now ∙ c.timed.ensures)
+
+pub returns-in-Ok-clause-most : goal.returns-in-Ok-clause-most
+returns-in-Ok-clause-most g c = subst (λ (ids : List ℕ). c.evaluated.new.steps ≤ c.args.steps.now + length ids) (asked_all c.args.ready.now c.timed.result.now ∙ c.timed.ensures) c.evaluated.ensures.most
+
+pub returns-in-Err-clause-most : goal.returns-in-Err-clause-most
+returns-in-Err-clause-most g c = subst (λ (ids : List ℕ). c.evaluated.new.steps ≤ c.args.steps.now + length ids) (asked_all c.args.ready.now c.timed.result.now ∙ c.timed.ensures) c.evaluated.ensures.most
+
+pub returns-in_err-draft-clause-most : goal.returns-in_err-draft-clause-most
+returns-in_err-draft-clause-most g c = subst (λ (ids : List ℕ). c.evaluated.new.steps ≤ c.args.steps.now + length ids) (asked_all c.args.ready.now c.timed.result.now ∙ c.timed.ensures) c.evaluated.ensures.most

@@ -1,4 +1,4 @@
-use Rattle.std.proofs.Common.{◌≡◌, ◌+◌, ◌∙◌, length, List, ℕ, Some, ap, sym, filter}
+use Rattle.std.proofs.Common.{◌≡◌, ◌+◌, ◌≤◌, ◌∙◌, length, List, ℕ, Some, ap, sym, subst, filter}
 use Rattle.zbx_types.specs.declared.entries.Entry.{Entry}
 use Rattle.zbx_types.specs.declared.entries.Entry.TheVariants.{Value}
 use Rattle.preprocess.specs.Visits.{memory_in}
@@ -45,6 +45,18 @@ returns-clause-counted g c =
     let listed : filter (is_asked conf (Some draft)) (triggers_under conf c.args.item) ≡ triggers_at conf (memory_in c.args.cells.now.memories) number entry =
     ap (λ (vs : List Visit). filter (is_asked conf (Some (record { visits = vs }))) (triggers_under conf c.args.item)) visits ∙ triggers_listed conf (memory_in c.args.cells.now.memories) number c.args.occasion.now.now c.args.item c.args.time c.args.value.now in
     on_on c.take_draft.result _ _ (λ p. p ∙ ap (λ (ids : List ℕ). c.args.steps.now + length ids) listed) c.take_draft.ensures.counted
+
+pub returns-clause-most : goal.returns-clause-most
+returns-clause-most g c =
+    let conf = c.args.ready.now in
+    let number : ℕ = c.args.occasion.now.number in
+    let entry : Entry = Value c.args.occasion.now.now c.args.item c.args.time c.args.value.now in
+    let of : CellsView → List Visit = λ view. visits_at conf (memory_in view.memories) number entry in
+    let draft : Draft = c.in_ok-draft.field-0.draft in
+    let visits : draft.visits ≡ of c.args.cells.now = ap (λ (p : Prepared). p.draft.visits) c.in_ok-draft.ensures.prepared ∙ ap of c.cells.view_is in
+    let listed : filter (is_asked conf (Some draft)) (triggers_under conf c.args.item) ≡ triggers_at conf (memory_in c.args.cells.now.memories) number entry =
+    ap (λ (vs : List Visit). filter (is_asked conf (Some (record { visits = vs }))) (triggers_under conf c.args.item)) visits ∙ triggers_listed conf (memory_in c.args.cells.now.memories) number c.args.occasion.now.now c.args.item c.args.time c.args.value.now in
+    subst (λ (ids : List ℕ). c.take_draft.new.steps ≤ c.args.steps.now + length ids) listed c.take_draft.ensures.most
 
 pub returns-clause-err : goal.returns-clause-err
 returns-clause-err g c =
