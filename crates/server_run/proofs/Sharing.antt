@@ -88,6 +88,12 @@ use Rattle.server_run.specs.contracts.shared.Prepared
 use denote.RattleType.{RattleType}
 use Rattle.entry_step.specs.contracts.index.Ready as ready
 use Rattle.entry_step.specs.contracts.index.Ready.TheInside as inside
+use Rattle.entry_step.specs.contracts.indexes.ItemIndex as item_index
+use Rattle.entry_step.specs.contracts.indexes.Expressions as expressions
+use Rattle.entry_step.specs.contracts.indexes.Turns as turns
+use Rattle.entry_step.specs.contracts.indexes.Reaches as reaches
+use Rattle.entry_step.specs.contracts.indexes.TriggerIndex as trigger_index
+use Rattle.entry_step.specs.contracts.indexes.Indexes as indexes
 use Rattle.regex_hir.specs.contracts.hir.Hir as hir
 use Rattle.regex_meta.specs.contracts.plan.Plan as plan
 use Rattle.regex_meta.specs.contracts.plan.Plans as plans
@@ -197,8 +203,44 @@ f_conf = search (conf_sync, sendable) depth 60 fits 20000
 f_patterns : IsSync (as_row patterns.the_field)
 f_patterns = search (s_patterns, sendable) depth 60 fits 20000
 
+s_item_index : IsSync item_index.the_row
+s_item_index = declared_sync item_index.the_type (search (hash_map_sync, MapsCrossing.crosses, sendable) depth 60 fits 20000, (search (hash_map_sync, m_std_vec_vec.the_sync, Crossing.crosses, sendable) depth 60 fits 20000, (search (m_preprocess_chains_chains.the_field_sync, m_preprocess_chains_chains.the_sync, sendable) depth 60 fits 20000, (search (m_footprint_feet_feet.the_sync, sendable) depth 60 fits 20000, tt))))
+
+f_item_index : IsSync (as_row item_index.the_field)
+f_item_index = search (s_item_index, sendable) depth 60 fits 20000
+
+s_expressions : IsSync expressions.the_row
+s_expressions = declared_sync expressions.the_type (search (m_entry_step_plans_node.the_field_sync, m_entry_step_plans_node.the_sync, m_entry_step_packed_packed.the_field_sync, m_entry_step_packed_packed.the_sync, m_zbx_types_many_many.the_sync, Crossing.crosses, sendable) depth 60 fits 20000, (search (m_entry_step_plans_node.the_field_sync, m_entry_step_plans_node.the_sync, m_entry_step_packed_packed.the_field_sync, m_entry_step_packed_packed.the_sync, m_zbx_types_many_many.the_sync, Crossing.crosses, sendable) depth 60 fits 20000, (search (m_entry_step_packed_packed.the_field_sync, m_entry_step_packed_packed.the_sync, m_zbx_types_many_many.the_sync, Crossing.crosses, sendable) depth 60 fits 20000, tt)))
+
+f_expressions : IsSync (as_row expressions.the_field)
+f_expressions = search (s_expressions, sendable) depth 60 fits 20000
+
+s_turns : IsSync turns.the_row
+s_turns = declared_sync turns.the_type (search (m_entry_step_packed_packed.the_field_sync, m_entry_step_packed_packed.the_sync, m_zbx_types_many_many.the_sync, Crossing.crosses, sendable) depth 60 fits 20000, (search (m_entry_step_packed_packed.the_field_sync, m_entry_step_packed_packed.the_sync, m_zbx_types_many_many.the_sync, Crossing.crosses, sendable) depth 60 fits 20000, (search (m_zbx_types_many_many.the_sync, sendable) depth 60 fits 20000, (search (m_zbx_types_many_many.the_sync, sendable) depth 60 fits 20000, tt))))
+
+f_turns : IsSync (as_row turns.the_field)
+f_turns = search (s_turns, sendable) depth 60 fits 20000
+
+s_reaches : IsSync reaches.the_row
+s_reaches = declared_sync reaches.the_type (search (m_zbx_types_many_many.the_sync, sendable) depth 60 fits 20000, (search (m_entry_step_packed_packed.the_field_sync, m_entry_step_packed_packed.the_sync, m_zbx_types_many_many.the_sync, Crossing.crosses, sendable) depth 60 fits 20000, tt))
+
+f_reaches : IsSync (as_row reaches.the_field)
+f_reaches = search (s_reaches, sendable) depth 60 fits 20000
+
+s_trigger_index : IsSync trigger_index.the_row
+s_trigger_index = declared_sync trigger_index.the_type (f_expressions, (f_turns, (f_reaches, tt)))
+
+f_trigger_index : IsSync (as_row trigger_index.the_field)
+f_trigger_index = search (s_trigger_index, sendable) depth 60 fits 20000
+
+s_indexes : IsSync indexes.the_row
+s_indexes = declared_sync indexes.the_type (f_item_index, (f_trigger_index, tt))
+
+f_indexes : IsSync (as_row indexes.the_field)
+f_indexes = search (s_indexes, sendable) depth 60 fits 20000
+
 inside_sync : IsSync inside.the_row
-inside_sync = declared_sync inside.the_type (f_conf, (search (hash_map_sync, MapsCrossing.crosses, sendable) depth 60 fits 20000, (search (hash_map_sync, m_std_vec_vec.the_sync, Crossing.crosses, sendable) depth 60 fits 20000, (search (m_entry_step_packed_packed.the_field_sync, m_entry_step_packed_packed.the_sync, m_zbx_types_many_many.the_sync, Crossing.crosses, sendable) depth 60 fits 20000, (search (m_entry_step_plans_node.the_field_sync, m_entry_step_plans_node.the_sync, m_entry_step_packed_packed.the_field_sync, m_entry_step_packed_packed.the_sync, m_zbx_types_many_many.the_sync, Crossing.crosses, sendable) depth 60 fits 20000, (search (m_entry_step_plans_node.the_field_sync, m_entry_step_plans_node.the_sync, m_entry_step_packed_packed.the_field_sync, m_entry_step_packed_packed.the_sync, m_zbx_types_many_many.the_sync, Crossing.crosses, sendable) depth 60 fits 20000, (search (m_entry_step_packed_packed.the_field_sync, m_entry_step_packed_packed.the_sync, m_zbx_types_many_many.the_sync, Crossing.crosses, sendable) depth 60 fits 20000, (f_patterns, (search (m_entry_step_packed_packed.the_field_sync, m_entry_step_packed_packed.the_sync, m_zbx_types_many_many.the_sync, Crossing.crosses, sendable) depth 60 fits 20000, (search (m_zbx_types_many_many.the_sync, sendable) depth 60 fits 20000, (search (m_zbx_types_many_many.the_sync, sendable) depth 60 fits 20000, (search (m_zbx_types_many_many.the_sync, sendable) depth 60 fits 20000, (search (m_preprocess_chains_chains.the_field_sync, m_preprocess_chains_chains.the_sync, sendable) depth 60 fits 20000, (search (m_footprint_feet_feet.the_sync, sendable) depth 60 fits 20000, (search (m_entry_step_packed_packed.the_field_sync, m_entry_step_packed_packed.the_sync, m_zbx_types_many_many.the_sync, Crossing.crosses, sendable) depth 60 fits 20000, tt)))))))))))))))
+inside_sync = declared_sync inside.the_type (f_conf, (f_patterns, (f_indexes, tt)))
 
 pub ready_sync : IsSync ready.the_row
 ready_sync = view_sync _ _ _ _ _ inside_sync
