@@ -1,14 +1,9 @@
-//! Worked examples of whole runs: over scripts, over what crashes leave, and beside history syncers; and of the rings between
-//! threads. A crate with tests is proved twice, so those of `server_run` and `book` stand here. The cases of a test are lines
-//! of one text, since a proof pays for each assertion and for each value that lives over a way out.
+//! Worked examples of whole runs: over scripts, over what crashes leave, and beside history syncers. A crate with tests is proved
+//! twice, so those of `server_run` stand here.
 #![tactic(auto)]
 
 #[cfg(test)]
 mod crashes;
-#[cfg(test)]
-mod rings;
-#[cfg(test)]
-mod rows;
 #[cfg(test)]
 mod runs;
 #[cfg(test)]

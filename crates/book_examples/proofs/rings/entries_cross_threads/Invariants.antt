@@ -2,7 +2,7 @@ use Rattle.std.specs.Prelude.{[], ◌∷◌}
 use Rattle.zbx_types.specs.declared.entries.Entry.TheVariants.{Config}
 use Rattle.book.specs.Entries.{no_conf}
 use Rattle.book.specs.Outgoing.{no_outbox}
-use Rattle.run_examples.proofs.rings.entries_cross_threads.Given as goal
+use Rattle.book_examples.proofs.rings.entries_cross_threads.Given as goal
 
 -- a run whose journal kept the entry of the configuration
 abbrev pub ghosts-cross_behind : goal.ghosts-cross_behind

@@ -1,4 +1,4 @@
-use Rattle.run_examples.proofs.rings.hold.Given as goal
+use Rattle.book_examples.proofs.rings.hold.Given as goal
 
 -- the ring that was just made
 abbrev pub ghosts-tell : goal.ghosts-tell

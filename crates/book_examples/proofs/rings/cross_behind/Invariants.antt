@@ -1,4 +1,4 @@
-use Rattle.run_examples.proofs.rings.cross_behind.Given as goal
+use Rattle.book_examples.proofs.rings.cross_behind.Given as goal
 
 -- the ring that was just made
 abbrev pub ghosts-cross : goal.ghosts-cross
