@@ -1,5 +1,0 @@
-use Rattle.syncer_gate.specs.Gate.{AreOffered}
-use Rattle.cases.proofs.claims.taken.Given as goal
-
-abbrev pub invariant-loop-words : goal.invariant-loop-words
-invariant-loop-words l = AreOffered l.claims l.entries
