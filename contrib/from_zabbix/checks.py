@@ -110,12 +110,16 @@ class Checks:
             layout.items = {}
             for source, item in layout.each("items"):
                 key, reason = layout.expanded(item["key"]), self.item_flaw(layout, item)
-                if not reason and key in layout.items:
-                    reason = f"the key {key} is taken by {layout.items[key]['_place']}"
+                taken = layout.items.get(key)
                 if reason:
                     self.drop(source, "items", item, reason, layout)
-                else:
+                elif taken is None:
                     layout.items[key] = item
+                elif any(one is taken for one in layout.owner["items"]) and source is not layout.owner:
+                    self.drop(layout.owner, "items", taken, f"the key {key} is taken by {item['_place']}")
+                    layout.items[key] = item
+                else:
+                    self.drop(source, "items", item, f"the key {key} is taken by {taken['_place']}", layout)
         for layout in self.layouts:
             self.masters(layout)
         total = 0

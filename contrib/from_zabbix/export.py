@@ -52,7 +52,7 @@ KNOWN = {
 KNOWN = {kind: set(names.split()) for kind, names in KNOWN.items()}
 IN_EVENTS = re.compile(r"\{(?:HOST\.NAME|ITEM\.(?:LAST)?VALUE[1-9]?)\}")
 REGSUB = re.compile(r'\{\{ITEM\.(?:LAST)?VALUE[1-9]?\}\.regsub\(\s*("(?:[^"\\]|\\.)*"|[^,]*),\s*(?:"(?:[^"\\]|\\.)*"|.*?)\)\}', re.S)
-MACRO = re.compile(r"\{\{?[A-Z][A-Z0-9_.]*[1-9]?\}(?:\.\w+\([^)]*\)\})?|\{\?[^}]*\}")
+MACRO = re.compile(r"\{\{[A-Z][A-Z0-9_.]*\}\.\w+\([^)]*\)\}|\{[A-Z][A-Z0-9_.]*\}|\{\?[^}]*\}")
 
 
 class Unreadable(Exception):
@@ -90,11 +90,7 @@ def from_yaml(path, text):
     try:
         return yaml.load(text, Loader=getattr(yaml, "CBaseLoader", yaml.BaseLoader))
     except yaml.YAMLError as error:
-        raise Unreadable(f"{path}: {one(str(error))}") from None
-
-
-def one(text):
-    return " ".join(text.split())
+        raise Unreadable(f"{path}: {' '.join(str(error).split())}") from None
 
 
 class Reading:
@@ -251,7 +247,7 @@ class Reading:
             {"tag": tag.get("tag", ""), "value": self.in_events(place, tag.get("value", ""))} for tag in listed(raw, "tags")
         ]
         trigger["_depends"] = [
-            (one_.get("name", ""), one_.get("expression", ""), one_.get("recovery_expression", "")) for one_ in listed(raw, "dependencies")
+            (asked.get("name", ""), asked.get("expression", ""), asked.get("recovery_expression", "")) for asked in listed(raw, "dependencies")
         ]
         if raw.get("status") == "DISABLED":
             trigger["enabled"] = False
@@ -264,8 +260,9 @@ class Reading:
     def in_events(self, place, text):
         """The text of an event's name or tag, in which the technical name of the host has one macro; others are told."""
         text = text.replace("{HOST.HOST}", "{HOST.NAME}")
-        for macro in MACRO.findall(IN_EVENTS.sub("", REGSUB.sub("", text))):
-            self.report.lost(place, f"{macro} isn't replaced in names and tags of events")
+        for macro in MACRO.findall(REGSUB.sub("", text)):
+            if not IN_EVENTS.fullmatch(macro):
+                self.report.lost(place, f"{macro} isn't replaced in names and tags of events")
         return text
 
     def place_loose(self):

@@ -218,6 +218,8 @@ class Reader:
         if not is_right:
             raise Fault(begin, f"the range {self.text[begin:self.at].decode()} isn't taken there")
         if self.peek() == b":" and slot != SILENCE:
+            if self.peek(5) == b":now/":
+                raise Fault(self.at, "shifts to the beginning of a day or another unit aren't here")
             self.expect(b":now-")
             begin, digits = self.at, DIGITS.match(self.text, self.at)
             if not digits:
