@@ -28,9 +28,15 @@ def end(path):
         if FUNCTION.match(path, at):
             return len(path)
         segment = SEGMENT.match(path, at)
-        if not segment:
+        if not segment or not is_within(segment[0]):
             return at
         at = segment.end()
+
+
+def is_within(segment):
+    """The whole numbers of a segment have 64 bits."""
+    bare = "" if "?(" in segment else re.sub(QUOTED, "", segment[segment.find("[") :], flags=re.S) if "[" in segment else ""
+    return all(-(2**63) <= int(number) < 2**63 for number in re.findall(INT, bare))
 
 
 def flaw(path):

@@ -1,7 +1,9 @@
 """What the tests of contrib share: the program, the scripts, and what a run of either leaves."""
 
+import contextlib
 import importlib.machinery
 import importlib.util
+import io
 import json
 import os
 import subprocess
@@ -16,8 +18,10 @@ sys.path.insert(0, CONTRIB)
 
 
 def script(name):
-    """A script of contrib as a module."""
+    """A script of contrib as a module, the same each time."""
     loader = importlib.machinery.SourceFileLoader(name.replace("-", "_") + "_script", f"{CONTRIB}/{name}")
+    if loader.name in sys.modules:
+        return sys.modules[loader.name]
     module = importlib.util.module_from_spec(importlib.util.spec_from_loader(loader.name, loader))
     sys.modules[loader.name] = module
     loader.exec_module(module)
@@ -25,10 +29,25 @@ def script(name):
 
 
 def call(name, *words, folder=None, given=b"", environment=None):
-    """Exit status, standard output and standard error of a script of contrib."""
-    env = {**os.environ, **(environment or {}), "TZ": "UTC"}
-    ran = subprocess.run([f"{CONTRIB}/{name}", *map(str, words)], input=given, capture_output=True, cwd=folder, env=env, timeout=60)
-    return ran.returncode, ran.stdout.decode(), ran.stderr.decode()
+    """Exit status, standard output and standard error of a script of contrib, in this process, since a new one takes its time."""
+    module = script(name)
+    out, errors = io.TextIOWrapper(io.BytesIO(), "utf-8", newline="\n"), io.StringIO()
+    before = os.getcwd(), sys.stdin, dict(os.environ)
+    os.chdir(folder or before[0])
+    sys.stdin = io.TextIOWrapper(io.BytesIO(given), "utf-8")
+    os.environ.update(environment or {}, TZ="UTC")
+    try:
+        with contextlib.redirect_stdout(out), contextlib.redirect_stderr(errors):
+            status = module.main([str(word) for word in words])
+    except SystemExit as end:
+        status = end.code
+    finally:
+        os.chdir(before[0])
+        sys.stdin = before[1]
+        os.environ.clear()
+        os.environ.update(before[2])
+    out.flush()
+    return status, out.buffer.getvalue().decode(), errors.getvalue()
 
 
 def feed(folder, document, script_):

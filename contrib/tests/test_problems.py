@@ -1,11 +1,10 @@
 """contrib/problems: what it calls open is what the records say, however a file is cut into pieces and parts."""
 
-import contextlib
 import glob
-import io
 import json
 import os
 import random
+import signal
 import subprocess
 import tempfile
 import time
@@ -50,13 +49,10 @@ def replayed(text):
 
 def called(text, *words):
     """Exit status, standard output and standard error of the script on an outbox with this text."""
-    out, errors = io.StringIO(), io.StringIO()
     with tempfile.NamedTemporaryFile() as file:
         file.write(text if isinstance(text, bytes) else text.encode())
         file.flush()
-        with contextlib.redirect_stdout(out), contextlib.redirect_stderr(errors):
-            status = problems.main([file.name, *words])
-    return status, out.getvalue(), errors.getvalue()
+        return call("problems", file.name, *words)
 
 
 def told(text, *words):
@@ -215,6 +211,16 @@ class Flaws(unittest.TestCase):
 
 
 class Following(unittest.TestCase):
+    def setUp(self):
+        def give_up(*_):
+            raise AssertionError("nothing more is shown")
+
+        signal.signal(signal.SIGALRM, give_up)
+        signal.alarm(20)
+
+    def tearDown(self):
+        signal.alarm(0)
+
     def test_what_comes_is_shown_as_its_lines_come(self):
         text = held(SHOP)
         lines = text.splitlines(keepends=True)[:-1]
@@ -225,6 +231,7 @@ class Following(unittest.TestCase):
                 file.write("".join(lines)[:cut])
                 file.flush()
                 with subprocess.Popen([f"{CONTRIB}/problems", path, "--follow", "--json"], stdout=subprocess.PIPE, text=True) as shown:
+                    self.addCleanup(shown.kill)
                     begun = replayed("".join(lines[:10]))
                     found = [json.loads(shown.stdout.readline()) for one in begun if "ended" not in one]
                     self.assertEqual([one["event"] for one in found], [one["event"] for one in begun if "ended" not in one][::-1])
@@ -240,7 +247,7 @@ class Following(unittest.TestCase):
                     # The outbox is moved away, and another one begins.
                     os.rename(path, f"{path}.old")
                     with open(path, "w", encoding="utf-8", newline="\n") as another:
-                        another.write(lines[0])
+                        another.write(lines[1])
                     again = json.loads(shown.stdout.readline())
                     shown.terminate()
         kinds = {"P": "problem", "R": "recovery", "S": "step"}
@@ -249,4 +256,4 @@ class Following(unittest.TestCase):
         lasted = {one["event"]: one["lasted"] for one in told(text, "--all")[1] if "ended" in one}
         self.assertEqual({one["event"]: one["lasted"] for one in ended}, {one["event"]: lasted[one["event"]] for one in ended})
         self.assertTrue(all(one["host"] and one["name"] for one in happened))
-        self.assertEqual((again["kind"], again["event"]), ("problem", lines[0].split("|")[1]))
+        self.assertEqual((again["kind"], again["event"]), ("problem", lines[1].split("|")[1]))
