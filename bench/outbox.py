@@ -4,8 +4,8 @@
 usage: bench/outbox.py [BYTES [FOLDER]]    1,000,000,000 bytes in the system's folder for temporary files, if none are given
 
 Each problem has two tags, a step and a message; 2,000 are open at a time, and each that ends is any one of them, with a
-message. So there are five lines a problem, of about 90 bytes. The file is written first, and so is in the system's cache
-where that has room. Printed are the seconds, and the processor time of all processes.
+message. So there are five lines a problem, of about 90 bytes. The file is written first and synced, and so is in the system's
+cache where that has room. Printed are the seconds of three runs, and the processor time of all their processes.
 """
 
 import os
@@ -41,6 +41,8 @@ def write(path, size):
                     lines.append(f"M|{ended}|Tell the team|0|ops|Over: the load of a host|It was as it was, and is over")
             text = "\n".join(lines).encode() + b"\n"
             written += file.write(text)
+        file.flush()
+        os.fsync(file.fileno())
     return open_
 
 
@@ -48,14 +50,17 @@ def main(words):
     size = int(words[0]) if words else 1_000_000_000
     with tempfile.TemporaryDirectory(dir=words[1] if words[1:] else None) as folder:
         open_ = write(f"{folder}/outbox", size)
-        begin, before = time.time(), os.times()
-        said = subprocess.run([f"{TOP}/contrib/problems", f"{folder}/outbox"], capture_output=True, text=True)
-        took, after = time.time() - begin, os.times()
-        spent = after.children_user + after.children_system - before.children_user - before.children_system
-        if said.returncode or said.stdout.splitlines()[-1] != f"{len(open_)} open":
-            print(f"outbox: {len(open_)} are open, and it says {said.stdout.splitlines()[-1:]} {said.stderr}", file=sys.stderr)
-            return 1
-        print(f"{os.path.getsize(f'{folder}/outbox'):,} bytes: {took:.1f} seconds, {spent:.1f} seconds of processor time, {len(open_):,} problems open")
+        print(f"{os.path.getsize(f'{folder}/outbox'):,} bytes, {len(open_):,} problems open", flush=True)
+        for _ in range(3):
+            begin, before = time.time(), os.times()
+            said = subprocess.run([f"{TOP}/contrib/problems", f"{folder}/outbox"], capture_output=True, text=True)
+            took, after = time.time() - begin, os.times()
+            spent = after.children_user + after.children_system - before.children_user - before.children_system
+            if said.returncode or said.stdout.splitlines()[-1] != f"{len(open_)} open":
+                print(f"outbox: it says {said.stdout.splitlines()[-1:]} {said.stderr}", file=sys.stderr)
+                return 1
+            busy = f", at a load of {os.getloadavg()[0]:.1f}"
+            print(f"{took:5.1f} seconds, {spent:.1f} seconds of processor time{busy}", flush=True)
     return 0
 
 
