@@ -6,7 +6,9 @@ import re
 TOP = os.path.dirname(os.path.dirname(os.path.abspath(__file__)))
 
 # Words of others that the documents name and the code doesn't.
-OF_OTHERS = {"zabbix_sender", "zabbix_agentd", "zabbix_agent2", "python3", "bash"}
+OF_OTHERS = {"zabbix_sender", "zabbix_agentd", "zabbix_agent2", "python3", "bash", "df", "fuser"}
+OF_OTHERS |= {"history_uint", "history_str", "history_text", "key_"}  # of the real server's database
+OF_OTHERS |= {"gifteldu"}  # the program's name where contrib/install puts it
 
 WORD = re.compile(r"[A-Za-z_]\w*")
 HEAD = re.compile(r"^(\s*)(pub(?:\([^)]*\))? )?(?:const |unsafe )*fn (\w+)")

@@ -112,17 +112,26 @@ class WorkedRows(unittest.TestCase):
             self.assertEqual(found, [one for one in wanted if "ended" not in one], path)
 
 
+class Here:
+    """A pool that does what it is given at once."""
+
+    def submit(self, look, *words):
+        done = look(*words)
+        return type("Done", (), {"result": lambda _: done})()
+
+
 class Pieces(unittest.TestCase):
     def look(self, path, count, piece):
-        problems.PIECE, size = piece, os.path.getsize(path)
-        end, found = problems.last_end(path, size), None
-        for begin, behind in reversed(problems.parts_of(path, end, count)):
-            part = problems.look_back(path, begin, behind)
-            found = part if found is None else problems.joined(part, found)
+        """The open problems, with the file cut into so many parts, and these into pieces of so many bytes."""
+        before = problems.PIECE, problems.SMALL
+        problems.PIECE, problems.SMALL = piece, 0
+        try:
+            found = problems.looked_at(Here(), count, path, problems.last_end(path, os.path.getsize(path)), False, False)
+        finally:
+            problems.PIECE, problems.SMALL = before
         return [comparable(one) for one in problems.problems_of(found, -1)]
 
     def test_pieces_and_parts_of_any_size_come_to_the_same(self):
-        before = problems.PIECE
         for seed in range(4):
             text = made_up(seed, 30)
             wanted = [one for one in replayed(text)[::-1] if "ended" not in one]
@@ -134,7 +143,6 @@ class Pieces(unittest.TestCase):
                 for count in (1, 2, 3, 7):
                     for piece in (7, 64, 1000, 1 << 20):
                         self.assertEqual(self.look(path, count, piece), wanted, f"seed {seed}, {count} parts, pieces of {piece}")
-        problems.PIECE = before
 
     def test_a_large_file_is_read_by_several_processes(self):
         text = made_up(99, 1000)
