@@ -255,7 +255,7 @@ class Following(unittest.TestCase):
                     # The outbox is moved away, and another one begins.
                     os.rename(path, f"{path}.old")
                     with open(path, "w", encoding="utf-8", newline="\n") as another:
-                        another.write(lines[1])
+                        another.write(whole + whole)
                     again = json.loads(shown.stdout.readline())
                     shown.terminate()
         kinds = {"P": "problem", "R": "recovery", "S": "step"}

@@ -93,6 +93,11 @@ class Moments(unittest.TestCase):
         self.assertEqual(out.count(" frame "), 3)
         self.assertEqual(out.splitlines()[-1], "1002.000000000 closed")
 
+    def test_of_one_moment_250_are_a_frame(self):
+        out = values("".join(f"h k 70 {at}\n" for at in range(510)), "-T")[1]
+        counts = [line.count('"host"') for line in out.splitlines() if " frame " in line]
+        self.assertEqual((counts, [one["value"] for _, one in elements(out)]), ([250, 250, 10], [str(at) for at in range(510)]))
+
     def test_with_time_stamps_each_comes_at_its_time(self):
         text = "h k 130 5 1\nh k 100 0 2\nh k 100 0 3\nh k 100 7 4\n"
         found = elements(values(text, "-N")[1])
