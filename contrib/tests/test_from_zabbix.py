@@ -4,6 +4,7 @@ import copy
 import glob
 import json
 import os
+import re
 import sys
 import tempfile
 import unittest
@@ -199,6 +200,119 @@ class Losses(unittest.TestCase):
             status, out, told = call("from-zabbix", f"{folder}/export.json", "--output", "there.json", folder=room)
             self.assertEqual((status, out), (0, ""))
             self.assertEqual(json.loads(held(f"{room}/there.json"))["hosts"][0]["name"], "h")
+
+
+STEPS = """\
+REGEX ["a(b)", "\\\\1"] regex ["a(b)", "\\\\1"]
+STR_REPLACE ["a\\\\n", ""] replace ["a\\n", ""]
+TRIM [" "] trim [" "]
+LTRIM [" "] ltrim [" "]
+RTRIM [" "] rtrim [" "]
+JSONPATH ["$.a"] jsonpath ["$.a"]
+MULTIPLIER ["{$M}"] multiplier ["{$M}"]
+SIMPLE_CHANGE [""] simple_change []
+CHANGE_PER_SECOND [""] change_per_second []
+BOOL_TO_DECIMAL [""] bool_to_decimal []
+OCTAL_TO_DECIMAL [""] octal_to_decimal []
+HEX_TO_DECIMAL [""] hex_to_decimal []
+IN_RANGE ["", "5"] in_range ["", "5"]
+MATCHES_REGEX ["a"] matches ["a"]
+NOT_MATCHES_REGEX ["a"] not_matches ["a"]
+CHECK_JSON_ERROR ["$.e"] json_error ["$.e"]
+CHECK_REGEX_ERROR ["e", "out"] regex_error ["e", "out"]
+DISCARD_UNCHANGED [""] throttle []
+DISCARD_UNCHANGED_HEARTBEAT ["1h"] throttle_heartbeat ["1h"]
+"""
+HANDLERS = {
+    "ORIGINAL_ERROR": {},
+    "DISCARD_VALUE": {"on_fail": "discard"},
+    "CUSTOM_VALUE": {"on_fail": "value", "text": "t"},
+    "CUSTOM_ERROR": {"on_fail": "error", "text": "t"},
+}
+
+
+def exported(items=(), triggers=(), **host):
+    """An export of a host with these items and triggers."""
+    host = {"host": "h", "name": "h", "groups": [{"name": "g"}], "items": list(items), "macros": [{"macro": "{$M}", "value": "2"}], **host}
+    return {"zabbix_export": {"version": "6.0", "hosts": [host], "triggers": list(triggers)}}
+
+
+def convert(export, *words):
+    """The only host of the document of an export, and what was told."""
+    with tempfile.TemporaryDirectory() as room:
+        with open(f"{room}/it.json", "w", encoding="utf-8") as file:
+            json.dump(export, file)
+        status, out, told = call("from-zabbix", "it.json", *words, folder=room)
+    return json.loads(out)["hosts"][0], told.splitlines()
+
+
+def item(key, **more):
+    return {"type": "TRAP", "key": key, "value_type": "TEXT", **more}
+
+
+class Carried(unittest.TestCase):
+    def test_each_kind_of_step(self):
+        rows = [re.fullmatch(r"(\w+) (\[.*\]) (\w+) (\[.*\])", line) for line in STEPS.splitlines()]
+        items = [item(row[3], preprocessing=[{"type": row[1], "parameters": json.loads(row[2])}]) for row in rows]
+        host, told = convert(exported(items))
+        self.assertEqual(told, ["from-zabbix: 0 not carried"])
+        for row, found in zip(rows, host["items"]):
+            wanted = {"kind": row[3], "params": json.loads(row[4])} if row[4] != "[]" else {"kind": row[3]}
+            self.assertEqual(found["steps"], [wanted])
+        formats = held(f"{TOP}/docs/FORMATS.md")
+        table = formats[formats.index("| kind of a step |") : formats.index("| kind of a condition of a correlation |")]
+        kinds = {name for line in table.split("\n")[2:] if line.startswith("|") for name in re.findall(r"`(\w+)`", line.split("|")[1])}
+        self.assertEqual({row[3] for row in rows}, kinds)
+
+    def test_what_a_step_does_where_it_fails(self):
+        steps = [{"type": "TRIM", "parameters": ["x"], "error_handler": name, "error_handler_params": "t"} for name in HANDLERS]
+        host, told = convert(exported([item("k", preprocessing=steps)]))
+        self.assertEqual(host["items"][0]["steps"], [{"kind": "trim", "params": ["x"], **wanted} for wanted in HANDLERS.values()])
+
+    def test_types_of_values_and_what_is_disabled(self):
+        types = {"FLOAT": {}, "UNSIGNED": {}, "CHAR": {"value_type": "text"}, "TEXT": {"value_type": "text"}}
+        items = [{"type": "TRAP", "key": name, "value_type": name} for name in types] + [{"type": "TRAP", "key": "none", "status": "DISABLED"}]
+        host, told = convert(exported(items, status="DISABLED"))
+        wanted = [{"key": name, **more} for name, more in types.items()] + [{"key": "none", "enabled": False}]
+        self.assertEqual((host["items"], host["enabled"], told), (wanted, False, ["from-zabbix: 0 not carried"]))
+
+    def test_triggers(self):
+        severities = ("NOT_CLASSIFIED", "INFO", "WARNING", "AVERAGE", "HIGH", "DISASTER")
+        triggers = [{"name": name, "expression": "nodata(/h/k,5m)=1", "priority": name} for name in severities]
+        more = {"type": "MULTIPLE", "correlation_mode": "TAG_VALUE", "correlation_tag": "t", "status": "DISABLED", "tags": [{"tag": "t", "value": "v"}]}
+        triggers.append({"name": "more", "expression": "change(/h/k)=1", "recovery_mode": "NONE", **more})
+        modes = {"recovery_mode": "RECOVERY_EXPRESSION", "recovery_expression": " change( /h/k )=0"}
+        triggers.append({"name": "recovers", "expression": "change(/h/k)=1", **modes, "dependencies": [{"name": "more", "expression": "change(/h/k)=1"}]})
+        host, told = convert(exported([item("k")], triggers))
+        self.assertEqual(told, ["from-zabbix: 0 not carried"])
+        found = {one["name"]: one for one in host["triggers"]}
+        self.assertEqual([found[name].get("severity", 0) for name in severities], [0, 1, 2, 3, 4, 5])
+        wanted = {"multiple": True, "close_tag": "t", "enabled": False, "recovery": "none", "tags": [{"tag": "t", "value": "v"}]}
+        self.assertEqual(found["more"], {"name": "more", "expression": "change(/h/k)=1", **wanted})
+        recovers = {"recovery": "recovery_expression", "recovery_expression": "change(/h/k)=0", "depends": [{"trigger": "more"}]}
+        self.assertEqual(found["recovers"], {"name": "recovers", "expression": "change(/h/k)=1", **recovers})
+
+    def test_macros_of_the_host_stand_before_those_of_its_templates_and_these_before_the_global_ones(self):
+        export = exported([item("k", value_type="FLOAT")], [{"name": "t", "expression": "last(/h/k)>{$L}"}], templates=[{"name": "T"}])
+        export["zabbix_export"]["templates"] = [{"template": "T", "macros": [{"macro": "{$L}", "value": "of T"}], "templates": [{"name": "U"}]}]
+        export["zabbix_export"]["templates"].append({"template": "U", "macros": [{"macro": "{$L}", "value": "5"}]})
+        self.assertNotIn("triggers", convert(export)[0])
+        export["zabbix_export"]["hosts"][0]["macros"].append({"macro": "{$L}", "value": "5"})
+        self.assertEqual(len(convert(export)[0]["triggers"]), 1)
+        export["zabbix_export"]["hosts"][0]["macros"].pop()
+        export["zabbix_export"]["templates"][0]["macros"] = []
+        self.assertEqual(len(convert(export)[0]["triggers"]), 1)
+
+    def test_as_many_as_a_document_takes(self):
+        under = [{"type": "DEPENDENT", "key": f"d{at}", "master_item": {"key": "k"}} for at in range(1001)]
+        host, told = convert(exported([item("k", value_type="FLOAT"), *under]))
+        self.assertEqual((len(host["items"]), told[-1]), (1001, "from-zabbix: 1 not carried"))
+        self.assertIn("item d1000: its master has 1,000 dependent items already", told[0])
+        export = exported()
+        export["zabbix_export"]["hosts"] = [{"host": f"h{at}", "name": f"h{at}"} for at in range(1002)]
+        self.assertEqual([line.split(": ", 2)[2] for line in convert(export)[1][:2]], [f"host h{at}: a document has 1,000 hosts at most" for at in (1000, 1001)])
+        texts_ = [item(f"k{at}", preprocessing=[{"type": "REGEX", "parameters": [f"a{at}", ""]}]) for at in range(130)]
+        self.assertEqual(convert(exported(texts_))[1][-1], "from-zabbix: 2 not carried")
 
 
 class Unreadable(unittest.TestCase):
