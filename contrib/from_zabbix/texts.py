@@ -19,7 +19,7 @@ CONTEXT = re.compile(r"\{\$[A-Z0-9_.]+:[^}]*\}", re.A)
 FOREIGN = [
     (re.compile(r"\(\?(?:=|!|<=|<!)"), "looks ahead or behind"),
     (re.compile(r"\(\?>|[*+?}]\+"), "holds on to what it matched"),
-    (re.compile(r"\\[1-9]|\\g|\\k|\(\?P=|\(\?R\)|\(\?[0-9]|\(\?&"), "refers back to a group"),
+    (re.compile(r"\\[0-9]|\\g|\\k|\(\?P=|\(\?R\)|\(\?[0-9]|\(\?&"), "refers back to a group"),
     (re.compile(r"\(\?\||\(\?#|\(\?\(|\(\*"), "has a form of PCRE alone"),
     (re.compile(r"\\[GKRXZCNhHVQE]"), "has an escape of PCRE alone"),
 ]
@@ -113,6 +113,37 @@ def macro_flaw(text):
     return f"the macro {context[0]} has a context" if context else None
 
 
+COUNT = re.compile(r"\{[0-9]+(?:,[0-9]*)?\}", re.A)
+POSIX = re.compile(r"\[:\^?[a-z]+:\]")
+
+
+def mark_flaw(text):
+    """What stands for itself with PCRE, and not in the program's patterns: a brace that counts nothing, and in a class a bracket or a
+    sign twice."""
+    at, in_class = 0, False
+    while at < len(text):
+        if text[at] == "\\":
+            at += 1
+            if in_class and text[at : at + 1] == "b":
+                return "has a backspace in a class"
+            if text[at : at + 2] in ("p{", "P{", "x{"):
+                at = max(at, text.find("}", at))
+        elif in_class and POSIX.match(text, at):
+            at = POSIX.match(text, at).end() - 1
+        elif in_class and (text[at] == "[" or text[at : at + 2] in ("&&", "--", "~~")):
+            return f"has {text[at]} in a class, which is written with a backslash here"
+        elif text[at] == "[":
+            in_class = True
+            at += text[at + 1 : at + 2] == "^"
+            at += text[at + 1 : at + 2] == "]"
+        elif text[at] == "]":
+            in_class = False
+        elif not in_class and text[at] == "{" and not COUNT.match(text, at):
+            return "has a brace that counts nothing, which is written with a backslash here"
+        at += 1
+    return None
+
+
 def pattern_flaw(text, ahead=0):
     """Why a text is no pattern for the program, or None, as far as can be seen. So many bytes more stand before it."""
     if not 1 <= len(text.encode()) + ahead <= 255:
@@ -123,9 +154,11 @@ def pattern_flaw(text, ahead=0):
     for form, reason in FOREIGN:
         if form.search(plain):
             return f"the pattern {text} {reason}, which the program's patterns can't"
+    if mark_flaw(text):
+        return f"the pattern {text} {mark_flaw(text)}"
     try:
         re.compile(re.sub(r"\\([pP])(\{[^}]*\}|\w)|\\z|\[\[:\^?\w+:\]", ".", re.sub(r"\(\?<(\w)", r"(?P<\1", text)))
     except (re.error, OverflowError) as error:
-        if "inline flags" not in str(error) and "global flags" not in str(error) and "repeat" not in str(error):
+        if "flags" not in str(error) and "multiple repeat" not in str(error):
             return f"the pattern {text} isn't one: {error}"
     return None

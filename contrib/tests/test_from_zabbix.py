@@ -382,9 +382,9 @@ class Grammars(unittest.TestCase):
             self.assertIsNotNone(paths.flaw(path), path)
 
     def test_patterns(self):
-        for pattern in ("a", "^ERR( |$)", "([0-9]+)%", r"\d{2}\s\w+", "(?i)error", "[[:alpha:]]+", "(?P<n>x)", "(?<n>x)", r"\p{L}", r"a\+\+", r"\\1"):
+        for pattern in ("a", "^ERR( |$)", "([0-9]+)%", r"\d{2}\s\w+", "(?i)error", "[[:alpha:]]+", "(?P<n>x)", "(?<n>x)", r"\p{L}", r"a\+\+", r"\\1", "a{2}b{1,}c{1,3}", r"\{x\}", "[{}]", "[^]a]", "a}", r"[\[a]", "a**", r"^\/dev", "[a&b-]"):
             self.assertIsNone(texts.pattern_flaw(pattern), pattern)
-        for pattern in ("", "x" * 256, "a(?=b)", "(?<!a)b", r"(a)\1", "a++", "(?>a)", "@global", "(", "[", r"\Ka", "(?|a|b)"):
+        for pattern in ("", "x" * 256, "a(?=b)", "(?<!a)b", r"(a)\1", "a++", "(?>a)", "@global", "(", "[", r"\Ka", "(?|a|b)", "a{,3}", "{a}", "a{x", "[[a]", "[a&&b]", "*a", r"\012"):
             self.assertIsNotNone(texts.pattern_flaw(pattern), pattern)
 
     def test_blanks_that_the_real_server_passes(self):
