@@ -70,9 +70,19 @@ def load(path):
     export = tree.get("zabbix_export") if isinstance(tree, dict) else None
     if not isinstance(export, dict):
         raise Unreadable(f"{path}: it has no zabbix_export")
+    export = as_texts(export)
     if export.get("version") != "6.0":
         raise Unreadable(f"{path}: it is an export of version {export.get('version')}; those of 6.0 are read")
     return export
+
+
+def as_texts(tree):
+    """The tree with all scalars as texts, as exports and answers have them anyway."""
+    if isinstance(tree, dict):
+        return {name: as_texts(value) for name, value in tree.items()}
+    if isinstance(tree, list):
+        return [as_texts(one) for one in tree]
+    return tree if isinstance(tree, str) else "" if tree is None else str(tree)
 
 
 def from_json(path, text):
@@ -278,5 +288,8 @@ class Reading:
 
 
 def listed(raw, name):
-    found = raw.get(name)
-    return found if isinstance(found, list) else []
+    """The objects of a list, or the texts of parameters; a list that isn't there is empty."""
+    found = raw.get(name) or []
+    if not isinstance(found, list) or not all(isinstance(one, str if name == "parameters" else dict) for one in found):
+        raise Unreadable(f"{name} isn't a list of {'texts' if name == 'parameters' else 'objects'}")
+    return found

@@ -7,7 +7,7 @@ import json
 import re
 
 from . import texts
-from .export import Unreadable, listed
+from .export import Unreadable, as_texts, listed
 
 MESSAGE_MACROS = {
     "{EVENT.ID}", "{EVENT.NAME}", "{EVENT.SEVERITY}", "{EVENT.DATE}", "{EVENT.TIME}", "{EVENT.TAGS}", "{HOST.NAME}", "{TRIGGER.NAME}",
@@ -32,7 +32,7 @@ def load(path):
         raise Unreadable(f"{path}: {error}") from None
     if not isinstance(answers, dict) or not all(isinstance(value, list) for value in answers.values()):
         raise Unreadable(f"{path}: it isn't what contrib/ask-zabbix writes")
-    return answers
+    return as_texts(answers)
 
 
 class Rules:
@@ -81,6 +81,9 @@ class Rules:
                 made = make(place, raw)
             except Left as left:
                 self.report.lost(place, str(left))
+                continue
+            except (KeyError, ValueError) as error:
+                self.report.lost(place, f"it isn't whole: {error}")
                 continue
             names.add(name)
             found.append({"name": name, **made})

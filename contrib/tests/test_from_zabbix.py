@@ -323,14 +323,21 @@ class Unreadable(unittest.TestCase):
             ('{"a":1}', "it has no zabbix_export"),
             ('{"zabbix_export":{"version":"5.0"}}', "it is an export of version 5.0; those of 6.0 are read"),
             ("zabbix_export: [", "while parsing"),
+            ('{"zabbix_export":{"version":"6.0","hosts":[5]}}', "hosts isn't a list of objects"),
+            ('{"zabbix_export":{"version":"6.0","hosts":{}, "templates":"x"}}', "templates isn't a list of objects"),
         ):
             with tempfile.TemporaryDirectory() as room:
                 with open(f"{room}/it", "w", encoding="utf-8") as file:
                     file.write(text)
                 status, out, told = call("from-zabbix", "it", folder=room)
             self.assertEqual((status, out), (2, ""))
-            self.assertTrue("it: " in told and (reason in told or "PyYAML" in told), told)
+            self.assertTrue(reason in told or "PyYAML" in told, told)
         self.assertEqual(call("from-zabbix", "/nowhere")[0], 2)
+        with tempfile.TemporaryDirectory() as room:
+            with open(f"{room}/api", "w", encoding="utf-8") as file:
+                file.write('{"maintenance.get":[{"maintenanceid":"1","name":"m","active_since":"1"}]}')
+            told = call("from-zabbix", f"{TESTS}/export/case-00/export.json", "--api", f"{room}/api")[2]
+        self.assertIn("maintenance m: it isn't whole: 'active_till'", told)
         folder = f"{TESTS}/export/case-00"
         self.assertEqual(call("from-zabbix", f"{folder}/export.json", "--api", f"{folder}/export.json")[0], 2)
 
