@@ -1,7 +1,7 @@
 //! The book: what the syncers share. It takes entries out of the ring, hands out batches of them, and writes their
 //! lines.
 
-ghost use Rattle.std.specs.Prelude.{◌≡◌, ◌≤◌, ◌<◌, ◌+◌, ◌-◌, ◌++◌, [], ℕ, List, min, true, false, length, drop, replicate, get_or, IfOk, IfErr, IfSome, OnOk, OnErr, IsErrOf};
+ghost use Rattle.std.specs.Prelude.{◌≡◌, ◌≤◌, ◌<◌, ◌+◌, ◌-◌, ◌++◌, [], ℕ, List, min, true, false, length, drop, replicate, get_or, is_some, IfOk, IfErr, IfSome, OnOk, OnErr, IsErrOf};
 ghost use Rattle.std.specs.Option.{option_map};
 ghost use mathlib.Core.List.{IsPrefix};
 ghost use Rattle.outside.specs.Causes.{Rose};
@@ -189,7 +189,8 @@ impl<S: StartName, N: RunName, O: Sink> Book<S, N, O> {
     }
 
     /// Takes a batch of at most `limit` entries, as the crate `syncer_gate` chooses it, with copies of the cells in
-    /// their feet. None comes exactly where there is nothing to take. Where memory is refused nothing was taken.
+    /// their feet. None comes exactly where there is nothing to take; with no open batch that is exactly where nothing is
+    /// pending. Where memory is refused nothing was taken.
     pub fn claim(
         &mut self,
         alloc: Global,
@@ -207,6 +208,8 @@ impl<S: StartName, N: RunName, O: Sink> Book<S, N, O> {
             × (self.new.made ≡ self.old.made) }
         ensures out { (self.new.frontier ≡ self.old.frontier) × (self.new.tally ≡ self.old.tally)
             × (self.new.sink ≡ self.old.sink) × (self.new.unwritten ≡ self.old.unwritten) }
+        ensures idle { IfOk result (λ made. list_any is_open self.old.gate.marks ≡ false
+            → is_some made ≡ list_any is_pending self.old.gate.marks) }
         ensures err { OnErr result (self.new.gate.marks ≡ self.old.gate.marks) }
     {
         self.progress.going();

@@ -1,6 +1,6 @@
 //! What an order needs of the entries and the cells, and what comes of it.
 
-ghost use Rattle.std.specs.Prelude.{◌≡◌, ◌↔◌, ◌≤◌, ◌<◌, [], true, false, length, map, All, IfOk, IfErr, OnOk, OnErr, IfSome, IfNone};
+ghost use Rattle.std.specs.Prelude.{◌≡◌, ◌↔◌, ◌≤◌, ◌<◌, [], true, false, length, map, is_some, All, IfOk, IfErr, OnOk, OnErr, IfSome, IfNone};
 ghost use Rattle.footprint.specs.Feet.{feet_of};
 ghost use Rattle.syncer_gate.specs.Gate.{AreOffered, IsOpenBatch, batch_of, claimed};
 ghost use Rattle.syncer_gate.specs.Chosen.{chosen};
@@ -349,6 +349,8 @@ pub(crate) fn take_batch<S: StartName>(
     ensures none { IfOk result (λ taken. IfNone taken (claims.new ≡ claims.old)) }
     ensures idle { IfOk result (λ taken. IfNone taken (list_any is_open claims.old.marks ≡ false
         → list_any is_pending claims.old.marks ≡ false)) }
+    ensures pending { IfOk result (λ taken. list_any is_open claims.old.marks ≡ false
+        → is_some taken ≡ list_any is_pending claims.old.marks) }
     ensures err { OnErr result (claims.new ≡ claims.old) }
 {
     let taken = claims.claim(alloc, ready.feet(), entries, limit)?;

@@ -1,7 +1,7 @@
 //! How far the work on the entries is: the entries themselves, where each of them stands, the cells, and the records
 //! kept.
 
-ghost use Rattle.std.specs.Prelude.{◌≡◌, ◌≢◌, ◌≤◌, ◌<◌, ◌+◌, ◌++◌, [], ℕ, true, false, length, map, replicate, get_or, IfOk, IfErr, IfSome, OnOk, OnErr, Some, None, take};
+ghost use Rattle.std.specs.Prelude.{◌≡◌, ◌≢◌, ◌≤◌, ◌<◌, ◌+◌, ◌++◌, [], ℕ, true, false, length, map, replicate, get_or, is_some, IfOk, IfErr, IfSome, OnOk, OnErr, Some, None, take};
 ghost use Rattle.std.specs.Option.{option_map};
 ghost use Rattle.footprint.specs.Feet.{feet_of};
 ghost use Rattle.entry_step.specs.Log.{log_of};
@@ -167,7 +167,8 @@ impl<S: StartName> Progress<S> {
     }
 
     /// Takes a batch of at most `limit` entries, as the crate `syncer_gate` chooses it, with copies of the cells in
-    /// their feet. None comes exactly where there is nothing to take. Where memory is refused nothing was taken.
+    /// their feet. None comes exactly where there is nothing to take; with no open batch that is exactly where nothing is
+    /// pending. Where memory is refused nothing was taken.
     pub(crate) fn claim(
         &mut self,
         alloc: Global,
@@ -183,6 +184,8 @@ impl<S: StartName> Progress<S> {
             (chosen (feet_of S.conf) self.old.gate self.old.entries limit)) }
         ensures rest { (self.new.entries ≡ self.old.entries) × (self.new.cells ≡ self.old.cells)
             × (self.new.made ≡ self.old.made) }
+        ensures idle { IfOk result (λ made. list_any is_open self.old.gate.marks ≡ false
+            → is_some made ≡ list_any is_pending self.old.gate.marks) }
         ensures err { OnErr result (self.new.gate.marks ≡ self.old.gate.marks) }
     {
         let all = self.entries.as_slice();
