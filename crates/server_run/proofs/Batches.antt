@@ -24,7 +24,7 @@ use Rattle.server_run.specs.Sending.{Outgoing, nothing_out, with_answer, outgoin
 use Rattle.server_run.specs.Statuses.{Ending, at_wire_fault, anywhere, at_refusal, LeftIs}
 use Rattle.server_run.specs.Stops.{refusing, IsEither, IsReached, Journals}
 use Rattle.server_run.proofs.Handling.{served_stop}
-use Rattle.server_run.proofs.Joining.{given_none, given_both}
+use Rattle.server_run.proofs.Joining.{no_last, same_front_of, given_none, given_both}
 use Rattle.server_run.proofs.Sending.{shows_since}
 use Rattle.server_run.proofs.Stopping.{journals_more, journals_event}
 
@@ -104,6 +104,7 @@ gathered_start conf front w idle = record {
     some = λ more. absurd (omega (arith, more, ap length idle.no_block));
   };
   journal_stays = refl;
+  runs_on = λ front last is. absurd (no_last front last is);
   stop_is = refl;
   intake_is = λ none. refl;
   sound = λ sound. sound;
@@ -138,6 +139,7 @@ module _ {D : Type 0} (conf : Conf) (front0 front1 front2 : Fronted D) (w0 w1 w2
         gives = given_both w0 w1 w2 g.events (e ∷ []) None anywhere g.gives gives;
         taken = takes front0.intake g.events (here ∙ sym (ap (λ (l : Limits). (answered l conf front0.intake g.events).intake) same_limits)) (ap (λ (l : Limits). (answered l conf front0.intake g.events).stop) same_limits ∙ running) g.taken;
         journal_stays = journal ∙ g.journal_stays;
+        runs_on = λ front last is. ap (λ (es : List WireEvent). (answered l0 conf front0.intake es).stop) (sym (same_front_of g.events front e last is)) ∙ running;
         stop_is = stops ∙ ap (λ (h : Handled). h.answer.stop) at ∙ sym (ap (λ (a : Answered). a.stop) one);
         intake_is = λ none. intake;
         sound = λ sound. subst (IsSound conf) intake (keeps (subst (IsSound conf) (sym here) (g.sound sound)));
@@ -151,6 +153,7 @@ module _ {D : Type 0} (conf : Conf) (front0 front1 front2 : Fronted D) (w0 w1 w2
     gives = subst (λ es. HasGiven w0 w2 es None ending) (append-nil g.events) (given_both w0 w1 w2 g.events [] None ending g.gives gives);
     taken = g.taken;
     journal_stays = g.journal_stays;
+    runs_on = g.runs_on;
     stop_is = g.stop_is;
     intake_is = g.intake_is;
     sound = g.sound;
@@ -189,6 +192,7 @@ module _ {D : Type 0} (conf : Conf) (front0 front1 front2 : Fronted D) (w0 w1 w2
         gives = subst (λ es. HasGiven w0 w2 es (Some e) at_refusal) (append-nil g.events) (given_both w0 w1 w2 g.events [] (Some e) at_refusal g.gives gives);
         taken = has_same conf front0.intake g.events front1 front2 journal kept same.0 same.1 same.2 same.3 g.taken;
         journal_stays = journal ∙ g.journal_stays;
+        runs_on = g.runs_on;
         stop_is = g.stop_is;
         intake_is = λ none. absurd (cc);
         sound = g.sound;
@@ -281,6 +285,7 @@ module _ {D : Type 0} (tells : D → DiskTells)
           told = subst (λ o. IfSome w0.left (λ all. (rest : List WireEvent) × (all ≡ g.events ++ (option_to_list lost ++ rest)) × LeftIs ending lost o rest)) (sym left) g.gives.told;
           entries_are = entries ∙ ap (λ (i : Intake). i.entries) (ties n).intake;
           intake_is = λ none kept. intake none kept ∙ (ties n).intake;
+          runs_on = λ front last is. sym (tied (limits_of front0.journal 0) conf i0 front).stop_is ∙ g.runs_on front last is;
           stop_is = stop_is ∙ ap (λ (o : Outgoing). o.stop) out;
           shows = subst (λ (o : Outgoing). Shows w0 w2 o.replies o.shut) out
               (shows_since w0 w1 w2 (outgoing answers).replies (outgoing answers).shut g.gives.sent_stays g.gives.sends_stay g.gives.closed_stays g.gives.unsent_stays shows);

@@ -1,5 +1,5 @@
 -- Laws of the taking of events.
-use Rattle.std.proofs.Common.{◌≡◌, ◌⊎◌, ⊎_elim, ℕ, ◌+◌, ◌≤◌, ◌<◌, List, [], ◌++◌, length, drop, refl, sym, ap, ap₂, ◌∙◌, subst, length-append, arith, inl, inr}
+use Rattle.std.proofs.Common.{◌≡◌, ◌⊎◌, ⊎_elim, ℕ, ◌+◌, ◌≤◌, ◌<◌, List, [], ◌++◌, length, refl, sym, ap, ap₂, ◌∙◌, subst, length-append, arith, inl, inr}
 use Rattle.std.specs.Prelude.{Option, Some, None, IfSome, Result, Ok, Err, OnErr}
 use Rattle.std.specs.Option.{option_to_list}
 use Rattle.outside.specs.Disk.{DiskTells, IsLawful}
@@ -26,7 +26,7 @@ use Rattle.server_run.specs.Going.{IsCause}
 use Rattle.server_run.specs.Stops.{refusing, IsReached, Journals}
 use Rattle.server_run.specs.Runs.{Finished}
 use Rattle.server_run.proofs.Handling.{served_grow}
-use Rattle.server_run.proofs.Joining.{gave_none, gave_both, behind, served_then, same_before, same_front, refused_is, reached_before, reached_then}
+use Rattle.server_run.proofs.Joining.{no_last, runs_on_both, gave_none, gave_both, behind, served_then, same_before, same_front, refused_is, reached_before, reached_then}
 use Rattle.server_run.proofs.Sending.{shows_none, shows_both}
 use Rattle.server_run.proofs.Stopping.{journals_none, journals_on}
 
@@ -192,6 +192,7 @@ ran_none limits conf i disk w lawful kept = record {
   told = gave_none w.left;
   entries_are = refl;
   intake_is = λ none all. refl;
+  runs_on = λ front last is. absurd (no_last front last is);
   stop_is = refl;
   shows = shows_none w;
   journaled = journals_none disk (IsReached (refusing limits 0) conf i.entries i []) i.entries lawful (inl refl) kept;
@@ -221,6 +222,7 @@ module _ (limits : Limits) (conf : Conf) (recovered : List Numbered) (start now 
         told = gave_both ending lost w0.left w1.left w2.left r.taken t.taken r.told t.told;
         entries_are = t.entries_are ∙ sym (ap (λ (x : Served). x.intake.entries) all);
         intake_is = λ none kept. t.intake_is none kept ∙ sym (ap (λ (x : Served). x.intake) all);
+        runs_on = runs_on_both limits conf start now r.taken t.taken running0 is r.runs_on t.runs_on;
         stop_is = t.stop_is ∙ sym (ap (λ (x : Served). x.stop) all);
         shows = subst (λ (x : Served). Shows w0 w2 x.replies x.shut) (sym all)
             (shows_both w0 w1 w2 so_far.replies (served l conf now t.taken).replies so_far.shut (served l conf now t.taken).shut r.shows t.shows);
@@ -249,6 +251,7 @@ finish limits conf recovered start now d0 d1 w0 w1 count turns n s lost ending e
   handled = r.taken;
   lost = lost;
   refused = n;
+  runs_on = r.runs_on;
   few = omega (arith, r.count_is, few);
   given = omega (arith, r.count_is, r.given);
   told = told w0.left r.told;

@@ -1,6 +1,6 @@
 -- Laws of the taking of events behind what a run had done.
 use Rattle.std.proofs.Common.{◌≡◌, ◌⊎◌, ⊎_elim, ℕ, ◌+◌, ◌-◌, ◌≤◌, ◌<◌, List, [], ◌++◌, append-nil, refl, sym, ap, ◌∙◌, subst, arith, inl, inr, length, drop, true≢false}
-use Rattle.std.specs.Prelude.{◌≢◌, Option, Some, None, IfSome, Result, Ok, Err, OnOk, Bool, true, false}
+use Rattle.std.specs.Prelude.{◌≢◌, Option, Some, None, IfSome, Result, Ok, Err, OnOk, true, false}
 use Rattle.std.specs.Option.{option_to_list}
 use mathlib.Core.List.{IsPrefix}
 use Rattle.outside.specs.Disk.{DiskTells, IsLawful}
@@ -30,11 +30,11 @@ use Rattle.server_run.specs.declared.course.Course.{Course}
 use Rattle.server_run.specs.declared.serving.Taken.{Taken}
 use Rattle.server_run.specs.declared.serving.Taken.TheVariants as taken
 use Rattle.server_run.specs.Events.{Doing, Ran, Took, Ends, ending_of}
-use Rattle.server_run.specs.Going.{Reaches, TakesOn, IsServing, IsServedAt, HasServed, IsEndedAt, IsSentAt, IsCause, IsJoined, IsWorse, IsOpened, IsAheadOf, HasGone, book_status}
+use Rattle.server_run.specs.Going.{Reaches, TakesOn, IsServing, HasServed, IsEndedAt, IsSentAt, IsCause, IsJoined, IsWorse, IsOpened, IsAheadOf, HasGone, book_status}
 use Rattle.server_run.specs.Outbox.{LinesAre}
 use Rattle.server_run.specs.Tally.{counts_with}
 use Rattle.server_run.specs.Runs.{Finished}
-use Rattle.server_run.specs.Statuses.{Ending, never, at_closed, at_limit, at_wire_fault, at_disk_fault, at_full, anywhere, at_refusal, course_of, ended_with, EndsAs, LeftIs, IsCourse, IsUnprinted}
+use Rattle.server_run.specs.Statuses.{at_limit, anywhere, at_refusal, course_of, ended_with, EndsAs, LeftIs, IsCourse, IsUnprinted}
 use Rattle.server_run.specs.Stops.{refusing, Journals}
 use Rattle.server_run.proofs.Events.{ran_grows, ran_none, ran_on, finish_on, finish_with, goes_on_is, no_trouble, ended_sent, limits_kept}
 use Rattle.server_run.proofs.Logs.{behind_sent, sent_front}
@@ -156,6 +156,7 @@ finished_fault limits conf recovered begun entries turns did w w' s other wire f
   handled = f.handled;
   lost = f.lost;
   refused = f.refused;
+  runs_on = f.runs_on;
   few = f.few;
   given = f.given;
   told = told w.left f.told;

@@ -1,5 +1,5 @@
 -- What a stop at any moment of a run leaves in its journal.
-use Rattle.std.specs.Prelude.{◌≡◌, ◌⊎◌, ◌≤◌, ℕ, List, ◌++◌, Option, Some, IfSome, is_some}
+use Rattle.std.specs.Prelude.{◌≡◌, ◌⊎◌, ◌≤◌, ℕ, List, [], ◌∷◌, ◌++◌, Option, Some, None, IfSome, is_some}
 use Rattle.zbx_types.specs.declared.conf.Conf.{Conf}
 use Rattle.zbx_types.specs.declared.entries.Numbered.{Numbered}
 use Rattle.outside.specs.Causes.{Rose}
@@ -14,6 +14,12 @@ use Rattle.intake_front.specs.declared.answer.Stop.TheVariants as stop
 -- the limits where the disk refuses the group with this number, or none at 0
 abbrev pub refusing : Limits → ℕ → Limits
 refusing limits number = record { max_entries = limits.max_entries; max_bytes = limits.max_bytes; stop = number }
+
+-- of these events none stopped but the last, if any, where the disk refuses no group
+abbrev pub RunsOn : Limits → Conf → Intake → List WireEvent → Type 0
+RunsOn limits conf begun events =
+    (front : List WireEvent) (last : WireEvent) → events ≡ front ++ last ∷ []
+    → (served (refusing limits 0) conf begun front).stop ≡ None
 
 -- the bytes keep entries of these
 abbrev pub KeepsSome : (List Numbered → Type 0) → List ℕ → Type 0

@@ -126,7 +126,8 @@ fn serve_alone<S: StartName, N: RunName, W: Wire, D: Disk, O: Sink>(
     alone: &mut Alone<S, N, O>,
 ) -> Status
     requires { IsServing S.conf S.kept front.old head.old }
-    ensures takes { TakesOn D.tells S.conf front.old front.new (W.tells wire.old) (W.tells wire.new) turns (Taken.Ended result) }
+    ensures takes { TakesOn D.tells S.conf front.old front.new (W.tells wire.old) (W.tells wire.new) turns
+        (Taken.Ended result) }
     ensures ended { IsEndedAt S.kept front.new (W.tells wire.old) (W.tells wire.new) head.new result }
     ensures outbox { result ≡ Status.OutboxFault → Rose S.outbox.faults alone.new.book.sink.faults }
 {
@@ -168,7 +169,8 @@ where
     G: Gate + Sync,
     requires serving { IsServing S.conf S.kept front.old head.old }
     requires before { before ≡ S.outbox.faults }
-    ensures takes { TakesOn D.tells S.conf front.old front.new (W.tells wire.old) (W.tells wire.new) turns (Taken.Ended result.1) }
+    ensures takes { TakesOn D.tells S.conf front.old front.new (W.tells wire.old) (W.tells wire.new) turns
+        (Taken.Ended result.1) }
     ensures ended { IsEndedAt S.kept front.new (W.tells wire.old) (W.tells wire.new) head.new result.1 }
     ensures outbox { result.1 ≡ Status.OutboxFault → Rose S.outbox.faults result.0.sink.faults }
 {

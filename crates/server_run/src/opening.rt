@@ -6,9 +6,10 @@ ghost use Rattle.pattern_set.specs.Patterns.{IsPattern};
 ghost use Rattle.config_templates.specs.Flat.{flat_of};
 ghost use Rattle.server_words.specs.Words.{plan_of};
 ghost use Rattle.server_run.specs.Ports.{ReadsUpTo};
-ghost use Rattle.server_run.specs.Opening.{HasBegun, TurnedAway};
+ghost use Rattle.server_run.specs.Reasons.{IsUntaken, Unconfigured};
+ghost use Rattle.server_run.specs.Resumed.{HasBegun, TurnedAway};
 ghost use Rattle.server_run.specs.Patterns.{IsUnready};
-ghost use Rattle.server_run.specs.Runs.{IsUntaken, IsConfigured, Unconfigured, Opened, Unbegun};
+ghost use Rattle.server_run.specs.Runs.{IsConfigured, Opened, Unbegun};
 
 use crate::reading::{ReadError, read_all};
 use crate::resuming::{Refused, resume};
@@ -131,7 +132,8 @@ fn set_up<S: Source>(alloc: Global, words: &[Text], config: &mut S) -> Result<Se
 fn resume_setup<D: Disk>(alloc: Global, setup: Setup, disk: D) -> Result<Begun<D>, Refused<D>>
     ensures ok { IfOk result (λ b. (b.turns ≡ setup.turns) × (b.ready ≡ setup.ready)
         × HasBegun D.tells setup.ready setup.max_entries disk b.front) }
-    ensures err { IfErr result (λ r. (held : ℕ) → TurnedAway setup.ready setup.max_entries held (D.tells disk) (D.tells r.disk) r.entries r.status) }
+    ensures err { IfErr result (λ r. (held : ℕ) → TurnedAway setup.ready setup.max_entries held
+        (D.tells disk) (D.tells r.disk) r.entries r.status) }
 {
     match resume(alloc, &setup.ready, disk, setup.max_entries) {
         Ok(front) => Ok(Begun {
@@ -159,7 +161,8 @@ pub(crate) fn open<S: Source, D: Disk>(
     ensures taken { ReadsUpTo 16777216 (S.left config.old) (S.left config.new) }
     ensures ok { IfOk result (λ b. Opened D.tells words.now
         (S.left config.old) (S.left config.new) disk b.turns b.ready b.front) }
-    ensures err { IfErr result (λ r. (held : ℕ) → Unbegun words.now (S.left config.old) (S.faults config.old) (S.faults config.new) held (D.tells disk) (D.tells r.disk) r.entries r.status) }
+    ensures err { IfErr result (λ r. (held : ℕ) → Unbegun words.now (S.left config.old) (S.faults config.old)
+        (S.faults config.new) held (D.tells disk) (D.tells r.disk) r.entries r.status) }
 {
     match set_up(alloc, words, config) {
         Ok(setup) => resume_setup(alloc, setup, disk),

@@ -68,7 +68,8 @@ pub(crate) fn recover<D: Disk>(
     ensures limits { IfOk result (λ made. (made.0.max_entries ≡ max_entries) × (made.0.max_bytes ≡ longest_journal)) }
     ensures goes_on { IfOk result (λ made. GoesOn (D.tells disk) (D.tells made.0.disk)) }
     ensures gives_back { IfErr result (λ why. GoesOn (D.tells disk) (D.tells why.0)) }
-    ensures why { IfErr result (λ why. IsUnread (D.tells disk).bytes (D.tells disk).faults (D.tells why.0).faults why.1) }
+    ensures why { IfErr result (λ why. IsUnread (D.tells disk).bytes (D.tells disk).faults
+        (D.tells why.0).faults why.1) }
 {
     let mut journal = match Journal::recover(alloc, disk, max_entries, LONGEST_JOURNAL) {
         Ok(journal) => journal,

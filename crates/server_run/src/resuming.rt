@@ -5,7 +5,8 @@ ghost use Rattle.intake_journal.specs.declared.state.State.TheVariants as state;
 ghost use Rattle.intake_front.specs.Fronted.{HasJournaled};
 ghost use Rattle.intake_journal.specs.declared.format.Group.{Group};
 ghost use Rattle.server_run.specs.Recovered.{IsNumbered};
-ghost use Rattle.server_run.specs.Opening.{differ_at, config_text, status_for, IsTextJudged, IsJudged, IsTakenUp, HasBegun, TurnedAway};
+ghost use Rattle.server_run.specs.Opening.{differ_at, config_text, IsTextJudged, IsJudged};
+ghost use Rattle.server_run.specs.Resumed.{status_for, IsTakenUp, HasBegun, TurnedAway};
 
 use crate::numbering::Numbering;
 use crate::recovering::recover;
@@ -82,7 +83,8 @@ fn accepted<D: Disk>(
 ) -> Result<(Journal<D>, Many<Numbered>), Refused<D>>
     ensures ok { IfOk result (λ made. IsTakenUp D.tells conf.now
         max_entries disk made.0 made.1) }
-    ensures err { IfErr result (λ r. (held : ℕ) → TurnedAway conf.now max_entries held (D.tells disk) (D.tells r.disk) r.entries r.status) }
+    ensures err { IfErr result (λ r. (held : ℕ) → TurnedAway conf.now max_entries held (D.tells disk)
+        (D.tells r.disk) r.entries r.status) }
 {
     let (journal, numbering) = match recover(alloc, conf, disk, max_entries) {
         Ok(recovered) => recovered,
@@ -150,7 +152,8 @@ pub(crate) fn resume<D: Disk>(
     max_entries: u64,
 ) -> Result<Front<D>, Refused<D>>
     ensures ok { IfOk result (HasBegun D.tells ready.now max_entries disk) }
-    ensures err { IfErr result (λ r. (held : ℕ) → TurnedAway ready.now max_entries held (D.tells disk) (D.tells r.disk) r.entries r.status) }
+    ensures err { IfErr result (λ r. (held : ℕ) → TurnedAway ready.now max_entries held (D.tells disk)
+        (D.tells r.disk) r.entries r.status) }
 {
     let (journal, kept) = match accepted(alloc, ready.conf(), disk, max_entries) {
         Ok(taken) => taken,

@@ -1,5 +1,5 @@
 use Rattle.std.proofs.Common.{subst}
-use Rattle.server_run.specs.Opening.{IsTakenUp, TurnedAway}
+use Rattle.server_run.specs.Resumed.{IsTakenUp, TurnedAway}
 use Rattle.server_run.proofs.Beginning.{has_journaled}
 use Rattle.server_run.proofs.Results.{on_err}
 use Rattle.server_run.proofs.resuming.resume.Goals as goal
