@@ -127,11 +127,11 @@ fn begin<D: Disk>(
     requires read { journal.state ≡ state.Ready }
     requires journaled { HasJournaled D.tells journal kept (journal.at + 1) }
     ensures ok { IfOk result (λ f. (most : ℕ) (old : D)
-        → IsTakenUp D.tells ready.now most old journal kept
-        → HasBegun D.tells ready.now most old f) }
+        → IsTakenUp D.tells ready.now.conf most old journal kept
+        → HasBegun D.tells ready.now.conf most old f) }
     ensures err { IfErr result (λ r. (most held : ℕ) (old : D)
-        → IsTakenUp D.tells ready.now most old journal kept
-        → TurnedAway ready.now most held (D.tells old) (D.tells r.disk) r.entries
+        → IsTakenUp D.tells ready.now.conf most old journal kept
+        → TurnedAway ready.now.conf most held (D.tells old) (D.tells r.disk) r.entries
         r.status) }
 {
     match Front::new(alloc, ready, journal, kept) {
@@ -151,8 +151,8 @@ pub(crate) fn resume<D: Disk>(
     disk: D,
     max_entries: u64,
 ) -> Result<Front<D>, Refused<D>>
-    ensures ok { IfOk result (HasBegun D.tells ready.now max_entries disk) }
-    ensures err { IfErr result (λ r. (held : ℕ) → TurnedAway ready.now max_entries held (D.tells disk)
+    ensures ok { IfOk result (HasBegun D.tells ready.now.conf max_entries disk) }
+    ensures err { IfErr result (λ r. (held : ℕ) → TurnedAway ready.now.conf max_entries held (D.tells disk)
         (D.tells r.disk) r.entries r.status) }
 {
     let (journal, kept) = match accepted(alloc, ready.conf(), disk, max_entries) {

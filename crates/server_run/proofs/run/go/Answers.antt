@@ -13,8 +13,8 @@ returns-in-Err-clause-line g c = refused_so_far _ _ _ _ _ _ _ refl c.open.ensure
 pub returns-in-Err-copy_entries-clause-line : goal.returns-in-Err-copy_entries-clause-line
 returns-in-Err-copy_entries-clause-line g c =
     let h = c.held_back.ensures in
-    let back : IsHeldBack c.in-Ok.begun.ready c.in-Ok.begun.front.intake.entries (g.O.Sink.tells c.args.outbox).held c.in-Ok.begun.front c.held_back.result.disk c.held_back.result.entries c.held_back.result.status =
-    record { disk_is = h.disk; entries_are = h.entries; why = subst (IsAheadOf c.in-Ok.begun.ready c.in-Ok.begun.front.intake.entries (g.O.Sink.tells c.args.outbox).held) (sym h.status) tt } in
+    let back : IsHeldBack c.in-Ok.begun.ready.conf c.in-Ok.begun.front.intake.entries (g.O.Sink.tells c.args.outbox).held c.in-Ok.begun.front c.held_back.result.disk c.held_back.result.entries c.held_back.result.status =
+    record { disk_is = h.disk; entries_are = h.entries; why = subst (IsAheadOf c.in-Ok.begun.ready.conf c.in-Ok.begun.front.intake.entries (g.O.Sink.tells c.args.outbox).held) (sym h.status) tt } in
     refused_so_far _ _ _ _ _ _ _ h.began c.open.ensures.taken (unbegun_held g.D.Disk.tells _ _ _ _ _ _ _ c.in-Ok.ensures.ok _ _ _ _ refl _ _ _ back) refl (ap g.O.Sink.tells h.outbox)
 
 pub returns-in-Ok-copy_entries-clause-line : goal.returns-in-Ok-copy_entries-clause-line
