@@ -4,6 +4,8 @@ A host is laid out as the program does it: the host, then its templates level by
 laid out by itself. What is wrong in one host is taken out where it is written, so it is gone for all of them.
 """
 
+from functools import lru_cache
+
 from . import expressions, paths, texts
 from .export import REGSUB
 
@@ -141,7 +143,7 @@ class Checks:
         if sum(step["kind"].startswith("throttle") for step in item["steps"]) > 1:
             return "an item has one step that throttles at most"
         for at, step in enumerate(item["steps"], 1):
-            reason = step_flaw(step["kind"], [layout.expanded(text) for text in step["params"]], layout.expanded(step.get("text", "")))
+            reason = step_flaw(step["kind"], tuple(layout.expanded(text) for text in step["params"]), layout.expanded(step.get("text", "")))
             if reason:
                 return f"step {at}: {reason}"
         return None
@@ -199,10 +201,9 @@ class Checks:
         return next(filter(None, (texts.pattern_flaw(pattern) for text in shown for pattern in regsubs(layout.expanded(text)))), None)
 
     def expression_flaw(self, layout, text):
-        try:
-            calls, _ = expressions.read(layout.expanded(text))
-        except expressions.Fault as fault:
-            return why(fault, layout.expanded(text))
+        calls, fault = calls_of(layout.expanded(text))
+        if fault:
+            return fault
         for call in calls:
             of = layout if call.host in layout.names else self.hosts.get(call.host)
             if of is None:
@@ -271,6 +272,15 @@ def same(trigger, asked, source, host):
     return trigger["_asked"][0] == name and given[0] == wanted[0] and (not wanted[1] or given[1] == wanted[1])
 
 
+@lru_cache(maxsize=100_000)
+def calls_of(text):
+    """The calls of an expression, or why it is none. Hosts of one template have the same one mostly."""
+    try:
+        return expressions.read(text)[0], None
+    except expressions.Fault as fault:
+        return [], why(fault, text)
+
+
 def why(fault, text):
     """A fault in words; what can't be read because of a macro is said so."""
     if texts.macro_flaw(text):
@@ -299,15 +309,16 @@ def patterns_of_item(layout, item):
 def patterns_of_trigger(layout, trigger):
     found = {pattern for text in [trigger["name"]] + [tag["value"] for tag in trigger["tags"]] for pattern in regsubs(layout.expanded(text))}
     for kind in ("expression", "recovery_expression"):
-        for call in expressions.read(layout.expanded(trigger[kind]))[0] if kind in trigger else ():
+        for call in calls_of(layout.expanded(trigger[kind]))[0] if kind in trigger else ():
             if call.operator in ("regexp", "iregexp"):
                 found.add("(?i)" * (call.operator == "iregexp") + call.argument)
     return found
 
 
+@lru_cache(maxsize=100_000)
 def step_flaw(kind, params, text):
     """Why the program doesn't take a step with these parameters, or None."""
-    if any(len(one.encode()) > LONGEST_PARAMETER for one in params + [text]):
+    if any(len(one.encode()) > LONGEST_PARAMETER for one in (*params, text)):
         return "a parameter has 65,535 bytes at most"
     if kind in ("regex", "matches", "not_matches", "regex_error"):
         return texts.pattern_flaw(params[0])
@@ -319,7 +330,7 @@ def step_flaw(kind, params, text):
         return f"{params[0]} is no number"
     if kind == "in_range":
         bounds = [texts.number(one) for one in params]
-        if params == ["", ""] or any(one and bound is None for one, bound in zip(params, bounds)):
+        if params == ("", "") or any(one and bound is None for one, bound in zip(params, bounds)):
             return "its bounds are no numbers"
         if None not in bounds and bounds[0] > bounds[1]:
             return "its least number is above its greatest"
