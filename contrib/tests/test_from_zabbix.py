@@ -303,6 +303,14 @@ class Carried(unittest.TestCase):
         export["zabbix_export"]["templates"][0]["macros"] = []
         self.assertEqual(len(convert(export)[0]["triggers"]), 1)
 
+    def test_rules_are_in_the_order_of_their_making(self):
+        rule = {"status": "0", "filter": {"conditions": [{"type": "0", "tag": "a"}]}, "operations": [{"type": "0"}]}
+        with tempfile.TemporaryDirectory() as room:
+            with open(f"{room}/api", "w", encoding="utf-8") as file:
+                json.dump({"correlation.get": [{"correlationid": number, "name": number, **rule} for number in ("10", "9", "2")]}, file)
+            out = call("from-zabbix", f"{TESTS}/export/case-00/export.json", "--api", f"{room}/api", "--strict")[1]
+        self.assertEqual([one["name"] for one in json.loads(out)["correlations"]], ["2", "9", "10"])
+
     def test_as_many_as_a_document_takes(self):
         under = [{"type": "DEPENDENT", "key": f"d{at}", "master_item": {"key": "k"}} for at in range(1001)]
         host, told = convert(exported([item("k", value_type="FLOAT"), *under]))
@@ -311,6 +319,9 @@ class Carried(unittest.TestCase):
         export = exported()
         export["zabbix_export"]["hosts"] = [{"host": f"h{at}", "name": f"h{at}"} for at in range(1002)]
         self.assertEqual([line.split(": ", 2)[2] for line in convert(export)[1][:2]], [f"host h{at}: a document has 1,000 hosts at most" for at in (1000, 1001)])
+        export = exported()
+        export["zabbix_export"]["templates"] = [{"template": f"T{at}"} for at in range(1001)]
+        self.assertEqual([line.split(": ", 2)[2] for line in convert(export)[1][:1]], ["template T1000: a document has 1,000 templates at most"])
         texts_ = [item(f"k{at}", preprocessing=[{"type": "REGEX", "parameters": [f"a{at}", ""]}]) for at in range(130)]
         self.assertEqual(convert(exported(texts_))[1][-1], "from-zabbix: 2 not carried")
 

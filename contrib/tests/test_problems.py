@@ -220,7 +220,10 @@ class Flaws(unittest.TestCase):
 
 class Following(unittest.TestCase):
     def setUp(self):
+        self.shown = None
+
         def give_up(*_):
+            self.shown.kill()
             raise AssertionError("nothing more is shown")
 
         signal.signal(signal.SIGALRM, give_up)
@@ -239,7 +242,7 @@ class Following(unittest.TestCase):
                 file.write("".join(lines)[:cut])
                 file.flush()
                 with subprocess.Popen([f"{CONTRIB}/problems", path, "--follow", "--json"], stdout=subprocess.PIPE, text=True) as shown:
-                    self.addCleanup(shown.kill)
+                    self.shown = shown
                     begun = replayed("".join(lines[:10]))
                     found = [json.loads(shown.stdout.readline()) for one in begun if "ended" not in one]
                     self.assertEqual([one["event"] for one in found], [one["event"] for one in begun if "ended" not in one][::-1])
