@@ -137,6 +137,17 @@ fn failed_calls(rt: &HostRuntime, path: &str) -> Result<u64, OutOfMemory> {
     Ok(disk.faults())
 }
 
+/// How many calls of a second disk over the file of another one fail.
+fn locked_out(rt: &HostRuntime) -> Result<String, Fail> {
+    let path = path_of(rt, "wire_mio_lock")?;
+    let first = FileDisk::at(rt, &path);
+    let failed = failed_calls(rt, path.as_str())?;
+    let told = format!(in rt.alloc(); "{} {}", failed, first.faults())?;
+    drop(first);
+    fs::remove_file(rt, path.as_str())?;
+    Ok(told)
+}
+
 /// What comes of a case.
 fn answer(rt: &HostRuntime, row: Row<'_>) -> Result<String, Fail> {
     match row.kind {
@@ -155,6 +166,7 @@ fn answer_of_files(rt: &HostRuntime, row: Row<'_>) -> Result<String, Fail> {
         "file" => add_to_file(rt),
         "no file" => open_nowhere(rt, row.input),
         "disk" => keep_on_disk(rt),
+        "second disk" => locked_out(rt),
         "failing calls" => Ok(format!(in rt.alloc(); "{}", failed_calls(rt, row.input)?)?),
         _ => Ok(String::from_str(rt.alloc(), "no such kind")?),
     }
@@ -170,6 +182,7 @@ fn cases() -> &'static str {
     file | 4, 4 0; 4, 8 0; on,e.,tw,o.,, 0\n\
     no file | failed, 1; failed, 0 1 | /nowhere/at/all\n\
     disk | true (7, 0, [97, 66, 67, 0, 0, 102, 103, 9])\n\
+    second disk | 3 0\n\
     failing calls | 3 | /nowhere/at/all\n\
     failing calls | 2 | /dev/full"
 }

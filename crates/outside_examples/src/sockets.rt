@@ -126,11 +126,24 @@ fn crowd(
     Ok((told(wire, rt.alloc(), usize::MAX, b""), wire.connections()))
 }
 
-/// What a client that is answered at once, half a client, a crowd, and a client in its place come to.
+/// A client that comes behind others, and what is told of it, with how many connections are there then.
+fn follow(
+    rt: &HostRuntime,
+    wire: &mut MioWire<&HostRuntime>,
+    address: &str,
+) -> io::Result<((u64, usize, u64), usize)> {
+    let client = TcpStream::connect(rt, address)?;
+    let events = told(wire, rt.alloc(), usize::MAX, b"");
+    drop(client);
+    Ok((events, wire.connections()))
+}
+
+/// What a client that is answered at once, half a client, a crowd, a client in its place, and one that takes the place of one
+/// that has ended come to.
 fn visits(
     rt: &HostRuntime,
     address: &Text,
-) -> Result<[((u64, usize, u64), usize); 4], OutOfMemory> {
+) -> Result<[((u64, usize, u64), usize); 5], OutOfMemory> {
     let mut wire = MioWire::listen(rt, rt.alloc(), address)?;
     let none = ((0, 0, 0), 0);
     let at_once = answered_at_once(rt, &mut wire, address.as_str()).unwrap_or(none);
@@ -138,7 +151,8 @@ fn visits(
     let crowd_of = crowd(rt, &mut wire, address.as_str(), 130).unwrap_or(none);
     let unknown = usize::from(wire.send(7_000, b"reply").is_err() && wire.unsent() == 1);
     let after = told(&mut wire, rt.alloc(), usize::MAX, b"");
-    Ok([at_once, half, crowd_of, (after, unknown)])
+    let behind = follow(rt, &mut wire, address.as_str()).unwrap_or(none);
+    Ok([at_once, half, crowd_of, (after, unknown), behind])
 }
 
 /// The same at a free address.
@@ -197,7 +211,7 @@ fn deaf(rt: &HostRuntime) -> Result<u64, OutOfMemory> {
 fn answer<R: Threads>(rt: &HostRuntime, threads: &R, kind: &str) -> Result<String, Fail> {
     match kind {
         "a client reads its whole reply" => reply_wholly(rt, threads),
-        "an ended connection gets its reply and a 129th is closed" => visit(rt),
+        "an ended connection gets its reply, and its place goes to a newcomer" => visit(rt),
         "a connection that is reset is lost" => reset(rt),
         "a wire without a socket fails at its first call" => {
             Ok(format!(in rt.alloc(); "{}", deaf(rt)?)?)
@@ -208,8 +222,8 @@ fn answer<R: Threads>(rt: &HostRuntime, threads: &R, kind: &str) -> Result<Strin
 
 fn cases() -> &'static str {
     "a client reads its whole reply | 1048576 0 0\n\
-    an ended connection gets its reply and a 129th is closed | \
-    [((0, 0, 0), 5), ((2, 3, 1), 5), ((130, 0, 0), 128), ((0, 0, 128), 1)]\n\
+    an ended connection gets its reply, and its place goes to a newcomer | \
+    [((0, 0, 0), 5), ((2, 3, 1), 5), ((130, 0, 0), 128), ((0, 0, 128), 1), ((131, 0, 0), 128)]\n\
     a connection that is reset is lost | (true, 0)\n\
     a wire without a socket fails at its first call | 1"
 }

@@ -1,1 +1,4 @@
 pub mod InTurn
+pub mod Longest
+pub mod Seen
+pub mod Telling

@@ -1,5 +1,5 @@
 -- What contracts see of sources, sinks and disks over readers, writers and files.
-use Rattle.std.specs.Prelude.{◌≡◌, ℕ, ◌+◌, ◌-◌, ◌^◌, min, Bool, ◌==◌, List, length, Option, Some, None, Result, Ok, Err, IsErr, if◌then◌else◌}
+use Rattle.std.specs.Prelude.{◌≡◌, ℕ, ◌+◌, ◌-◌, ◌^◌, min, Bool, true, ◌==◌, is_some, List, length, Option, Some, None, Result, Ok, Err, IsErr, if◌then◌else◌}
 
 -- a source: the bytes that are left, where its reader tells, and how often it has failed
 pub record Reading : Type 0 where
@@ -19,10 +19,21 @@ abbrev pub counted : ℕ → Option (List ℕ) → Option (List ℕ)
 counted held None = None
 counted held (Some bytes) = if length bytes == held then Some bytes else None
 
--- a disk: how many calls of its file have failed, where it has one, and how often it has failed itself
+-- a file of a disk: how many calls have failed, and whether it is this program's alone
+pub record Locked : Type 0 where
+  pub failed : ℕ
+  pub has_lock : Bool
+
+-- a disk: how many calls of its file have failed, where it has one, whether that is this program's alone, and how often it
+-- has failed itself
 pub record Filed : Type 0 where
   pub failed : Option ℕ
+  pub has_lock : Bool
   pub faults : ℕ
+
+-- a disk that was opened: it has no file, or one that is this program's alone
+abbrev pub IsAlone : Filed → Type 0
+IsAlone disk = is_some disk.failed ≡ true → disk.has_lock ≡ true
 
 -- a failed call is counted, and no other
 abbrev pub CountsFailed : {T E : Type 0} → ℕ → ℕ → Result T E → Type 0

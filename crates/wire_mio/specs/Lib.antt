@@ -2,3 +2,4 @@ pub mod Adapters
 pub mod Pieces
 pub mod Queues
 pub mod SinkLaws
+pub mod Tables

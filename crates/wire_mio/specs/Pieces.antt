@@ -1,5 +1,5 @@
 -- What a read of a connection comes to.
-use Rattle.std.specs.Prelude.{◌≡◌, ℕ, ◌<◌, ◌≤◌, List, length, Option}
+use Rattle.std.specs.Prelude.{◌≡◌, ℕ, ◌<◌, ◌≤◌, List, length, Option, ⊤}
 use Rattle.std.specs.Io.KnownBytes.{Consumes, IsAtEnd, Keeps}
 use Rattle.wire_mio.specs.Queues.{longest_piece}
 use Rattle.wire_mio.specs.declared.piece.Got.{Got}
@@ -13,3 +13,11 @@ IsRead old new End = IsAtEnd new
 IsRead old new Nothing = Keeps old new
 IsRead old new Again = Keeps old new
 IsRead old new Lost = Keeps old new
+
+-- a piece is within its bounds
+abbrev pub IsBounded : Got → Type 0
+IsBounded (Piece bytes) = (0 < length bytes) × (length bytes ≤ longest_piece)
+IsBounded End = ⊤
+IsBounded Nothing = ⊤
+IsBounded Again = ⊤
+IsBounded Lost = ⊤

@@ -5,17 +5,18 @@ use Rattle.outside.specs.declared.event.WireEvent.TheVariants.{Opened, Piece, En
 use Rattle.outside.specs.declared.event.Trouble.{Trouble}
 use Rattle.outside.specs.declared.event.Trouble.TheVariants as trouble
 use Rattle.wire_mio.specs.Adapters.{risen}
+use Rattle.wire_mio.specs.Tables.{Table}
 
 -- the longest piece, in bytes
 abbrev pub longest_piece : ℕ
 longest_piece = 65536
 
--- a wire: the events that stand in its queue, the latest connection of which it has told, how many connections are
--- there, whether it listens, and its counts
+-- a wire: the events that stand in its queue, the latest connection of which it has told, the connections that are there,
+-- whether it listens, and its counts
 pub record WireState : Type 0 where
   pub waiting : List WireEvent
   pub told : ℕ
-  pub connections : ℕ
+  pub connections : Table
   pub listens : Bool
   pub given : ℕ
   pub sends : ℕ

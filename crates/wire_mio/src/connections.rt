@@ -1,92 +1,74 @@
 //! The connections that are there.
 
-ghost use Rattle.std.specs.Prelude.{◌≡◌, ◌≤◌, ◌<◌, false, true, nat_lt, IfSome};
+ghost use Rattle.std.specs.Prelude.{◌≡◌, ◌≢◌, ◌≤◌, ◌<◌, ◌+◌, ℕ, None, Some, true, false, nat_lt, length, is_some, IfSome, IfNone, OnOk};
+ghost use Rattle.std.specs.Option.{option_map};
 ghost use Rattle.zbx_types.specs.Limits.{most_connections};
+ghost use Rattle.wire_mio.specs.Queues.{longest_piece};
+ghost use Rattle.wire_mio.specs.Pieces.{IsBounded};
+ghost use Rattle.wire_mio.specs.Tables.{Changes, KeepsLive, GivesPlace, LeavesLive, HasPlace, HasRoom, DropsParted, IsAt, IsLongest, earlier_of, HasSettled, HasNo, held_in, count_in, is_live, heard, ended_at, fresh, sent_once};
 
+use crate::peer::{Kind, Peer, Place, Stage};
+use crate::piece::{Away, Got, read_away, read_piece};
+use crate::room::Room;
+use indexmap::IndexMap;
 use mio::net::TcpStream;
+use mio::{Interest, Registry, Token};
+use outside::Failed;
 use std::alloc::Global;
-use std::collections::{HashMap, VecDeque};
 use std::marker::Model;
-use std::net::Shutdown;
-use std::time::{Duration, Instant};
+use std::time::Duration;
 use zbx_types::{MOST_CONNECTIONS, OutOfMemory};
 
-/// How many seconds a connection stays that has ended or was closed.
-const PARTING: u64 = 10;
+/// How many microseconds a connection stays that has ended or was closed.
+const PARTING: u64 = 10_000_000;
 
-/// How far a connection has come.
-#[derive(Clone, Copy, PartialEq, Eq)]
-pub(crate) enum Stage {
-    /// Both sides may send.
-    Open,
-    /// The other side has sent all that it sends. A reply may still go out.
-    Ended,
-    /// This side has closed it. What the other side still sends is read away.
-    Closed,
-    /// As closed, since before the last look.
-    Left,
-}
+/// How many microseconds pass between two looks for those that have stayed so long.
+const SWEEP: u64 = 1_000_000;
 
-/// A connection.
-#[derive(Drop)]
-pub(crate) struct Peer {
-    pub(crate) stream: TcpStream,
-    pub(crate) stage: Stage,
-    /// Whether the system was asked to report what comes on it.
-    pub(crate) watched: bool,
-}
+/// How many microseconds an open connection may bring nothing before a newcomer can have its place.
+const LONGEST_SILENCE: u64 = 60_000_000;
 
-impl Peer {
-    /// A connection that has just been accepted.
-    pub(crate) fn new(stream: TcpStream) -> Peer {
-        Peer {
-            stream,
-            stage: Stage::Open,
-            watched: false,
-        }
-    }
-}
-
-/// The connections that are there, by their numbers, at most 128. Contracts see how many there are.
+/// The connections that are there, by their numbers, at most 128.
 ///
-/// One that has ended or was closed stays for some seconds from the next look on, by a clock that doesn't go back, and no
-/// longer.
+/// Contracts see them as a table: what each number has, how many there are, all of them, and the moment of the latest look.
+/// Moments are microseconds of a clock that doesn't go back, and each look has a later one than the look before.
 #[derive(Drop)]
 pub(crate) struct Connections {
-    peers: HashMap<u64, Peer>,
-    /// Those that have begun to part since the last look.
-    leaving: VecDeque<u64>,
-    /// Those that have parted before, and until when they stay.
-    parting: VecDeque<(u64, Instant)>,
+    peers: IndexMap<u64, Peer>,
+    moment: u64,
+    swept: u64,
 }
 
 impl Model for Connections {
-    ghost use Rattle.std.specs.Prelude.{ℕ, ◌≤◌};
-    ghost use Rattle.std.specs.HashMap.{hash_map_len};
+    ghost use Rattle.std.specs.Prelude.{◌≤◌, map};
+    ghost use Rattle.indexmap.specs.IndexMap.{spare, index_map_len};
     ghost use Rattle.zbx_types.specs.Limits.{most_connections};
+    ghost use Rattle.wire_mio.specs.Tables.{Table, seen};
 
-    ghost Value = { ℕ };
+    ghost Value = { Table };
 
-    ghost view = { λ c. hash_map_len c.peers };
+    ghost view = { λ c. record { entries = map seen c.peers.entries; moment = c.moment; room = spare c.peers } };
 
-    ghost invariant = { λ c. hash_map_len c.peers ≤ most_connections };
+    ghost invariant = { λ c. index_map_len c.peers ≤ most_connections };
 }
 
 impl Connections {
     /// No connection is there. Takes no memory.
+    #[tactic(auto, using(crate::proofs::Seen::held_seen))]
     pub(crate) fn new(alloc: Global) -> Connections
-        ensures { result ≡ 0 }
+        ensures count { count_in result ≡ 0 }
+        ensures held { (c : ℕ) → held_in result c ≡ None }
     {
         Connections {
-            peers: HashMap::new(alloc),
-            leaving: VecDeque::new(alloc),
-            parting: VecDeque::new(alloc),
+            peers: IndexMap::new(alloc),
+            moment: 0,
+            swept: 0,
         }
     }
 
     /// How many there are.
     pub(crate) fn count(&self) -> usize
-        ensures value { result ≡ self.now }
+        ensures value { result ≡ (count_in self.now) }
         ensures most { result ≤ most_connections }
     {
         self.peers.len()
@@ -94,130 +76,301 @@ impl Connections {
 
     /// Whether there is room for another.
     pub(crate) fn has_room(&self) -> bool
-        ensures { result ≡ nat_lt self.now most_connections }
+        ensures { result ≡ nat_lt (count_in self.now) most_connections }
     {
         self.peers.len() < MOST_CONNECTIONS
     }
 
-    /// Takes memory for another, and for one that parts.
-    pub(crate) fn reserve(&mut self) -> Result<(), OutOfMemory>
-        ensures { self.new ≡ self.old }
+    /// How far a connection has come, if it is there.
+    #[tactic(auto, using(crate::proofs::Seen::held_seen))]
+    pub(crate) fn stage(&self, conn: u64) -> Option<Stage>
+        ensures { result ≡ option_map (λ h. h.stage) (held_in self.now conn) }
     {
-        if self.leaving.reserve(1).is_err() || self.peers.reserve(1).is_err() {
-            return Err(OutOfMemory);
+        match self.peers.get(&conn) {
+            Some(peer) => Some(peer.stage),
+            None => None,
         }
-        Ok(())
     }
 
-    /// Takes a connection out, if it is there.
-    pub(crate) fn take(&mut self, conn: u64) -> Option<Peer>
-        ensures some { IfSome result (λ _. self.new < most_connections) }
+    /// Takes memory for another.
+    pub(crate) fn reserve(&mut self) -> Result<(), OutOfMemory>
+        ensures entries { self.new.entries ≡ self.old.entries }
+        ensures moment { self.new.moment ≡ self.old.moment }
+        ensures room { OnOk result (0 < self.new.room) }
     {
-        self.peers.remove(&conn)
+        match self.peers.reserve(1) {
+            Ok(()) => Ok(()),
+            Err(_) => Err(OutOfMemory),
+        }
     }
 
-    /// Puts a connection in. It is gone where there is no memory for it, and none is taken where one was just taken out or
-    /// was reserved.
-    pub(crate) fn put(&mut self, conn: u64, peer: Peer)
-        requires { self.old < most_connections }
+    /// Puts a connection in that has just been accepted.
+    #[tactic(auto, using(crate::proofs::Seen::held_seen))]
+    pub(crate) fn put(&mut self, conn: u64, stream: TcpStream)
+        requires free { count_in self.old < most_connections }
+        requires room { 0 < self.old.room }
+        ensures { Changes conn (Some (fresh self.old.moment)) self.old self.new }
     {
+        let peer = Peer::new(stream, self.moment);
         let _ = self.peers.insert(conn, peer);
     }
 
-    /// Puts a connection in that parts. Without memory for it, it goes at once.
-    pub(crate) fn put_parting(&mut self, conn: u64, peer: Peer)
-        requires { self.old < most_connections }
+    /// Lets a connection go, if it is there.
+    #[tactic(auto, using(crate::proofs::Seen::held_seen, crate::proofs::Seen::removed_count))]
+    pub(crate) fn remove(&mut self, conn: u64)
+        ensures one { Changes conn None self.old self.new }
+        ensures count { is_some (held_in self.old conn) ≡ true → count_in self.new + 1 ≡ count_in self.old }
+        ensures room { self.old.room ≤ self.new.room }
     {
-        if self.leaving.push_back(conn).is_ok() {
-            self.put(conn, peer);
+        self.peers.swap_remove(&conn);
+    }
+
+    /// Reads once from a connection into a buffer.
+    #[tactic(auto, using(crate::proofs::Seen::held_seen, crate::proofs::Telling::changed_live, crate::proofs::Telling::heard_live, crate::proofs::Telling::ended_live))]
+    pub(crate) fn read(&mut self, alloc: Global, conn: u64, buffer: &mut Vec<u8>) -> Got
+        requires { length buffer.old.items ≡ longest_piece }
+        ensures same { Changes conn (held_in self.old conn) self.old self.new }
+        ensures live { KeepsLive self.old self.new }
+        ensures bounds { IsBounded result }
+    {
+        match self.peers.get_mut(&conn) {
+            Some(peer) => read_piece(alloc, buffer, &mut peer.stream),
+            None => Got::Nothing,
+        }
+    }
+
+    /// Reads away what a connection has, as far as some reads go.
+    #[tactic(auto, using(crate::proofs::Seen::held_seen, crate::proofs::Telling::changed_live, crate::proofs::Telling::heard_live, crate::proofs::Telling::ended_live))]
+    pub(crate) fn read_away(&mut self, conn: u64, buffer: &mut Vec<u8>) -> Away
+        ensures same { Changes conn (held_in self.old conn) self.old self.new }
+        ensures live { KeepsLive self.old self.new }
+    {
+        match self.peers.get_mut(&conn) {
+            Some(peer) => read_away(buffer, &mut peer.stream),
+            None => Away::Gone,
+        }
+    }
+
+    /// Has a connection reported when something comes, and also where something is there already. Answers whether the system
+    /// does so.
+    #[tactic(auto, using(crate::proofs::Seen::held_seen, crate::proofs::Telling::changed_live, crate::proofs::Telling::heard_live, crate::proofs::Telling::ended_live))]
+    pub(crate) fn watch(&mut self, conn: u64, registry: &Registry) -> bool
+        ensures same { Changes conn (held_in self.old conn) self.old self.new }
+        ensures live { KeepsLive self.old self.new }
+    {
+        match self.peers.get_mut(&conn) {
+            Some(peer) => {
+                let watched = if peer.watched {
+                    registry.reregister(&mut peer.stream, Token(conn as usize), Interest::READABLE)
+                } else {
+                    registry.register(&mut peer.stream, Token(conn as usize), Interest::READABLE)
+                };
+                peer.watched = peer.watched || watched.is_ok();
+                watched.is_ok()
+            }
+            None => true,
+        }
+    }
+
+    /// Whether the system was asked to report what comes on a connection.
+    pub(crate) fn is_watched(&self, conn: u64) -> bool {
+        match self.peers.get(&conn) {
+            Some(peer) => peer.watched,
+            None => true,
+        }
+    }
+
+    /// Sends bytes on a connection. It fails where the connection isn't there.
+    #[tactic(auto, using(crate::proofs::Seen::held_seen, crate::proofs::Telling::changed_live, crate::proofs::Telling::sent_live))]
+    pub(crate) fn send(&mut self, conn: u64, room: &mut Room, bytes: &[u8]) -> Result<(), Failed>
+        ensures one { Changes conn (option_map sent_once (held_in self.old conn)) self.old self.new }
+        ensures live { KeepsLive self.old self.new }
+    {
+        match self.peers.get_mut(&conn) {
+            Some(peer) => room.send(peer, bytes),
+            None => Err(Failed),
+        }
+    }
+
+    /// An open connection has brought bytes.
+    #[tactic(auto, using(crate::proofs::Seen::held_seen, crate::proofs::Telling::changed_live, crate::proofs::Telling::heard_live, crate::proofs::Telling::ended_live))]
+    pub(crate) fn hear(&mut self, conn: u64)
+        ensures one { Changes conn (option_map (heard self.old.moment) (held_in self.old conn)) self.old self.new }
+        ensures live { KeepsLive self.old self.new }
+    {
+        if let Some(peer) = self.peers.get_mut(&conn) {
+            peer.since = self.moment;
+        }
+    }
+
+    /// The other side of a connection has sent all that it sends.
+    #[tactic(auto, using(crate::proofs::Seen::held_seen, crate::proofs::Telling::changed_live, crate::proofs::Telling::heard_live, crate::proofs::Telling::ended_live))]
+    pub(crate) fn end(&mut self, conn: u64)
+        ensures one { Changes conn (option_map (ended_at self.old.moment) (held_in self.old conn)) self.old self.new }
+        ensures over { is_live (held_in self.new conn) ≡ false }
+    {
+        if let Some(peer) = self.peers.get_mut(&conn) {
+            peer.end(self.moment);
+        }
+    }
+
+    /// A closed connection was closed before the last look.
+    #[tactic(auto, using(crate::proofs::Seen::held_seen))]
+    pub(crate) fn leave(&mut self, conn: u64)
+        ensures { KeepsLive self.old self.new }
+    {
+        if let Some(peer) = self.peers.get_mut(&conn) {
+            if peer.stage == Stage::Closed {
+                peer.stage = Stage::Left;
+            }
         }
     }
 
     /// Closes a connection behind what was sent to it. What the other side still sends is read away while it parts, since a
     /// socket that goes with bytes unread takes back what was sent. One that has ended goes at once.
-    pub(crate) fn close(&mut self, conn: u64) {
-        if let Some(peer) = self.take(conn) {
-            if peer.stage == Stage::Open && peer.stream.shutdown(Shutdown::Write).is_ok() {
-                let mut peer = peer;
-                peer.stage = Stage::Closed;
-                self.put_parting(conn, peer);
-            }
-        }
-    }
-
-    /// Takes the time of a look, from which those stay for some seconds that have begun to part since the last one, and lets
-    /// those go that have parted for long enough. Where the clock can't be read, those that have begun to part go at once.
-    pub(crate) fn part(&mut self, now: Option<Instant>) {
-        self.date_leaving(now.and_then(stays_until));
-        let Some(now) = now else {
-            return;
+    #[tactic(auto, using(crate::proofs::Seen::held_seen))]
+    pub(crate) fn close(&mut self, conn: u64)
+        ensures one { is_live (held_in self.new conn) ≡ false }
+        ensures others { (c : ℕ) → c ≢ conn → held_in self.new c ≡ held_in self.old c }
+    {
+        let moment = self.moment;
+        let stays = match self.peers.get_mut(&conn) {
+            Some(peer) => peer.close(moment),
+            None => true,
         };
-        for _ in 0..self.parting.len() {
-            if !self.part_first(now) {
-                return;
-            }
+        if !stays {
+            self.remove(conn);
         }
     }
 
-    /// Has those that have begun to part stay until a moment. Without one, or memory for it, they go at once.
-    fn date_leaving(&mut self, until: Option<Instant>) {
-        for _ in 0..self.leaving.len() {
-            if let Some(conn) = self.leaving.pop_front() {
-                let stays = match until {
-                    Some(until) => self.parting.push_back((conn, until)).is_ok(),
-                    None => false,
-                };
-                if !stays {
-                    self.peers.remove(&conn);
+    /// Takes the moment of a look, and lets those go that have parted for long enough.
+    pub(crate) fn part(&mut self, now: Option<Duration>)
+        ensures { KeepsLive self.old self.new }
+    {
+        self.moment = later(self.moment, now);
+        if self.swept.saturating_add(SWEEP) <= self.moment {
+            self.swept = self.moment;
+            self.sweep();
+        }
+    }
+
+    /// Lets those go that have parted for long enough.
+    #[tactic(auto, using(crate::proofs::Longest::parted_goes))]
+    fn sweep(&mut self)
+        ensures { KeepsLive self.old self.new }
+    {
+        'places: for _ in 0..self.peers.len() {
+            match self.longest(Kind::Parted) {
+                Some((conn, since)) if since.saturating_add(PARTING) <= self.moment => {
+                    self.remove(conn);
                 }
+                _ => break,
             }
         }
     }
 
-    /// Lets the one go that has been parting longest, if its moment has come or it is gone already.
-    fn part_first(&mut self, now: Instant) -> bool {
-        match self.parting.front() {
-            Some((conn, until)) if *until <= now || !self.peers.contains_key(conn) => {
-                let conn = *conn;
-                self.parting.pop_front();
-                self.peers.remove(&conn);
+    /// Lets the one go that parted first, if there is one. Answers whether there was one.
+    #[tactic(auto, using(crate::proofs::Longest::parted_goes))]
+    pub(crate) fn drop_parted(&mut self) -> bool
+        ensures parted { DropsParted result self.old self.new }
+        ensures room { result ≡ true → HasRoom self.old self.new }
+    {
+        match self.longest(Kind::Parted) {
+            Some((conn, _)) => {
+                let _ = &self.peers;
+                self.remove(conn);
                 true
             }
-            _ => false,
+            None => false,
         }
     }
 
-    /// Makes room for another where there is none, by letting the one go that was closed first. One that the program
-    /// hasn't closed stays. Answers whether there is room.
-    pub(crate) fn make_room(&mut self) -> bool
-        ensures { result ≡ nat_lt self.new most_connections }
+    /// The connection at a place, if it is of a kind: its number, and since when it is so.
+    #[tactic(auto, using(crate::proofs::Seen::at_seen, crate::proofs::Seen::held_seen, crate::proofs::Seen::all_at, crate::proofs::Seen::all_length))]
+    fn at(&self, place: usize, kind: Kind) -> Option<(u64, u64)>
+        requires { place < count_in self.now }
+        ensures { IsAt kind self.now place result }
     {
-        for _ in 0..self.parting.len() {
-            if self.has_room() || !self.drop_first_closed() {
-                break;
-            }
+        let (conn, peer) = self.peers.get_index(place)?;
+        if peer.is_kind(kind, self.moment) {
+            Some((*conn, peer.since))
+        } else {
+            None
         }
-        self.has_room()
     }
 
-    /// Lets the one go that has been parting longest, if it was closed or is gone already.
-    fn drop_first_closed(&mut self) -> bool {
-        let Some((conn, _)) = self.parting.front() else {
-            return false;
-        };
-        let conn = *conn;
-        if let Some(peer) = self.peers.get(&conn) {
-            if !matches!(peer.stage, Stage::Closed | Stage::Left) {
-                return false;
-            }
+    /// The one of a kind that has been as it is for the longest time, and since when.
+    #[tactic(auto, using(crate::proofs::Seen::all_length, crate::proofs::Longest::longest_next))]
+    fn longest(&self, kind: Kind) -> Option<(u64, u64)>
+        ensures found { IfSome result (λ r. IsLongest kind self.now r.0 r.1) }
+        ensures none { IfNone result (HasNo kind self.now) }
+    {
+        let mut longest: Option<(u64, u64)> = None;
+        'places: for place in 0..self.count() {
+            longest = earlier_of(longest, self.at(place, kind));
         }
-        self.parting.pop_front();
-        self.peers.remove(&conn);
-        true
+        longest
+    }
+
+    /// Whether it shows now if there is a place for a newcomer: there is room, or one can go, or all are open. Where it
+    /// doesn't, an end was seen that may not be told yet, and it shows at the next look.
+    #[tactic(auto, using(crate::proofs::Longest::one_is))]
+    pub(crate) fn has_settled(&self) -> bool
+        ensures { result ≡ true → HasSettled self.now }
+    {
+        if self.has_room() {
+            return true;
+        }
+        match self.longest(Kind::Parted) {
+            Some(_) => true,
+            None => self.longest(Kind::Ending).is_none(),
+        }
+    }
+
+    /// Makes room for a newcomer where there is none: the one goes that parted first, or else the open one that has been
+    /// silent longest, where that is 60 seconds.
+    #[tactic(auto, using(crate::proofs::Longest::active_of, crate::proofs::Longest::open_is_live))]
+    pub(crate) fn make_room(&mut self) -> Place
+        requires { HasSettled self.old }
+        ensures place { GivesPlace result self.old self.new }
+        ensures live { LeavesLive result self.old self.new }
+        ensures room { HasPlace result self.old self.new }
+    {
+        if self.has_room() {
+            return Place::Free;
+        }
+        if self.drop_parted() {
+            return Place::Free;
+        }
+        match self.longest(Kind::Open) {
+            Some((conn, since)) if since.saturating_add(LONGEST_SILENCE) < self.moment => {
+                self.remove(conn);
+                Place::Instead { conn }
+            }
+            _ => Place::Missing,
+        }
     }
 }
 
-/// Until when a connection stays that parts at a moment.
-fn stays_until(now: Instant) -> Option<Instant> {
-    now.checked_add(Duration::from_secs(PARTING))
+/// The moment of a look: that of the clock, where it is later than the one of the look before.
+fn later(before: u64, now: Option<Duration>) -> u64 {
+    let next = before.saturating_add(1);
+    match now {
+        Some(since) => match u64::try_from(since.as_micros()) {
+            Ok(micros) => next.max(micros),
+            Err(_) => next,
+        },
+        None => next,
+    }
+}
+
+/// The earlier of what was found and another.
+fn earlier_of(found: Option<(u64, u64)>, next: Option<(u64, u64)>) -> Option<(u64, u64)>
+    ensures { result ≡ earlier_of found next }
+{
+    match (found, next) {
+        (Some((_, earliest)), Some((_, since))) => { if since < earliest { next } else { found } }
+        (None, next) => next,
+        (found, None) => found,
+    }
 }

@@ -1,9 +1,9 @@
 //! Disks over files.
 
-ghost use Rattle.std.specs.Prelude.{◌≡◌, ◌≤◌, length, Some, None, IfOk};
+ghost use Rattle.std.specs.Prelude.{◌≡◌, ◌≤◌, length, Some, None, false, IfOk};
 ghost use Rattle.outside.specs.Causes.{HasCause};
 ghost use Rattle.outside.specs.Disk.{silent, silent_lawful};
-ghost use Rattle.wire_mio.specs.Adapters.{FailsAsFile, faults_behind};
+ghost use Rattle.wire_mio.specs.Adapters.{FailsAsFile, IsAlone, faults_behind};
 
 use crate::stored::{DiskFile, Stored};
 use outside::{Disk, Failed};
@@ -26,18 +26,19 @@ pub struct FileDisk<F: Stored> {
 }
 
 impl<F: Stored> Model for FileDisk<F> {
-    ghost use Rattle.std.specs.Option.{option_map};
+    ghost use Rattle.std.specs.Prelude.{false};
+    ghost use Rattle.std.specs.Option.{option_map, option_map_or};
     ghost use Rattle.wire_mio.specs.Adapters.{Filed};
 
     ghost Value = { Filed };
 
-    ghost view = { λ d. record { failed = option_map F.failed d.file; faults = d.faults } };
+    ghost view = { λ d. record { failed = option_map F.failed d.file; has_lock = option_map_or F.has_lock d.file false; faults = d.faults } };
 }
 
 impl<F: Stored> FileDisk<F> {
     /// A disk over this.
     pub fn over(file: F) -> FileDisk<F>
-        ensures { result ≡ record { failed = Some (F.failed file); faults = 0 } }
+        ensures { result ≡ record { failed = Some (F.failed file); has_lock = F.has_lock file; faults = 0 } }
     {
         FileDisk {
             file: Some(file),
@@ -47,7 +48,7 @@ impl<F: Stored> FileDisk<F> {
 
     /// A disk without a file, at which every call fails.
     pub fn without() -> FileDisk<F>
-        ensures { result ≡ record { failed = None; faults = 0 } }
+        ensures { result ≡ record { failed = None; has_lock = false; faults = 0 } }
     {
         FileDisk {
             file: None,
@@ -56,14 +57,32 @@ impl<F: Stored> FileDisk<F> {
     }
 }
 
+impl<F: Stored + Drop> FileDisk<F> {
+    /// A disk over this where it can be taken for this program alone, and else one without a file.
+    pub fn alone(file: F) -> FileDisk<F>
+        ensures alone { IsAlone result }
+        ensures faults { result.faults ≡ 0 }
+    {
+        let mut file = file;
+        if file.lock().is_ok() {
+            FileDisk::over(file)
+        } else {
+            drop(file);
+            FileDisk::without()
+        }
+    }
+}
+
 impl FileDisk<DiskFile> {
     /// A disk over the file at a path, which is made where there is none. The folder that it stands in is synced, so that
-    /// a crash leaves its name. Where it can't be opened or made, or its folder can't be synced, every call fails.
+    /// a crash leaves its name. It is this program's alone as long as the disk lives. Where it can't be opened or made, its
+    /// folder can't be synced, or another program has it, every call fails, and nothing of it is touched.
     pub fn at<R: Files<File = File>>(rt: &R, path: &Text) -> FileDisk<DiskFile>
-        ensures { result.faults ≡ 0 }
+        ensures faults { result.faults ≡ 0 }
+        ensures alone { IsAlone result }
     {
         match opened(rt, path.as_str()) {
-            Ok(file) => FileDisk::over(DiskFile::new(file)),
+            Ok(file) => FileDisk::alone(DiskFile::new(file)),
             Err(_) => FileDisk::without(),
         }
     }

@@ -20,15 +20,20 @@
 //! }
 //! ```
 //!
-//! Connections are told of by the numbers 1, 2, 3 and so on. At most 128 are there at once; one that comes besides is
-//! closed, unless one can go that the program has closed already. A connection is one of these:
+//! Connections are told of by the numbers 1, 2, 3 and so on. At most 128 are there at once. A connection is one of these:
 //!
 //! ```text
-//! open      its bytes come as pieces, until Ended or Broke
-//! ended     the peer has sent all; a reply may still be sent. It goes when it is closed, or after ten seconds
+//! open      its bytes come as pieces, until Ended or Broke. Where its place is needed, and it has brought no byte for 60
+//!           seconds, it is lost, and told as Broke
+//! ended     the peer has sent all; a reply may still be sent. It goes when it is closed, after ten seconds, or where its
+//!           place is needed, but not before the program has taken all events that came with its end
 //! closed    nothing of it is told any more; what the peer still sends is read away, so that the system doesn't take
 //!           back the reply. It goes when the peer ends, after ten seconds, or where its place is needed
 //! ```
+//!
+//! Where one more comes than may be there, that one goes first that ended or was closed first, then the open one that has
+//! been silent longest. Where all are open, and each has brought a byte, or opened, in the last 60 seconds, the newcomer is
+//! closed. So a program that answers before it asks for an event while none is ready can answer each peer that has ended.
 //!
 //! A look at the sockets reads each one that has something once, so no peer holds up another, and takes time by the
 //! sockets that have something, not by those that are there. Only `send` waits for one peer, 10 seconds at most.
@@ -42,6 +47,7 @@
 mod clock;
 mod connections;
 mod file_disk;
+mod peer;
 mod piece;
 mod queue;
 mod room;

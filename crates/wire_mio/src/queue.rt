@@ -1,6 +1,6 @@
 //! The events of a wire that stand ready.
 
-ghost use Rattle.std.specs.Prelude.{◌≡◌, ◌<◌, ◌++◌, ◌∷◌, [], length, option_to_list, IfSome, IfNone, OnOk, ◌==◌};
+ghost use Rattle.std.specs.Prelude.{◌≡◌, ◌<◌, ◌+◌, ◌++◌, ◌∷◌, [], length, option_to_list, IfSome, IfNone, OnOk, ◌==◌};
 ghost use Rattle.wire_mio.specs.Queues.{MayFollow, told_after};
 
 use outside::WireEvent;
@@ -57,14 +57,14 @@ impl Queue {
         self.opened
     }
 
-    /// Makes room for one event more.
+    /// Makes room for two events more.
     pub(crate) fn reserve(&mut self) -> Result<(), OutOfMemory>
-        ensures room { OnOk result (0 < self.new.room) }
+        ensures room { OnOk result (1 < self.new.room) }
         ensures events { self.new.events ≡ self.old.events }
         ensures told { self.new.told ≡ self.old.told }
         ensures opened { self.new.opened ≡ self.old.opened }
     {
-        match self.events.reserve(1) {
+        match self.events.reserve(2) {
             Ok(()) => Ok(()),
             Err(_) => Err(OutOfMemory),
         }
@@ -78,6 +78,7 @@ impl Queue {
         ensures events { self.new.events ≡ self.old.events ++ event ∷ [] }
         ensures told { self.new.told ≡ self.old.told }
         ensures opened { self.new.opened ≡ told_after self.old.opened event }
+        ensures left { self.new.room + 1 ≡ self.old.room }
     {
         if let WireEvent::Opened { conn, .. } = &event {
             self.opened = *conn;
@@ -89,6 +90,7 @@ impl Queue {
     pub(crate) fn pop(&mut self) -> Option<WireEvent>
         ensures events { self.old.events ≡ option_to_list result ++ self.new.events }
         ensures some { IfSome result (λ event. MayFollow self.old.told event × (self.new.told ≡ told_after self.old.told event)) }
+        ensures opened { self.new.opened ≡ self.old.opened }
         ensures none { IfNone result ((self.old.events ≡ []) × (self.new.told ≡ self.old.told)) }
     {
         let event = self.events.pop_front()?;

@@ -1,5 +1,9 @@
 //! Sends bytes on a connection, and waits for room where there is none.
 
+ghost use Rattle.std.specs.Prelude.{◌≡◌};
+ghost use Rattle.wire_mio.specs.Tables.{held_of, sent_once};
+
+use crate::peer::Peer;
 use mio::net::TcpStream;
 use mio::{Events, Interest, Poll, Token};
 use outside::Failed;
@@ -25,7 +29,15 @@ impl Room {
     }
 
     /// Sends bytes on a connection, and waits for room where there is none.
-    pub(crate) fn send(&mut self, stream: &mut TcpStream, bytes: &[u8]) -> Result<(), Failed> {
+    pub(crate) fn send(&mut self, peer: &mut Peer, bytes: &[u8]) -> Result<(), Failed>
+        ensures { held_of peer.new ≡ sent_once (held_of peer.old) }
+    {
+        peer.sends.rise();
+        self.write(&mut peer.stream, bytes)
+    }
+
+    /// Writes bytes to a stream, and waits for room where there is none.
+    fn write(&mut self, stream: &mut TcpStream, bytes: &[u8]) -> Result<(), Failed> {
         let mut left = write_front(stream, bytes)?;
         if left.is_empty() {
             return Ok(());

@@ -1,12 +1,15 @@
 //! The sockets of a wire, and what they bring.
 
-ghost use Rattle.std.specs.Prelude.{◌≡◌, ◌<◌, length};
-ghost use Rattle.zbx_types.specs.Limits.{most_connections};
+ghost use Rattle.std.specs.Prelude.{◌≡◌, ◌<◌, length, true, false, OnOk};
+ghost use Rattle.std.specs.Option.{option_map};
+ghost use Rattle.std.specs.VecDeque.{deque_len, deque_capacity};
 ghost use Rattle.wire_mio.specs.Queues.{IsTold, longest_piece};
+ghost use Rattle.wire_mio.specs.Tables.{GoesOn, IsNumbered, KeepsLive, Changes, Admits, HasRoom, HasSettled, IsTakenUp, held_in, is_live, sent_once};
 
 use crate::clock::moment;
-use crate::connections::{Connections, Peer, Stage};
-use crate::piece::{Away, Got, fill_out, read_away, read_piece};
+use crate::connections::Connections;
+use crate::peer::{Place, Stage};
+use crate::piece::{Away, Got, fill_out};
 use crate::queue::Queue;
 use crate::room::Room;
 use mio::net::{TcpListener, TcpStream};
@@ -17,7 +20,8 @@ use std::collections::VecDeque;
 use std::io;
 use std::io::ErrorKind;
 use std::net::{Net, SocketAddr};
-use std::time::{Clock, Duration, Instant};
+use std::os::fd::AsRawFd;
+use std::time::{Clock, Duration};
 use zbx_types::{Moment, OutOfMemory};
 
 /// The listening socket is reported as this number, and a connection as its own.
@@ -48,6 +52,8 @@ pub(crate) struct Sockets {
     reported: VecDeque<u64>,
     /// Those on which more may come, or have come already, than is reported.
     unsettled: VecDeque<u64>,
+    /// Whether one may wait that couldn't be accepted.
+    short: bool,
     buffer: Vec<u8>,
     room: Room,
 }
@@ -119,6 +125,7 @@ impl Sockets {
             listener,
             reported,
             unsettled: VecDeque::new(alloc),
+            short: false,
             buffer: Vec::new(alloc),
             room: Room::new(room, room_events),
         }
@@ -129,6 +136,7 @@ impl Sockets {
     ///
     /// Failed where the system fails, or the clock. OutOfMemory where there is no memory for what came; it isn't lost, and
     /// a further look has it.
+    #[tactic(auto, using(crate::proofs::Telling::goes_same, crate::proofs::Telling::numbered_same))]
     pub(crate) fn look<C: Clock>(
         &mut self,
         alloc: Global,
@@ -136,10 +144,13 @@ impl Sockets {
         peers: &mut Connections,
         queue: &mut Queue,
     ) -> Result<Moment, Trouble>
-        ensures { queue.new.told ≡ queue.old.told }
+        requires numbered { IsNumbered peers.old queue.old.opened }
+        ensures told { queue.new.told ≡ queue.old.told }
+        ensures goes_on { GoesOn peers.old queue.old.events peers.new queue.new.events }
+        ensures numbered { IsNumbered peers.new queue.new.opened }
     {
         self.gather(alloc, peers)?;
-        peers.part(Instant::now(clock).ok());
+        peers.part(clock.monotonic().ok());
         let at = moment(clock)?;
         self.take_all(alloc, at, peers, queue)?;
         Ok(at)
@@ -153,7 +164,10 @@ impl Sockets {
         peers: &mut Connections,
         queue: &mut Queue,
     ) -> Result<(), OutOfMemory>
-        ensures { queue.new.told ≡ queue.old.told }
+        requires numbered { IsNumbered peers.old queue.old.opened }
+        ensures told { queue.new.told ≡ queue.old.told }
+        ensures goes_on { GoesOn peers.old queue.old.events peers.new queue.new.events }
+        ensures numbered { IsNumbered peers.new queue.new.opened }
     {
         'reports: for _ in 0..TAKES {
             if self.reported.is_empty() {
@@ -172,7 +186,10 @@ impl Sockets {
         peers: &mut Connections,
         queue: &mut Queue,
     ) -> Result<(), OutOfMemory>
-        ensures { queue.new.told ≡ queue.old.told }
+        requires numbered { IsNumbered peers.old queue.old.opened }
+        ensures told { queue.new.told ≡ queue.old.told }
+        ensures goes_on { GoesOn peers.old queue.old.events peers.new queue.new.events }
+        ensures numbered { IsNumbered peers.new queue.new.opened }
     {
         if let Some(number) = self.reported.front().copied() {
             self.take_from(alloc, number, at, peers, queue)?;
@@ -181,13 +198,15 @@ impl Sockets {
         Ok(())
     }
 
-    /// Waits until a socket has something, and keeps the numbers of those that have. Where none has the listening socket
-    /// is looked at all the same. While some are kept it does nothing.
-    fn gather(&mut self, alloc: Global, peers: &mut Connections) -> Result<(), Trouble> {
+    /// Waits until a socket has something, and keeps the numbers of those that have. Where none has, or where one may wait
+    /// that couldn't be accepted, the listening socket is looked at all the same. While some are kept it does nothing.
+    fn gather(&mut self, alloc: Global, peers: &mut Connections) -> Result<(), Trouble>
+        ensures { KeepsLive peers.old peers.new }
+    {
         if !self.reported.is_empty() {
             return Ok(());
         }
-        if self.reported.reserve(REPORTS).is_err() {
+        if self.reported.reserve(REPORTS + 1).is_err() {
             return Err(Trouble::OutOfMemory);
         }
         self.settle_all(alloc, peers)?;
@@ -197,19 +216,22 @@ impl Sockets {
         for event in &self.events {
             self.reported.push_back(event.token().0 as u64)?;
         }
-        if self.reported.is_empty() {
+        if self.short || self.reported.is_empty() {
+            self.short = false;
             self.reported.push_back(LISTENER)?;
         }
         Ok(())
     }
 
     /// Settles the connections on which more may have come than is reported.
-    fn settle_all(&mut self, alloc: Global, peers: &mut Connections) -> Result<(), OutOfMemory> {
+    fn settle_all(&mut self, alloc: Global, peers: &mut Connections) -> Result<(), OutOfMemory>
+        ensures { KeepsLive peers.old peers.new }
+    {
         if self.unsettled.is_empty() {
             return Ok(());
         }
         fill_out(alloc, &mut self.buffer)?;
-        for _ in 0..self.unsettled.len() {
+        'unsettled: for _ in 0..self.unsettled.len() {
             if let Some(conn) = self.unsettled.pop_front() {
                 self.settle(conn, peers);
             }
@@ -219,23 +241,17 @@ impl Sockets {
 
     /// Has an open connection watched, and reads away what one brings that was closed. Most peers have ended by the second
     /// look after that, so it waits for that one, where there are few connections.
-    fn settle(&mut self, conn: u64, peers: &mut Connections) {
-        let Some(peer) = peers.take(conn) else {
-            return;
-        };
-        let mut peer = peer;
-        match peer.stage {
-            Stage::Open => {
-                self.watch(conn, &mut peer);
-                peers.put(conn, peer);
-            }
-            Stage::Ended => peers.put(conn, peer),
-            Stage::Closed if peers.count() < CROWD => {
-                peer.stage = Stage::Left;
+    fn settle(&mut self, conn: u64, peers: &mut Connections)
+        ensures { KeepsLive peers.old peers.new }
+    {
+        match peers.stage(conn) {
+            Some(Stage::Open) => self.watch(conn, peers),
+            Some(Stage::Closed) if peers.count() <= CROWD => {
+                peers.leave(conn);
                 let _ = self.unsettled.push_back(conn);
-                peers.put(conn, peer);
             }
-            Stage::Closed | Stage::Left => self.read_closed(conn, peer, peers),
+            Some(Stage::Closed | Stage::Left) => self.read_closed(conn, peers),
+            Some(Stage::Ended) | None => {}
         }
     }
 
@@ -248,7 +264,10 @@ impl Sockets {
         peers: &mut Connections,
         queue: &mut Queue,
     ) -> Result<(), OutOfMemory>
-        ensures { queue.new.told ≡ queue.old.told }
+        requires numbered { IsNumbered peers.old queue.old.opened }
+        ensures told { queue.new.told ≡ queue.old.told }
+        ensures goes_on { GoesOn peers.old queue.old.events peers.new queue.new.events }
+        ensures numbered { IsNumbered peers.new queue.new.opened }
     {
         if number == LISTENER {
             self.accept_some(at, peers, queue)
@@ -265,9 +284,15 @@ impl Sockets {
         peers: &mut Connections,
         queue: &mut Queue,
     ) -> Result<(), OutOfMemory>
-        ensures { queue.new.told ≡ queue.old.told }
+        requires numbered { IsNumbered peers.old queue.old.opened }
+        ensures told { queue.new.told ≡ queue.old.told }
+        ensures goes_on { GoesOn peers.old queue.old.events peers.new queue.new.events }
+        ensures numbered { IsNumbered peers.new queue.new.opened }
     {
         'accepts: for _ in 0..ACCEPTS {
+            if !peers.has_settled() {
+                break;
+            }
             if !self.accept_one(at, peers, queue)? {
                 return Ok(());
             }
@@ -280,50 +305,85 @@ impl Sockets {
         Ok(())
     }
 
-    /// Accepts one connection, and answers whether another may wait.
+    /// Accepts one connection, and answers whether another may be accepted. Where the system has no descriptor for it,
+    /// the connection goes that parted first; without one the listening socket is looked at again at the next look.
+    #[tactic(auto, using(crate::proofs::Telling::goes_same, crate::proofs::Telling::numbered_same))]
     fn accept_one(
         &mut self,
         at: Moment,
         peers: &mut Connections,
         queue: &mut Queue,
     ) -> Result<bool, OutOfMemory>
-        ensures { queue.new.told ≡ queue.old.told }
+        requires numbered { IsNumbered peers.old queue.old.opened }
+        requires settled { HasSettled peers.old }
+        ensures told { queue.new.told ≡ queue.old.told }
+        ensures goes_on { GoesOn peers.old queue.old.events peers.new queue.new.events }
+        ensures numbered { IsNumbered peers.new queue.new.opened }
     {
-        queue.reserve()?;
-        peers.reserve()?;
-        if self.reported.reserve(1).is_err() {
-            return Err(OutOfMemory);
-        }
+        self.reserve(peers, queue)?;
         match self.listener.accept() {
             Ok((stream, _)) => {
                 self.admit(stream, at, peers, queue);
                 Ok(true)
             }
-            Err(error) => Ok(matches!(
-                error.kind(),
-                ErrorKind::Interrupted | ErrorKind::ConnectionAborted
-            )),
+            Err(error) => match error.kind() {
+                ErrorKind::Interrupted | ErrorKind::ConnectionAborted => Ok(true),
+                ErrorKind::WouldBlock => Ok(false),
+                _ => {
+                    let dropped = peers.drop_parted();
+                    self.short = !dropped;
+                    Ok(dropped)
+                }
+            },
         }
     }
 
-    /// Takes a connection in, under the next number, to be read in this look. Where there is no room for it, it is closed.
-    fn admit(&mut self, stream: TcpStream, at: Moment, peers: &mut Connections, queue: &mut Queue)
-        requires { 0 < queue.old.room }
-        ensures { queue.new.told ≡ queue.old.told }
+    /// Takes memory for one more connection, and for two events.
+    fn reserve(&mut self, peers: &mut Connections, queue: &mut Queue) -> Result<(), OutOfMemory>
+        ensures room { OnOk result (1 < queue.new.room) }
+        ensures events { queue.new.events ≡ queue.old.events }
+        ensures told { queue.new.told ≡ queue.old.told }
+        ensures opened { queue.new.opened ≡ queue.old.opened }
+        ensures entries { peers.new.entries ≡ peers.old.entries }
+        ensures moment { peers.new.moment ≡ peers.old.moment }
+        ensures free { OnOk result (0 < peers.new.room) }
+        ensures reported { OnOk result (deque_len self.new.reported < deque_capacity self.new.reported) }
     {
-        let Some(conn) = queue.opened().checked_add(1) else {
+        queue.reserve()?;
+        peers.reserve()?;
+        match self.reported.reserve(1) {
+            Ok(()) => Ok(()),
+            Err(_) => Err(OutOfMemory),
+        }
+    }
+
+    /// Takes a connection in, under the next number, to be read in this look. Where there is no place for it, it is closed:
+    /// where as many are open as may be, and each has brought a byte, or opened, not long ago.
+    #[tactic(auto, using(crate::proofs::Telling::goes_opened, crate::proofs::Telling::numbered_changed))]
+    fn admit(&mut self, stream: TcpStream, at: Moment, peers: &mut Connections, queue: &mut Queue)
+        requires numbered { IsNumbered peers.old queue.old.opened }
+        requires settled { HasSettled peers.old }
+        requires free { 0 < peers.old.room }
+        requires room { 1 < queue.old.room }
+        requires reported { deque_len self.old.reported < deque_capacity self.old.reported }
+        ensures told { queue.new.told ≡ queue.old.told }
+        ensures goes_on { GoesOn peers.old queue.old.events peers.new queue.new.events }
+        ensures numbered { IsNumbered peers.new queue.new.opened }
+        ensures away { Admits queue.old.opened peers.old queue.new.opened }
+    {
+        let Some(next) = queue.opened().checked_add(1) else {
             return;
         };
-        if !peers.make_room() {
+        if !make_place(at, peers, queue) {
             return;
         }
-        if self.reported.push_back(conn).is_ok() {
-            peers.put(conn, Peer::new(stream));
-            queue.push(WireEvent::Opened { conn, at });
-        }
+        self.reported.push_back_reserved(next);
+        peers.put(next, stream);
+        queue.push(WireEvent::Opened { conn: next, at });
     }
 
     /// Reads once from a connection, and keeps it unless it is lost.
+    #[tactic(auto, using(crate::proofs::Telling::goes_same, crate::proofs::Telling::numbered_same))]
     fn read_from(
         &mut self,
         alloc: Global,
@@ -332,113 +392,148 @@ impl Sockets {
         peers: &mut Connections,
         queue: &mut Queue,
     ) -> Result<(), OutOfMemory>
-        ensures { queue.new.told ≡ queue.old.told }
+        requires numbered { IsNumbered peers.old queue.old.opened }
+        ensures told { queue.new.told ≡ queue.old.told }
+        ensures goes_on { GoesOn peers.old queue.old.events peers.new queue.new.events }
+        ensures numbered { IsNumbered peers.new queue.new.opened }
     {
         if conn == 0 || queue.opened() < conn {
             return Ok(());
         }
         queue.reserve()?;
-        peers.reserve()?;
         if self.unsettled.reserve(1).is_err() {
             return Err(OutOfMemory);
         }
         fill_out(alloc, &mut self.buffer)?;
-        let Some(peer) = peers.take(conn) else {
-            return Ok(());
-        };
-        match peer.stage {
-            Stage::Open => self.read_open(alloc, conn, peer, at, peers, queue),
-            Stage::Ended => peers.put(conn, peer),
-            Stage::Closed | Stage::Left => self.read_closed(conn, peer, peers),
+        match peers.stage(conn) {
+            Some(Stage::Open) => self.read_open(alloc, conn, at, peers, queue),
+            Some(Stage::Closed | Stage::Left) => self.read_closed(conn, peers),
+            Some(Stage::Ended) | None => {}
         }
         Ok(())
     }
 
     /// Reads once from an open connection, and tells what came. Where there may be more it is settled at the next look.
+    #[tactic(auto, using(crate::proofs::Telling::goes_same, crate::proofs::Telling::goes_piece, crate::proofs::Telling::goes_ended, crate::proofs::Telling::goes_broke, crate::proofs::Telling::ended_live, crate::proofs::Telling::numbered_same, crate::proofs::Telling::numbered_changed))]
     fn read_open(
         &mut self,
         alloc: Global,
         conn: u64,
-        peer: Peer,
         at: Moment,
         peers: &mut Connections,
         queue: &mut Queue,
     )
+        requires numbered { IsNumbered peers.old queue.old.opened }
         requires buffer { length self.old.buffer.items ≡ longest_piece }
         requires conn { IsTold queue.old.opened conn }
-        requires free { peers.old < most_connections }
+        requires live { is_live (held_in peers.old conn) ≡ true }
         requires room { 0 < queue.old.room }
-        ensures { queue.new.told ≡ queue.old.told }
+        ensures told { queue.new.told ≡ queue.old.told }
+        ensures goes_on { GoesOn peers.old queue.old.events peers.new queue.new.events }
+        ensures numbered { IsNumbered peers.new queue.new.opened }
     {
-        let mut peer = peer;
-        match read_piece(alloc, &mut self.buffer, &mut peer.stream) {
+        match peers.read(alloc, conn, &mut self.buffer) {
             Got::Piece(bytes) => {
                 let _ = self.unsettled.push_back(conn);
-                peers.put(conn, peer);
+                peers.hear(conn);
                 queue.push(WireEvent::Piece { conn, bytes, at });
             }
             Got::End => {
-                peer.stage = Stage::Ended;
-                peers.put_parting(conn, peer);
+                peers.end(conn);
                 queue.push(WireEvent::Ended { conn, at });
             }
-            Got::Nothing => {
-                self.begin_watch(conn, &mut peer);
-                peers.put(conn, peer);
+            Got::Nothing => self.begin_watch(conn, peers),
+            Got::Again => self.watch(conn, peers),
+            Got::Lost => {
+                peers.remove(conn);
+                queue.push(WireEvent::Broke { conn, at });
             }
-            Got::Again => {
-                self.watch(conn, &mut peer);
-                peers.put(conn, peer);
-            }
-            Got::Lost => queue.push(WireEvent::Broke { conn, at }),
         }
     }
 
     /// Reads away what a closed connection brings. It stays while it may bring more.
-    fn read_closed(&mut self, conn: u64, peer: Peer, peers: &mut Connections)
-        requires { peers.old < most_connections }
+    fn read_closed(&mut self, conn: u64, peers: &mut Connections)
+        requires { is_live (held_in peers.old conn) ≡ false }
+        ensures { KeepsLive peers.old peers.new }
     {
-        let mut peer = peer;
-        match read_away(&mut self.buffer, &mut peer.stream) {
-            Away::Nothing => {
-                self.begin_watch(conn, &mut peer);
-                peers.put(conn, peer);
-            }
-            Away::More => {
-                self.watch(conn, &mut peer);
-                peers.put(conn, peer);
-            }
-            Away::Gone => {}
+        match peers.read_away(conn, &mut self.buffer) {
+            Away::Nothing => self.begin_watch(conn, peers),
+            Away::More => self.watch(conn, peers),
+            Away::Gone => peers.remove(conn),
         }
     }
 
     /// Watches a connection that isn't watched yet.
-    fn begin_watch(&mut self, conn: u64, peer: &mut Peer) {
-        if !peer.watched {
-            self.watch(conn, peer);
+    fn begin_watch(&mut self, conn: u64, peers: &mut Connections)
+        ensures { KeepsLive peers.old peers.new }
+    {
+        if !peers.is_watched(conn) {
+            self.watch(conn, peers);
         }
     }
 
     /// Has a connection reported when something comes, and also where something is there already. Where the system fails it
     /// is settled at the next look.
-    fn watch(&mut self, conn: u64, peer: &mut Peer) {
-        let registry = self.poll.registry();
-        let (stream, token) = (&mut peer.stream, Token(conn as usize));
-        let watched = if peer.watched {
-            registry.reregister(stream, token, Interest::READABLE)
-        } else {
-            registry.register(stream, token, Interest::READABLE)
-        };
-        if watched.is_ok() {
-            peer.watched = true;
-        } else {
+    fn watch(&mut self, conn: u64, peers: &mut Connections)
+        ensures { KeepsLive peers.old peers.new }
+    {
+        if !peers.watch(conn, self.poll.registry()) {
             let _ = self.unsettled.push_back(conn);
         }
     }
 
-    /// Sends bytes on a connection, and waits for room where there is none.
-    pub(crate) fn send(&mut self, stream: &mut TcpStream, bytes: &[u8]) -> Result<(), Failed> {
-        self.room.send(stream, bytes)
+    /// Sends bytes on a connection, and waits for room where there is none. It fails where the connection isn't there.
+    pub(crate) fn send(
+        &mut self,
+        peers: &mut Connections,
+        conn: u64,
+        bytes: &[u8],
+    ) -> Result<(), Failed>
+        ensures one { Changes conn (option_map sent_once (held_in peers.old conn)) peers.old peers.new }
+        ensures live { KeepsLive peers.old peers.new }
+    {
+        peers.send(conn, &mut self.room, bytes)
+    }
+}
+
+/// Makes a place for a newcomer, and tells of the connection that lost it. Answers whether there is one.
+#[tactic(auto, using(crate::proofs::Telling::goes_same, crate::proofs::Telling::goes_broke, crate::proofs::Telling::numbered_same, crate::proofs::Telling::numbered_changed))]
+fn make_place(at: Moment, peers: &mut Connections, queue: &mut Queue) -> bool
+    requires numbered { IsNumbered peers.old queue.old.opened }
+    requires settled { HasSettled peers.old }
+    requires room { 1 < queue.old.room }
+    ensures told { queue.new.told ≡ queue.old.told }
+    ensures opened { queue.new.opened ≡ queue.old.opened }
+    ensures room { 0 < queue.new.room }
+    ensures goes_on { GoesOn peers.old queue.old.events peers.new queue.new.events }
+    ensures numbered { IsNumbered peers.new queue.new.opened }
+    ensures free { result ≡ true → HasRoom peers.old peers.new }
+    ensures none { result ≡ false → IsTakenUp peers.old }
+{
+    match peers.make_room() {
+        Place::Free => true,
+        Place::Instead { conn } => {
+            queue.push(WireEvent::Broke { conn, at });
+            true
+        }
+        Place::Missing => false,
+    }
+}
+
+/// Has the system ask peers of which nothing is heard whether they are still there, at each connection that is accepted:
+/// these take the option over from the listening socket. Where the system refuses it, it asks none.
+fn keep_alive(listener: &TcpListener) {
+    let mut value = [0; 16];
+    value[0] = 1;
+    let descriptor = listener.as_raw_fd();
+    unsafe {
+        libc::net::setsockopt(
+            descriptor,
+            libc::net::SOL_SOCKET,
+            libc::net::SO_KEEPALIVE,
+            &value,
+            4,
+        );
     }
 }
 
@@ -447,6 +542,7 @@ fn opened<N: Net>(net: &N, address: SocketAddr) -> io::Result<Handles> {
     let room = Poll::new(net)?;
     let poll = Poll::new(net)?;
     let mut listener = TcpListener::bind(net, address)?;
+    keep_alive(&listener);
     poll.registry().register(&mut listener, Token(LISTENER as usize), Interest::READABLE)?;
     Ok(Handles {
         poll,

@@ -1,6 +1,6 @@
 //! Files as a disk uses them.
 
-ghost use Rattle.std.specs.Prelude.{◌≡◌, ◌≤◌, ℕ, length, IfOk};
+ghost use Rattle.std.specs.Prelude.{◌≡◌, ◌≤◌, ℕ, Bool, true, false, length, IfOk, OnOk};
 ghost use Rattle.wire_mio.specs.Adapters.{CountsFailed};
 
 use outside::Tally;
@@ -13,6 +13,15 @@ use std::os::unix::fs::FileExt;
 pub trait Stored {
     /// How many calls have failed.
     ghost failed: { Self → ℕ };
+
+    /// Whether they are this program's alone.
+    ghost has_lock: { Self → Bool };
+
+    /// Takes them for this program alone, as long as this lives. It fails where another program has them, and touches
+    /// nothing.
+    fn lock(&mut self) -> io::Result<()>
+        ensures lock { OnOk result (has_lock self.new ≡ true) }
+        ensures failed { CountsFailed (failed self.old) (failed self.new) result };
 
     /// How many bytes there are.
     fn len(&mut self) -> io::Result<u64>
@@ -38,31 +47,34 @@ pub trait Stored {
 pub struct DiskFile {
     file: File,
     failed: Tally,
+    has_lock: bool,
 }
 
 impl Model for DiskFile {
-    ghost use Rattle.std.specs.Prelude.{ℕ};
+    ghost use Rattle.wire_mio.specs.Adapters.{Locked};
 
-    ghost Value = { ℕ };
+    ghost Value = { Locked };
 
-    ghost view = { λ f. f.failed };
+    ghost view = { λ f. record { failed = f.failed; has_lock = f.has_lock } };
 }
 
 impl DiskFile {
-    /// A file of which no call has failed yet.
+    /// A file of which no call has failed yet, and whose lock wasn't asked.
     pub fn new(file: File) -> DiskFile
-        ensures { result ≡ 0 }
+        ensures { result ≡ record { failed = 0; has_lock = false } }
     {
         DiskFile {
             file,
             failed: Tally::zero(),
+            has_lock: false,
         }
     }
 
     /// Counts a call where it failed.
     fn counted<T>(&mut self, tried: io::Result<T>) -> io::Result<T>
         ensures answer { result ≡ tried }
-        ensures failed { CountsFailed self.old self.new tried }
+        ensures failed { CountsFailed self.old.failed self.new.failed tried }
+        ensures lock { self.new.has_lock ≡ self.old.has_lock }
     {
         if tried.is_err() {
             self.failed.rise();
@@ -72,7 +84,15 @@ impl DiskFile {
 }
 
 impl Stored for DiskFile {
-    ghost failed = { λ f. f };
+    ghost failed = { λ f. f.failed };
+
+    ghost has_lock = { λ f. f.has_lock };
+
+    fn lock(&mut self) -> io::Result<()> {
+        let tried = self.file.try_lock().map_err(io::Error::from);
+        self.has_lock = tried.is_ok();
+        self.counted(tried)
+    }
 
     fn len(&mut self) -> io::Result<u64> {
         let tried = self.file.metadata().map(|found| found.len());

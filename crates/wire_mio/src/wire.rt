@@ -1,11 +1,13 @@
 //! The wire over sockets.
 
-ghost use Rattle.std.specs.Prelude.{◌≡◌, ◌≤◌, ◌+◌, [], None, IfOk, IsErrOf, false, is_some, not, length, ◌==◌};
+ghost use Rattle.std.specs.Prelude.{◌≡◌, ◌≢◌, ◌≤◌, ◌<◌, ◌+◌, ℕ, [], None, IfOk, IsErrOf, false, true, is_some, not, length, ◌==◌};
+ghost use Rattle.std.specs.Option.{option_map};
 ghost use Rattle.outside.specs.Causes.{HasCause};
 ghost use Rattle.outside.specs.Events.{Gives, CountsGiven, HasNextCause, Sends};
 ghost use Rattle.outside.specs.declared.event.Trouble.TheVariants as trouble;
 ghost use Rattle.wire_mio.specs.Adapters.{faults_behind};
 ghost use Rattle.wire_mio.specs.Queues.{MayFollow, GivesFirst, LeavesQueue, told_behind, failed_behind};
+ghost use Rattle.wire_mio.specs.Tables.{GoesOn, IsNumbered, KeepsLive, Tells, IsSentOn, answered, held_in, count_in, is_live};
 ghost use Rattle.zbx_types.specs.Limits.{most_connections};
 
 use crate::connections::Connections;
@@ -42,17 +44,21 @@ pub struct MioWire<C: Clock> {
 impl<C: Clock> Model for MioWire<C> {
     ghost use Rattle.std.specs.Option.{is_some};
     ghost use Rattle.wire_mio.specs.Queues.{WireState};
+    ghost use Rattle.wire_mio.specs.Tables.{IsNumbered};
 
     ghost Value = { WireState };
 
     ghost view = { λ w. record { waiting = w.queue.events; told = w.queue.told; connections = w.peers; listens = is_some w.sockets; given = w.given; sends = w.sends; faults = w.faults; unsent = w.unsent } };
+
+    ghost invariant = { λ w. IsNumbered w.peers w.queue.opened };
 }
 
 impl<C: Clock + Net + Drop> MioWire<C> {
     /// A wire that listens on an address, as `0.0.0.0:10051` or `[::]:10051`. Where no socket is to be had there, each call
     /// of `next` fails.
     pub fn listen(rt: C, alloc: Global, address: &Text) -> Result<MioWire<C>, OutOfMemory>
-        ensures { IfOk result (λ wire. wire ≡ record { waiting = []; told = 0; connections = 0; listens = wire.listens; given = 0; sends = 0; faults = 0; unsent = 0 }) }
+        ensures new { IfOk result (λ wire. wire ≡ record { waiting = []; told = 0; connections = wire.connections; listens = wire.listens; given = 0; sends = 0; faults = 0; unsent = 0 }) }
+        ensures none { IfOk result (λ wire. (count_in wire.connections ≡ 0) × ((c : ℕ) → held_in wire.connections c ≡ None)) }
     {
         let sockets = Sockets::listen(&rt, alloc, address.as_str())?;
         Ok(MioWire {
@@ -71,7 +77,7 @@ impl<C: Clock + Net + Drop> MioWire<C> {
 impl<C: Clock> MioWire<C> {
     /// How many connections are there, with those that have ended or were closed and haven't gone yet.
     pub fn connections(&self) -> usize
-        ensures value { result ≡ self.now.connections }
+        ensures value { result ≡ count_in self.now.connections }
         ensures most { result ≤ most_connections }
     {
         self.peers.count()
@@ -105,6 +111,8 @@ impl<C: Clock> Wire for MioWire<C> {
         ensures first { GivesFirst self.old.waiting self.new.waiting result }
         ensures follows { IfOk result (MayFollow self.old.told) }
         ensures told { self.new.told ≡ told_behind self.old.told result }
+        ensures ends { self.old.waiting ≡ [] → (c : ℕ) → Tells c (is_live (held_in self.old.connections c)) (is_live (held_in self.new.connections c)) (answered result self.new.waiting) }
+        ensures stays { 0 < length self.old.waiting → self.new.connections ≡ self.old.connections }
         ensures failed { self.new.faults ≡ failed_behind self.old.faults result }
         ensures deaf { self.old.listens ≡ false → self.old.waiting ≡ [] → IsErrOf result trouble.Failed }
         ensures listens { self.new.listens ≡ self.old.listens }
@@ -140,11 +148,13 @@ impl<C: Clock> Wire for MioWire<C> {
 
     /// Sends bytes to a connection, and waits for room at most 1,000 times, 10 milliseconds each. It fails where there is no
     /// room then, where the connection is lost, closed or not there, and where the system fails.
+    #[tactic(auto, using(crate::proofs::Telling::numbered_same))]
     fn send(&mut self, conn: u64, bytes: &[u8]) -> Result<(), Failed>
         ensures queue { LeavesQueue self.old self.new }
         ensures failed { self.new.unsent ≡ faults_behind self.old.unsent result }
         ensures sends { self.new.sends ≡ self.old.sends + 1 }
         ensures sent { Sends None None conn bytes.now result }
+        ensures one { IsSentOn conn self.old.listens self.old.connections self.new.connections }
         ensures cause { HasCause self.old.unsent self.new.unsent result }
     {
         self.sends.rise();
@@ -156,16 +166,20 @@ impl<C: Clock> Wire for MioWire<C> {
     }
 
     /// Closes a connection behind what was sent to it. Events of it that stand in the queue are still given.
+    #[tactic(auto, using(crate::proofs::Telling::numbered_closed))]
     fn close(&mut self, conn: u64)
         ensures queue { LeavesQueue self.old self.new }
         ensures sends { self.new.sends ≡ self.old.sends }
         ensures unsent { self.new.unsent ≡ self.old.unsent }
+        ensures one { is_live (held_in self.new.connections conn) ≡ false }
+        ensures others { (c : ℕ) → c ≢ conn → held_in self.new.connections c ≡ held_in self.old.connections c }
     {
         self.peers.close(conn);
     }
 }
 
 /// Waits for an event, for a second at most. Where there is no socket it fails.
+#[tactic(auto, using(crate::proofs::Telling::goes_from, crate::proofs::Telling::quiet_told))]
 fn wait<C: Clock>(
     alloc: Global,
     clock: &C,
@@ -173,8 +187,11 @@ fn wait<C: Clock>(
     peers: &mut Connections,
     queue: &mut Queue,
 ) -> Result<WireEvent, Trouble>
+    requires { IsNumbered peers.old queue.old.opened }
+    ensures numbered { IsNumbered peers.new queue.new.opened }
     ensures follows { IfOk result (MayFollow queue.old.told) }
     ensures told { queue.new.told ≡ told_behind queue.old.told result }
+    ensures ends { queue.old.events ≡ [] → (c : ℕ) → Tells c (is_live (held_in peers.old c)) (is_live (held_in peers.new c)) (answered result queue.new.events) }
     ensures sockets { is_some sockets.new ≡ is_some sockets.old }
     ensures deaf { is_some sockets.old ≡ false → IsErrOf result trouble.Failed }
 {
@@ -201,15 +218,12 @@ fn deliver(
     conn: u64,
     bytes: &[u8],
 ) -> Result<(), Failed>
-    ensures { is_some sockets.new ≡ is_some sockets.old }
+    ensures sockets { is_some sockets.new ≡ is_some sockets.old }
+    ensures one { IsSentOn conn (is_some sockets.old) peers.old peers.new }
+    ensures live { KeepsLive peers.old peers.new }
 {
     let Some(sockets) = sockets else {
         return Err(Failed);
     };
-    let Some(mut peer) = peers.take(conn) else {
-        return Err(Failed);
-    };
-    let sent = sockets.send(&mut peer.stream, bytes);
-    peers.put(conn, peer);
-    sent
+    sockets.send(peers, conn, bytes)
 }
