@@ -15,6 +15,7 @@ ghost use Rattle.book.specs.Entries.{IsWholeLog};
 ghost use Rattle.book.specs.Progress.{IsGoing, HasInputs, IsOneMore};
 ghost use Rattle.syncer_gate.specs.Marks.{is_open, is_pending, reopened};
 ghost use Rattle.std.specs.List.{list_any};
+ghost use Rattle.trigger_state.specs.Stages.{first_stage};
 
 use crate::inputs::{
     Outputs, is_open_here, order_of, outputs_of, put_by, put_in, take_batch, work_in,
@@ -43,6 +44,7 @@ pub(crate) struct Progress<S: StartName> {
 
 impl<S: StartName> Model for Progress<S> {
     ghost use Rattle.std.specs.Prelude.{[], All};
+    ghost use Rattle.trigger_state.specs.Stages.{first_stage};
     ghost use Rattle.entry_step.specs.Represents.{Holds};
     ghost use Rattle.book.specs.Progress.{ProgressView, IsGoing};
 
@@ -50,7 +52,7 @@ impl<S: StartName> Model for Progress<S> {
 
     ghost view = { λ p. record { entries = p.entries.items; gate = p.claims; cells = p.cells; made = p.made.items } };
 
-    ghost invariant = { λ p. IsGoing S.conf (record { entries = p.entries.items; gate = p.claims; cells = p.cells; made = p.made.items }) × All (λ cells. Holds S.conf cells []) p.spare.items };
+    ghost invariant = { λ p. IsGoing S.conf (record { entries = p.entries.items; gate = p.claims; cells = p.cells; made = p.made.items }) × All (λ cells. Holds (first_stage S.conf) cells []) p.spare.items };
 }
 
 /// The records of so many entries, of which none is applied.
@@ -111,7 +113,7 @@ impl<S: StartName> Progress<S> {
         ready: &Ready,
         entries: Many<Numbered>,
     ) -> Result<Progress<S>, OutOfMemory>
-        requires conf { ready.now ≡ S.conf }
+        requires conf { ready.now ≡ first_stage S.conf }
         requires whole { IsWholeLog S.conf entries }
         ensures entries { IfOk result (λ p. p.entries ≡ entries) }
         ensures pending { IfOk result (λ p. p.gate ≡ record
@@ -174,7 +176,7 @@ impl<S: StartName> Progress<S> {
         ready: &Ready,
         limit: u32,
     ) -> Result<Option<Order<S>>, OutOfMemory>
-        requires conf { ready.now ≡ S.conf }
+        requires conf { ready.now ≡ first_stage S.conf }
         requires limit { 1 ≤ limit }
         ensures batch { IfOk result (λ made. option_map (λ order. order.batch) made ≡ batch_of self.old.gate.next
             (chosen (feet_of S.conf) self.old.gate self.old.entries limit)) }
@@ -211,7 +213,7 @@ impl<S: StartName> Progress<S> {
         done: Done<S>,
         steps: &mut Steps<L>,
     ) -> Result<(), (Done<S>, OutOfMemory)>
-        requires conf { ready.now ≡ S.conf }
+        requires conf { ready.now ≡ first_stage S.conf }
         ensures entries { self.new.entries ≡ self.old.entries }
         ensures open { OnOk result (IsOpenBatch self.old.gate done.order.batch
             → self.new.gate ≡ with_ended done.order.batch.id Mark.Applied self.old.gate) }
@@ -266,7 +268,7 @@ impl<S: StartName> Progress<S> {
         ready: &Ready,
         steps: &mut Steps<L>,
     ) -> Result<bool, OutOfMemory>
-        requires conf { ready.now ≡ S.conf }
+        requires conf { ready.now ≡ first_stage S.conf }
         ensures entries { self.new.entries ≡ self.old.entries }
         ensures one { IfOk result (λ some. some ≡ true → (id : ℕ)
             × (self.new.gate.marks ≡ (with_ended id Mark.Applied
@@ -308,7 +310,7 @@ impl<S: StartName> Progress<S> {
         ready: &Ready,
         steps: &mut Steps<L>,
     ) -> Result<(), OutOfMemory>
-        requires conf { ready.now ≡ S.conf }
+        requires conf { ready.now ≡ first_stage S.conf }
         ensures entries { self.new.entries ≡ self.old.entries }
         ensures all { OnOk result ((i : ℕ) → i < length self.new.entries
             → get_or self.new.gate.marks i Mark.Pending ≡ Mark.Applied) }
@@ -349,7 +351,7 @@ impl<S: StartName> Progress<S> {
     pub(crate) fn records(&self, place: usize) -> &[Rec]
         ensures made { result.now ≡ get_or self.now.made place [] }
         ensures next { place < length self.now.entries → get_or self.now.gate.marks place Mark.Pending ≡ Mark.Applied
-            → replay S.conf (log_of (take (place + 1) self.now.entries)) ≡ replay S.conf
+            → replay (first_stage S.conf) (log_of (take (place + 1) self.now.entries)) ≡ replay (first_stage S.conf)
             (log_of (take place self.now.entries)) ++ result.now }
     {
         kept_at(&self.made, place)

@@ -74,20 +74,20 @@ impl<D: Disk> Front<D> {
         requires read { journal.state ≡ state.Ready }
         requires journaled { HasJournaled D.bytes D.images journal kept (journal.at + 1) }
 
-        ensures made { IfOk result (λ f. f.intake ≡ start ready.now.text kept (journal.at + 1)) }
-        ensures sound { IfOk result (λ f. IsFull (log_of kept) → Fits ready.now (log_of kept)
-            → IsSound ready.now f.intake) }
+        ensures made { IfOk result (λ f. f.intake ≡ start ready.now.conf.text kept (journal.at + 1)) }
+        ensures sound { IfOk result (λ f. IsFull (log_of kept) → Fits ready.now.conf (log_of kept)
+            → IsSound ready.now.conf f.intake) }
         ensures durable { IfOk result (λ f. IsKept D.bytes D.images f.journal.disk f.intake.entries) }
         ensures state { IfOk result (λ f. IsReady journal f.journal) }
         ensures idle { IfOk result (λ f. IsIdle f) }
 
         ensures back { IfErr result (λ u. u.kept ≡ kept) }
-        ensures full { kept ≡ [] → IsTrue (passes_with_all journal (first_group ready.now.text ∷ []))
+        ensures full { kept ≡ [] → IsTrue (passes_with_all journal (first_group ready.now.conf.text ∷ []))
             → IfOk result (λ _. ⊥) × IfErr result (λ u. u.error ≢ error.DiskFault) }
         ensures only_full { IfErr result (λ u. (entries bytes : ℕ) → u.error ≡ error.Full entries bytes → (kept ≡ [])
-            × IsTrue (passes_with_all journal (first_group ready.now.text ∷ []))
-            × (entries ≡ entries_with_all journal (first_group ready.now.text ∷ []))
-            × (bytes ≡ bytes_with_all journal (first_group ready.now.text ∷ []))) }
+            × IsTrue (passes_with_all journal (first_group ready.now.conf.text ∷ []))
+            × (entries ≡ entries_with_all journal (first_group ready.now.conf.text ∷ []))
+            × (bytes ≡ bytes_with_all journal (first_group ready.now.conf.text ∷ []))) }
         ensures fault { IfErr result (λ u. u.error ≡ error.DiskFault → (kept ≡ [])
             × Rose (D.faults journal.disk) (D.faults u.disk)) }
         ensures same { IfErr result (λ u. u.error ≢ error.DiskFault → u.disk ≡ journal.disk) }
@@ -98,7 +98,7 @@ impl<D: Disk> Front<D> {
         // configuration alone.
         ensures any_moment { IfSome (D.bytes journal.disk)
             (λ _. LeavesOnly D.moment D.images_since journal.disk (disk_of result)
-            (KeepsEither kept (start ready.now.text kept (journal.at + 1)).entries)) }
+            (KeepsEither kept (start ready.now.conf.text kept (journal.at + 1)).entries)) }
     {
         let mut journal = journal;
         let block = match Block::new(alloc) {
@@ -171,12 +171,12 @@ impl<D: Disk> Front<D> {
         requires idle { IsIdle self.old }
 
         ensures answer { IfOk result (λ a. a ≡ (handled
-            (limits_of self.old.journal (refused_group self.old.intake a.stop)) ready.now self.old.intake
+            (limits_of self.old.journal (refused_group self.old.intake a.stop)) ready.now.conf self.old.intake
             event.now).answer) }
         ensures after { IfOk result (λ a. self.new.intake ≡ (handled
-            (limits_of self.old.journal (refused_group self.old.intake a.stop)) ready.now self.old.intake
+            (limits_of self.old.journal (refused_group self.old.intake a.stop)) ready.now.conf self.old.intake
             event.now).intake) }
-        ensures keeps { OnOk result (IsSound ready.now self.old.intake → IsSound ready.now self.new.intake) }
+        ensures keeps { OnOk result (IsSound ready.now.conf self.old.intake → IsSound ready.now.conf self.new.intake) }
         ensures err { OnErr result ((self.new.intake.entries ≡ self.old.intake.entries)
             × (self.new.journal ≡ self.old.journal)) }
 
@@ -188,7 +188,7 @@ impl<D: Disk> Front<D> {
         // A crash at any moment of the call leaves the entries from before it, or these with all that the event adds.
         ensures any_moment { IfSome (D.bytes self.old.journal.disk)
             (λ _. LeavesOnly D.moment D.images_since self.old.journal.disk self.new.journal.disk
-            (KeepsEither self.old.intake.entries (handled (limits_of self.old.journal 0) ready.now self.old.intake
+            (KeepsEither self.old.intake.entries (handled (limits_of self.old.journal 0) ready.now.conf self.old.intake
             event.now).intake.entries)) }
 
         ensures fault { IfOk result (λ a. a.stop ≡ Some stop.DiskFault

@@ -14,6 +14,7 @@ ghost use Rattle.server_run.specs.declared.serving.Taken.TheVariants as Taken;
 ghost use Rattle.server_run.specs.Outbox.{LinesAre};
 ghost use Rattle.server_run.specs.Statuses.{course_of, IsCourse};
 ghost use Rattle.server_run.specs.Tally.{counts_with};
+ghost use Rattle.trigger_state.specs.Stages.{first_stage};
 
 use crate::crew::{Alone, serve_syncers};
 use crate::serving::{Taken, serve};
@@ -235,7 +236,7 @@ fn finish<S: StartName, N: RunName, O: Sink>(
         (drop S.outbox.held (log_lines S.conf (log_of entries))) }
     ensures outbox { result.status ≡ Status.OutboxFault → Rose S.outbox.faults (O.tells result.outbox).faults }
     ensures counts { result.status ≡ Status.Ok → result.tally ≡ tally_of
-        (replay S.conf (log_of (S.kept ++ head.sent))) }
+        (replay (first_stage S.conf) (log_of (S.kept ++ head.sent))) }
 {
     let _since = book.faults();
     match book.finish(alloc, prepared.ready(), head) {
@@ -288,7 +289,7 @@ fn close<S: StartName, N: RunName, D: Disk, O: Sink>(
         (drop S.outbox.held (log_lines S.conf (log_of front.intake.entries))) }
     ensures outbox { result.status ≡ Status.OutboxFault → Rose S.outbox.faults (O.tells result.outbox).faults }
     ensures counts { result.status ≡ Status.Ok → result.counts ≡ counts_with (length front.intake.entries)
-        (tally_of (replay S.conf (log_of front.intake.entries))) }
+        (tally_of (replay (first_stage S.conf) (log_of front.intake.entries))) }
 {
     let Written {
         status,
@@ -362,7 +363,7 @@ pub(crate) fn started<S: StartName, W: Wire, D: Disk, O: Sink>(
     kept: Many<Numbered>,
     outbox: O,
 ) -> Course<D, O>
-    requires conf { ready ≡ S.conf }
+    requires conf { ready ≡ first_stage S.conf }
     requires opened { IsOpened D.bytes D.images S.conf S.kept front }
     requires kept { kept ≡ S.kept }
     requires outbox { O.tells outbox ≡ S.outbox }
@@ -452,7 +453,7 @@ where
     O: Sink + Send,
     R: Threads + Wait + Sync,
     G: Gate + Sync,
-    requires conf { ready ≡ S.conf }
+    requires conf { ready ≡ first_stage S.conf }
     requires opened { IsOpened D.bytes D.images S.conf S.kept front }
     requires kept { kept ≡ S.kept }
     requires outbox { O.tells outbox ≡ S.outbox }

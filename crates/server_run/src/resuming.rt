@@ -126,11 +126,11 @@ fn begin<D: Disk>(
     requires read { journal.state ≡ state.Ready }
     requires journaled { HasJournaled D.bytes D.images journal kept (journal.at + 1) }
     ensures ok { IfOk result (λ f. (most : ℕ) (old : D)
-        → IsTakenUp D.bytes D.images D.moment D.images_since D.faults ready.now most old journal kept
-        → HasBegun D.bytes D.images D.moment D.images_since D.faults ready.now most old f) }
+        → IsTakenUp D.bytes D.images D.moment D.images_since D.faults ready.now.conf most old journal kept
+        → HasBegun D.bytes D.images D.moment D.images_since D.faults ready.now.conf most old f) }
     ensures err { IfErr result (λ r. (most held : ℕ) (old : D)
-        → IsTakenUp D.bytes D.images D.moment D.images_since D.faults ready.now most old journal kept
-        → TurnedAway D.bytes D.images D.moment D.images_since D.faults ready.now most held old r.disk r.entries
+        → IsTakenUp D.bytes D.images D.moment D.images_since D.faults ready.now.conf most old journal kept
+        → TurnedAway D.bytes D.images D.moment D.images_since D.faults ready.now.conf most held old r.disk r.entries
         r.status) }
 {
     match Front::new(alloc, ready, journal, kept) {
@@ -150,9 +150,9 @@ pub(crate) fn resume<D: Disk>(
     disk: D,
     max_entries: u64,
 ) -> Result<Front<D>, Refused<D>>
-    ensures ok { IfOk result (HasBegun D.bytes D.images D.moment D.images_since D.faults ready.now max_entries disk) }
+    ensures ok { IfOk result (HasBegun D.bytes D.images D.moment D.images_since D.faults ready.now.conf max_entries disk) }
     ensures err { IfErr result (λ r. (held : ℕ) → TurnedAway D.bytes D.images D.moment D.images_since D.faults
-        ready.now max_entries held disk r.disk r.entries r.status) }
+        ready.now.conf max_entries held disk r.disk r.entries r.status) }
 {
     let (journal, kept) = match accepted(alloc, ready.conf(), disk, max_entries) {
         Ok(taken) => taken,

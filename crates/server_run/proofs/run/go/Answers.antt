@@ -13,8 +13,8 @@ started-requires-clause-opened g c = is_opened _ _ _ _ _ _ _ _ _ _ _ _ c.in-Ok.e
 pub returns-in-Err-copy_entries-clause-not_begun : goal.returns-in-Err-copy_entries-clause-not_begun
 returns-in-Err-copy_entries-clause-not_begun g c = λ f.
     let h = c.held_back.ensures in
-    let back : IsHeldBack c.in-Ok.begun.ready c.in-Ok.begun.front.intake.entries (g.O.Sink.tells c.args.outbox).held c.in-Ok.begun.front c.held_back.result.disk c.held_back.result.entries c.held_back.result.status =
-    record { disk_is = h.disk; entries_are = h.entries; why = subst (IsAheadOf c.in-Ok.begun.ready c.in-Ok.begun.front.intake.entries (g.O.Sink.tells c.args.outbox).held) (sym h.status) tt } in
+    let back : IsHeldBack c.in-Ok.begun.ready.conf c.in-Ok.begun.front.intake.entries (g.O.Sink.tells c.args.outbox).held c.in-Ok.begun.front c.held_back.result.disk c.held_back.result.entries c.held_back.result.status =
+    record { disk_is = h.disk; entries_are = h.entries; why = subst (IsAheadOf c.in-Ok.begun.ready.conf c.in-Ok.begun.front.intake.entries (g.O.Sink.tells c.args.outbox).held) (sym h.status) tt } in
     (unbegun_held _ _ _ _ _ _ _ _ _ _ _ _ c.in-Ok.ensures.ok _ _ _ _ refl _ _ _ back, refl, h.outbox)
 
 pub returns-in-Ok-copy_entries-clause-not_begun : goal.returns-in-Ok-copy_entries-clause-not_begun
@@ -36,7 +36,7 @@ pub returns-in-Ok-copy_entries-clause-counts : goal.returns-in-Ok-copy_entries-c
 returns-in-Ok-copy_entries-clause-counts g c = λ well. either_way c.started.result.began
     (λ t. let s = c.started.ensures.gone in
     counts_left _ _ _ (conf_kept _ _ _ _ _ _ _ _ _ _ _ _ c.in-Ok.ensures.ok c.in-Ok-copy_entries.kept (search rules) _ _ _ _ _ (s.finished t)) (s.counts_are well))
-    (λ f. absurd (subst (λ (x : Status). IsAheadOf c.in-Ok.begun.ready c.in-Ok-copy_entries.kept (g.O.Sink.tells c.args.outbox).held x) well (c.started.ensures.gone.held_back f).why))
+    (λ f. absurd (subst (λ (x : Status). IsAheadOf c.in-Ok.begun.ready.conf c.in-Ok-copy_entries.kept (g.O.Sink.tells c.args.outbox).held x) well (c.started.ensures.gone.held_back f).why))
 
 pub returns-in-Err-clause-not_begun : goal.returns-in-Err-clause-not_begun
 returns-in-Err-clause-not_begun g c = λ f. (c.in-Err.ensures.err (g.O.Sink.tells c.args.outbox).held, refl, refl)

@@ -1,6 +1,7 @@
-use Rattle.std.proofs.Common.{◌≡◌, IsErrOf, arith, refl, ◌∙◌, rules}
+use Rattle.std.proofs.Common.{◌≡◌, IsErrOf, arith, refl, ◌∙◌, ap, rules}
 use Rattle.outside.specs.Causes.{Rose}
 use Rattle.server_words.specs.declared.status.Status.TheVariants as status
+use Rattle.trigger_state.specs.Stages.{Stage}
 use Rattle.intake_front.specs.Fronted.{limits_of}
 use Rattle.server_run.proofs.Events.{limits_kept, ready_on}
 use Rattle.server_run.proofs.Going.{at_more, at_none, served_refused, served_limit, served_end}
@@ -8,7 +9,7 @@ use Rattle.server_run.proofs.serving.serve.Goals as goal
 
 pub loop-taken-init : goal.loop-taken-init
 loop-taken-init g c = record {
-  same = c.new-collection.ensures ∙ c.ready.ensures;
+  same = c.new-collection.ensures ∙ ap (λ (s : Stage). s.conf) c.ready.ensures;
   within = omega arith;
   later = omega arith;
   ready = (c.requires.going, refl, refl);
