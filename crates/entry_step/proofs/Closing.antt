@@ -113,10 +113,10 @@ open_found stage all =
     ap (sorted_by (λ r. (event_of r).number)) (flat_maps (λ (o : Open). o.problem) all (order stage.conf)) ∙ sorted_map (λ (o : Open). o.problem) (λ r. (event_of r).number) (flat_map all (order stage.conf))
 
 -- and what is closed of it is what the rules close
-pub ruled_is : (stage ready : Stage) (problem : Rec) (all : ℕ → List Open) (ids : List ℕ) (found sorted slice : List Rec) → stage ≡ ready → ids ≡ order ready.conf → found ≡ flat_map (λ id. map (λ o. o.problem) (all id)) ids
-    → sorted ≡ sorted_by (λ r. (event_of r).number) found → slice ≡ sorted → closes_of stage.conf problem slice ≡ ruled ready problem all
+pub ruled_is : (conf : Conf) (ready : Stage) (problem : Rec) (all : ℕ → List Open) (ids : List ℕ) (found sorted slice : List Rec) → conf ≡ ready.conf → ids ≡ order ready.conf → found ≡ flat_map (λ id. map (λ o. o.problem) (all id)) ids
+    → sorted ≡ sorted_by (λ r. (event_of r).number) found → slice ≡ sorted → closes_of conf problem slice ≡ ruled ready problem all
 unfolding ruled
-ruled_is stage ready problem all ids found sorted slice c i f s a =
+ruled_is conf ready problem all ids found sorted slice c i f s a =
     ap (λ x. closes_of x problem slice) c
     ∙ ap (closes_of ready.conf problem)
     (a ∙ s ∙ ap (sorted_by (λ r. (event_of r).number)) (f ∙ ap (flat_map (λ id. map (λ (o : Open). o.problem) (all id))) i) ∙ open_found ready all)

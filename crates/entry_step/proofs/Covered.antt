@@ -8,6 +8,7 @@ use Rattle.zbx_types.specs.Masters.{masters_of}
 use Rattle.zbx_types.specs.declared.conf.Conf.{Conf}
 use Rattle.zbx_types.specs.declared.entries.Cause2.TheVariants as causes
 use Rattle.zbx_types.specs.declared.entries.Held.{Held}
+use Rattle.zbx_types.specs.declared.entries.EventId.{EventId}
 use Rattle.zbx_types.specs.declared.entries.Rec.{Rec}
 use Rattle.zbx_types.specs.declared.entries.Rec.TheVariants.{Failure, Problem, Recovery, Step, Message}
 use Rattle.zbx_types.specs.declared.entries.Stored.{Stored}

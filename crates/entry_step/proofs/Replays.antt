@@ -495,5 +495,5 @@ pub open_by_names : OpenByNames
 open_by_names conf log rising distinct id trigger is =
     let bound : last_number log < last_number log + 1 = omega arith in
     let right = replay_right conf log rising (last_number log + 1) bound in
-    open_by_test conf id (is_named (host_of conf trigger) trigger.name) (replay (first_stage conf) log) (tells conf id trigger distinct is (replay (first_stage conf) log) right.named)
+    open_by_test (first_stage conf) id (is_named (host_of conf trigger) trigger.name) (replay (first_stage conf) log) (tells conf id trigger distinct is (replay (first_stage conf) log) right.named)
     (comes_first (host_of conf trigger) trigger.name [] (replay (first_stage conf) log) (free_none (replay (first_stage conf) log)) right.early)
