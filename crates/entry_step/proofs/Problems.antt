@@ -1,6 +1,5 @@
 -- Open problems and more records.
-use Rattle.std.proofs.Common.{◌≡◌, ℕ, ◌==◌, Bool, true, false, cond, not, List, [], ◌∷◌, ◌++◌, Option, Some, map, filter, refl, sym, ◌∙◌, ap, eq-eqb, eqb-true}
-use Rattle.zbx_types.specs.Ids.{at_id}
+use Rattle.std.proofs.Common.{◌≡◌, ℕ, ◌==◌, Bool, true, false, cond, not, List, [], ◌∷◌, ◌++◌, Option, map, filter, refl, sym, ◌∙◌, ap, eq-eqb, eqb-true}
 use Rattle.zbx_types.specs.declared.triggers.Trigger.{Trigger}
 use Rattle.zbx_types.specs.declared.entries.Rec.{Rec}
 use Rattle.zbx_types.specs.declared.entries.Rec.TheVariants.{Failure, Problem, Recovery, Step, Message}
