@@ -211,7 +211,16 @@ fn begun(
     let mut made = Many::new(alloc);
     made.push(problem.copy(alloc)?)?;
     push_ruled(alloc, stage, number, now, problems, old, &mut made)?;
-    push_last(alloc, stage.conf(), number, now, id, problem, closes.new, &mut made)?;
+    push_last(
+        alloc,
+        stage.conf(),
+        number,
+        now,
+        id,
+        problem,
+        closes.new,
+        &mut made,
+    )?;
     Ok(made)
 }
 
@@ -238,7 +247,16 @@ fn begun_by(
         → HasTagsOf trigger problem.now → made.closes ≡ ruled ready.now problem.now (problems_at problems.now)) }
 {
     let closes = ruled(alloc, ready, id, problem, problems)?;
-    let records = begun(alloc, ready.stage(), number, now, problems, id, problem, &closes)?;
+    let records = begun(
+        alloc,
+        ready.stage(),
+        number,
+        now,
+        problems,
+        id,
+        problem,
+        &closes,
+    )?;
     Ok(Beginning { records, closes })
 }
 

@@ -365,11 +365,7 @@ fn is_open(alloc: Global, open: &[Open], number: u64, steps: &[u32]) -> Result<b
         None => Ok(false),
         Some(one) => {
             let numbers = step_numbers(alloc, one.steps.as_slice())?;
-            Ok(
-                one.problem.event().number == number
-                    && numbers.as_slice() == steps
-                    && one.rank == 1,
-            )
+            Ok(one.problem.event().number == number && numbers.as_slice() == steps && one.rank == 1)
         }
     }
 }
