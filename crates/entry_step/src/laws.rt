@@ -8,7 +8,7 @@ pub fn conflict_is_meeting()
     ensures { ConflictIsMeeting }
 {}
 
-/// Cells that stand for a log hold each open problem in the cell of its own trigger, and nothing of an item
+/// Cells that stand for a log behind a good start hold each open problem in the cell of its own trigger, and nothing of an item
 /// that isn't there.
 pub fn are_tidy()
     ensures { AreTidyCells }
@@ -20,7 +20,7 @@ pub fn locality()
     ensures { Locality }
 {}
 
-/// Insertion: an entry that conflicts with no later one joins in its place. Each later entry makes the same records
+/// Insertion: behind a good start, an entry that conflicts with no later one joins in its place. Each later entry makes the same records
 /// with it and without; over cells that stand for the log without it, it makes the records and changes of its place,
 /// and behind it they stand for the log with it.
 pub fn insertion()
@@ -33,7 +33,7 @@ pub fn batch_on_a_copy()
     ensures { BatchOnACopy }
 {}
 
-/// Over cells that stand for the applied part of a log, an entry that conflicts with no older one that isn't applied
+/// Over cells that stand for the applied part of a log behind a good start, an entry that conflicts with no older one that isn't applied
 /// makes the records that it makes over the whole log.
 pub fn applied_part()
     ensures { AppliedPart }

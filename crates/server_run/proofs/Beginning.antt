@@ -31,6 +31,7 @@ use Rattle.server_run.specs.Opening.{FoundGroups, first_text, kept_text, IsRejec
 use Rattle.server_run.specs.Stops.{KeepsSome, IsEither}
 use Rattle.server_run.proofs.Logs.{onto, onto_reverse}
 use Rattle.server_run.proofs.Stopping.{leaves_more, rose_since}
+use Rattle.entry_step.specs.Start.{first_start}
 
 -- ---- entries of groups
 
@@ -59,7 +60,7 @@ full_numbered groups =
     subst IsFull (onto_reverse [] (numbered_from 1 es) ∙ append-nil (reverse (numbered_from 1 es))) (full_onto [] es 1 (omega arith) tt)
 
 -- which fits the configuration that accepts the groups
-pub fits_accepted : (conf : Conf) (groups : List Group) → IsAccepted conf groups → Fits conf (log_of (numbered_of groups))
+pub fits_accepted : (conf : Conf) (groups : List Group) → IsAccepted conf groups → Fits (first_start conf) (log_of (numbered_of groups))
 fits_accepted conf [] accepted = (tt, tt)
 fits_accepted conf (g ∷ gs) accepted = accepted.1
 
@@ -118,7 +119,7 @@ module _ {D : Type 0} (bytes : D → Option (List ℕ)) (images : D → List ℕ
       joined (Some b) None told l l' = absurd (cc)
       joined (Some b) (Some b') told l l' = and_then moment since old journal.disk new (λ c. KeepsAsOneOf (images old) c ⊎ KeepsSome A c) (KeepsEither kept begins) (leaves_more bytes images moment since faults old journal.disk _ _ (λ c k. inl k) l) l' among
 
-  pub has_begun : (made : Fronted D) → made.intake ≡ start conf.text kept (journal.at + 1) → (IsFull (log_of kept) → Fits conf (log_of kept) → IsSound conf made.intake) → IsIdle made → IsKept bytes images made.journal.disk made.intake.entries
+  pub has_begun : (made : Fronted D) → made.intake ≡ start conf.text kept (journal.at + 1) → (IsFull (log_of kept) → Fits (first_start conf) (log_of kept) → IsSound conf made.intake) → IsIdle made → IsKept bytes images made.journal.disk made.intake.entries
       → IsReady journal made.journal → faults journal.disk ≤ faults made.journal.disk → is_some (bytes made.journal.disk) ≡ is_some (bytes journal.disk)
       → IfSome (bytes journal.disk) (λ _. LeavesOnly moment since journal.disk made.journal.disk (KeepsEither kept begins))
       → HasBegun bytes images moment since faults conf most old made
@@ -132,7 +133,7 @@ module _ {D : Type 0} (bytes : D → Option (List ℕ)) (images : D → List ℕ
         ready = ready.0;
         limits = (ready.1 ∙ t.limits.0, ready.2 ∙ t.limits.1);
         intake_is = intake_is;
-        sound = sound (subst (λ es. IsFull (log_of es)) (sym t.kept_are) (full_numbered t.groups)) (subst (λ es. Fits conf (log_of es)) (sym t.kept_are) (fits_accepted conf t.groups t.accepted));
+        sound = sound (subst (λ es. IsFull (log_of es)) (sym t.kept_are) (full_numbered t.groups)) (subst (λ es. Fits (first_start conf) (log_of es)) (sym t.kept_are) (fits_accepted conf t.groups t.accepted));
         idle = idle;
         journaled = record {
           left = left_so_far made.journal.disk (IsEither (numbered_of t.groups) made.intake.entries) (inl refl) (inr (sym entries_are)) left;

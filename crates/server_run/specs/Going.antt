@@ -1,4 +1,5 @@
 -- How far the taking of events has come, and what of their entries was sent.
+use Rattle.entry_step.specs.Start.{first_start}
 use Rattle.std.specs.Prelude.{◌≡◌, ◌≢◌, ◌⊎◌, ◌≤◌, ◌<◌, ◌+◌, ℕ, List, ◌++◌, length, drop, Bool, true, false, Option, None, Result, Ok, Err, ⊤}
 use mathlib.Core.List.{IsPrefix}
 use Rattle.zbx_types.specs.declared.conf.Conf.{Conf}
@@ -27,7 +28,6 @@ use Rattle.server_run.specs.Events.{Ran}
 use Rattle.server_run.specs.Runs.{Finished}
 use Rattle.server_run.specs.Statuses.{anywhere, course_of, IsUnprinted}
 use Rattle.server_run.specs.Stops.{refusing, Journals}
-use Rattle.trigger_state.specs.Stages.{first_stage}
 
 -- the entries behind those with which a run began are sent, all of them, or, where memory was refused, some from the
 -- front
@@ -161,4 +161,4 @@ pub record HasGone {D : Type 0} (bytes : D → Option (List ℕ)) (images : D �
       (Journals bytes images moment since faults (λ c. ⊥) front.journal.disk disk) w w' (course_of s).ending
   pub lines : began ≡ true → LinesAre (course_of s).out outbox outbox'
       (drop outbox.held (log_lines conf (log_of entries)))
-  pub counts_are : s ≡ status.Ok → counts ≡ counts_with (length entries) (tally_of (replay (first_stage conf) (log_of entries)))
+  pub counts_are : s ≡ status.Ok → counts ≡ counts_with (length entries) (tally_of (replay (first_start conf) (log_of entries)))
