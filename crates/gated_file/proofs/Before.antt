@@ -1,7 +1,7 @@
 -- A disk that was only read, through several calls.
 use Rattle.std.proofs.Common.{◌≡◌, inl, inr, ⊎_elim, refl, ◌∙◌, arith}
 use Rattle.outside.specs.Disk.{DiskTells, IsLawful, AddsNothing, Elapses}
-use Rattle.intake_journal.specs.Moments.{IsAsBefore}
+use Rattle.gated_file.specs.Moments.{IsAsBefore}
 
 -- before the first call
 pub unread : (disk : DiskTells) → IsLawful disk → IsAsBefore disk disk

@@ -2,7 +2,7 @@
 use Rattle.std.proofs.Common.{◌≡◌, inl, inr, ℕ, ◌+◌, ◌-◌, ◌<◌, ◌≤◌, min, List, [], ◌∷◌, ◌++◌, length, get_or, take, drop, replicate, sym, ◌∙◌, ap, subst, arith, append_assoc, length-append, take-append-drop}
 use Rattle.std.proofs.lemmas.List.{take_at, drop_at, drop_more, take_more, take-append-le, length-take}
 use Rattle.outside.specs.Disk.{DiskTells, overwritten, Torn, Follows, Only}
-use Rattle.intake_journal.specs.Around.{IsAround}
+use Rattle.gated_file.specs.Around.{IsAround}
 
 -- a write within the bytes leaves what is before it and what is behind it
 pub overwritten_inside : (b : List ℕ) (at : ℕ) (piece : List ℕ) → at ≤ length b → overwritten b at piece ≡ take at b ++ (piece ++ drop (at + length piece) b)

@@ -1,14 +1,14 @@
-//! What the journal does to its disk, in few calls of it.
+//! What is done to a disk to put a block behind a gate, in few calls of it.
 
 ghost use Rattle.std.specs.Prelude.{◌≡◌, ◌<◌, ◌+◌, ◌^◌, [], ◌∷◌, Some, length, is_some, IfSome, OnOk};
 ghost use Rattle.outside.specs.Causes.{HasCause};
 ghost use Rattle.outside.specs.Disk.{Only, LeavesOnly, overwritten};
-ghost use Rattle.intake_journal.specs.Around.{IsAround};
+ghost use Rattle.gated_file.specs.Around.{IsAround};
 
 use outside::{Disk, Failed};
 
 /// Puts a block behind a gate that isn't open, and then opens the gate. Each of the two is durable before the next step.
-pub(crate) fn keep<D: Disk>(disk: &mut D, gate: u64, block: &[u8]) -> Result<(), Failed>
+pub fn keep<D: Disk>(disk: &mut D, gate: u64, block: &[u8]) -> Result<(), Failed>
     requires { gate < 2 ^ 63 }
     ensures kept { OnOk result (IfSome (D.tells disk.old).bytes (λ b. (D.tells disk.new).bytes ≡ Some (overwritten (overwritten b (gate + 1) block.now) gate (1 ∷ [])))) }
     ensures durable { OnOk result (IfSome (D.tells disk.new).bytes (λ b. Only b (D.tells disk.new))) }

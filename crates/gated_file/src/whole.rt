@@ -2,7 +2,7 @@
 
 ghost use Rattle.std.specs.Prelude.{◌≡◌, ◌≤◌, ◌<◌, ◌+◌, ◌^◌, length, take, drop, IfSome, IfOk};
 ghost use Rattle.outside.specs.Causes.{HasCause};
-ghost use Rattle.intake_journal.specs.Moments.{IsAsBefore};
+ghost use Rattle.gated_file.specs.Moments.{IsAsBefore};
 
 use outside::{Disk, Failed};
 
@@ -22,7 +22,7 @@ fn read_on<D: Disk>(disk: &mut D, at: u64, into: &mut [u8], count: usize) -> Res
 }
 
 /// Reads bytes from a place on until the slice is full or the end is met, and answers how many.
-pub(crate) fn read_whole<D: Disk>(disk: &mut D, at: u64, into: &mut [u8]) -> Result<usize, Failed>
+pub fn read_whole<D: Disk>(disk: &mut D, at: u64, into: &mut [u8]) -> Result<usize, Failed>
     requires { at + length into.old < 2 ^ 64 }
     ensures bound { IfOk result (λ count. count ≤ length into.new) }
     ensures length { length into.new ≡ length into.old }

@@ -1,9 +1,9 @@
 use Rattle.std.proofs.Common.{◌+◌, Some, ◌≡◌, sym, subst}
 use Rattle.outside.specs.Disk.{Only, overwritten}
-use Rattle.intake_journal.specs.Around.{IsAround}
-use Rattle.intake_journal.proofs.Moments.{if_some, told_of, started, goes_on, stays}
-use Rattle.intake_journal.proofs.Torn.{around, staged, block_crash, gate_crash}
-use Rattle.intake_journal.proofs.disk_calls.keep.Goals as goal
+use Rattle.gated_file.specs.Around.{IsAround}
+use Rattle.gated_file.proofs.Moments.{if_some, told_of, started, goes_on, stays}
+use Rattle.gated_file.proofs.Torn.{around, staged, block_crash, gate_crash}
+use Rattle.gated_file.proofs.disk_calls.keep.Goals as goal
 
 pub returns-in_err-write_at-clause-any_moment : goal.returns-in_err-write_at-clause-any_moment
 returns-in_err-write_at-clause-any_moment g c = if_some (g.D.Disk.tells c.args.disk.now).bytes _ (λ b is inside only.

@@ -1,7 +1,7 @@
 use Rattle.std.proofs.Common.{drop, length, ◌-◌}
 use Rattle.std.proofs.lemmas.Option.{IfSome_then}
-use Rattle.intake_journal.proofs.Pieces.{read_more}
-use Rattle.intake_journal.proofs.whole.read_on.Goals as goal
+use Rattle.gated_file.proofs.Pieces.{read_more}
+use Rattle.gated_file.proofs.whole.read_on.Goals as goal
 
 pub returns-clause-content : goal.returns-clause-content
 returns-clause-content g c = IfSome_then (g.D.Disk.tells c.args.disk.now).bytes c.in_ok-more.ensures.content

@@ -1,6 +1,6 @@
 use Rattle.std.proofs.Common.{◌≡◌, ◌≤◌, ◌-◌, length, take, drop, IfSome}
-use Rattle.intake_journal.specs.Moments.{IsAsBefore}
-use Rattle.intake_journal.proofs.whole.read_whole.Given as goal
+use Rattle.gated_file.specs.Moments.{IsAsBefore}
+use Rattle.gated_file.proofs.whole.read_whole.Given as goal
 
 abbrev pub invariant-loop-count : goal.invariant-loop-count
 invariant-loop-count g l = record {
