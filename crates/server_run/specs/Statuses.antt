@@ -88,17 +88,9 @@ course_of status.TurnLimit = begun at_limit all_lines own_line
 course_of status.WireFault = begun at_wire_fault all_lines own_line
 course_of status.OutboxFault = begun anywhere front_lines own_line
 course_of status.OutOfMemory = either at_refusal front_lines front_of_line
-course_of status.Usage = refusal
-course_of status.SourceFault = refusal
-course_of (status.ConfigRefused path cause) = refusal
-course_of (status.PatternRefused path) = refusal
-course_of (status.PatternTooLarge path) = refusal
-course_of status.NotOurs = refusal
-course_of (status.Damaged at) = refusal
-course_of (status.ConfigDiffers at) = refusal
-course_of (status.OutboxAhead held lines) = refusal
 course_of status.DiskFault = either at_disk_fault all_lines own_line
 course_of (status.Full entries bytes) = either (at_full entries bytes) all_lines own_line
+course_of _ = refusal
 
 -- a status of a run that hasn't begun
 abbrev pub IsRefusal : Status → Type 0

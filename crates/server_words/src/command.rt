@@ -54,6 +54,8 @@ fn text_command<'a>(alloc: Global) -> Result<Command<'a>, AllocError>
         .arg(option(alloc, "listen"))?
         .arg(option(alloc, "script"))?
         .arg(option(alloc, "journal"))?
+        .arg(option(alloc, "progress"))?
+        .arg(option(alloc, "command"))?
         .arg(with_default(alloc, "outbox", "-"))
 }
 
@@ -66,5 +68,6 @@ pub(crate) fn command<'a>(alloc: Global) -> Result<Command<'a>, AllocError>
         .arg(number(alloc, "turns", "1000000000", 1, 1_000_000_000))?
         .arg(number(alloc, "max-entries", "4000000", 1, 4_000_000))?
         .arg(number(alloc, "number", "1", 0, u64::MAX))?
+        .arg(number(alloc, "attempts", "3", 1, 100))?
         .arg(number(alloc, "values", "1000", 1, 1_000_000))
 }
