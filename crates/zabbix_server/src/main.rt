@@ -15,6 +15,10 @@
 //! own. Without it they are 4; with 0 of them the thread that takes the events does all. The same entries come to the
 //! same lines whatever their number.
 //!
+//! With `--mode alerts --outbox OUTBOX --progress PROGRESS --command PROGRAM` it reads the file OUTBOX instead and runs the
+//! PROGRAM for each message in it, and keeps in the file PROGRESS what became of each. That is
+//! [`server_jobs::run_alerts`] over files and [`ChildSpawner`](child_spawner::ChildSpawner).
+//!
 //! It exits with the number of the status, 0 for Ok; `docs/FORMATS.md` has them all. Nothing goes to standard error.
 //!
 //! All that the run does is [`server_run::run_syncers`]. This crate hands it the files and standard output:
@@ -26,20 +30,22 @@
 //! refused.
 #![tactic(auto)]
 
+mod alerting;
 mod arguments;
 mod running;
 
-ghost use Rattle.std.specs.Prelude.{◌≡◌, ℕ, List, IfOk};
+ghost use Rattle.std.specs.Prelude.{◌≡◌, ◌⊎◌, ℕ, List, IfOk};
 ghost use Rattle.std.specs.Process.{exit_status};
 ghost use Rattle.server_run.specs.Ran.{IsRunStatus};
 ghost use Rattle.server_words.specs.Printed.{exit_of};
-ghost use Rattle.zabbix_server.specs.Program.{status_in};
+ghost use Rattle.zabbix_server.specs.Program.{status_in, IsAlertsStatus};
 
-use server_words::Status;
+use server_words::{PlanError, Status, alerts_plan};
+use std::alloc::Global;
 use std::process::ExitCode;
 use std::sync::Wait;
 use std::thread::Threads;
-use zbx_types::OutOfMemory;
+use zbx_types::{OutOfMemory, Text};
 
 fn main(rt: HostRuntime) -> ExitCode {
     exit(status(&rt, &rt))
@@ -56,11 +62,27 @@ fn exit(ended: Result<Status, OutOfMemory>) -> ExitCode
     }
 }
 
-/// How the program ended: with the status of a run over its words. [`OutOfMemory`] where there is no memory for its
+/// How the program ended: with the status of a run over its words, or of a call for alerts. [`OutOfMemory`] where there is no memory for its
 /// words or what they name; nothing was printed then.
 fn status<R: Threads + Wait + Sync>(rt: &HostRuntime, threads: &R) -> Result<Status, OutOfMemory>
-    ensures { IfOk result (λ status. (words : List (List ℕ)) × IsRunStatus words status) }
+    ensures { IfOk result (λ status. (words : List (List ℕ)) × (IsAlertsStatus words status ⊎ IsRunStatus words status)) }
 {
     let words = arguments::words(rt, rt.alloc())?;
-    running::run(rt, threads, rt.alloc(), words.as_slice())
+    status_over(rt, threads, rt.alloc(), words.as_slice())
+}
+
+/// How the call that the words ask for ended: that of alerts where they are its words, else the server's run.
+fn status_over<R: Threads + Wait + Sync>(
+    rt: &HostRuntime,
+    threads: &R,
+    alloc: Global,
+    words: &[Text],
+) -> Result<Status, OutOfMemory>
+    ensures { IfOk result (λ status. IsAlertsStatus words.now status ⊎ IsRunStatus words.now status) }
+{
+    match alerts_plan(alloc, words) {
+        Ok(plan) => alerting::run(rt, alloc, words, &plan),
+        Err(PlanError::Usage) => running::run(rt, threads, alloc, words),
+        Err(PlanError::OutOfMemory) => Err(OutOfMemory),
+    }
 }
