@@ -78,9 +78,9 @@ fn first<D: Disk>(
     journal: &mut Journal<D>,
 ) -> Result<Held, FrontError>
     requires read { journal.old.state ≡ state.Ready }
-    requires journaled { HasJournaled D.bytes D.images journal.old [] (journal.old.at + 1) }
+    requires journaled { HasJournaled D.tells journal.old [] (journal.old.at + 1) }
     ensures made { IfOk result (λ h. h ≡ start ready.now.text [] (journal.old.at + 1)) }
-    ensures journaled { IfOk result (λ h. HasJournaled D.bytes D.images journal.new h.entries h.bytes) }
+    ensures journaled { IfOk result (λ h. HasJournaled D.tells journal.new h.entries h.bytes) }
     ensures state { IfOk result (λ h. IsReady journal.old journal.new) }
     ensures full { IsTrue (passes_with_all journal.old (first_group ready.now.text ∷ []))
         → IfOk result (λ _. ⊥) × IfErr result (λ e. e ≢ error.DiskFault) }
@@ -89,12 +89,12 @@ fn first<D: Disk>(
         × (entries ≡ entries_with_all journal.old (first_group ready.now.text ∷ []))
         × (bytes ≡ bytes_with_all journal.old (first_group ready.now.text ∷ []))) }
     ensures fault { IfErr result (λ e. e ≡ error.DiskFault
-        → Rose (D.faults journal.old.disk) (D.faults journal.new.disk)) }
+        → Rose (D.tells journal.old.disk).faults (D.tells journal.new.disk).faults) }
     ensures same { IfErr result (λ e. e ≢ error.DiskFault → journal.new ≡ journal.old) }
-    ensures later { D.faults journal.old.disk ≤ D.faults journal.new.disk }
-    ensures told { is_some (D.bytes journal.new.disk) ≡ is_some (D.bytes journal.old.disk) }
-    ensures any_moment { IfSome (D.bytes journal.old.disk)
-        (λ _. LeavesOnly D.moment D.images_since journal.old.disk journal.new.disk
+    ensures later { (D.tells journal.old.disk).faults ≤ (D.tells journal.new.disk).faults }
+    ensures told { is_some (D.tells journal.new.disk).bytes ≡ is_some (D.tells journal.old.disk).bytes }
+    ensures any_moment { IfSome (D.tells journal.old.disk).bytes
+        (λ _. LeavesOnly (D.tells journal.old.disk) (D.tells journal.new.disk)
         (KeepsEither [] (start ready.now.text [] (journal.old.at + 1)).entries)) }
 {
     let mut block = Block::new(alloc)?;
@@ -115,9 +115,9 @@ pub(crate) fn open<D: Disk>(
     kept: Many<Numbered>,
 ) -> Result<Held, (Many<Numbered>, FrontError)>
     requires read { journal.old.state ≡ state.Ready }
-    requires journaled { HasJournaled D.bytes D.images journal.old kept (journal.old.at + 1) }
+    requires journaled { HasJournaled D.tells journal.old kept (journal.old.at + 1) }
     ensures made { IfOk result (λ h. h ≡ start ready.now.text kept (journal.old.at + 1)) }
-    ensures journaled { IfOk result (λ h. HasJournaled D.bytes D.images journal.new h.entries h.bytes) }
+    ensures journaled { IfOk result (λ h. HasJournaled D.tells journal.new h.entries h.bytes) }
     ensures state { IfOk result (λ h. IsReady journal.old journal.new) }
     ensures back { IfErr result (λ u. u.0 ≡ kept) }
     ensures full { kept ≡ [] → IsTrue (passes_with_all journal.old (first_group ready.now.text ∷ []))
@@ -127,12 +127,12 @@ pub(crate) fn open<D: Disk>(
         × (entries ≡ entries_with_all journal.old (first_group ready.now.text ∷ []))
         × (bytes ≡ bytes_with_all journal.old (first_group ready.now.text ∷ []))) }
     ensures fault { IfErr result (λ u. u.1 ≡ error.DiskFault → (kept ≡ [])
-        × Rose (D.faults journal.old.disk) (D.faults journal.new.disk)) }
+        × Rose (D.tells journal.old.disk).faults (D.tells journal.new.disk).faults) }
     ensures same { IfErr result (λ u. u.1 ≢ error.DiskFault → journal.new ≡ journal.old) }
-    ensures later { D.faults journal.old.disk ≤ D.faults journal.new.disk }
-    ensures told { is_some (D.bytes journal.new.disk) ≡ is_some (D.bytes journal.old.disk) }
-    ensures any_moment { IfSome (D.bytes journal.old.disk)
-        (λ _. LeavesOnly D.moment D.images_since journal.old.disk journal.new.disk
+    ensures later { (D.tells journal.old.disk).faults ≤ (D.tells journal.new.disk).faults }
+    ensures told { is_some (D.tells journal.new.disk).bytes ≡ is_some (D.tells journal.old.disk).bytes }
+    ensures any_moment { IfSome (D.tells journal.old.disk).bytes
+        (λ _. LeavesOnly (D.tells journal.old.disk) (D.tells journal.new.disk)
         (KeepsEither kept (start ready.now.text kept (journal.old.at + 1)).entries)) }
 {
     if !kept.as_slice().is_empty() {

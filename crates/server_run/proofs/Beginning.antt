@@ -8,7 +8,7 @@ use Rattle.zbx_types.specs.declared.conf.Conf.{Conf}
 use Rattle.zbx_types.specs.declared.entries.Entry.{Entry}
 use Rattle.zbx_types.specs.declared.entries.Numbered.{Numbered}
 use Rattle.outside.specs.Causes.{Rose}
-use Rattle.outside.specs.Disk.{LeavesOnly}
+use Rattle.outside.specs.Disk.{DiskTells, LeavesOnly}
 use Rattle.intake_journal.specs.Block.{entries_with_all, bytes_with_all, passes_with_all, opened_bytes}
 use Rattle.intake_journal.specs.Bytes.{entries_bytes}
 use Rattle.intake_journal.specs.Kept.{longest_journal, kept, groups_of}
@@ -78,24 +78,24 @@ keeps_numbered b groups is = ap (option_map numbered_of) is
 
 -- ---- a journal of groups that are accepted
 
-module _ {D : Type 0} (bytes : D → Option (List ℕ)) (images : D → List ℕ → Type 0) where
+module _ {D : Type 0} (tells : D → DiskTells) where
   keeps_some : (o : Option (List ℕ)) (groups : List Group) → IfSome o (λ c. groups_of (kept c) ≡ Some groups) → IfSome o (Keeps (numbered_of groups))
   keeps_some None groups is = tt
   keeps_some (Some b) groups is = keeps_numbered b groups is
 
   -- a journal of groups has their entries
-  pub has_journaled : (journal : Journaled D) (groups : List Group) (entries : List Numbered) → entries ≡ numbered_of groups → HasGroups bytes images journal groups → HasJournaled bytes images journal entries (journal.at + 1)
-  has_journaled journal groups entries is has = subst (λ es. HasJournaled bytes images journal es (journal.at + 1)) (sym is) (record {
+  pub has_journaled : (journal : Journaled D) (groups : List Group) (entries : List Numbered) → entries ≡ numbered_of groups → HasGroups tells journal groups → HasJournaled tells journal entries (journal.at + 1)
+  has_journaled journal groups entries is has = subst (λ es. HasJournaled tells journal es (journal.at + 1)) (sym is) (record {
     count = has.count ∙ count_numbered groups;
     size_is = refl;
-    keeps = keeps_some (bytes journal.disk) groups has.keeps;
+    keeps = keeps_some (tells journal.disk).bytes groups has.keeps;
     durable = has.durable;
   })
 
 -- ---- what is begun behind it
 
-module _ {D : Type 0} (bytes : D → Option (List ℕ)) (images : D → List ℕ → Type 0) (moment : D → ℕ) (since : D → ℕ → List ℕ → Type 0) (faults : D → ℕ)
-    (conf : Conf) (most : ℕ) (old : D) (journal : Journaled D) (kept : List Numbered) (t : IsTakenUp bytes images moment since faults conf most old journal kept) where
+module _ {D : Type 0} (tells : D → DiskTells)
+    (conf : Conf) (most : ℕ) (old : D) (journal : Journaled D) (kept : List Numbered) (t : IsTakenUp tells conf most old journal kept) where
   abbrev begins : List Numbered
   begins = (start conf.text kept (journal.at + 1)).entries
 
@@ -104,24 +104,24 @@ module _ {D : Type 0} (bytes : D → Option (List ℕ)) (images : D → List ℕ
 
   -- a crash up to there
   left_so_far : (new : D) (A : List Numbered → Type 0) → A (numbered_of t.groups) → A (opening_entries conf t.groups)
-      → IfSome (bytes journal.disk) (λ _. LeavesOnly moment since journal.disk new (KeepsEither kept begins))
-      → IfSome (bytes old) (λ _. LeavesOnly moment since old new (λ c. KeepsAsOneOf (images old) c ⊎ KeepsSome A c))
-  left_so_far new A of_kept of_begun left = joined (bytes old) (bytes journal.disk) t.goes_on.told t.goes_on.moments left
+      → IfSome (tells journal.disk).bytes (λ _. LeavesOnly (tells journal.disk) (tells new) (KeepsEither kept begins))
+      → IfSome (tells old).bytes (λ _. LeavesOnly (tells old) (tells new) (λ c. KeepsAsOneOf (tells old) c ⊎ KeepsSome A c))
+  left_so_far new A of_kept of_begun left = joined (tells old).bytes (tells journal.disk).bytes t.goes_on.told t.goes_on.moments left
     where
-      among : (c : List ℕ) → KeepsEither kept begins c → KeepsAsOneOf (images old) c ⊎ KeepsSome A c
+      among : (c : List ℕ) → KeepsEither kept begins c → KeepsAsOneOf (tells old) c ⊎ KeepsSome A c
       among c (inl keeps) = inr (numbered_of t.groups, of_kept, subst (λ es. Keeps es c) t.kept_are keeps)
       among c (inr keeps) = inr (opening_entries conf t.groups, of_begun, subst (λ es. Keeps es c) (ap (λ (i : Intake). i.entries) same_intake) keeps)
 
-      joined : (o o' : Option (List ℕ)) → is_some o' ≡ is_some o → IfSome o (λ _. LeavesOnly moment since old journal.disk (KeepsAsOneOf (images old)))
-          → IfSome o' (λ _. LeavesOnly moment since journal.disk new (KeepsEither kept begins)) → IfSome o (λ _. LeavesOnly moment since old new (λ c. KeepsAsOneOf (images old) c ⊎ KeepsSome A c))
+      joined : (o o' : Option (List ℕ)) → is_some o' ≡ is_some o → IfSome o (λ _. LeavesOnly (tells old) (tells journal.disk) (KeepsAsOneOf (tells old)))
+          → IfSome o' (λ _. LeavesOnly (tells journal.disk) (tells new) (KeepsEither kept begins)) → IfSome o (λ _. LeavesOnly (tells old) (tells new) (λ c. KeepsAsOneOf (tells old) c ⊎ KeepsSome A c))
       joined None o' told l l' = tt
       joined (Some b) None told l l' = absurd (cc)
-      joined (Some b) (Some b') told l l' = and_then moment since old journal.disk new (λ c. KeepsAsOneOf (images old) c ⊎ KeepsSome A c) (KeepsEither kept begins) (leaves_more bytes images moment since faults old journal.disk _ _ (λ c k. inl k) l) l' among
+      joined (Some b) (Some b') told l l' = and_then (tells old) (tells journal.disk) (tells new) (λ c. KeepsAsOneOf (tells old) c ⊎ KeepsSome A c) (KeepsEither kept begins) (leaves_more (tells old) (tells journal.disk) _ _ (λ c k. inl k) l) l' among
 
-  pub has_begun : (made : Fronted D) → made.intake ≡ start conf.text kept (journal.at + 1) → (IsFull (log_of kept) → Fits conf (log_of kept) → IsSound conf made.intake) → IsIdle made → IsKept bytes images made.journal.disk made.intake.entries
-      → IsReady journal made.journal → faults journal.disk ≤ faults made.journal.disk → is_some (bytes made.journal.disk) ≡ is_some (bytes journal.disk)
-      → IfSome (bytes journal.disk) (λ _. LeavesOnly moment since journal.disk made.journal.disk (KeepsEither kept begins))
-      → HasBegun bytes images moment since faults conf most old made
+  pub has_begun : (made : Fronted D) → made.intake ≡ start conf.text kept (journal.at + 1) → (IsFull (log_of kept) → Fits conf (log_of kept) → IsSound conf made.intake) → IsIdle made → IsKept (tells made.journal.disk) made.intake.entries
+      → IsReady journal made.journal → (tells journal.disk).faults ≤ (tells made.journal.disk).faults → is_some (tells made.journal.disk).bytes ≡ is_some (tells journal.disk).bytes
+      → IfSome (tells journal.disk).bytes (λ _. LeavesOnly (tells journal.disk) (tells made.journal.disk) (KeepsEither kept begins))
+      → HasBegun tells conf most old made
   has_begun made is sound idle durable ready later told left =
       let intake_is = is ∙ same_intake in
       let entries_are : made.intake.entries ≡ opening_entries conf t.groups = ap (λ (i : Intake). i.entries) intake_is in
@@ -145,7 +145,7 @@ module _ {D : Type 0} (bytes : D → Option (List ℕ)) (images : D → List ℕ
 
   -- with no groups the journal has 9 bytes and no entry
   full_at_first : (entries count : ℕ) → kept ≡ [] → IsTrue (passes_with_all journal (first_group conf.text ∷ [])) → entries ≡ entries_with_all journal (first_group conf.text ∷ [])
-      → count ≡ bytes_with_all journal (first_group conf.text ∷ []) → FoundGroups (bytes old) [] × IsFullAtFirst most conf entries count
+      → count ≡ bytes_with_all journal (first_group conf.text ∷ []) → FoundGroups (tells old).bytes [] × IsFullAtFirst most conf entries count
   full_at_first entries count none passes is_entries is_bytes =
       let no_groups : t.groups ≡ [] = none_accepted conf t.groups t.accepted (sym t.kept_are ∙ none) in
       let no_entries : journal.entries ≡ 0 = t.has.count ∙ ap count_entries no_groups in
@@ -153,7 +153,7 @@ module _ {D : Type 0} (bytes : D → Option (List ℕ)) (images : D → List ℕ
       let long = opened_length (first_group conf.text) [] in
       let one : entries ≡ 1 = omega (arith, is_entries, no_entries) in
       let all : journal.at + length (opened_bytes (first_group conf.text ∷ [])) + 1 ≡ 9 + length (entries_bytes (first_group conf.text)) + 9 = omega (arith, nine, long) in (
-        subst (FoundGroups (bytes old)) no_groups t.found,
+        subst (FoundGroups (tells old).bytes) no_groups t.found,
         (
           one,
           is_bytes ∙ ap (λ n. min n (2 ^ 64 - 1)) all,
@@ -167,23 +167,23 @@ module _ {D : Type 0} (bytes : D → Option (List ℕ)) (images : D → List ℕ
   pub turned_at_front : (held : ℕ) (new : D) (entries : List Numbered) (e : FrontError) → entries ≡ kept
       → ((a b : ℕ) → e ≡ front.Full a b → (kept ≡ []) × IsTrue (passes_with_all journal (first_group conf.text ∷ []))
       × (a ≡ entries_with_all journal (first_group conf.text ∷ [])) × (b ≡ bytes_with_all journal (first_group conf.text ∷ [])))
-      → (e ≡ front.DiskFault → (kept ≡ []) × Rose (faults journal.disk) (faults new)) → faults journal.disk ≤ faults new → is_some (bytes new) ≡ is_some (bytes journal.disk)
-      → IfSome (bytes journal.disk) (λ _. LeavesOnly moment since journal.disk new (KeepsEither kept begins))
-      → TurnedAway bytes images moment since faults conf most held old new entries (status_for e)
+      → (e ≡ front.DiskFault → (kept ≡ []) × Rose (tells journal.disk).faults (tells new).faults) → (tells journal.disk).faults ≤ (tells new).faults → is_some (tells new).bytes ≡ is_some (tells journal.disk).bytes
+      → IfSome (tells journal.disk).bytes (λ _. LeavesOnly (tells journal.disk) (tells new) (KeepsEither kept begins))
+      → TurnedAway conf most held (tells old) (tells new) entries (status_for e)
   turned_at_front held new entries e back full fault later told left = record {
     told = told ∙ t.goes_on.told;
     later = omega (arith, t.goes_on.later, later);
     why = why e full fault;
     has = inr (t.groups, t.found, inl (back ∙ t.kept_are));
-    left = left_so_far new (FoundEntries (bytes old) conf) (t.groups, t.found, inl refl) (t.groups, t.found, inr refl) left;
+    left = left_so_far new (FoundEntries (tells old).bytes conf) (t.groups, t.found, inl refl) (t.groups, t.found, inr refl) left;
   }
     where
       why : (e : FrontError)
           → ((a b : ℕ) → e ≡ front.Full a b → (kept ≡ []) × IsTrue (passes_with_all journal (first_group conf.text ∷ []))
           × (a ≡ entries_with_all journal (first_group conf.text ∷ [])) × (b ≡ bytes_with_all journal (first_group conf.text ∷ [])))
-          → (e ≡ front.DiskFault → (kept ≡ []) × Rose (faults journal.disk) (faults new)) → Unopened conf most (bytes old) (faults old) (faults new) held (status_for e)
+          → (e ≡ front.DiskFault → (kept ≡ []) × Rose (tells journal.disk).faults (tells new).faults) → Unopened conf most (tells old).bytes (tells old).faults (tells new).faults held (status_for e)
       why (front.Full a b) full fault = let f = full a b refl in full_at_first a b f.0 f.1 f.2 f.3
-      why front.DiskFault full fault = rose_since (faults old) (faults journal.disk) (faults new) t.goes_on.later (fault refl).1
+      why front.DiskFault full fault = rose_since (tells old).faults (tells journal.disk).faults (tells new).faults t.goes_on.later (fault refl).1
       why front.OutOfMemory full fault = tt
 
 -- ---- what the outbox lacks
@@ -210,36 +210,36 @@ rejected_unopened : (conf : Conf) (most : ℕ) (file : Option (List ℕ)) (f f' 
 rejected_unopened conf most file f f' held [] s found none = absurd none
 rejected_unopened conf most file f f' held (g ∷ gs) s found why = rejected_for_some conf most file f f' held (g ∷ gs) (kept_text (g ∷ gs)) s found why why
 
-module _ {D : Type 0} (bytes : D → Option (List ℕ)) (images : D → List ℕ → Type 0) (moment : D → ℕ) (since : D → ℕ → List ℕ → Type 0) (faults : D → ℕ) (conf : Conf) (most held : ℕ) (old new : D) (on : GoesOn bytes images moment since faults old new) where
-  turned_back : (entries : List Numbered) (s : Status) → (entries ≡ []) ⊎ FoundEntries (bytes old) conf entries → Unopened conf most (bytes old) (faults old) (faults new) held s
-      → TurnedAway bytes images moment since faults conf most held old new entries s
-  turned_back entries s has why = record { told = on.told; later = on.later; why = why; has = has; left = more (bytes old) on.moments }
+module _ {D : Type 0} (tells : D → DiskTells) (conf : Conf) (most held : ℕ) (old new : D) (on : GoesOn (tells old) (tells new)) where
+  turned_back : (entries : List Numbered) (s : Status) → (entries ≡ []) ⊎ FoundEntries (tells old).bytes conf entries → Unopened conf most (tells old).bytes (tells old).faults (tells new).faults held s
+      → TurnedAway conf most held (tells old) (tells new) entries s
+  turned_back entries s has why = record { told = on.told; later = on.later; why = why; has = has; left = more (tells old).bytes on.moments }
     where
-      more : (o : Option (List ℕ)) → IfSome o (λ _. LeavesOnly moment since old new (KeepsAsOneOf (images old)))
-          → IfSome o (λ _. LeavesOnly moment since old new (λ c. KeepsAsOneOf (images old) c ⊎ KeepsSome (FoundEntries (bytes old) conf) c))
+      more : (o : Option (List ℕ)) → IfSome o (λ _. LeavesOnly (tells old) (tells new) (KeepsAsOneOf (tells old)))
+          → IfSome o (λ _. LeavesOnly (tells old) (tells new) (λ c. KeepsAsOneOf (tells old) c ⊎ KeepsSome (FoundEntries (tells old).bytes conf) c))
       more None l = tt
-      more (Some b) l = leaves_more bytes images moment since faults old new _ _ (λ c k. inl k) l
+      more (Some b) l = leaves_more (tells old) (tells new) _ _ (λ c k. inl k) l
 
-  pub turned_unread : (s : Status) → IsUnread (bytes old) (faults old) (faults new) s → TurnedAway bytes images moment since faults conf most held old new [] s
-  turned_unread s why = turned_back [] s (inl refl) (unread_unopened conf most (bytes old) (faults old) (faults new) held s why)
+  pub turned_unread : (s : Status) → IsUnread (tells old).bytes (tells old).faults (tells new).faults s → TurnedAway conf most held (tells old) (tells new) [] s
+  turned_unread s why = turned_back [] s (inl refl) (unread_unopened conf most (tells old).bytes (tells old).faults (tells new).faults held s why)
 
-  pub turned_spent : TurnedAway bytes images moment since faults conf most held old new [] status.OutOfMemory
+  pub turned_spent : TurnedAway conf most held (tells old) (tells new) [] status.OutOfMemory
   turned_spent = turned_back [] status.OutOfMemory (inl refl) tt
 
-  pub turned_rejected : (groups : List Group) (entries : List Numbered) (s : Status) → FoundGroups (bytes old) groups → IsRejected conf groups s → entries ≡ numbered_of groups
-      → TurnedAway bytes images moment since faults conf most held old new entries s
-  turned_rejected groups entries s found why is = turned_back entries s (inr (groups, found, inl is)) (rejected_unopened conf most (bytes old) (faults old) (faults new) held groups s found why)
+  pub turned_rejected : (groups : List Group) (entries : List Numbered) (s : Status) → FoundGroups (tells old).bytes groups → IsRejected conf groups s → entries ≡ numbered_of groups
+      → TurnedAway conf most held (tells old) (tells new) entries s
+  turned_rejected groups entries s found why is = turned_back entries s (inr (groups, found, inl is)) (rejected_unopened conf most (tells old).bytes (tells old).faults (tells new).faults held groups s found why)
 
   -- a journal that was recovered, of which this is said
-  pub turned_judged : (journal : Journaled D) (numbering : Numbering) (s : Status) → new ≡ journal.disk → IsRecovered bytes images conf old journal numbering
-      → ((groups : List Group) → IsNumbered conf groups numbering → IsRejected conf groups s) → TurnedAway bytes images moment since faults conf most held old new numbering.entries s
+  pub turned_judged : (journal : Journaled D) (numbering : Numbering) (s : Status) → new ≡ journal.disk → IsRecovered tells conf old journal numbering
+      → ((groups : List Group) → IsNumbered conf groups numbering → IsRejected conf groups s) → TurnedAway conf most held (tells old) (tells new) numbering.entries s
   turned_judged journal numbering s same r why = turned_rejected r.groups numbering.entries s r.found (why r.groups r.numbered) r.numbered.entries_are
 
 -- one that is taken up
-pub taken_up : {D : Type 0} (bytes : D → Option (List ℕ)) (images : D → List ℕ → Type 0) (moment : D → ℕ) (since : D → ℕ → List ℕ → Type 0) (faults : D → ℕ) (conf : Conf) (most : ℕ) (old : D) (journal : Journaled D) (numbering : Numbering)
-    → IsRecovered bytes images conf old journal numbering → (journal.max_entries ≡ most) × (journal.max_bytes ≡ longest_journal) → GoesOn bytes images moment since faults old journal.disk
-    → ((groups : List Group) → IsNumbered conf groups numbering → IsAccepted conf groups) → IsTakenUp bytes images moment since faults conf most old journal numbering.entries
-taken_up bytes images moment since faults conf most old journal numbering r limits on accepted = record {
+pub taken_up : {D : Type 0} (tells : D → DiskTells) (conf : Conf) (most : ℕ) (old : D) (journal : Journaled D) (numbering : Numbering)
+    → IsRecovered tells conf old journal numbering → (journal.max_entries ≡ most) × (journal.max_bytes ≡ longest_journal) → GoesOn (tells old) (tells journal.disk)
+    → ((groups : List Group) → IsNumbered conf groups numbering → IsAccepted conf groups) → IsTakenUp tells conf most old journal numbering.entries
+taken_up tells conf most old journal numbering r limits on accepted = record {
   groups = r.groups;
   found = r.found;
   accepted = accepted r.groups r.numbered;

@@ -4,6 +4,7 @@ use Rattle.std.specs.Prelude.{Ok, IfSome, IsSomeAnd, is_some, chars}
 use Rattle.zbx_types.specs.declared.causes.Cause.{Cause}
 use Rattle.zbx_types.specs.declared.conf.Conf.{Conf}
 use Rattle.zbx_types.specs.declared.entries.Numbered.{Numbered}
+use Rattle.outside.specs.Disk.{DiskTells}
 use Rattle.outside.specs.Causes.{Rose}
 use Rattle.outside.specs.Tells.{WireTells}
 use Rattle.config_templates.specs.Flat.{flat_of}
@@ -119,22 +120,22 @@ module _ (words : List (List ℕ)) (source file : Option (List ℕ)) (faults fau
       let bars' : Bars f.conf plan.max_entries (Some b) held t = subst (λ (c : Conf). Bars c plan.max_entries (Some b) held t) (sym same) bars in
       not_barred f.conf plan.max_entries held b some (short_text words source f.plan f.conf f.configured) f.groups t (found_same file b f.groups file_is f.found) f.accepted f.enough bars'
 
-module _ {D : Type 0} (bytes : D → Option (List ℕ)) (images : D → List ℕ → Type 0) (moment : D → ℕ) (since : D → ℕ → List ℕ → Type 0) (faults : D → ℕ) (also : List ℕ → Type 0) (old new : D)
+module _ (also : List ℕ → Type 0) (old new : DiskTells)
     (words : List (List ℕ)) (source file : Option (List ℕ)) (held : ℕ) (wire wire' : WireTells) (entries : List Numbered) where
   abbrev doing : Doing
-  doing = Journals bytes images moment since faults also old new
+  doing = Journals also old new
 
   -- a run that ended by a fault of its disk
-  pub disk_fault : (s : Status) → s ≡ status.DiskFault → Followed words source file held doing wire wire' s entries → Rose (faults old) (faults new)
+  pub disk_fault : (s : Status) → s ≡ status.DiskFault → Followed words source file held doing wire wire' s entries → Rose old.faults new.faults
   disk_fault s is f =
       let g : Followed words source file held doing wire wire' status.DiskFault entries = subst (λ t. Followed words source file held doing wire wire' t entries) is f in
       g.finished.journaled.fault g.finished.ends.0
 
   -- a run whose disk didn't fail leaves its entries
-  pub keeps_at_end : (s : Status) → Followed words source file held doing wire wire' s entries → (Rose (faults old) (faults new) → ⊥) → IfSome (bytes new) (Keeps entries)
-  keeps_at_end s f none = first (bytes new) (f.finished.journaled.kept (λ is. none (f.finished.journaled.fault is)))
+  pub keeps_at_end : (s : Status) → Followed words source file held doing wire wire' s entries → (Rose old.faults new.faults → ⊥) → IfSome new.bytes (Keeps entries)
+  keeps_at_end s f none = first new.bytes (f.finished.journaled.kept (λ is. none (f.finished.journaled.fault is)))
     where
-      first : (o : Option (List ℕ)) → IfSome o (λ b. Keeps entries b × ((c : List ℕ) → images new c → Keeps entries c)) → IfSome o (Keeps entries)
+      first : (o : Option (List ℕ)) → IfSome o (λ b. Keeps entries b × ((c : List ℕ) → new.images c → Keeps entries c)) → IfSome o (Keeps entries)
       first None k = tt
       first (Some b) k = k.0
 

@@ -12,7 +12,7 @@ use Rattle.zbx_types.specs.declared.entries.Entry.{Entry}
 use Rattle.zbx_types.specs.declared.entries.Entry.TheVariants.{Config, Value, Tick}
 use Rattle.zbx_types.specs.declared.entries.Numbered.{Numbered}
 use Rattle.outside.specs.Causes.{Rose}
-use Rattle.outside.specs.Disk.{LeavesOnly}
+use Rattle.outside.specs.Disk.{DiskTells, IsLawful, LeavesOnly}
 use Rattle.outside.specs.Tells.{SinkTells, WireTells}
 use Rattle.outside.specs.declared.event.WireEvent.{WireEvent}
 use Rattle.config_templates.specs.Flat.{flat_of}
@@ -108,54 +108,53 @@ turned words source faults faults' file disk_faults disk_faults' held plan conf 
 turned words source faults faults' file disk_faults disk_faults' held plan conf (status.Full entries bytes) c why = (plan, conf, c, why)
 turned words source faults faults' file disk_faults disk_faults' held plan conf _ c none = absurd none
 
-module _ {D : Type 0} (bytes : D → Option (List ℕ)) (images : D → List ℕ → Type 0) (moment : D → ℕ) (since : D → ℕ → List ℕ → Type 0) (faults : D → ℕ) where
-  -- a disk that was left alone
-  pub left_alone : (A : List Numbered → Type 0) (disk : D) → ((c : List ℕ) → since disk (moment disk) c → images disk c)
-      → IfSome (bytes disk) (λ _. LeavesOnly moment since disk disk (λ c. KeepsAsOneOf (images disk) c ⊎ KeepsSome A c))
-  left_alone A disk only_now = here (bytes disk)
-    where
-      here : (o : Option (List ℕ)) → IfSome o (λ _. LeavesOnly moment since disk disk (λ c. KeepsAsOneOf (images disk) c ⊎ KeepsSome A c))
-      here None = tt
-      here (Some b) = record { later = omega arith; each = λ c left. inl (c, only_now c left, refl); before = λ t c le left. inl left }
+-- a disk that was left alone
+pub left_alone : (A : List Numbered → Type 0) (disk : DiskTells) → IsLawful disk
+    → IfSome disk.bytes (λ _. LeavesOnly disk disk (λ c. KeepsAsOneOf disk c ⊎ KeepsSome A c))
+left_alone A disk lawful = here disk.bytes
+  where
+    here : (o : Option (List ℕ)) → IfSome o (λ _. LeavesOnly disk disk (λ c. KeepsAsOneOf disk c ⊎ KeepsSome A c))
+    here None = tt
+    here (Some b) = record { later = omega arith; each = λ c left. inl (c, lawful.only_now c left, refl); before = λ t c le left. inl left }
 
-  pub unbegun_alone : (words : List (List ℕ)) (source : Option (List ℕ)) (source_faults source_faults' held : ℕ) (disk : D) (s : Status) → ((c : List ℕ) → since disk (moment disk) c → images disk c)
-      → Unconfigured words source source_faults source_faults' s → Unbegun bytes images moment since faults words source source_faults source_faults' held disk disk [] s
-  unbegun_alone words source source_faults source_faults' held disk s only_now why = record {
-    why = not_configured words source source_faults source_faults' (bytes disk) (faults disk) (faults disk) held s why;
-    told = refl;
-    later = omega arith;
-    has = inl refl;
-    left = left_alone (FoundBy words source (bytes disk)) disk only_now;
-  }
+pub unbegun_alone : (words : List (List ℕ)) (source : Option (List ℕ)) (source_faults source_faults' held : ℕ) (disk : DiskTells) (s : Status) → IsLawful disk
+    → Unconfigured words source source_faults source_faults' s → Unbegun words source source_faults source_faults' held disk disk [] s
+unbegun_alone words source source_faults source_faults' held disk s lawful why = record {
+  why = not_configured words source source_faults source_faults' disk.bytes disk.faults disk.faults held s why;
+  told = refl;
+  later = omega arith;
+  has = inl refl;
+  left = left_alone (FoundBy words source disk.bytes) disk lawful;
+}
 
-  pub unbegun_turned : (words : List (List ℕ)) (source source' : Option (List ℕ)) (source_faults source_faults' held turns most : ℕ) (conf : Conf) (old new : D) (entries : List Numbered) (s : Status)
-      → IsConfigured words source source' turns most conf → TurnedAway bytes images moment since faults conf most held old new entries s
-      → Unbegun bytes images moment since faults words source source_faults source_faults' held old new entries s
-  unbegun_turned words source source' source_faults source_faults' held turns most conf old new entries s c t = record {
-    why = turned words source source_faults source_faults' (bytes old) (faults old) (faults new) held c.plan conf s c.configured (subst (λ n. Unopened conf n (bytes old) (faults old) (faults new) held s) c.most_is t.why);
-    told = t.told;
-    later = t.later;
-    has = ⊎_elim (λ none. inl none) (λ found. inr (by found)) t.has;
-    left = more (bytes old) t.left;
-  }
-    where
-      by : {es : List Numbered} → FoundEntries (bytes old) conf es → FoundBy words source (bytes old) es
-      by found = (c.plan, conf, c.configured, found)
+pub unbegun_turned : (words : List (List ℕ)) (source source' : Option (List ℕ)) (source_faults source_faults' held turns most : ℕ) (conf : Conf) (old new : DiskTells) (entries : List Numbered) (s : Status)
+    → IsConfigured words source source' turns most conf → TurnedAway conf most held old new entries s
+    → Unbegun words source source_faults source_faults' held old new entries s
+unbegun_turned words source source' source_faults source_faults' held turns most conf old new entries s c t = record {
+  why = turned words source source_faults source_faults' old.bytes old.faults new.faults held c.plan conf s c.configured (subst (λ n. Unopened conf n old.bytes old.faults new.faults held s) c.most_is t.why);
+  told = t.told;
+  later = t.later;
+  has = ⊎_elim (λ none. inl none) (λ found. inr (by found)) t.has;
+  left = more old.bytes t.left;
+}
+  where
+    by : {es : List Numbered} → FoundEntries old.bytes conf es → FoundBy words source old.bytes es
+    by found = (c.plan, conf, c.configured, found)
 
-      more : (o : Option (List ℕ)) → IfSome o (λ _. LeavesOnly moment since old new (λ f. KeepsAsOneOf (images old) f ⊎ KeepsSome (FoundEntries (bytes old) conf) f))
-          → IfSome o (λ _. LeavesOnly moment since old new (λ f. KeepsAsOneOf (images old) f ⊎ KeepsSome (FoundBy words source (bytes old)) f))
-      more None l = tt
-      more (Some b) l = leaves_more bytes images moment since faults old new _ _ (λ f. ⊎_elim (λ k. inl k) (λ k. inr (k.0, by k.1, k.2))) l
+    more : (o : Option (List ℕ)) → IfSome o (λ _. LeavesOnly old new (λ f. KeepsAsOneOf old f ⊎ KeepsSome (FoundEntries old.bytes conf) f))
+        → IfSome o (λ _. LeavesOnly old new (λ f. KeepsAsOneOf old f ⊎ KeepsSome (FoundBy words source old.bytes) f))
+    more None l = tt
+    more (Some b) l = leaves_more old new _ _ (λ f. ⊎_elim (λ k. inl k) (λ k. inr (k.0, by k.1, k.2))) l
 
-  pub opened : (words : List (List ℕ)) (source source' : Option (List ℕ)) (turns most : ℕ) (conf : Conf) (old : D) (made : Fronted D)
-      → IsConfigured words source source' turns most conf → HasBegun bytes images moment since faults conf most old made → Opened bytes images moment since faults words source source' old turns conf made
-  opened words source source' turns most conf old made c b = record {
-    plan = c.plan;
-    configured = c.configured;
-    turns_are = c.turns_are;
-    at_end = c.at_end;
-    begun = subst (λ n. HasBegun bytes images moment since faults conf n old made) c.most_is b;
-  }
+pub opened : {D : Type 0} (tells : D → DiskTells) (words : List (List ℕ)) (source source' : Option (List ℕ)) (turns most : ℕ) (conf : Conf) (old : D) (made : Fronted D)
+    → IsConfigured words source source' turns most conf → HasBegun tells conf most old made → Opened tells words source source' old turns conf made
+opened tells words source source' turns most conf old made c b = record {
+  plan = c.plan;
+  configured = c.configured;
+  turns_are = c.turns_are;
+  at_end = c.at_end;
+  begun = subst (λ n. HasBegun tells conf n old made) c.most_is b;
+}
 
 abbrev limits_at : ℕ → ℕ → Limits
 limits_at a b = record { max_entries = a; max_bytes = b; stop = 0 }
@@ -183,13 +182,13 @@ conf_of_groups conf (g ∷ gs) is accepted =
     let parts : numbered_of (g ∷ gs) ≡ numbered_from 1 (g.entries ++ flat_map (λ (h : Group). h.entries) gs) = ap (numbered_from 1) (flat_map-cons (λ (h : Group). h.entries) g gs) in
     ap conf_of_run (entries_any conf.text (numbered_of (g ∷ gs)) _ 0 ∙ ap (λ k. (start conf.text k 0).entries) parts) ∙ conf_in_entries conf g.entries _ is accepted.0
 
-module _ {D : Type 0} (bytes : D → Option (List ℕ)) (images : D → List ℕ → Type 0) (moment : D → ℕ) (since : D → ℕ → List ℕ → Type 0) (faults : D → ℕ) (words : List (List ℕ)) (source source' : Option (List ℕ)) where
-  module _ (turns : ℕ) (old : D) (conf : Conf) (made : Fronted D) (o : Opened bytes images moment since faults words source source' old turns conf made) where
+module _ {D : Type 0} (tells : D → DiskTells) (words : List (List ℕ)) (source source' : Option (List ℕ)) where
+  module _ (turns : ℕ) (old : D) (conf : Conf) (made : Fronted D) (o : Opened tells words source source' old turns conf made) where
     are : made.intake.entries ≡ opening_entries conf o.begun.groups
     are = ap (λ (i : Intake). i.entries) o.begun.intake_is
 
     -- the front with which a run begins that was opened
-    pub is_opened : (kept : List Numbered) → kept ≡ made.intake.entries → IsOpened bytes images conf kept made
+    pub is_opened : (kept : List Numbered) → kept ≡ made.intake.entries → IsOpened tells conf kept made
     is_opened kept same = record {
       going = o.begun.ready;
       idle = o.begun.idle;
@@ -204,36 +203,36 @@ module _ {D : Type 0} (bytes : D → Option (List ℕ)) (images : D → List ℕ
 
     -- a run that got no book didn't begin
     pub unbegun_held : (source_faults source_faults' held : ℕ) (kept : List Numbered) → kept ≡ made.intake.entries → (new : D) (entries : List Numbered) (s : Status) → IsHeldBack conf kept held made new entries s
-        → Unbegun bytes images moment since faults words source source_faults source_faults' held old new entries s
+        → Unbegun words source source_faults source_faults' held (tells old) (tells new) entries s
     unbegun_held source_faults source_faults' held kept same new entries s h =
         let begun = o.begun in
         record {
-          why = subst (λ d. Refuses words source source_faults source_faults' (bytes old) (faults old) (faults d) held s) (sym h.disk_is) (why s h.why);
-          told = subst (λ d. is_some (bytes d) ≡ is_some (bytes old)) (sym h.disk_is) begun.journaled.told;
-          later = subst (λ d. faults old ≤ faults d) (sym h.disk_is) begun.journaled.later;
-          has = inr (o.plan, conf, o.configured, subst (FoundEntries (bytes old) conf) (sym h.entries_are) (begun.groups, begun.found, inr are));
-          left = subst (λ d. IfSome (bytes old) (λ _. LeavesOnly moment since old d (λ c. KeepsAsOneOf (images old) c ⊎ KeepsSome (FoundBy words source (bytes old)) c))) (sym h.disk_is) (more (bytes old) begun.journaled.left);
+          why = subst (λ d. Refuses words source source_faults source_faults' (tells old).bytes (tells old).faults (tells d).faults held s) (sym h.disk_is) (why s h.why);
+          told = subst (λ d. is_some (tells d).bytes ≡ is_some (tells old).bytes) (sym h.disk_is) begun.journaled.told;
+          later = subst (λ d. (tells old).faults ≤ (tells d).faults) (sym h.disk_is) begun.journaled.later;
+          has = inr (o.plan, conf, o.configured, subst (FoundEntries (tells old).bytes conf) (sym h.entries_are) (begun.groups, begun.found, inr are));
+          left = subst (λ d. IfSome (tells old).bytes (λ _. LeavesOnly (tells old) (tells d) (λ c. KeepsAsOneOf (tells old) c ⊎ KeepsSome (FoundBy words source (tells old).bytes) c))) (sym h.disk_is) (more (tells old).bytes begun.journaled.left);
         }
       where
-        why : (s : Status) → IsAheadOf conf kept held s → Refuses words source source_faults source_faults' (bytes old) (faults old) (faults made.journal.disk) held s
+        why : (s : Status) → IsAheadOf conf kept held s → Refuses words source source_faults source_faults' (tells old).bytes (tells old).faults (tells made.journal.disk).faults held s
         why status.OutOfMemory ahead = tt
         why (status.OutboxAhead told lines) ahead =
             let size : lines ≡ length (opening_lines conf o.begun.groups) = ahead.1 ∙ ap (λ (l : List ℕ). length l) (kept_lines kept same) in
             (o.plan, conf, o.configured, (o.begun.groups, o.begun.found, (o.begun.accepted, ahead.0, size, omega (arith, ahead.2, ahead.0))))
         why _ none = absurd none
 
-        among : (es : List Numbered) → IsEither (numbered_of o.begun.groups) made.intake.entries es → FoundBy words source (bytes old) es
+        among : (es : List Numbered) → IsEither (numbered_of o.begun.groups) made.intake.entries es → FoundBy words source (tells old).bytes es
         among es is = (o.plan, conf, o.configured, (o.begun.groups, o.begun.found, ⊎_elim (λ kept. inl kept) (λ here. inr (here ∙ are)) is))
 
-        more : (b : Option (List ℕ)) → IfSome b (λ _. LeavesOnly moment since old made.journal.disk (λ c. KeepsAsOneOf (images old) c ⊎ KeepsSome (IsEither (numbered_of o.begun.groups) made.intake.entries) c))
-            → IfSome b (λ _. LeavesOnly moment since old made.journal.disk (λ c. KeepsAsOneOf (images old) c ⊎ KeepsSome (FoundBy words source (bytes old)) c))
+        more : (b : Option (List ℕ)) → IfSome b (λ _. LeavesOnly (tells old) (tells made.journal.disk) (λ c. KeepsAsOneOf (tells old) c ⊎ KeepsSome (IsEither (numbered_of o.begun.groups) made.intake.entries) c))
+            → IfSome b (λ _. LeavesOnly (tells old) (tells made.journal.disk) (λ c. KeepsAsOneOf (tells old) c ⊎ KeepsSome (FoundBy words source (tells old).bytes) c))
         more None l = tt
-        more (Some b) l = leaves_more bytes images moment since faults old made.journal.disk _ _ (λ c. ⊎_elim (λ p. inl p) (λ k. inr (k.0, among k.0 k.1, k.2))) l
+        more (Some b) l = leaves_more (tells old) (tells made.journal.disk) _ _ (λ c. ⊎_elim (λ p. inl p) (λ k. inr (k.0, among k.0 k.1, k.2))) l
 
     -- one that got its book took events
     pub followed : (held : ℕ) (kept : List Numbered) → kept ≡ made.intake.entries → held ≤ length (log_lines conf (log_of kept)) → (new : D) (entries : List Numbered) (wire wire' : WireTells) (s : Status)
-        → Finished (limits_of made.journal 0) conf kept made.intake entries turns (Journals bytes images moment since faults (λ c. ⊥) made.journal.disk new) wire wire' (course_of s).ending
-        → Followed words source (bytes old) held (Journals bytes images moment since faults (KeepsAsOneOf (images old)) old new) wire wire' s entries
+        → Finished (limits_of made.journal 0) conf kept made.intake entries turns (Journals (λ c. ⊥) (tells made.journal.disk) (tells new)) wire wire' (course_of s).ending
+        → Followed words source (tells old).bytes held (Journals (KeepsAsOneOf (tells old)) (tells old) (tells new)) wire wire' s entries
     followed held kept same enough new entries wire wire' s f =
         let begun = o.begun in
         let limits : limits_of made.journal 0 ≡ limits_by o.plan = ap₂ (λ a b. limits_at a b) begun.limits.0 begun.limits.1 in
@@ -246,15 +245,15 @@ module _ {D : Type 0} (bytes : D → Option (List ℕ)) (images : D → List ℕ
           accepted = begun.accepted;
           enough = omega (arith, enough, ap (λ (l : List ℕ). length l) (kept_lines kept same));
           finished =
-              subst (λ (i : Intake). Finished (limits_by o.plan) conf (numbered_of begun.groups) i entries o.plan.turns (Journals bytes images moment since faults (KeepsAsOneOf (images old)) old new) wire wire' (course_of s).ending) begun.intake_is
-              (subst (λ n. Finished (limits_by o.plan) conf (numbered_of begun.groups) made.intake entries n (Journals bytes images moment since faults (KeepsAsOneOf (images old)) old new) wire wire' (course_of s).ending) o.turns_are
-              (subst (λ (l : Limits). Finished l conf (numbered_of begun.groups) made.intake entries turns (Journals bytes images moment since faults (KeepsAsOneOf (images old)) old new) wire wire' (course_of s).ending) limits
-              (over (limits_of made.journal 0) begun.groups begun.journaled (subst (λ es. Finished (limits_of made.journal 0) conf es made.intake entries turns (Journals bytes images moment since faults (λ c. ⊥) made.journal.disk new) wire wire' (course_of s).ending) same f))));
+              subst (λ (i : Intake). Finished (limits_by o.plan) conf (numbered_of begun.groups) i entries o.plan.turns (Journals (KeepsAsOneOf (tells old)) (tells old) (tells new)) wire wire' (course_of s).ending) begun.intake_is
+              (subst (λ n. Finished (limits_by o.plan) conf (numbered_of begun.groups) made.intake entries n (Journals (KeepsAsOneOf (tells old)) (tells old) (tells new)) wire wire' (course_of s).ending) o.turns_are
+              (subst (λ (l : Limits). Finished l conf (numbered_of begun.groups) made.intake entries turns (Journals (KeepsAsOneOf (tells old)) (tells old) (tells new)) wire wire' (course_of s).ending) limits
+              (over (limits_of made.journal 0) begun.groups begun.journaled (subst (λ es. Finished (limits_of made.journal 0) conf es made.intake entries turns (Journals (λ c. ⊥) (tells made.journal.disk) (tells new)) wire wire' (course_of s).ending) same f))));
         }
       where
-        over : (l : Limits) (groups : List Group) → Journals bytes images moment since faults (KeepsAsOneOf (images old)) old made.journal.disk (IsEither (numbered_of groups) made.intake.entries) None made.intake.entries
-            → Finished l conf made.intake.entries made.intake entries turns (Journals bytes images moment since faults (λ c. ⊥) made.journal.disk new) wire wire' (course_of s).ending
-            → Finished l conf (numbered_of groups) made.intake entries turns (Journals bytes images moment since faults (KeepsAsOneOf (images old)) old new) wire wire' (course_of s).ending
+        over : (l : Limits) (groups : List Group) → Journals (KeepsAsOneOf (tells old)) (tells old) (tells made.journal.disk) (IsEither (numbered_of groups) made.intake.entries) None made.intake.entries
+            → Finished l conf made.intake.entries made.intake entries turns (Journals (λ c. ⊥) (tells made.journal.disk) (tells new)) wire wire' (course_of s).ending
+            → Finished l conf (numbered_of groups) made.intake entries turns (Journals (KeepsAsOneOf (tells old)) (tells old) (tells new)) wire wire' (course_of s).ending
         over l groups j f = record {
           handled = f.handled;
           lost = f.lost;
@@ -266,7 +265,7 @@ module _ {D : Type 0} (bytes : D → Option (List ℕ)) (images : D → List ℕ
           ends = f.ends;
           refused_is = f.refused_is;
           shows = f.shows;
-          journaled = journals_on bytes images moment since faults (KeepsAsOneOf (images old)) old made.journal.disk new (IsEither (numbered_of groups) made.intake.entries)
+          journaled = journals_on (KeepsAsOneOf (tells old)) (tells old) (tells made.journal.disk) (tells new) (IsEither (numbered_of groups) made.intake.entries)
               (IsReached (refusing l f.refused) conf made.intake.entries made.intake f.handled) (IsReached (refusing l f.refused) conf (numbered_of groups) made.intake f.handled)
               None _ made.intake.entries entries (λ es is. ⊎_elim (λ kept. inl kept) (λ here. inr (inl ([], f.handled, refl, here))) is)
               (λ es is. ⊎_elim (λ here. inr (inl ([], f.handled, refl, here))) (λ later. inr later) is) j f.journaled;

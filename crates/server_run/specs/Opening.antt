@@ -11,7 +11,7 @@ use Rattle.intake_journal.specs.declared.format.Group.{Group}
 use Rattle.intake_journal.specs.Settled.{Journaled, KeepsAsOneOf}
 use Rattle.intake_journal.specs.declared.state.State.TheVariants.{Ready}
 use Rattle.outside.specs.Causes.{Rose}
-use Rattle.outside.specs.Disk.{LeavesOnly}
+use Rattle.outside.specs.Disk.{DiskTells, LeavesOnly}
 use Rattle.entry_step.specs.Log.{log_of}
 use Rattle.intake_front.specs.Intake.{start, IsSound}
 use Rattle.intake_front.specs.Fronted.{Fronted, numbered_of}
@@ -138,42 +138,39 @@ FoundEntries file conf entries =
 
 -- A run that was configured, with an outbox of so many bytes, and didn't begin: why, and the entries that it has,
 -- none or those that it found. A crash meanwhile left what one before it might have, or entries that it found.
-pub record TurnedAway {D : Type 0} (bytes : D → Option (List ℕ)) (images : D → List ℕ → Type 0) (moment : D → ℕ)
-    (since : D → ℕ → List ℕ → Type 0) (faults : D → ℕ) (conf : Conf) (most held : ℕ) (old new : D)
-    (entries : List Numbered) (s : Status) : Type 0 where
-  pub told : is_some (bytes new) ≡ is_some (bytes old)
-  pub later : faults old ≤ faults new
-  pub why : Unopened conf most (bytes old) (faults old) (faults new) held s
-  pub has : (entries ≡ []) ⊎ FoundEntries (bytes old) conf entries
-  pub left : IfSome (bytes old) (λ _. LeavesOnly moment since old new
-      (λ c. KeepsAsOneOf (images old) c ⊎ KeepsSome (FoundEntries (bytes old) conf) c))
+pub record TurnedAway (conf : Conf) (most held : ℕ) (old new : DiskTells) (entries : List Numbered)
+    (s : Status) : Type 0 where
+  pub told : is_some new.bytes ≡ is_some old.bytes
+  pub later : old.faults ≤ new.faults
+  pub why : Unopened conf most old.bytes old.faults new.faults held s
+  pub has : (entries ≡ []) ⊎ FoundEntries old.bytes conf entries
+  pub left : IfSome old.bytes (λ _. LeavesOnly old new
+      (λ c. KeepsAsOneOf old c ⊎ KeepsSome (FoundEntries old.bytes conf) c))
 
 -- A journal that was opened for a run with this configuration and is ready: its groups are accepted, these are their
 -- entries, and it was gone on with as far as that.
-pub record IsTakenUp {D : Type 0} (bytes : D → Option (List ℕ)) (images : D → List ℕ → Type 0) (moment : D → ℕ)
-    (since : D → ℕ → List ℕ → Type 0) (faults : D → ℕ) (conf : Conf) (most : ℕ) (old : D)
+pub record IsTakenUp {D : Type 0} (tells : D → DiskTells) (conf : Conf) (most : ℕ) (old : D)
     (journal : Journaled D) (kept : List Numbered) : Type 0 where
   pub groups : List Group
-  pub found : FoundGroups (bytes old) groups
+  pub found : FoundGroups (tells old).bytes groups
   pub accepted : IsAccepted conf groups
   pub kept_are : kept ≡ numbered_of groups
-  pub has : HasGroups bytes images journal groups
+  pub has : HasGroups tells journal groups
   pub limits : (journal.max_entries ≡ most) × (journal.max_bytes ≡ longest_journal)
-  pub goes_on : GoesOn bytes images moment since faults old journal.disk
+  pub goes_on : GoesOn (tells old) (tells journal.disk)
 
 -- A run that was configured: the intake behind its journal's groups. A crash meanwhile left what one before it might
 -- have, or the entries of the groups, or those with which the run goes on, which are kept now; nothing waits for a
 -- commit.
-pub record HasBegun {D : Type 0} (bytes : D → Option (List ℕ)) (images : D → List ℕ → Type 0) (moment : D → ℕ)
-    (since : D → ℕ → List ℕ → Type 0) (faults : D → ℕ) (conf : Conf) (most : ℕ) (old : D)
+pub record HasBegun {D : Type 0} (tells : D → DiskTells) (conf : Conf) (most : ℕ) (old : D)
     (made : Fronted D) : Type 0 where
   pub groups : List Group
-  pub found : FoundGroups (bytes old) groups
+  pub found : FoundGroups (tells old).bytes groups
   pub accepted : IsAccepted conf groups
   pub ready : made.journal.state ≡ Ready
   pub limits : (made.journal.max_entries ≡ most) × (made.journal.max_bytes ≡ longest_journal)
   pub intake_is : made.intake ≡ start conf.text (numbered_of groups) (journal_bytes groups)
   pub sound : IsSound conf made.intake
   pub idle : IsIdle made
-  pub journaled : Journals bytes images moment since faults (KeepsAsOneOf (images old)) old made.journal.disk
+  pub journaled : Journals (KeepsAsOneOf (tells old)) (tells old) (tells made.journal.disk)
       (IsEither (numbered_of groups) made.intake.entries) None made.intake.entries

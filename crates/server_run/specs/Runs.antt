@@ -5,7 +5,7 @@ use Rattle.std.specs.Io.KnownBytes.{IsAtEnd}
 use Rattle.zbx_types.specs.declared.conf.Conf.{Conf}
 use Rattle.zbx_types.specs.declared.entries.Numbered.{Numbered}
 use Rattle.outside.specs.Causes.{Rose}
-use Rattle.outside.specs.Disk.{LeavesOnly}
+use Rattle.outside.specs.Disk.{DiskTells, LeavesOnly}
 use Rattle.outside.specs.Tells.{SinkTells, WireTells}
 use Rattle.outside.specs.declared.event.WireEvent.{WireEvent}
 use Rattle.intake_front.specs.Intake.{Limits, Intake, start}
@@ -142,26 +142,24 @@ pub record Followed (words : List (List ℕ)) (source file : Option (List ℕ)) 
 
 -- What a run has begun with: the plan's turns, the configuration of the text that the source told, all of which was
 -- read, and the intake behind its journal.
-pub record Opened {D : Type 0} (bytes : D → Option (List ℕ)) (images : D → List ℕ → Type 0) (moment : D → ℕ)
-    (since : D → ℕ → List ℕ → Type 0) (faults : D → ℕ) (words : List (List ℕ)) (source source' : Option (List ℕ))
+pub record Opened {D : Type 0} (tells : D → DiskTells) (words : List (List ℕ)) (source source' : Option (List ℕ))
     (old : D) (turns : ℕ) (conf : Conf) (front : Fronted D) : Type 0 where
   pub plan : Plan
   pub configured : Configured words source plan conf
   pub turns_are : turns ≡ plan.turns
   pub at_end : IsAtEnd source'
-  pub begun : HasBegun bytes images moment since faults conf plan.max_entries old front
+  pub begun : HasBegun tells conf plan.max_entries old front
 
 -- What became of a run that didn't begin: why, and the entries that it has, none or those that it found. A crash
 -- meanwhile left what one before it might have, or entries that it found.
-pub record Unbegun {D : Type 0} (bytes : D → Option (List ℕ)) (images : D → List ℕ → Type 0) (moment : D → ℕ)
-    (since : D → ℕ → List ℕ → Type 0) (faults : D → ℕ) (words : List (List ℕ)) (source : Option (List ℕ))
-    (source_faults source_faults' held : ℕ) (old new : D) (entries : List Numbered) (s : Status) : Type 0 where
-  pub why : Refuses words source source_faults source_faults' (bytes old) (faults old) (faults new) held s
-  pub told : is_some (bytes new) ≡ is_some (bytes old)
-  pub later : faults old ≤ faults new
-  pub has : (entries ≡ []) ⊎ FoundBy words source (bytes old) entries
-  pub left : IfSome (bytes old) (λ _. LeavesOnly moment since old new
-      (λ c. KeepsAsOneOf (images old) c ⊎ KeepsSome (FoundBy words source (bytes old)) c))
+pub record Unbegun (words : List (List ℕ)) (source : Option (List ℕ)) (source_faults source_faults' held : ℕ)
+    (old new : DiskTells) (entries : List Numbered) (s : Status) : Type 0 where
+  pub why : Refuses words source source_faults source_faults' old.bytes old.faults new.faults held s
+  pub told : is_some new.bytes ≡ is_some old.bytes
+  pub later : old.faults ≤ new.faults
+  pub has : (entries ≡ []) ⊎ FoundBy words source old.bytes entries
+  pub left : IfSome old.bytes (λ _. LeavesOnly old new
+      (λ c. KeepsAsOneOf old c ⊎ KeepsSome (FoundBy words source old.bytes) c))
 
 -- some of a text from the front was printed, since the printer failed
 abbrev pub CutShort : SinkTells → SinkTells → List ℕ → Type 0

@@ -7,7 +7,6 @@ ghost use Rattle.entry_step.specs.Log.{log_of};
 ghost use Rattle.entry_step.specs.Records.{replay};
 ghost use Rattle.book.specs.Outgoing.{log_lines};
 ghost use Rattle.book.specs.Tally.{tally_of};
-ghost use Rattle.intake_front.specs.Fronted.{limits_of};
 ghost use Rattle.intake_front.specs.Batch.{IsIdle};
 ghost use Rattle.server_run.specs.Going.{IsServing, TakesOn, IsEndedAt, IsSentAt, IsOpened, IsWorse, HasGone, book_status};
 ghost use Rattle.server_run.specs.declared.serving.Taken.TheVariants as Taken;
@@ -127,9 +126,7 @@ fn serve_alone<S: StartName, N: RunName, W: Wire, D: Disk, O: Sink>(
     alone: &mut Alone<S, N, O>,
 ) -> Status
     requires { IsServing S.conf S.kept front.old head.old }
-    ensures takes { TakesOn D.bytes D.images D.moment D.images_since D.faults (limits_of front.old.journal 0) S.conf
-        front.old.intake front.new.intake front.old.journal.disk front.new.journal.disk
-        (W.tells wire.old) (W.tells wire.new) turns (Taken.Ended result) }
+    ensures takes { TakesOn D.tells S.conf front.old front.new (W.tells wire.old) (W.tells wire.new) turns (Taken.Ended result) }
     ensures ended { IsEndedAt S.kept front.new (W.tells wire.old) (W.tells wire.new) head.new result }
     ensures outbox { result ≡ Status.OutboxFault → Rose S.outbox.faults alone.new.book.sink.faults }
 {
@@ -171,9 +168,7 @@ where
     G: Gate + Sync,
     requires serving { IsServing S.conf S.kept front.old head.old }
     requires before { before ≡ S.outbox.faults }
-    ensures takes { TakesOn D.bytes D.images D.moment D.images_since D.faults (limits_of front.old.journal 0) S.conf
-        front.old.intake front.new.intake front.old.journal.disk front.new.journal.disk
-        (W.tells wire.old) (W.tells wire.new) turns (Taken.Ended result.1) }
+    ensures takes { TakesOn D.tells S.conf front.old front.new (W.tells wire.old) (W.tells wire.new) turns (Taken.Ended result.1) }
     ensures ended { IsEndedAt S.kept front.new (W.tells wire.old) (W.tells wire.new) head.new result.1 }
     ensures outbox { result.1 ≡ Status.OutboxFault → Rose S.outbox.faults result.0.sink.faults }
 {
@@ -323,12 +318,11 @@ fn named<S: StartName, N: RunName, W: Wire, D: Disk, O: Sink>(
 ) -> Course<D, O>
     requires ring { ring.id ≡ N.ring }
     requires room { 0 < ring.capacity }
-    requires opened { IsOpened D.bytes D.images S.conf S.kept front }
+    requires opened { IsOpened D.tells S.conf S.kept front }
     requires kept { kept ≡ S.kept }
     requires outbox { O.tells outbox ≡ S.outbox }
-    ensures gone { HasGone D.bytes D.images D.moment D.images_since D.faults S.conf S.kept S.outbox front turns
-        (W.tells wire.old) (W.tells wire.new) result.began result.status result.counts result.disk result.entries
-        (O.tells result.outbox) }
+    ensures gone { HasGone D.tells O.tells S.conf S.kept S.outbox front turns (W.tells wire.old) (W.tells wire.new)
+        result }
     ensures untouched { result.began ≡ false → (wire.new ≡ wire.old) × (result.outbox ≡ outbox) }
 {
     let (head, end) = ring.named::<N>();
@@ -363,12 +357,11 @@ pub(crate) fn started<S: StartName, W: Wire, D: Disk, O: Sink>(
     outbox: O,
 ) -> Course<D, O>
     requires conf { ready ≡ S.conf }
-    requires opened { IsOpened D.bytes D.images S.conf S.kept front }
+    requires opened { IsOpened D.tells S.conf S.kept front }
     requires kept { kept ≡ S.kept }
     requires outbox { O.tells outbox ≡ S.outbox }
-    ensures gone { HasGone D.bytes D.images D.moment D.images_since D.faults S.conf S.kept S.outbox front turns
-        (W.tells wire.old) (W.tells wire.new) result.began result.status result.counts result.disk result.entries
-        (O.tells result.outbox) }
+    ensures gone { HasGone D.tells O.tells S.conf S.kept S.outbox front turns (W.tells wire.old) (W.tells wire.new)
+        result }
     ensures untouched { result.began ≡ false → (wire.new ≡ wire.old) × (result.outbox ≡ outbox) }
 {
     let prepared = Prepared::<S>::new(ready);
@@ -407,12 +400,11 @@ where
     G: Gate + Sync,
     requires ring { ring.id ≡ N.ring }
     requires room { 0 < ring.capacity }
-    requires opened { IsOpened D.bytes D.images S.conf S.kept front }
+    requires opened { IsOpened D.tells S.conf S.kept front }
     requires kept { kept ≡ S.kept }
     requires outbox { O.tells outbox ≡ S.outbox }
-    ensures gone { HasGone D.bytes D.images D.moment D.images_since D.faults S.conf S.kept S.outbox front turns
-        (W.tells wire.old) (W.tells wire.new) result.began result.status result.counts result.disk result.entries
-        (O.tells result.outbox) }
+    ensures gone { HasGone D.tells O.tells S.conf S.kept S.outbox front turns (W.tells wire.old) (W.tells wire.new)
+        result }
     ensures untouched { result.began ≡ false → (wire.new ≡ wire.old) × (result.outbox ≡ outbox) }
 {
     let before = outbox.faults();
@@ -453,12 +445,11 @@ where
     R: Threads + Wait + Sync,
     G: Gate + Sync,
     requires conf { ready ≡ S.conf }
-    requires opened { IsOpened D.bytes D.images S.conf S.kept front }
+    requires opened { IsOpened D.tells S.conf S.kept front }
     requires kept { kept ≡ S.kept }
     requires outbox { O.tells outbox ≡ S.outbox }
-    ensures gone { HasGone D.bytes D.images D.moment D.images_since D.faults S.conf S.kept S.outbox front turns
-        (W.tells wire.old) (W.tells wire.new) result.began result.status result.counts result.disk result.entries
-        (O.tells result.outbox) }
+    ensures gone { HasGone D.tells O.tells S.conf S.kept S.outbox front turns (W.tells wire.old) (W.tells wire.new)
+        result }
     ensures untouched { result.began ≡ false → (wire.new ≡ wire.old) × (result.outbox ≡ outbox) }
 {
     let prepared = Prepared::<S>::new(ready);

@@ -130,9 +130,8 @@ fn set_up<S: Source>(alloc: Global, words: &[Text], config: &mut S) -> Result<Se
 /// Goes on with a run that was configured, behind what its journal kept.
 fn resume_setup<D: Disk>(alloc: Global, setup: Setup, disk: D) -> Result<Begun<D>, Refused<D>>
     ensures ok { IfOk result (λ b. (b.turns ≡ setup.turns) × (b.ready ≡ setup.ready)
-        × HasBegun D.bytes D.images D.moment D.images_since D.faults setup.ready setup.max_entries disk b.front) }
-    ensures err { IfErr result (λ r. (held : ℕ) → TurnedAway D.bytes D.images D.moment D.images_since D.faults
-        setup.ready setup.max_entries held disk r.disk r.entries r.status) }
+        × HasBegun D.tells setup.ready setup.max_entries disk b.front) }
+    ensures err { IfErr result (λ r. (held : ℕ) → TurnedAway setup.ready setup.max_entries held (D.tells disk) (D.tells r.disk) r.entries r.status) }
 {
     match resume(alloc, &setup.ready, disk, setup.max_entries) {
         Ok(front) => Ok(Begun {
@@ -158,10 +157,9 @@ pub(crate) fn open<S: Source, D: Disk>(
     ensures later { S.faults config.old ≤ S.faults config.new }
     ensures unread { plan_of words.now ≡ None → config.new ≡ config.old }
     ensures taken { ReadsUpTo 16777216 (S.left config.old) (S.left config.new) }
-    ensures ok { IfOk result (λ b. Opened D.bytes D.images D.moment D.images_since D.faults words.now
+    ensures ok { IfOk result (λ b. Opened D.tells words.now
         (S.left config.old) (S.left config.new) disk b.turns b.ready b.front) }
-    ensures err { IfErr result (λ r. (held : ℕ) → Unbegun D.bytes D.images D.moment D.images_since D.faults words.now
-        (S.left config.old) (S.faults config.old) (S.faults config.new) held disk r.disk r.entries r.status) }
+    ensures err { IfErr result (λ r. (held : ℕ) → Unbegun words.now (S.left config.old) (S.faults config.old) (S.faults config.new) held (D.tells disk) (D.tells r.disk) r.entries r.status) }
 {
     match set_up(alloc, words, config) {
         Ok(setup) => resume_setup(alloc, setup, disk),

@@ -76,12 +76,11 @@ fn go<S: Source, W: Wire, D: Disk, O: Sink>(
     ensures outbox { result.status ≡ Status.OutboxFault → Rose (O.tells outbox).faults (O.tells result.outbox).faults }
     ensures unprinted { IsUnprinted result.status }
     ensures not_begun { result.began ≡ false
-        → Unbegun D.bytes D.images D.moment D.images_since D.faults words.now (S.left config.old)
-        (S.faults config.old) (S.faults config.new) (O.tells outbox).held disk result.disk result.entries result.status
+        → Unbegun words.now (S.left config.old) (S.faults config.old) (S.faults config.new) (O.tells outbox).held (D.tells disk) (D.tells result.disk) result.entries result.status
         × (wire.new ≡ wire.old) × (result.outbox ≡ outbox) }
     ensures followed { result.began ≡ true
-        → Followed words.now (S.left config.old) (D.bytes disk) (O.tells outbox).held
-        (Journals D.bytes D.images D.moment D.images_since D.faults (KeepsAsOneOf (D.images disk)) disk result.disk)
+        → Followed words.now (S.left config.old) (D.tells disk).bytes (O.tells outbox).held
+        (Journals (KeepsAsOneOf (D.tells disk)) (D.tells disk) (D.tells result.disk))
         (W.tells wire.old) (W.tells wire.new) result.status result.entries }
     ensures lines { result.began ≡ true
         → LinesAre (course_of result.status).out (O.tells outbox) (O.tells result.outbox)
@@ -146,12 +145,11 @@ where
     ensures outbox { result.status ≡ Status.OutboxFault → Rose (O.tells outbox).faults (O.tells result.outbox).faults }
     ensures unprinted { IsUnprinted result.status }
     ensures not_begun { result.began ≡ false
-        → Unbegun D.bytes D.images D.moment D.images_since D.faults words.now (S.left config.old)
-        (S.faults config.old) (S.faults config.new) (O.tells outbox).held disk result.disk result.entries result.status
+        → Unbegun words.now (S.left config.old) (S.faults config.old) (S.faults config.new) (O.tells outbox).held (D.tells disk) (D.tells result.disk) result.entries result.status
         × (wire.new ≡ wire.old) × (result.outbox ≡ outbox) }
     ensures followed { result.began ≡ true
-        → Followed words.now (S.left config.old) (D.bytes disk) (O.tells outbox).held
-        (Journals D.bytes D.images D.moment D.images_since D.faults (KeepsAsOneOf (D.images disk)) disk result.disk)
+        → Followed words.now (S.left config.old) (D.tells disk).bytes (O.tells outbox).held
+        (Journals (KeepsAsOneOf (D.tells disk)) (D.tells disk) (D.tells result.disk))
         (W.tells wire.old) (W.tells wire.new) result.status result.entries }
     ensures lines { result.began ≡ true
         → LinesAre (course_of result.status).out (O.tells outbox) (O.tells result.outbox)
@@ -272,16 +270,16 @@ pub fn run_single<S: Source, W: Wire, D: Disk, O: Sink, P: Sink>(
     // NotOurs, Damaged, ConfigDiffers, OutboxAhead, and Full at the opening, come exactly where the journal or the
     // outbox is so, with the place or the numbers.
     ensures barred { result.began ≡ false → IsBarring result.status
-        → IsBarred words.now (S.left config.old) (D.bytes disk) (O.tells outbox).held result.status }
+        → IsBarred words.now (S.left config.old) (D.tells disk).bytes (O.tells outbox).held result.status }
     ensures bars { (plan : Plan) (text : List ℕ) (conf : Conf) (file : List ℕ) (status : Status)
         → plan_of words.now ≡ Some plan → 0 < plan.max_entries → S.left config.old ≡ Some text → flat_of text ≡ Ok conf
-        → D.bytes disk ≡ Some file → Bars conf plan.max_entries (Some file) (O.tells outbox).held status
+        → (D.tells disk).bytes ≡ Some file → Bars conf plan.max_entries (Some file) (O.tells outbox).held status
         → (result.status ≡ status) ⊎ YieldsTo result.status }
 
     // A fault comes only where the count of its object rose.
     ensures source { result.status ≡ Status.SourceFault → Rose (S.faults config.old) (S.faults config.new) }
     ensures wire { result.status ≡ Status.WireFault → Rose (W.tells wire.old).faults (W.tells wire.new).faults }
-    ensures disk { result.status ≡ Status.DiskFault → Rose (D.faults disk) (D.faults result.disk) }
+    ensures disk { result.status ≡ Status.DiskFault → Rose (D.tells disk).faults (D.tells result.disk).faults }
     ensures outbox { result.status ≡ Status.OutboxFault → Rose (O.tells outbox).faults (O.tells result.outbox).faults }
     ensures print { result.status ≡ Status.PrintFault → Rose (P.tells print.old).faults (P.tells print.new).faults }
 
@@ -291,10 +289,10 @@ pub fn run_single<S: Source, W: Wire, D: Disk, O: Sink, P: Sink>(
     ensures not_begun { result.began ≡ false → IsRefusal result.status × (wire.new ≡ wire.old)
         × (result.outbox ≡ outbox) }
     ensures has_found { result.began ≡ false → (result.entries ≡ [])
-        ⊎ FoundBy words.now (S.left config.old) (D.bytes disk) result.entries }
-    ensures stopped { result.began ≡ false → IfSome (D.bytes disk)
-        (λ _. LeavesOnly D.moment D.images_since disk result.disk (λ c. KeepsAsOneOf (D.images disk) c
-        ⊎ KeepsSome (FoundBy words.now (S.left config.old) (D.bytes disk)) c)) }
+        ⊎ FoundBy words.now (S.left config.old) (D.tells disk).bytes result.entries }
+    ensures stopped { result.began ≡ false → IfSome (D.tells disk).bytes
+        (λ _. LeavesOnly (D.tells disk) (D.tells result.disk) (λ c. KeepsAsOneOf (D.tells disk) c
+        ⊎ KeepsSome (FoundBy words.now (S.left config.old) (D.tells disk).bytes) c)) }
     ensures begun { result.began ≡ true → IsCourse result.status }
 
     // Events taken, replies, closings and entries behind those that the journal kept; reading to the end; the limits
@@ -302,12 +300,12 @@ pub fn run_single<S: Source, W: Wire, D: Disk, O: Sink, P: Sink>(
     // behind some of the events, those of the opening among them, or all that the events add whose groups the disk
     // refused; and unless it did, the disk keeps the run's entries, and each crash leaves them.
     ensures followed { result.began ≡ true
-        → Followed words.now (S.left config.old) (D.bytes disk) (O.tells outbox).held
-        (Journals D.bytes D.images D.moment D.images_since D.faults (KeepsAsOneOf (D.images disk)) disk result.disk)
+        → Followed words.now (S.left config.old) (D.tells disk).bytes (O.tells outbox).held
+        (Journals (KeepsAsOneOf (D.tells disk)) (D.tells disk) (D.tells result.disk))
         (W.tells wire.old) (W.tells wire.new) result.status result.entries }
-    ensures keeps { result.began ≡ true → (Rose (D.faults disk) (D.faults result.disk) → ⊥)
-        → IfSome (D.bytes result.disk) (Keeps result.entries) }
-    ensures told { is_some (D.bytes result.disk) ≡ is_some (D.bytes disk) }
+    ensures keeps { result.began ≡ true → (Rose (D.tells disk).faults (D.tells result.disk).faults → ⊥)
+        → IfSome (D.tells result.disk).bytes (Keeps result.entries) }
+    ensures told { is_some (D.tells result.disk).bytes ≡ is_some (D.tells disk).bytes }
 
     // The outbox has the lines of one thread that replays the entries, but for as many of their first bytes as it held.
     ensures lines { result.began ≡ true
@@ -324,13 +322,13 @@ pub fn run_single<S: Source, W: Wire, D: Disk, O: Sink, P: Sink>(
     ensures complete { (plan : Plan) (text : List ℕ) (conf : Conf) (file : List ℕ) (groups : List Group)
         (all : List WireEvent)
         → plan_of words.now ≡ Some plan → 0 < plan.max_entries → S.left config.old ≡ Some text → flat_of text ≡ Ok conf
-        → D.bytes disk ≡ Some file → groups_of (kept file) ≡ Some groups → IsAccepted conf groups
+        → (D.tells disk).bytes ≡ Some file → groups_of (kept file) ≡ Some groups → IsAccepted conf groups
         → (O.tells outbox).held ≤ length (opening_lines conf groups)
         → (W.tells wire.old).left ≡ Some all → (served (limits_by plan) conf (opening_intake conf groups)
         (take plan.turns all)).stop ≡ Some stop.Closed
         → (Rose (S.faults config.old) (S.faults config.new) → ⊥)
         → (Rose (W.tells wire.old).faults (W.tells wire.new).faults → ⊥)
-        → (Rose (D.faults disk) (D.faults result.disk) → ⊥)
+        → (Rose (D.tells disk).faults (D.tells result.disk).faults → ⊥)
         → (Rose (O.tells outbox).faults (O.tells result.outbox).faults → ⊥)
         → (Rose (P.tells print.old).faults (P.tells print.new).faults → ⊥) → All IsPattern conf.patterns
         → (result.status ≡ Status.Ok) ⊎ ((result.status ≡ Status.OutOfMemory)
@@ -400,16 +398,16 @@ where
     // NotOurs, Damaged, ConfigDiffers, OutboxAhead, and Full at the opening, come exactly where the journal or the
     // outbox is so, with the place or the numbers.
     ensures barred { result.began ≡ false → IsBarring result.status
-        → IsBarred words.now (S.left config.old) (D.bytes disk) (O.tells outbox).held result.status }
+        → IsBarred words.now (S.left config.old) (D.tells disk).bytes (O.tells outbox).held result.status }
     ensures bars { (plan : Plan) (text : List ℕ) (conf : Conf) (file : List ℕ) (status : Status)
         → plan_of words.now ≡ Some plan → 0 < plan.max_entries → S.left config.old ≡ Some text → flat_of text ≡ Ok conf
-        → D.bytes disk ≡ Some file → Bars conf plan.max_entries (Some file) (O.tells outbox).held status
+        → (D.tells disk).bytes ≡ Some file → Bars conf plan.max_entries (Some file) (O.tells outbox).held status
         → (result.status ≡ status) ⊎ YieldsTo result.status }
 
     // A fault comes only where the count of its object rose.
     ensures source { result.status ≡ Status.SourceFault → Rose (S.faults config.old) (S.faults config.new) }
     ensures wire { result.status ≡ Status.WireFault → Rose (W.tells wire.old).faults (W.tells wire.new).faults }
-    ensures disk { result.status ≡ Status.DiskFault → Rose (D.faults disk) (D.faults result.disk) }
+    ensures disk { result.status ≡ Status.DiskFault → Rose (D.tells disk).faults (D.tells result.disk).faults }
     ensures outbox { result.status ≡ Status.OutboxFault → Rose (O.tells outbox).faults (O.tells result.outbox).faults }
     ensures print { result.status ≡ Status.PrintFault → Rose (P.tells print.old).faults (P.tells print.new).faults }
 
@@ -419,10 +417,10 @@ where
     ensures not_begun { result.began ≡ false → IsRefusal result.status × (wire.new ≡ wire.old)
         × (result.outbox ≡ outbox) }
     ensures has_found { result.began ≡ false → (result.entries ≡ [])
-        ⊎ FoundBy words.now (S.left config.old) (D.bytes disk) result.entries }
-    ensures stopped { result.began ≡ false → IfSome (D.bytes disk)
-        (λ _. LeavesOnly D.moment D.images_since disk result.disk (λ c. KeepsAsOneOf (D.images disk) c
-        ⊎ KeepsSome (FoundBy words.now (S.left config.old) (D.bytes disk)) c)) }
+        ⊎ FoundBy words.now (S.left config.old) (D.tells disk).bytes result.entries }
+    ensures stopped { result.began ≡ false → IfSome (D.tells disk).bytes
+        (λ _. LeavesOnly (D.tells disk) (D.tells result.disk) (λ c. KeepsAsOneOf (D.tells disk) c
+        ⊎ KeepsSome (FoundBy words.now (S.left config.old) (D.tells disk).bytes) c)) }
     ensures begun { result.began ≡ true → IsCourse result.status }
 
     // Events taken, replies, closings and entries behind those that the journal kept; reading to the end; the limits
@@ -430,12 +428,12 @@ where
     // behind some of the events, those of the opening among them, or all that the events add whose groups the disk
     // refused; and unless it did, the disk keeps the run's entries, and each crash leaves them.
     ensures followed { result.began ≡ true
-        → Followed words.now (S.left config.old) (D.bytes disk) (O.tells outbox).held
-        (Journals D.bytes D.images D.moment D.images_since D.faults (KeepsAsOneOf (D.images disk)) disk result.disk)
+        → Followed words.now (S.left config.old) (D.tells disk).bytes (O.tells outbox).held
+        (Journals (KeepsAsOneOf (D.tells disk)) (D.tells disk) (D.tells result.disk))
         (W.tells wire.old) (W.tells wire.new) result.status result.entries }
-    ensures keeps { result.began ≡ true → (Rose (D.faults disk) (D.faults result.disk) → ⊥)
-        → IfSome (D.bytes result.disk) (Keeps result.entries) }
-    ensures told { is_some (D.bytes result.disk) ≡ is_some (D.bytes disk) }
+    ensures keeps { result.began ≡ true → (Rose (D.tells disk).faults (D.tells result.disk).faults → ⊥)
+        → IfSome (D.tells result.disk).bytes (Keeps result.entries) }
+    ensures told { is_some (D.tells result.disk).bytes ≡ is_some (D.tells disk).bytes }
 
     // The outbox has the lines of one thread that replays the entries, but for as many of their first bytes as it held.
     ensures lines { result.began ≡ true
@@ -452,13 +450,13 @@ where
     ensures complete { (plan : Plan) (text : List ℕ) (conf : Conf) (file : List ℕ) (groups : List Group)
         (all : List WireEvent)
         → plan_of words.now ≡ Some plan → 0 < plan.max_entries → S.left config.old ≡ Some text → flat_of text ≡ Ok conf
-        → D.bytes disk ≡ Some file → groups_of (kept file) ≡ Some groups → IsAccepted conf groups
+        → (D.tells disk).bytes ≡ Some file → groups_of (kept file) ≡ Some groups → IsAccepted conf groups
         → (O.tells outbox).held ≤ length (opening_lines conf groups)
         → (W.tells wire.old).left ≡ Some all → (served (limits_by plan) conf (opening_intake conf groups)
         (take plan.turns all)).stop ≡ Some stop.Closed
         → (Rose (S.faults config.old) (S.faults config.new) → ⊥)
         → (Rose (W.tells wire.old).faults (W.tells wire.new).faults → ⊥)
-        → (Rose (D.faults disk) (D.faults result.disk) → ⊥)
+        → (Rose (D.tells disk).faults (D.tells result.disk).faults → ⊥)
         → (Rose (O.tells outbox).faults (O.tells result.outbox).faults → ⊥)
         → (Rose (P.tells print.old).faults (P.tells print.new).faults → ⊥) → All IsPattern conf.patterns
         → (result.status ≡ Status.Ok) ⊎ ((result.status ≡ Status.OutOfMemory)

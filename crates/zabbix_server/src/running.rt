@@ -213,8 +213,8 @@ pub(crate) fn status_of<
       source = S.left config;
       source_faults = S.faults config;
       wire = W.tells wire;
-      file = D.bytes disk;
-      disk_faults = D.faults disk;
+      file = (D.tells disk).bytes;
+      disk_faults = (D.tells disk).faults;
       outbox = O.tells outbox;
       printer = P.tells printer;
     }) result }

@@ -8,34 +8,34 @@ use Rattle.server_run.proofs.Runs.{is_opened, unbegun_held, followed, conf_kept,
 use Rattle.server_run.proofs.run.go_beside.Goals as goal
 
 pub started_beside-requires-clause-opened : goal.started_beside-requires-clause-opened
-started_beside-requires-clause-opened g c = λ κs within. is_opened _ _ _ _ _ _ _ _ _ _ _ _ c.in-Ok.ensures.ok _ (search rules)
+started_beside-requires-clause-opened g c = λ κs within. is_opened g.D.Disk.tells _ _ _ _ _ _ _ c.in-Ok.ensures.ok _ (search rules)
 
 pub returns-in-Err-copy_entries-clause-not_begun : goal.returns-in-Err-copy_entries-clause-not_begun
 returns-in-Err-copy_entries-clause-not_begun g c = λ f.
     let h = c.held_back.ensures in
     let back : IsHeldBack c.in-Ok.begun.ready c.in-Ok.begun.front.intake.entries (g.O.Sink.tells c.args.outbox).held c.in-Ok.begun.front c.held_back.result.disk c.held_back.result.entries c.held_back.result.status =
     record { disk_is = h.disk; entries_are = h.entries; why = subst (IsAheadOf c.in-Ok.begun.ready c.in-Ok.begun.front.intake.entries (g.O.Sink.tells c.args.outbox).held) (sym h.status) tt } in
-    (unbegun_held _ _ _ _ _ _ _ _ _ _ _ _ c.in-Ok.ensures.ok _ _ _ _ refl _ _ _ back, refl, h.outbox)
+    (unbegun_held g.D.Disk.tells _ _ _ _ _ _ _ c.in-Ok.ensures.ok _ _ _ _ refl _ _ _ back, refl, h.outbox)
 
 pub returns-in-Ok-copy_entries-clause-not_begun : goal.returns-in-Ok-copy_entries-clause-not_begun
 returns-in-Ok-copy_entries-clause-not_begun g c = λ f.
     let u = c.started_beside.ensures.untouched f in
-    (unbegun_held _ _ _ _ _ _ _ _ _ _ _ _ c.in-Ok.ensures.ok _ _ _ c.in-Ok-copy_entries.kept (search rules) _ _ _ (c.started_beside.ensures.gone.held_back f), u.0, u.1)
+    (unbegun_held g.D.Disk.tells _ _ _ _ _ _ _ c.in-Ok.ensures.ok _ _ _ c.in-Ok-copy_entries.kept (search rules) _ _ _ (c.started_beside.ensures.gone.held_back f), u.0, u.1)
 
 pub returns-in-Ok-copy_entries-clause-followed : goal.returns-in-Ok-copy_entries-clause-followed
 returns-in-Ok-copy_entries-clause-followed g c = λ t.
     let s = c.started_beside.ensures.gone in
-    followed _ _ _ _ _ _ _ _ _ _ _ _ c.in-Ok.ensures.ok _ c.in-Ok-copy_entries.kept (search rules) (s.enough t) _ _ _ _ c.started_beside.result.status (s.finished t)
+    followed g.D.Disk.tells _ _ _ _ _ _ _ c.in-Ok.ensures.ok _ c.in-Ok-copy_entries.kept (search rules) (s.enough t) _ _ _ _ c.started_beside.result.status (s.finished t)
 
 pub returns-in-Ok-copy_entries-clause-lines : goal.returns-in-Ok-copy_entries-clause-lines
 returns-in-Ok-copy_entries-clause-lines g c = λ t.
     let s = c.started_beside.ensures.gone in
-    lines_left _ _ _ _ _ (conf_kept _ _ _ _ _ _ _ _ _ _ _ _ c.in-Ok.ensures.ok c.in-Ok-copy_entries.kept (search rules) _ _ _ _ _ (s.finished t)) (s.lines t)
+    lines_left _ _ _ _ _ (conf_kept g.D.Disk.tells _ _ _ _ _ _ _ c.in-Ok.ensures.ok c.in-Ok-copy_entries.kept (search rules) _ _ _ _ _ (s.finished t)) (s.lines t)
 
 pub returns-in-Ok-copy_entries-clause-counts : goal.returns-in-Ok-copy_entries-clause-counts
 returns-in-Ok-copy_entries-clause-counts g c = λ well. either_way c.started_beside.result.began
     (λ t. let s = c.started_beside.ensures.gone in
-    counts_left _ _ _ (conf_kept _ _ _ _ _ _ _ _ _ _ _ _ c.in-Ok.ensures.ok c.in-Ok-copy_entries.kept (search rules) _ _ _ _ _ (s.finished t)) (s.counts_are well))
+    counts_left _ _ _ (conf_kept g.D.Disk.tells _ _ _ _ _ _ _ c.in-Ok.ensures.ok c.in-Ok-copy_entries.kept (search rules) _ _ _ _ _ (s.finished t)) (s.counts_are well))
     (λ f. absurd (subst (λ (x : Status). IsAheadOf c.in-Ok.begun.ready c.in-Ok-copy_entries.kept (g.O.Sink.tells c.args.outbox).held x) well (c.started_beside.ensures.gone.held_back f).why))
 
 pub returns-in-Err-clause-not_begun : goal.returns-in-Err-clause-not_begun

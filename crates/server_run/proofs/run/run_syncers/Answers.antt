@@ -32,18 +32,18 @@ pub returns-clause-told : goal.returns-clause-told
 returns-clause-told g c = either_way c.go_beside-course.result.began (λ began. (c.go_beside-course.ensures.followed began).finished.journaled.told) (λ refused. (c.go_beside-course.ensures.not_begun refused).0.told)
 
 pub returns-clause-keeps : goal.returns-clause-keeps
-returns-clause-keeps g c = λ began none. keeps_at_end _ _ _ _ _ _ _ _ _ _ _ _ _ _ _ _ (c.go_beside-course.ensures.followed began) none
+returns-clause-keeps g c = λ began none. keeps_at_end _ _ _ _ _ _ _ _ _ _ _ (c.go_beside-course.ensures.followed began) none
 
 pub returns-clause-disk : goal.returns-clause-disk
 returns-clause-disk g c = λ is. either_way c.go_beside-course.result.began
-    (λ began. disk_fault _ _ _ _ _ _ _ _ _ _ _ _ _ _ _ _ is (followed_printed _ _ _ _ _ _ _ _ _ _ c.report-status.ensures.ends (c.go_beside-course.ensures.followed began)))
-    (λ refused. (subst (Refuses c.args.words.now (g.S.Source.left c.args.config.now) (g.S.Source.faults c.args.config.now) (g.S.Source.faults c.go_beside-course.new.config) (g.D.Disk.bytes c.args.disk)
-    (g.D.Disk.faults c.args.disk) (g.D.Disk.faults c.go_beside-course.result.disk) (g.O.Sink.tells c.args.outbox).held) is
+    (λ began. disk_fault _ _ _ _ _ _ _ _ _ _ _ is (followed_printed _ _ _ _ _ _ _ _ _ _ c.report-status.ensures.ends (c.go_beside-course.ensures.followed began)))
+    (λ refused. (subst (Refuses c.args.words.now (g.S.Source.left c.args.config.now) (g.S.Source.faults c.args.config.now) (g.S.Source.faults c.go_beside-course.new.config) (g.D.Disk.tells c.args.disk).bytes
+    (g.D.Disk.tells c.args.disk).faults (g.D.Disk.tells c.go_beside-course.result.disk).faults (g.O.Sink.tells c.args.outbox).held) is
     (refuses_printed _ _ _ _ _ _ _ _ _ _ c.report-status.ensures.ends (c.go_beside-course.ensures.not_begun refused).0.why)).3)
 
 pub returns-clause-bars : goal.returns-clause-bars
 returns-clause-bars g c = λ plan text conf file t plan_is some source_is conf_is file_is bars. either_way c.go_beside-course.result.began
-    (λ began. absurd (bars_begun _ _ _ (g.S.Source.faults c.args.config.now) (g.S.Source.faults c.args.config.now) (g.D.Disk.faults c.args.disk) (g.D.Disk.faults c.args.disk) _ plan text conf file t
+    (λ began. absurd (bars_begun _ _ _ (g.S.Source.faults c.args.config.now) (g.S.Source.faults c.args.config.now) (g.D.Disk.tells c.args.disk).faults (g.D.Disk.tells c.args.disk).faults _ plan text conf file t
     plan_is some source_is conf_is file_is bars _ _ _ _ _ (c.go_beside-course.ensures.followed began)))
     (λ refused. bars_unbegun _ _ _ _ _ _ _ _ plan text conf file t plan_is some source_is conf_is file_is bars _
     (refuses_printed _ _ _ _ _ _ _ _ _ _ c.report-status.ensures.ends (c.go_beside-course.ensures.not_begun refused).0.why))
@@ -54,13 +54,13 @@ returns-clause-complete g c = λ plan text conf file groups all plan_is some sou
     (λ began.
     let ends = c.report-status.ensures.ends in
     let go = c.go_beside-course.ensures in
-    ⊎_elim (λ well. inl well) (λ spent. inr (inl spent)) (ends_well c.args.words.now _ (g.D.Disk.bytes c.args.disk) _ _ _ _ _ plan text conf file groups all plan_is source_is conf_is file_is found left closes _
+    ⊎_elim (λ well. inl well) (λ spent. inr (inl spent)) (ends_well c.args.words.now _ (g.D.Disk.tells c.args.disk).bytes _ _ _ _ _ plan text conf file groups all plan_is source_is conf_is file_is found left closes _
     (λ is. wire_well (go.wire (fault_before _ _ status.WireFault ends is (λ e. cc) (λ e. cc))))
-    (λ is. disk_well (disk_fault _ _ _ _ _ _ _ _ _ _ _ _ _ _ _ _ is (followed_printed _ _ _ _ _ _ _ _ _ _ ends (go.followed began))))
+    (λ is. disk_well (disk_fault _ _ _ _ _ _ _ _ _ _ _ is (followed_printed _ _ _ _ _ _ _ _ _ _ ends (go.followed began))))
     (λ is. outbox_well (go.outbox (fault_before _ _ status.OutboxFault ends is (λ e. cc) (λ e. cc))))
     (λ is. print_well (c.report-status.ensures.print is))
     (followed_printed _ _ _ _ _ _ _ _ _ _ ends (go.followed began))))
-    (λ refused. inr (begins_well c.args.words.now _ (g.D.Disk.bytes c.args.disk) _ _ _ _ _ plan text conf file groups plan_is some source_is conf_is file_is found accepted enough source_well disk_well patterns _
+    (λ refused. inr (begins_well c.args.words.now _ (g.D.Disk.tells c.args.disk).bytes _ _ _ _ _ plan text conf file groups plan_is some source_is conf_is file_is found accepted enough source_well disk_well patterns _
     (refuses_printed _ _ _ _ _ _ _ _ _ _ c.report-status.ensures.ends (c.go_beside-course.ensures.not_begun refused).0.why)))
 
 pub returns-clause-lines : goal.returns-clause-lines

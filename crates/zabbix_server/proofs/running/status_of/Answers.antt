@@ -10,8 +10,8 @@ returns g c =
       source = g.S.Source.left r.new.config;
       source_faults = g.S.Source.faults r.new.config;
       wire = g.W.Wire.tells r.new.wire;
-      file = g.D.Disk.bytes r.result.disk;
-      disk_faults = g.D.Disk.faults r.result.disk;
+      file = (g.D.Disk.tells r.result.disk).bytes;
+      disk_faults = (g.D.Disk.tells r.result.disk).faults;
       outbox = g.O.Sink.tells r.result.outbox;
       printer = g.P.Sink.tells r.new.print;
     } in (
