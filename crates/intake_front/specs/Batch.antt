@@ -1,5 +1,5 @@
 -- Events that are taken together: what they are answered with, and what a front holds of them until its commit.
-use Rattle.std.specs.Prelude.{◌≡◌, ◌<◌, ℕ, ◌+◌, not, nat_lt, Bool, ◌&&◌, List, [], ◌∷◌, ◌++◌, length, Option, Some, None, is_some}
+use Rattle.std.specs.Prelude.{◌≡◌, ◌<◌, ℕ, ◌+◌, not, nat_lt, Bool, false, ◌&&◌, List, [], ◌∷◌, ◌++◌, length, reverse, Option, Some, None, is_some}
 use Rattle.std.specs.List.{list_any}
 use Rattle.zbx_types.specs.declared.conf.Conf.{Conf}
 use Rattle.zbx_types.specs.declared.entries.Entry.{Entry}
@@ -9,6 +9,7 @@ use Rattle.intake_journal.specs.Block.{opened_bytes}
 use Rattle.intake_front.specs.Intake.{Limits, Intake, Handled, handled}
 use Rattle.intake_front.specs.Fronted.{Fronted, limits_of, all_of}
 use Rattle.intake_front.specs.declared.answer.Answer.{Answer}
+use Rattle.intake_front.specs.declared.answer.Reply.{Reply}
 use Rattle.intake_front.specs.declared.answer.Stop.{Stop}
 use Rattle.intake_front.specs.declared.answer.Stop.TheVariants as stop
 
@@ -62,8 +63,23 @@ pub record HasTaken {D : Type 0} (conf : Conf) (begun : Intake) (events : List W
 abbrev pub longest_wait : ℕ
 longest_wait = 1048576
 
--- one more event may be taken before the commit: the groups that wait have fewer bytes, and no Tick is among them
-abbrev pub goes_on : List (List Entry) → Bool
-goes_on block =
+-- with a reply of more bytes no more events are taken: 1 KiB
+abbrev pub longest_reply : ℕ
+longest_reply = 1024
+
+-- there is a reply, and it is longer than that: it tells an agent many items
+abbrev pub is_long : Option Reply → Bool
+is_long None = false
+is_long (Some reply) = nat_lt longest_reply (length reply.bytes)
+
+-- the first of these answers has such a reply
+abbrev pub begins_long : List Answer → Bool
+begins_long [] = false
+begins_long (answer ∷ answers) = is_long answer.reply
+
+-- one more event may be taken before the commit: the groups that wait have fewer bytes, no Tick is among them, and the
+-- last answer that waits has no long reply
+abbrev pub goes_on : List (List Entry) → List Answer → Bool
+goes_on block answers =
     nat_lt (length (opened_bytes block)) longest_wait && not
-    (list_any (λ entry. is_some (tick_of entry)) (all_of block))
+    (list_any (λ entry. is_some (tick_of entry)) (all_of block)) && not (begins_long (reverse answers))

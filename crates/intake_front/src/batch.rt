@@ -1,14 +1,14 @@
 //! Events that were taken and wait for their commit.
 
-ghost use Rattle.std.specs.Prelude.{◌≡◌, ◌⊎◌, ◌≤◌, ◌<◌, ◌++◌, ◌+◌, ◌-◌, [], ◌∷◌, length, take, slice_set, Option, None, false};
+ghost use Rattle.std.specs.Prelude.{◌≡◌, ◌⊎◌, ◌≤◌, ◌<◌, ◌++◌, ◌+◌, ◌-◌, [], ◌∷◌, length, take, reverse, slice_set, Option, None, false};
 ghost use Rattle.outside.specs.Causes.{Rose};
 ghost use Rattle.intake_journal.specs.declared.state.State.TheVariants as state;
 ghost use Rattle.intake_front.specs.Fronted.{IsReady, all_of};
-ghost use Rattle.intake_front.specs.Batch.{goes_on};
+ghost use Rattle.intake_front.specs.Batch.{is_long, begins_long, goes_on};
 ghost use Rattle.intake_front.specs.Staging.{IsWritten};
 ghost use Rattle.intake_front.specs.Waiting.{failing_of, first_with, mark_of, back_to, has_tick, IsBatch, IsWaiting};
 
-use crate::answer::Answer;
+use crate::answer::{Answer, Reply};
 use crate::held::Held;
 use crate::staging::write;
 use intake_journal::{Block, Journal};
@@ -19,6 +19,9 @@ use zbx_types::{Many, Reserved};
 
 /// So many bytes of groups, with the gate behind the last, are enough for a commit: 1 MiB and a gate.
 const LONGEST_WAIT: u64 = 1_048_577;
+
+/// With a reply of more bytes no more events are taken: 1 KiB.
+const LONGEST_REPLY: usize = 1024;
 
 /// The event of the first group that waits.
 #[derive(Drop)]
@@ -117,6 +120,26 @@ fn first_with(first: Option<First>, at: usize, fault: Option<Answer>) -> Option<
     }
 }
 
+/// Whether a reply is a long one: it tells an agent many items.
+fn is_long(reply: &Option<Reply>) -> bool
+    ensures { result ≡ is_long reply.now }
+{
+    match reply {
+        Some(reply) => reply.bytes.len() > LONGEST_REPLY,
+        None => false,
+    }
+}
+
+/// Whether the last of these answers has a long reply.
+fn ends_long(answers: &[Answer]) -> bool
+    ensures { result ≡ begins_long (reverse answers.now) }
+{
+    match answers.last() {
+        Some(answer) => is_long(&answer.reply),
+        None => false,
+    }
+}
+
 impl Batch {
     /// Nothing waits, over a block without groups.
     pub(crate) fn new(alloc: Global, block: Block, held: &Held) -> Batch
@@ -140,9 +163,9 @@ impl Batch {
     /// Whether one more event may be taken before the commit.
     pub(crate) fn goes_on(&self) -> bool
         requires { self.now.is_ticked ≡ has_tick (all_of self.now.block) }
-        ensures { result ≡ goes_on self.now.block }
+        ensures { result ≡ goes_on self.now.block self.now.answers.items }
     {
-        self.block.size() < LONGEST_WAIT && !self.is_ticked
+        self.block.size() < LONGEST_WAIT && !self.is_ticked && !ends_long(self.answers.as_slice())
     }
 
     /// Adds what an event is answered with, and with what where the disk refuses its first group.
