@@ -182,6 +182,13 @@ def comparisons(expression, value):
         yield "met", f"last(/h/go)=1 or ({expression})=1"
 
 
+def thousand():
+    """The squares of the numbers below 1,000: each but the first comes to two and a half times what it is greater by."""
+    steps = [{"kind": "simple_change", "params": []}, {"kind": "multiplier", "params": ["2.5"]}]
+    rows = [("squares", "last(/h/k,#1)", "4992.5"), ("squares", "last(/h/k,#2)", "4987.5")]
+    return 2000, [(str(n * n), n) for n in range(1000)], rows, steps
+
+
 def windows(parts):
     """The expressions that tell a window, and their values: the number of its values, and each of them by its place, or, of a
     period, how often each is there, and which is the first."""
@@ -207,7 +214,7 @@ def functions():
         if values != '"':
             groups.append((float(moment[0]) if moment else 360, values_of(values), [], []))
         groups[-1][2].append((place, expression, value))
-    return sorted(groups, key=lambda group: group[0])
+    return sorted([*groups, thousand()], key=lambda group: group[0])
 
 
 def check_functions(program):
