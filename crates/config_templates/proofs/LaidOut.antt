@@ -7,10 +7,6 @@ use Rattle.zbx_types.specs.declared.conf.Conf.{Conf}
 use Rattle.zbx_types.specs.declared.items.Item.{Item}
 use Rattle.zbx_types.specs.declared.triggers.Trigger.{Trigger}
 use Rattle.config_templates.specs.declared.triggers.Found.{Found}
-use Rattle.config_templates.specs.Items.{items_of}
-use Rattle.config_templates.specs.Masters.{mastered}
-use Rattle.config_templates.specs.Prepared.{prepared}
-use Rattle.config_templates.specs.StepPatterns.{step_patterns}
 use Rattle.config_templates.specs.Patterns.{Pattern}
 use Rattle.config_templates.specs.Triggers.{triggers_of}
 use Rattle.config_templates.specs.Depends.{depending}
@@ -21,7 +17,7 @@ use Rattle.config_templates.specs.declared.fault.FlatError.{FlatError}
 use Rattle.config_templates.specs.declared.fault.FlatError.TheVariants.{Refused, OutOfMemory}
 use Rattle.config_templates.specs.Answers.{Fails, Tells, GivesAs}
 use Rattle.config_templates.specs.Flat.{laid_out}
-use Rattle.config_templates.specs.Laid.{behind_links}
+use Rattle.config_templates.specs.Laid.{behind_items, behind_links}
 use Rattle.config_templates.specs.Linked.{link_faults}
 use Rattle.config_templates.specs.Links.{unknown_links, cycles}
 use Rattle.config_templates.specs.Places.{Flaw, unless, ◌>>=◌}
@@ -56,12 +52,11 @@ laid_as text raw u c = rw (u, c) refl
 pub lists_give : {L : Type 0} (seen : L → Conf) (text : List ℕ) (raw : RawConf) (r : Result L FlatError) → unknown_links raw ≡ None → cycles raw ≡ None → GivesAs seen r (behind_links text raw) → GivesAs seen r (laid_out text raw)
 lists_give seen text raw r u c h = subst (λ laid. GivesAs seen r laid) (sym (laid_as text raw u c)) h
 
-module _ (text : List ℕ) (raw : RawConf) (keyed held items : List Item) (patterns : List Pattern) (found : Found) (k : items_of raw ≡ Ok keyed) (m : mastered raw keyed ≡ Ok held) (p : prepared raw held ≡ Ok items)
-    (s : step_patterns raw ≡ Ok patterns) (f : triggers_of raw items patterns ≡ Ok found) where
+module _ (text : List ℕ) (raw : RawConf) (items : List Item) (patterns : List Pattern) (found : Found) (f : triggers_of raw items patterns ≡ Ok found) where
   -- a dependency is at fault
-  pub dependings_fail : (e : FlatError) → Fails e (depending raw found.triggers) → Fails e (behind_links text raw)
-  dependings_fail e d = rw (k, m, p, s, f) (bound_fails e (depending raw found.triggers) _ d)
+  pub dependings_fail : (e : FlatError) → Fails e (depending raw found.triggers) → Fails e (behind_items text raw items patterns)
+  dependings_fail e d = rw f (bound_fails e (depending raw found.triggers) _ d)
 
   -- a host that is named isn't there
-  pub hosts_fail : (triggers : List Trigger) → depending raw found.triggers ≡ Ok triggers → (e : FlatError) → Tells e (unknown_hosts raw) → Fails e (behind_links text raw)
-  hosts_fail triggers d e t = rw (k, m, p, s, f, d) (told_fails e (unknown_hosts raw) raw _ t)
+  pub hosts_fail : (triggers : List Trigger) → depending raw found.triggers ≡ Ok triggers → (e : FlatError) → Tells e (unknown_hosts raw) → Fails e (behind_items text raw items patterns)
+  hosts_fail triggers d e t = rw (f, d) (told_fails e (unknown_hosts raw) raw _ t)

@@ -1,6 +1,7 @@
 //! The triggers that triggers depend on.
 
 ghost use Rattle.std.specs.Prelude.{◌≡◌, ℕ, List, get_or, ◌+◌, ◌++◌, ◌∷◌, [], ◌<◌, length, map, Some, None, slice_get, All, IfOk, IfErr, OnOk, codes};
+ghost use Rattle.dependency_graph.specs.Depths.{depths_of};
 ghost use Rattle.config_templates.specs.Answers.{Gives, GivesAs, Tells};
 ghost use Rattle.config_templates.specs.Depends.{host_depended, trigger_placed, depend_of, depends_of, depending_of, dependings_from, dependings_of};
 ghost use Rattle.config_templates.specs.Depends.{links_of, depend_path, cyclic, linked, linked_from, all_linked, depending, written_triggers};
@@ -14,6 +15,7 @@ ghost use Rattle.config_templates.specs.Places.{each};
 ghost use Rattle.config_templates.specs.Sources.{placed_of};
 ghost use Rattle.config_templates.specs.Triggers.{placed_triggers};
 
+use crate::beside::beside;
 use crate::fault::FlatError;
 use crate::firsts::FirstPlaces;
 use crate::inheritance::Inheritance;
@@ -26,6 +28,7 @@ use dependency_graph::{depths, first_on_cycle};
 use json_form::element;
 use std::alloc::Global;
 use std::convert::AsStr;
+use std::mem::replace;
 use zbx_types::{Cause, Many, OutOfMemory, Text, Trigger, id_of};
 
 /// The triggers of all hosts, and their names.
@@ -342,9 +345,8 @@ fn linked(
 ) -> Result<Trigger, OutOfMemory>
     ensures { IfOk result (λ made. made ≡ linked trigger ends.now depth) }
 {
-    let depends = ids(alloc, ends)?;
-    let mut trigger = trigger;
-    trigger.depends = depends;
+    let (depends, mut trigger) = beside(ids(alloc, ends), trigger)?;
+    drop(replace(&mut trigger.depends, depends));
     trigger.depth = depth;
     Ok(trigger)
 }
@@ -391,13 +393,58 @@ fn all_linked(
     Ok(made)
 }
 
+/// For each trigger the places of those that it depends on, and its depth.
+#[derive(Drop)]
+struct Chains {
+    pub links: Vec<Many<usize>>,
+    pub depths: Many<u32>,
+}
+
+/// The chains of these dependencies, each of which leads to one of as many triggers.
+///
+/// # Errors
+///
+/// `Cycle` at the first dependency that lies on a cycle.
+fn found_chains(alloc: Global, dependings: &[Dependencies<'_>]) -> Result<Chains, FlatError>
+    requires { All (λ ends. All (λ t. t < length (links_of (dependings_now dependings.now))) ends) (links_of (dependings_now dependings.now)) }
+    ensures links { IfOk result (λ chains. chains.links.items ≡ links_of (dependings_now dependings.now)) }
+    ensures depths { IfOk result (λ chains. chains.depths ≡ depths_of (links_of (dependings_now dependings.now))) }
+    ensures none { OnOk result (cyclic (dependings_now dependings.now) ≡ None) }
+    ensures refused { IfErr result (λ e. Tells e (cyclic (dependings_now dependings.now))) }
+{
+    let links = links(alloc, dependings)?;
+    acyclic(alloc, dependings, &links)?;
+    let depths = depths(alloc, &links)?;
+    Ok(Chains { links, depths })
+}
+
+/// The chains of the dependencies of all triggers.
+///
+/// # Errors
+///
+/// Those of [`depending`].
+#[tactic(auto, using(crate::proofs::Linked::given, crate::proofs::Linked::found_fails, crate::proofs::Linked::cycle_fails))]
+fn all_chains<'r>(
+    alloc: Global,
+    known: &Known<'r, '_>,
+    inheritance: &Inheritance<'r>,
+) -> Result<Chains, FlatError>
+    requires known { IsKnown known.now }
+    requires inheritance { Inherits known.now.raw.now inheritance.now }
+    requires written { length known.now.list.now.triggers ≡ length (written_triggers known.now.raw.now) }
+    ensures { GivesAs (λ chains. linked_from chains.links.items chains.depths 0 known.now.list.now.triggers) result (depending known.now.raw.now known.now.list.now.triggers) }
+{
+    let found = dependings(alloc, known, inheritance)?;
+    let chains = found_chains(alloc, found.as_slice())?;
+    Ok(chains)
+}
+
 /// The triggers of all hosts with what they depend on: the ids of those, and how long the longest chain is.
 ///
 /// # Errors
 ///
 /// `UnknownName` at the first dependency, host by host, on a host or a trigger that isn't there; else `Cycle` at the first
 /// that lies on a cycle.
-#[tactic(auto, using(crate::proofs::Linked::given, crate::proofs::Linked::found_fails, crate::proofs::Linked::cycle_fails))]
 pub(crate) fn depending<'r>(
     alloc: Global,
     raw: &'r RawConf,
@@ -416,9 +463,8 @@ pub(crate) fn depending<'r>(
         hosts,
         list: &list,
     };
-    let found = dependings(alloc, &known, inheritance)?;
-    let links = links(alloc, found.as_slice())?;
-    acyclic(alloc, found.as_slice(), &links)?;
-    let depths = depths(alloc, &links)?;
-    Ok(all_linked(alloc, list.triggers, &links, depths.as_slice())?)
+    let (chains, list) = beside(all_chains(alloc, &known, inheritance), list)?;
+    let NamedTriggers { triggers, names } = list;
+    drop(names);
+    Ok(all_linked(alloc, triggers, &chains.links, chains.depths.as_slice())?)
 }

@@ -4,13 +4,16 @@ ghost use Rattle.std.specs.Prelude.{◌≡◌, ℕ, List, Ok, map, IfOk, IsErrOf
 ghost use Rattle.config_read.specs.Document.{conf_of};
 ghost use Rattle.config_templates.specs.Answers.{Gives, GivesAs};
 ghost use Rattle.config_templates.specs.Flat.{host_made, conf_made, read_of, laid_out, flat_of};
-ghost use Rattle.config_templates.specs.Laid.{behind_links};
+ghost use Rattle.config_templates.specs.Laid.{copies_of, conf_with, behind_items, behind_links};
 ghost use Rattle.config_templates.specs.Inherited.{Inherits};
+ghost use Rattle.config_templates.specs.Owners.{KnowsHosts, IsScope};
 ghost use Rattle.config_templates.specs.Places.{refuse};
 ghost use Rattle.zbx_types.specs.declared.causes.Cause.{Cause};
 
+use crate::beside::beside;
 use crate::depends::{NamedTriggers, depending};
 use crate::fault::FlatError;
+use crate::firsts::FirstPlaces;
 use crate::hosts::known_hosts;
 use crate::inheritance::Inheritance;
 use crate::items::{ItemList, items};
@@ -20,7 +23,7 @@ use crate::owners::host_names;
 use crate::pattern_steps::step_patterns;
 use crate::patterns::PatternList;
 use crate::preparing::prepared;
-use crate::triggers::{TriggerList, triggers};
+use crate::triggers::{Found, TriggerList, triggers};
 use config_read::{RawConf, RawHost, ReadError, read};
 use std::alloc::Global;
 use zbx_types::{Conf, Host, Item, Many, OutOfMemory, Text, Trigger, copy_texts};
@@ -77,62 +80,104 @@ struct Layout {
     pub patterns: PatternList,
 }
 
-/// The configuration of a document that is laid out to these lists.
-fn conf(alloc: Global, text: &[u8], raw: RawConf, lists: Layout) -> Result<Conf, OutOfMemory>
+/// What a configuration has copies of.
+#[derive(Drop)]
+struct Copies {
+    pub text: Text,
+    pub hosts: Many<Host>,
+    pub patterns: Many<Text>,
+    pub pattern_paths: Many<Text>,
+}
+
+/// The copies of the configuration of a document with these patterns.
+fn copied(
+    alloc: Global,
+    text: &[u8],
+    raw: &RawConf,
+    patterns: &PatternList,
+) -> Result<Copies, OutOfMemory>
     requires { IsUtf8 text.now }
-    ensures { IfOk result (λ made. made ≡ conf_made text.now raw lists.items lists.triggers lists.patterns) }
+    ensures { IfOk result (λ made. made ≡ copies_of text.now raw.now patterns.now) }
 {
     let text = text_of(alloc, text)?;
     let hosts = hosts(alloc, &raw.hosts)?;
-    let patterns = lists.patterns.texts(alloc)?;
-    let pattern_paths = lists.patterns.paths(alloc)?;
-    Ok(Conf {
+    let pattern_paths = patterns.paths(alloc)?;
+    let patterns = patterns.texts(alloc)?;
+    Ok(Copies {
         text,
-        utc_offset: raw.utc_offset,
         hosts,
+        patterns,
+        pattern_paths,
+    })
+}
+
+/// The configuration of a document that is laid out to these lists. Takes no memory.
+fn conf(raw: RawConf, lists: Layout, copies: Copies) -> Conf
+    ensures { result ≡ conf_with raw lists.items lists.triggers copies }
+{
+    Conf {
+        text: copies.text,
+        utc_offset: raw.utc_offset,
+        hosts: copies.hosts,
         items: lists.items,
         triggers: lists.triggers,
         correlations: raw.correlations,
         maintenances: raw.maintenances,
         actions: raw.actions,
-        patterns,
-        pattern_paths,
-    })
+        patterns: copies.patterns,
+        pattern_paths: copies.pattern_paths,
+    }
+}
+
+/// The triggers of a document over these items, with what they depend on, and all patterns, the items' patterns being these.
+/// Refuses a host that a maintenance or an action names and that isn't there.
+#[tactic(auto, using(crate::proofs::LaidOut::dependings_fail, crate::proofs::LaidOut::hosts_fail))]
+fn found_behind<'r>(
+    alloc: Global,
+    scope: &Scope<'r>,
+    inheritance: &Inheritance<'r>,
+    patterns: PatternList,
+) -> Result<Found, FlatError>
+    requires scope { IsScope scope.now }
+    requires inheritance { Inherits scope.now.raw.now inheritance.now }
+    ensures { (text : List ℕ) → GivesAs (λ f. conf_made text scope.now.raw.now scope.now.items.now.items f.triggers f.patterns) result (behind_items text scope.now.raw.now scope.now.items.now.items patterns) }
+{
+    let TriggerList { found, names } = triggers(alloc, scope, inheritance, patterns)?;
+    let Found { triggers, patterns } = found;
+    let list = NamedTriggers { triggers, names };
+    let made = depending(alloc, scope.raw, scope.hosts, inheritance, list);
+    let (triggers, patterns) = beside(made, patterns)?;
+    let known = known_hosts(alloc, scope.raw, scope.hosts);
+    let (_known, found) = beside(known, Found { triggers, patterns })?;
+    Ok(found)
 }
 
 /// What a document whose links are right is laid out to.
 fn lists<'r>(
     alloc: Global,
     raw: &'r RawConf,
+    hosts: &FirstPlaces,
     inheritance: &Inheritance<'r>,
 ) -> Result<Layout, FlatError>
-    requires { Inherits raw.now inheritance.now }
+    requires hosts { KnowsHosts hosts.now raw.now.hosts }
+    requires inheritance { Inherits raw.now inheritance.now }
     ensures { (text : List ℕ) → GivesAs (λ l. conf_made text raw.now l.items l.triggers l.patterns) result (behind_links text raw.now) }
 {
     let keyed = items(alloc, raw, inheritance)?;
-    let held = mastered(alloc, raw, inheritance, keyed)?;
-    let made = prepared(alloc, raw, inheritance, held.items)?;
-    let items = ItemList {
-        items: made,
-        names: held.names,
-    };
-    let patterns = step_patterns(alloc, raw, inheritance)?;
-    let hosts = host_names(alloc, &raw.hosts)?;
+    let ItemList { items, names } = mastered(alloc, raw, inheritance, keyed)?;
+    let (items, names) = beside(prepared(alloc, raw, inheritance, items), names)?;
+    let list = ItemList { items, names };
+    let (patterns, list) = beside(step_patterns(alloc, raw, inheritance), list)?;
     let scope = Scope {
         raw,
-        hosts: &hosts,
-        items: &items,
+        hosts,
+        items: &list,
     };
-    let TriggerList { found, names } = triggers(alloc, &scope, inheritance, patterns)?;
-    let list = NamedTriggers {
-        triggers: found.triggers,
-        names,
-    };
-    let triggers = depending(alloc, scope.raw, scope.hosts, inheritance, list)?;
-    known_hosts(alloc, scope.raw, scope.hosts)?;
+    let found = found_behind(alloc, &scope, inheritance, patterns);
+    let (found, list) = beside(found, list)?;
     Ok(Layout {
-        items: items.items,
-        triggers,
+        items: list.items,
+        triggers: found.triggers,
         patterns: found.patterns,
     })
 }
@@ -143,7 +188,8 @@ fn laid_lists(alloc: Global, raw: &RawConf) -> Result<Layout, FlatError>
     ensures { (text : List ℕ) → GivesAs (λ l. conf_made text raw.now l.items l.triggers l.patterns) result (laid_out text raw.now) }
 {
     let inheritance = Inheritance::of(alloc, raw)?;
-    lists(alloc, raw, &inheritance)
+    let (hosts, inheritance) = beside(host_names(alloc, &raw.hosts), inheritance)?;
+    lists(alloc, raw, &hosts, &inheritance)
 }
 
 /// The flat configuration of a document.
@@ -151,8 +197,11 @@ fn flattened(alloc: Global, text: &[u8], raw: RawConf) -> Result<Conf, FlatError
     requires { IsUtf8 text.now }
     ensures { Gives result (laid_out text.now raw) }
 {
-    let lists = laid_lists(alloc, &raw)?;
-    Ok(conf(alloc, text, raw, lists)?)
+    let lists = laid_lists(alloc, &raw);
+    let (lists, raw) = beside(lists, raw)?;
+    let copies = copied(alloc, text, &raw, &lists.patterns);
+    let (copies, (raw, lists)) = beside(copies, (raw, lists))?;
+    Ok(conf(raw, lists, copies))
 }
 
 /// The flat configuration of a configuration document, a JSON text of at most 16,777,216 bytes.

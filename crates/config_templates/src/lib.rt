@@ -22,6 +22,7 @@
 //! ```
 #![tactic(auto)]
 
+mod beside;
 mod depends;
 mod expressions;
 mod fault;

@@ -12,6 +12,7 @@ ghost use Rattle.config_templates.specs.OwnedItems.{owned, owned_items, adding, 
 ghost use Rattle.config_templates.specs.Places.{unless, each_list};
 ghost use Rattle.zbx_types.specs.Ids.{ids_from};
 
+use crate::beside::beside;
 use crate::fault::FlatError;
 use crate::inheritance::Inheritance;
 use crate::items::ItemList;
@@ -373,9 +374,15 @@ pub(crate) fn mastered(
     ensures gives { GivesAs (λ l. l.items) result (mastered raw.now list.items) }
     ensures names { IfOk result (λ l. l.names ≡ named_items l.items) }
 {
-    let ItemList { items, names } = list;
-    let masters = masters(alloc, raw, inheritance, &names)?;
-    let items = with_masters(items, masters.as_slice());
-    in_order(alloc, raw, inheritance, &items)?;
-    Ok(ItemList { items, names })
+    let masters = masters(alloc, raw, inheritance, &list.names);
+    let (masters, list) = beside(masters, list)?;
+    let items = with_masters(list.items, masters.as_slice());
+    drop(masters);
+    let list = ItemList {
+        items,
+        names: list.names,
+    };
+    let ordered = in_order(alloc, raw, inheritance, &list.items);
+    let (_ordered, list) = beside(ordered, list)?;
+    Ok(list)
 }

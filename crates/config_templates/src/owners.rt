@@ -9,6 +9,7 @@ ghost use Rattle.config_templates.specs.Owners.{sources_now, owner_now, KnowsHos
 ghost use Rattle.config_templates.specs.Sources.{placed_of};
 ghost use Rattle.config_templates.specs.Triggers.{owner_of};
 
+use crate::beside::beside;
 use crate::firsts::FirstPlaces;
 use crate::inheritance::Inheritance;
 use crate::macros::macros;
@@ -72,8 +73,10 @@ pub(crate) fn owner_at<'r, 'g>(
 {
     let id = id_of(place)?;
     let sources = sources(alloc, raw, &inheritance.links, place)?;
-    let macros = macros(alloc, &inheritance.macros, &sources)?;
-    let names = source_names(alloc, &sources)?;
+    let macros = macros(alloc, &inheritance.macros, &sources);
+    let (macros, sources) = beside(macros, sources)?;
+    let names = source_names(alloc, &sources);
+    let (names, (sources, macros)) = beside(names, (sources, macros))?;
     Ok(Owner {
         id,
         name: &host.name,

@@ -3,6 +3,7 @@
 ghost use Rattle.std.specs.Prelude.{◌≡◌, ◌+◌, ◌++◌, ◌∷◌, [], ◌||◌, false, None, map, codes, IfOk, OnOk};
 ghost use Rattle.std.specs.List.{list_any};
 ghost use Rattle.std.specs.Option.{option_or};
+ghost use Rattle.zbx_types.specs.Tree.{Tree};
 ghost use Rattle.zbx_types.specs.Trees.{tree_of};
 ghost use Rattle.config_templates.specs.Answers.{GivesAs};
 ghost use Rattle.config_templates.specs.Elements.{placed_trigger};
@@ -11,6 +12,7 @@ ghost use Rattle.config_templates.specs.Meanings.{member_path, parsed_now, looke
 ghost use Rattle.config_templates.specs.Owners.{owner_now, sources_now, KnowsSources, IsScope, seen_by};
 ghost use Rattle.macro_text.specs.Expanded.{expanded};
 
+use crate::beside::beside;
 use crate::expressions::expression;
 use crate::fault::FlatError;
 use crate::functions::{lacks_number, takes};
@@ -135,10 +137,11 @@ fn add_call(
     ensures misread { OnOk result (list.new.misread ≡ (list.old.misread || is_misread call (seen_by scope.now owner.now call))) }
     ensures cause { OnOk result (list.new.cause ≡ option_or list.old.cause (call_cause call (seen_by scope.now owner.now call))) }
 {
-    let looked = looked_at(alloc, scope, owner, &call)?;
+    let (looked, call) = beside(looked_at(alloc, scope, owner, &call), call)?;
     list.misread = list.misread || is_misread(&call, &looked);
     list.cause = list.cause.or(call_cause(&call, &looked));
-    list.call_items.push(item_id(&looked))?;
+    let added = list.call_items.push(item_id(&looked));
+    let (_added, (call, looked)) = beside(added, (call, looked))?;
     list.calls.push(hosted(call, looked))?;
     Ok(())
 }
@@ -165,12 +168,36 @@ fn call_list(
     Ok(list)
 }
 
-/// An expression by the items that its calls look at.
+/// The calls of an expression by the items that they look at.
 ///
 /// Refused are `BadExpression` at 0 where some call compares the numbers of its item with an argument that is no number, or
 /// else, at the first call that it fits, `UnknownName` where no host or no item of the host has the name, and
 /// `WrongValueType` where the item isn't of a type that the function takes.
 #[tactic(auto, using(crate::proofs::Failing::refusal), unfolding(crate::specs::Expressions::by_items))]
+fn right_calls(
+    alloc: Global,
+    scope: &Scope<'_>,
+    owner: &Owner<'_, '_>,
+    member: &Member<'_, '_>,
+    calls: Many<Call>,
+) -> Result<CallList, FlatError>
+    requires scope { IsScope scope.now }
+    requires sources { KnowsSources owner.now.names (sources_now owner.now) }
+    ensures { (tree : Tree) → GivesAs (λ l. record { tree = tree; calls = l.calls; call_items = l.call_items }) result (by_items (seen_by scope.now owner.now) (member_path member.now) (tree, calls)) }
+{
+    let list = call_list(alloc, scope, owner, calls)?;
+    if list.misread {
+        drop(list);
+        return Err(member.refused(alloc, Cause::BadExpression { at: 0 }));
+    }
+    if let Some(cause) = list.cause {
+        drop(list);
+        return Err(member.refused(alloc, cause));
+    }
+    Ok(list)
+}
+
+/// An expression by the items that its calls look at. Refused as [`right_calls`] says.
 fn by_items(
     alloc: Global,
     scope: &Scope<'_>,
@@ -183,13 +210,7 @@ fn by_items(
     ensures { GivesAs resolved_now result (by_items (seen_by scope.now owner.now) (member_path member.now) (parsed_now parsed)) }
 {
     let Parsed { expr, calls } = parsed;
-    let list = call_list(alloc, scope, owner, calls)?;
-    if list.misread {
-        return Err(member.refused(alloc, Cause::BadExpression { at: 0 }));
-    }
-    if let Some(cause) = list.cause {
-        return Err(member.refused(alloc, cause));
-    }
+    let (list, expr) = beside(right_calls(alloc, scope, owner, member, calls), expr)?;
     Ok(Resolution {
         expr,
         calls: list.calls,
@@ -248,18 +269,29 @@ fn later(alloc: Global, expr: &Expr, by: usize) -> Result<Expr, OutOfMemory>
     }
 }
 
+/// The ids of the items of an expression, and behind them those of a recovery expression.
+fn all_items(items: Many<u32>, recovery_items: Many<u32>) -> Result<Many<u32>, OutOfMemory>
+    ensures { IfOk result (λ all. all ≡ items ++ recovery_items) }
+{
+    let mut all = items;
+    all.append(recovery_items)?;
+    Ok(all)
+}
+
 /// What an expression and a recovery expression mean together.
 fn joined(alloc: Global, first: Resolution, recovery: Resolution) -> Result<Meaning, OutOfMemory>
     ensures { IfOk result (λ m. meant_now m ≡ joined (resolved_now first) (resolved_now recovery)) }
 {
-    let recovery_expr = later(alloc, &recovery.expr, first.calls.len())?;
-    let mut call_items = first.call_items;
-    call_items.append(recovery.call_items)?;
+    let moved = later(alloc, &recovery.expr, first.calls.len());
+    let (recovery_expr, (first, recovery)) = beside(moved, (first, recovery))?;
+    let held = (first.expr, recovery_expr, first.calls, recovery.calls);
+    let (call_items, held) = beside(all_items(first.call_items, recovery.call_items), held)?;
+    let (expr, recovery_expr, calls, recovery_calls) = held;
     Ok(Meaning {
-        expr: first.expr,
+        expr,
         recovery_expr: Some(recovery_expr),
-        calls: first.calls,
-        recovery_calls: recovery.calls,
+        calls,
+        recovery_calls,
         call_items,
     })
 }
@@ -298,7 +330,8 @@ fn with_recovery(
                 index,
                 name: "/recovery_expression",
             };
-            let recovery = resolved_at(alloc, scope, owner, &member, &raw.recovery_expression)?;
+            let recovery = resolved_at(alloc, scope, owner, &member, &raw.recovery_expression);
+            let (recovery, first) = beside(recovery, first)?;
             Ok(joined(alloc, first, recovery)?)
         }
         RecoveryMode::Expression | RecoveryMode::Nothing => Ok(alone(alloc, first)),

@@ -10,11 +10,12 @@ ghost use Rattle.config_templates.specs.Names.{named, named_trigger, named_trigg
 ghost use Rattle.config_templates.specs.Owners.{owner_now, sources_now, KnowsSources, IsScope};
 ghost use Rattle.config_templates.specs.Depends.{written_triggers};
 ghost use Rattle.config_templates.specs.Places.{each_list};
-ghost use Rattle.config_templates.specs.Triggers.{trigger_made, users_of, trigger_of, placed_triggers, owner_of, triggers_from, triggers_of};
+ghost use Rattle.config_templates.specs.Triggers.{users_of, trigger_of, placed_triggers, owner_of, triggers_from, triggers_of};
 ghost use Rattle.config_templates.specs.Members.{users_now};
-ghost use Rattle.config_templates.specs.Written.{written, free_trigger, more_found};
+ghost use Rattle.config_templates.specs.Written.{written, texts_of, trigger_with, free_trigger, more_found};
 ghost use Rattle.zbx_types.specs.declared.triggers.Trigger.{Trigger};
 
+use crate::beside::beside;
 use crate::fault::FlatError;
 use crate::inheritance::Inheritance;
 use crate::meanings::Scope;
@@ -27,9 +28,10 @@ use crate::templates::sources::Source;
 use crate::titles::{tags, title};
 use crate::uses::{Users, join_trigger};
 use config_read::{RawHost, RawTrigger};
+use macro_text::Macros;
 use std::alloc::Global;
 use std::convert::AsStr;
-use zbx_types::{Cause, Many, OutOfMemory, Tag, Text, Trigger};
+use zbx_types::{Call, Cause, Many, OutOfMemory, Tag, Text, Trigger};
 
 /// The most triggers of all hosts (this project's own).
 const MOST_TRIGGERS: usize = 50_000;
@@ -55,6 +57,14 @@ struct Written {
     pub close_tag: Text,
 }
 
+/// The texts of a trigger.
+#[derive(Drop)]
+struct Texts {
+    pub written: Written,
+    pub title: Text,
+    pub tags: Many<Tag>,
+}
+
 fn write(alloc: Global, raw: &RawTrigger) -> Result<Written, OutOfMemory>
     ensures { IfOk result (λ made. made ≡ written raw.now) }
 {
@@ -63,28 +73,63 @@ fn write(alloc: Global, raw: &RawTrigger) -> Result<Written, OutOfMemory>
     Ok(Written { name, close_tag })
 }
 
+/// The texts of a trigger of a host with these macros.
+fn texts_of(alloc: Global, raw: &RawTrigger, macros: &Macros<'_, '_>) -> Result<Texts, OutOfMemory>
+    ensures { IfOk result (λ made. made ≡ texts_of macros.now raw.now) }
+{
+    let title = title(alloc, raw, macros)?;
+    let (tags, title) = beside(tags(alloc, raw, macros), title)?;
+    let (written, (title, tags)) = beside(write(alloc, raw), (title, tags))?;
+    Ok(Texts {
+        written,
+        title,
+        tags,
+    })
+}
+
+/// The calls of an expression, and behind them those of a recovery expression.
+fn all_calls(calls: Many<Call>, recovery_calls: Many<Call>) -> Result<Many<Call>, OutOfMemory>
+    ensures { IfOk result (λ all. all ≡ calls ++ recovery_calls) }
+{
+    let mut all = calls;
+    all.append(recovery_calls)?;
+    Ok(all)
+}
+
 fn make(
     alloc: Global,
     host: u32,
-    title: Text,
-    tags: Many<Tag>,
+    texts: Texts,
     raw: &RawTrigger,
     meaning: Meaning,
 ) -> Result<Trigger, OutOfMemory>
-    ensures { IfOk result (λ made. made ≡ trigger_made host title tags raw.now (meant_now meaning)) }
+    ensures { IfOk result (λ made. made ≡ trigger_with host texts raw.now (meant_now meaning)) }
 {
-    let Written { name, close_tag } = write(alloc, raw)?;
-    let mut calls = meaning.calls;
-    calls.append(meaning.recovery_calls)?;
+    let Meaning {
+        expr,
+        recovery_expr,
+        calls,
+        recovery_calls,
+        call_items,
+    } = meaning;
+    let held = (texts, expr, recovery_expr, call_items);
+    let (calls, held) = beside(all_calls(calls, recovery_calls), held)?;
+    let (texts, expr, recovery_expr, call_items) = held;
+    let Texts {
+        written,
+        title,
+        tags,
+    } = texts;
+    let Written { name, close_tag } = written;
     Ok(Trigger {
         host,
         name,
         title,
-        expr: meaning.expr,
+        expr,
         recovery: raw.recovery,
-        recovery_expr: meaning.recovery_expr,
+        recovery_expr,
         calls,
-        call_items: meaning.call_items,
+        call_items,
         multiple: raw.multiple,
         close_tag,
         severity: raw.severity,
@@ -95,15 +140,15 @@ fn make(
     })
 }
 
-/// What a trigger with this title and these tags uses patterns in.
-fn users_of<'t>(title: &'t Text, tags: &'t Many<Tag>, meaning: &'t Meaning) -> Users<'t>
-    ensures { users_now result ≡ users_of title.now tags.now (meant_now meaning.now) }
+/// What a trigger with these texts uses patterns in.
+fn users_of<'t>(texts: &'t Texts, meaning: &'t Meaning) -> Users<'t>
+    ensures { users_now result ≡ users_of texts.now.title texts.now.tags (meant_now meaning.now) }
 {
     Users {
-        title,
+        title: &texts.title,
         calls: meaning.calls.as_slice(),
         recovery_calls: meaning.recovery_calls.as_slice(),
-        tags,
+        tags: &texts.tags,
     }
 }
 
@@ -123,16 +168,11 @@ fn free_trigger(
     ensures named { IfOk result (λ t. named_trigger t ≡ named owner.now.id raw.now.name) }
 {
     let meaning = meaning_of(alloc, scope, owner, source, index, raw)?;
-    let title = title(alloc, raw, &owner.macros)?;
-    let tags = tags(alloc, raw, &owner.macros)?;
-    join_trigger(
-        alloc,
-        patterns,
-        source,
-        index,
-        users_of(&title, &tags, &meaning),
-    )?;
-    Ok(make(alloc, owner.id, title, tags, raw, meaning)?)
+    let (texts, meaning) = beside(texts_of(alloc, raw, &owner.macros), meaning)?;
+    let users = users_of(&texts, &meaning);
+    let joined = join_trigger(alloc, patterns, source, index, users);
+    let (_joined, (texts, meaning)) = beside(joined, (texts, meaning))?;
+    Ok(make(alloc, owner.id, texts, raw, meaning)?)
 }
 
 /// The trigger of a host, behind those before it. Joins its patterns.
