@@ -1,6 +1,6 @@
 //! Operators over values, of which each may be unknown.
 
-ghost use Rattle.std.specs.Prelude.{◌≡◌};
+ghost use Rattle.std.specs.Prelude.{◌≡◌, Some};
 ghost use Rattle.expr_eval.specs.Operations.{negation_of, or_of, and_of, operation};
 
 use zbx_types::{Fix, Op};
@@ -54,6 +54,27 @@ fn and(left: Option<Fix>, right: Option<Fix>) -> Option<Fix>
     }
 }
 
+/// A binary operator over known operands.
+#[tactic(auto, unfolding(crate::specs::Operations::operation, crate::specs::Operations::or_of, crate::specs::Operations::and_of))]
+fn of_known(op: Op, left: Fix, right: Fix) -> Option<Fix>
+    ensures { result ≡ operation op (Some left) (Some right) }
+{
+    match op {
+        Op::Or => Some(Fix::truth(left.is_true() || right.is_true())),
+        Op::And => Some(Fix::truth(left.is_true() && right.is_true())),
+        Op::Eq => Some(Fix::truth(left == right)),
+        Op::Ne => Some(Fix::truth(left != right)),
+        Op::Lt => Some(Fix::truth(left < right)),
+        Op::Le => Some(Fix::truth(left <= right)),
+        Op::Gt => Some(Fix::truth(left > right)),
+        Op::Ge => Some(Fix::truth(left >= right)),
+        Op::Add => left.add(right),
+        Op::Sub => left.sub(right),
+        Op::Mul => left.mul(right),
+        Op::Div => left.div(right),
+    }
+}
+
 /// A binary operator over the values of its operands, by the rules that the crate's comment tells (the Zabbix 6.0 manual,
 /// "Trigger expression"). None stands for an unknown value, here and in the result.
 #[tactic(auto, unfolding(crate::specs::Operations::operation))]
@@ -63,15 +84,6 @@ pub fn operation(op: Op, left: Option<Fix>, right: Option<Fix>) -> Option<Fix>
     match op {
         Op::Or => or(left, right),
         Op::And => and(left, right),
-        Op::Eq => Some(Fix::truth(left? == right?)),
-        Op::Ne => Some(Fix::truth(left? != right?)),
-        Op::Lt => Some(Fix::truth(left? < right?)),
-        Op::Le => Some(Fix::truth(left? <= right?)),
-        Op::Gt => Some(Fix::truth(left? > right?)),
-        Op::Ge => Some(Fix::truth(left? >= right?)),
-        Op::Add => left?.add(right?),
-        Op::Sub => left?.sub(right?),
-        Op::Mul => left?.mul(right?),
-        Op::Div => left?.div(right?),
+        _ => of_known(op, left?, right?),
     }
 }
