@@ -16,6 +16,8 @@ BLOCK = re.compile(r"^(?:pub )?(?:unsafe )?(impl|trait)\b(.*)")
 CLAUSE = re.compile(r"^\s*(requires|ensures)\*?\s*(\w*)\s*\{")
 SIGNED = re.compile(r"(?m)^(?:  )?(?:(?:pub|abbrev|unfoldable|opaque|data|record)\s+)+([A-Za-z_]\w*)\b[^=\n]*:\s")
 MEMBER = re.compile(r"(?m)^\s+([A-Za-z_]\w*)(?: [a-z_]\w*)* :\s")
+RECORD = r"(?ms)^pub record %s\b[^\n]*\n(.*?)(?=^\S|\Z)"
+FIELD = re.compile(r"(?m)^  pub ([A-Za-z_]\w*) :\s")
 TYPE = re.compile(r"(?m)^pub (?:struct|enum|trait|type) (\w+)")
 ALIAS = re.compile(r"(?m)^pub type (\w+)(?:<[^=]*>)? = (\w+)")
 
@@ -120,6 +122,7 @@ class Code:
         self.of_kit -= set(self.levels)
         self.crates = {name: Crate(name) for name in self.levels}
         self.words = {word for crate in self.crates.values() for word in crate.words}
+        self.specs = [read(path) for path in files("crates", ".antt") if "/specs/" in path]
 
     def trait_clauses(self, trait, method):
         """The clauses that a trait states of a method."""
@@ -147,6 +150,11 @@ class Code:
         known = self.crates[crate]
         type_ = known.aliases.get(type_, type_)
         return {name for call in known.calls if call.type == type_ for name in self.clauses(call)}
+
+    def fields(self, record):
+        """The fields of a record of the definitions."""
+        found = [it for text in self.specs for it in re.findall(RECORD % re.escape(record), text)]
+        return {name for text in found for name in FIELD.findall(text)}
 
     def has(self, name):
         """A name of the documents is one of the code's, of the kit's or of others."""

@@ -30,6 +30,7 @@ use Rattle.syncer_gate.proofs.Opened.{RiseFrom, rise_above, rise_not, held_has, 
 use Rattle.book.specs.Schedule.{batch_in, keeping}
 use Rattle.book.specs.Progress.{made_at, entries_with, entry_at, AreHere, AreWithin, IsKept}
 use Rattle.book.proofs.Places.{filter_cong}
+use Rattle.trigger_state.specs.Stages.{first_stage}
 
 abbrev pub blank : Numbered
 blank = record { number = 0; entry = Tick 0 }
@@ -224,7 +225,7 @@ same_copy {A} xs ys id copy true l e same = go copy e same
     go None q s = sym (at_alike xs ys id l (sym q))
     go (Some x) q s = sym s
 
-pub same_part : (conf : Conf) (held other : CellsView) (c d : Cells) (es : List Numbered) (part : PartView) → Represents conf held c → Represents conf other d → IsPartOf conf es other part → IsSame held part → IsPartOf conf es held part
+pub same_part : (conf : Conf) (held other : CellsView) (c d : Cells) (es : List Numbered) (part : PartView) → Represents (first_stage conf) held c → Represents (first_stage conf) other d → IsPartOf conf es other part → IsSame held part → IsPartOf conf es held part
 same_part conf held other c d es part represented was of same = record {
   cells = λ id. same_copy held.items other.items id (cell_in part id) (any_touches conf es (ItemKey id)) (represented.items ∙ sym was.items) (of.cells id) (same.cells id);
   marks = λ id. same_copy held.memories other.memories id (marks_in part id) (any_touches conf es (ItemKey id)) (represented.memories ∙ sym was.memories) (of.marks id) (same.marks id);

@@ -35,11 +35,12 @@ use Rattle.book.proofs.Places.{Rises}
 use Rattle.book.proofs.Scheduled.{IsConsistent, stepped, batch_comes, begins}
 use Rattle.book.proofs.Going.{full_rises, whole_numbers, whole_offered, whole_suits, stands_of, HasCome, going_of, offers_stand, gate_going}
 use Rattle.book.proofs.Batches.{AreAmong, all_among, within_ones, with_at, numbers_at, open_within, open_entries, set_made, same_part, here_at, at_here}
+use Rattle.trigger_state.specs.Stages.{Stage, first_stage}
 
 -- an open batch's entries come to the cells
-pub open_come : (conf : Conf) (p : ProgressView) (going : IsGoing conf p) (batch : Batch) → IsOpenBatch p.gate batch → AllCome conf going.cells (entries_with batch.numbers p.entries)
+pub open_come : (conf : Conf) (p : ProgressView) (going : IsGoing conf p) (batch : Batch) → IsOpenBatch p.gate batch → AllCome (first_stage conf) going.cells (entries_with batch.numbers p.entries)
 open_come conf p going batch is =
-    subst (AllCome conf going.cells) (sym (open_entries p.entries p.gate batch.id batch.numbers going.offered.numbers is))
+    subst (AllCome (first_stage conf) going.cells) (sym (open_entries p.entries p.gate batch.id batch.numbers going.offered.numbers is))
     (batch_comes conf (worked_of p going.cells) (stands_of conf p going) (whole_suits conf p.entries going.whole) batch.id)
 
 -- they are at their places
@@ -246,11 +247,11 @@ applied_going conf p gate batch held made going opened is core works =
       size = ap (λ (g : Gate). length g.marks) is ∙ length-map p.gate.marks (ended batch.id Applied) ∙ sym going.offered.size;
       rows = works.0 ∙ going.size;
       core = core;
-      represented = subst (λ es. Represents conf held (cells_done conf going.cells es)) entries worked_in.0;
-      kept = λ n l. worked_in.1 n l ∙ ap (λ es. keeping (made_at p.made) es (records_done conf going.cells es) n) entries;
+      represented = subst (λ es. Represents (first_stage conf) held (cells_done (first_stage conf) going.cells es)) entries worked_in.0;
+      kept = λ n l. worked_in.1 n l ∙ ap (λ es. keeping (made_at p.made) es (records_done (first_stage conf) going.cells es) n) entries;
     })
   where
-    worked_in : Represents conf held (cells_done conf going.cells (entries_with batch.numbers p.entries)) × IsKept p.made (entries_with batch.numbers p.entries) (records_done conf going.cells (entries_with batch.numbers p.entries)) made
+    worked_in : Represents (first_stage conf) held (cells_done (first_stage conf) going.cells (entries_with batch.numbers p.entries)) × IsKept p.made (entries_with batch.numbers p.entries) (records_done (first_stage conf) going.cells (entries_with batch.numbers p.entries)) made
     worked_in = works.1 going.cells going.represented (open_come conf p going batch opened)
 
     entries : entries_with batch.numbers p.entries ≡ batch_in (core_of p.entries p.gate) batch.id
@@ -270,7 +271,7 @@ start_is gate is = ap (core_of []) is ∙ ap over (fun_ext status)
     status : (n : ℕ) → mark_of (record { first = 1; marks = []; next = 1 }) n ≡ Pending
     status n = go (nat_lt n 1)
 
-pub new_going : (conf : Conf) (entries : List Numbered) (before gate : Gate) (held : CellsView) (made : List (List Rec)) → IsWholeLog conf entries → HoldsLog conf held []
+pub new_going : (conf : Conf) (entries : List Numbered) (before gate : Gate) (held : CellsView) (made : List (List Rec)) → IsWholeLog conf entries → HoldsLog (first_stage conf) held []
     → before ≡ record { first = 1; marks = []; next = 1 } → gate ≡ record { first = 1; marks = replicate (length entries) Pending; next = 1 }
     → ((old more : List Numbered) → core_of (old ++ more) gate ≡ offered more (core_of old before)) → made ≡ replicate (length entries) []
     → IsGoing conf (record { entries = entries; gate = gate; cells = held; made = made })
@@ -284,7 +285,7 @@ new_going conf entries before gate held made whole holds old is core rows =
       size = ap (λ (g : Gate). length g.marks) is ∙ length-replicate (length entries) Pending;
       rows = ap length rows ∙ length-replicate (length entries) [];
       core = core [] entries ∙ ap (offered entries) (start_is before old);
-      represented = subst (Represents conf held) holds.stand holds.represented;
+      represented = subst (Represents (first_stage conf) held) holds.stand holds.represented;
       kept = λ n l. ap (λ ms. made_at ms n) rows ∙ none (length entries) (n - 1);
     })
   where
@@ -298,11 +299,11 @@ new_going conf entries before gate held made whole holds old is core rows =
 
 -- one entry is worked out in the cells themselves
 pub one_worked : (conf : Conf) (held next : CellsView) (entries : List Numbered) (made rows : List (List Rec)) (rs : List Rec) (numbers : List ℕ) → AreReady conf held entries numbers → length numbers ≡ 1
-    → length made ≡ length entries → StepsTo conf held (entry_at entries (get_or numbers 0 0)) rs next → rows ≡ set made (get_or numbers 0 0 - 1) rs
+    → length made ≡ length entries → StepsTo (first_stage conf) held (entry_at entries (get_or numbers 0 0)) rs next → rows ≡ set made (get_or numbers 0 0 - 1) rs
     → IsWorkedIn conf (entries_with numbers entries) held made next rows
 one_worked conf held next entries made rows rs [] ready one size step is = absurd (omega arith)
 one_worked conf held next entries made rows rs (n ∷ m ∷ ns) ready one size step is = absurd (omega arith)
-one_worked conf held next entries made rows rs (n ∷ []) ready one size step is = (ap length is ∙ length-set made (n - 1) rs, λ c represented come. works c represented (subst (AllCome conf c) ready.places come))
+one_worked conf held next entries made rows rs (n ∷ []) ready one size step is = (ap length is ∙ length-set made (n - 1) rs, λ c represented come. works c represented (subst (AllCome (first_stage conf) c) ready.places come))
   where
     x : Numbered
     x = entry_at entries n
@@ -315,20 +316,20 @@ one_worked conf held next entries made rows rs (n ∷ []) ready one size step is
         let q : (x.number ∷ []) ≡ n ∷ [] = sym (ap (map (λ (e : Numbered). e.number)) ready.places) ∙ ready.numbered in
         cc
 
-    works : (c : Cells) → Represents conf held c → AllCome conf c (x ∷ []) → Represents conf next (cells_done conf c (entries_with (n ∷ []) entries)) × IsKept made (entries_with (n ∷ []) entries) (records_done conf c (entries_with (n ∷ []) entries)) rows
+    works : (c : Cells) → Represents (first_stage conf) held c → AllCome (first_stage conf) c (x ∷ []) → Represents (first_stage conf) next (cells_done (first_stage conf) c (entries_with (n ∷ []) entries)) × IsKept made (entries_with (n ∷ []) entries) (records_done (first_stage conf) c (entries_with (n ∷ []) entries)) rows
     works c represented come =
         let s = step c represented come.0 come.1 in (
-          subst (λ es. Represents conf next (cells_done conf c es)) (sym ready.places) s.1,
-          λ k l. subst (λ es. made_at rows k ≡ keeping (made_at made) es (records_done conf c es) k) (sym ready.places)
+          subst (λ es. Represents (first_stage conf) next (cells_done (first_stage conf) c es)) (sym ready.places) s.1,
+          λ k l. subst (λ es. made_at rows k ≡ keeping (made_at made) es (records_done (first_stage conf) c es) k) (sym ready.places)
               (ap (λ ms. made_at ms k) is ∙ set_made made n k rs bounds.0 (omega (arith, bounds.1, size)) l
               ∙ ap (λ j. cond (k == j) rs (made_at made k)) (sym its_number)
               ∙ ap (λ r. cond (k == x.number) r (made_at made k)) s.0),
         )
 
 -- results are put in place
-length_records : (conf : Conf) (c : Cells) (es : List Numbered) → length (records_done conf c es) ≡ length es
+length_records : (conf : Conf) (c : Cells) (es : List Numbered) → length (records_done (first_stage conf) c es) ≡ length es
 length_records conf c [] = refl
-length_records conf c (e ∷ es) = ap suc (length_records conf (after conf c e) es)
+length_records conf c (e ∷ es) = ap suc (length_records conf (after (first_stage conf) c e) es)
 
 pub outputs_length : (conf : Conf) (held : CellsView) (entries : List Numbered) (numbers : List ℕ) (part : PartView) (lists : List (List Rec)) → AreReady conf held entries numbers → AreOutputs conf held (entries_with numbers entries) part lists → length lists ≡ length (entries_with numbers entries)
 outputs_length conf held entries numbers part lists ready outputs = ap length (outputs ready.cells ready.represented ready.come).0 ∙ length_records conf ready.cells (entries_with numbers entries)
@@ -342,14 +343,14 @@ put_worked conf held next es part lists made rows replaced size kept outputs = (
       (o.1 next replaced, λ n l. kept n l ∙ ap (λ ls. keeping (made_at made) es ls n) o.0),
 )
 
-pub parts_work : (conf : Conf) (held : CellsView) (entries : List Numbered) (numbers : List ℕ) (part : PartView) → AreReady conf held entries numbers → IsPartOf conf (entries_with numbers entries) held part → IsWorkable conf (entries_with numbers entries) part
+pub parts_work : (conf : Conf) (held : CellsView) (entries : List Numbered) (numbers : List ℕ) (part : PartView) → AreReady conf held entries numbers → IsPartOf conf (entries_with numbers entries) held part → IsWorkable (first_stage conf) (entries_with numbers entries) part
 parts_work conf held entries numbers part ready of = record { held = held; cells = ready.cells; of = of; represented = ready.represented; come = ready.come }
 
-pub worked_outputs : (conf : Conf) (held : CellsView) (es : List Numbered) (part done : PartView) (lists : List (List Rec)) → IsPartOf conf es held part → WorksOut conf es part done lists → AreOutputs conf held es done lists
+pub worked_outputs : (conf : Conf) (held : CellsView) (es : List Numbered) (part done : PartView) (lists : List (List Rec)) → IsPartOf conf es held part → WorksOut (first_stage conf) es part done lists → AreOutputs conf held es done lists
 unfolding WorksOut
 worked_outputs conf held es part done lists of works c represented come = works held c of represented come
 
-pub fresh_outputs : (conf : Conf) (held : CellsView) (entries es : List Numbered) (numbers : List ℕ) (part done : PartView) (lists : List (List Rec)) → AreReady conf held entries numbers → entries_with numbers entries ≡ es → IsWorkable conf es part → IsSame held part → WorksOut conf es part done lists
+pub fresh_outputs : (conf : Conf) (held : CellsView) (entries es : List Numbered) (numbers : List ℕ) (part done : PartView) (lists : List (List Rec)) → AreReady conf held entries numbers → entries_with numbers entries ≡ es → IsWorkable (first_stage conf) es part → IsSame held part → WorksOut (first_stage conf) es part done lists
     → AreOutputs conf held (entries_with numbers entries) done lists
 fresh_outputs conf held entries es numbers part done lists ready is workable same works =
     subst (λ xs. AreOutputs conf held xs done lists) (sym is)
@@ -363,28 +364,28 @@ pub with_here : (conf : Conf) (held : CellsView) (entries es : List Numbered) (n
 with_here conf held entries es numbers ready is here = at_here entries es (ap (map (entry_at entries)) is ∙ sym ready.places ∙ here)
 
 -- the same for equal things
-pub holds_at : (conf other : Conf) (held : CellsView) → other ≡ conf → HoldsLog other held [] → HoldsLog conf held []
-holds_at conf other held same holds = subst (λ k. HoldsLog k held []) same holds
+pub holds_at : (conf other : Conf) (held : CellsView) → other ≡ conf → HoldsLog (first_stage other) held [] → HoldsLog (first_stage conf) held []
+holds_at conf other held same holds = subst (λ k. HoldsLog (first_stage k) held []) same holds
 
-pub part_at : (conf other : Conf) (held : CellsView) (given es : List Numbered) (part : PartView) → other ≡ conf → given ≡ es → IsPartOf other given held part → IsPartOf conf es held part
-part_at conf other held given es part same is of = subst (λ xs. IsPartOf conf xs held part) is (subst (λ k. IsPartOf k given held part) same of)
+pub part_at : (conf : Conf) (other : Stage) (held : CellsView) (given es : List Numbered) (part : PartView) → other ≡ first_stage conf → given ≡ es → IsPartOf other.conf given held part → IsPartOf conf es held part
+part_at conf other held given es part same is of = subst (λ xs. IsPartOf conf xs held part) is (subst (λ (k : Stage). IsPartOf k.conf given held part) same of)
 
-pub work_at : (conf other : Conf) (held : CellsView) (entries es given : List Numbered) (numbers : List ℕ) (part : PartView) → other ≡ conf → es ≡ given → given ≡ entries_with numbers entries → AreReady conf held entries numbers → IsPartOf conf (entries_with numbers entries) held part → IsWorkable other es part
+pub work_at : (conf : Conf) (other : Stage) (held : CellsView) (entries es given : List Numbered) (numbers : List ℕ) (part : PartView) → other ≡ first_stage conf → es ≡ given → given ≡ entries_with numbers entries → AreReady conf held entries numbers → IsPartOf conf (entries_with numbers entries) held part → IsWorkable other es part
 work_at conf other held entries es given numbers part same is also ready of =
-    subst (λ k. IsWorkable k es part) (sym same) (subst (λ xs. IsWorkable conf xs part) (sym (is ∙ also)) (parts_work conf held entries numbers part ready of))
+    subst (λ k. IsWorkable k es part) (sym same) (subst (λ xs. IsWorkable (first_stage conf) xs part) (sym (is ∙ also)) (parts_work conf held entries numbers part ready of))
 
-pub outputs_at : (conf other : Conf) (held : CellsView) (entries es given : List Numbered) (numbers : List ℕ) (part done : PartView) (lists : List (List Rec)) → other ≡ conf → es ≡ given → given ≡ entries_with numbers entries → IsPartOf conf (entries_with numbers entries) held part
+pub outputs_at : (conf : Conf) (other : Stage) (held : CellsView) (entries es given : List Numbered) (numbers : List ℕ) (part done : PartView) (lists : List (List Rec)) → other ≡ first_stage conf → es ≡ given → given ≡ entries_with numbers entries → IsPartOf conf (entries_with numbers entries) held part
     → WorksOut other es part done lists → AreOutputs conf held (entries_with numbers entries) done lists
 outputs_at conf other held entries es given numbers part done lists same is also of works =
-    worked_outputs conf held (entries_with numbers entries) part done lists of (subst (λ xs. WorksOut conf xs part done lists) (is ∙ also) (subst (λ k. WorksOut k es part done lists) same works))
+    worked_outputs conf held (entries_with numbers entries) part done lists of (subst (λ xs. WorksOut (first_stage conf) xs part done lists) (is ∙ also) (subst (λ k. WorksOut k es part done lists) same works))
 
-pub order_is : (conf : Conf) (held : CellsView) (entries es : List Numbered) (id : ℕ) (numbers ns : List ℕ) (part : PartView) (scratch : CellsView) → ns ≡ numbers → es ≡ entries_with ns entries → AreReady conf held entries numbers → IsPartOf conf (entries_with ns entries) held part → HoldsLog conf scratch []
+pub order_is : (conf : Conf) (held : CellsView) (entries es : List Numbered) (id : ℕ) (numbers ns : List ℕ) (part : PartView) (scratch : CellsView) → ns ≡ numbers → es ≡ entries_with ns entries → AreReady conf held entries numbers → IsPartOf conf (entries_with ns entries) held part → HoldsLog (first_stage conf) scratch []
     → IsOrder conf (record { id = id; numbers = numbers }) es part scratch
 order_is conf held entries es id numbers ns part scratch same is ready of free =
     let e : es ≡ entries_with numbers entries = is ∙ ap (λ ms. entries_with ms entries) same in
     record {
       numbers = ap (map (λ (x : Numbered). x.number)) e ∙ ready.numbered;
-      workable = subst (λ xs. IsWorkable conf xs part) (sym e) (parts_work conf held entries numbers part ready (subst (λ ms. IsPartOf conf (entries_with ms entries) held part) same of));
+      workable = subst (λ xs. IsWorkable (first_stage conf) xs part) (sym e) (parts_work conf held entries numbers part ready (subst (λ ms. IsPartOf conf (entries_with ms entries) held part) same of));
       scratch_free = free;
     }
 

@@ -15,6 +15,7 @@ use Rattle.entry_step.specs.Parts.{AllCome}
 use Rattle.entry_step.proofs.Members.{each_at}
 use Rattle.book.proofs.Places.{Rises}
 use Rattle.book.proofs.Working.{Done, also, kept_also, one_done, not_also, not_among, still_out, later_waits}
+use Rattle.trigger_state.specs.Stages.{first_stage}
 
 -- no moment of a log falls
 last_latest : (conf : Conf) (log : List Numbered) (a : Numbered) → Suits conf log → In a log → moment_of a.entry ≤ last_moment log
@@ -47,7 +48,7 @@ seen_before conf done (e ∷ log) i now early = go (done e) refl (seen_before co
     go true d ih = here (touches conf e.entry (ItemKey i)) refl d ih
     go false d ih = ih
 
-seen_is : (conf : Conf) (cells : Cells) (log : List Numbered) (i : ℕ) → AreCellsOf conf cells log → (cells (ItemKey i)).seen ≡ seen_of conf log i
+seen_is : (conf : Conf) (cells : Cells) (log : List Numbered) (i : ℕ) → AreCellsOf (first_stage conf) cells log → (cells (ItemKey i)).seen ≡ seen_of conf log i
 unfolding AreCellsOf look
 seen_is conf cells log i stand = ap (λ x. (x (ItemKey i)).seen) stand
 
@@ -72,13 +73,13 @@ module _ (conf : Conf) (log : List Numbered) (rises : Rises log) (suits : Suits 
   pub all_come : (es : List Numbered) (done : ℕ → Bool) (cells : Cells) (made : ℕ → List Rec) → Done conf log done cells made
       → ((x : Numbered) → In x es → In x log) → ((x : Numbered) → In x es → done x.number ≡ false) → EachPair (λ x later. x.number < later.number) es
       → ((y x : Numbered) → In y log → In x es → y.number < x.number → done y.number ≡ false → (In y es → ⊥) → Apart conf y x)
-      → AllCome conf cells es
+      → AllCome (first_stage conf) cells es
   all_come [] done cells made holds inside waits rising free = tt
   all_come (x ∷ es) done cells made holds inside waits rising free =
       let now = one_comes done cells made holds x (inside x (inl refl)) (waits x (inl refl)) in (
         now.0,
         now.1,
-        all_come es (also done x.number) (after conf cells x) (kept_also made x.number (records conf cells x))
+        all_come es (also done x.number) (after (first_stage conf) cells x) (kept_also made x.number (records (first_stage conf) cells x))
             (one_done conf log rises done cells made holds x (inside x (inl refl)) (waits x (inl refl)) (λ y i l w. free y x i (inl refl) l w (not_among x es y rising.0 l)))
             (λ z i. inside z (inr i))
             (later_waits done x es rising.0 waits)

@@ -22,6 +22,7 @@ use Rattle.book.specs.Schedule.{is_applied, Worked, worked, Facts}
 use Rattle.book.specs.Progress.{ProgressView, made_at, worked_of, IsGoing}
 use Rattle.book.proofs.Places.{Rises, in_of, in_right, older_below}
 use Rattle.book.proofs.Scheduled.{IsConsistent, order_of, stepped}
+use Rattle.trigger_state.specs.Stages.{first_stage}
 
 -- numbers of a full log
 pub number_within : (log : List Numbered) → IsFull log → (y : Numbered) → In y log → (0 < y.number) × (y.number ≤ length log)
@@ -73,7 +74,7 @@ pub record HasCome (conf : Conf) (w : Worked) (entries : List Numbered) (gate : 
   pub size : length gate.marks ≡ length entries
   pub rows : length made ≡ length entries
   pub core : core_of entries gate ≡ w.core
-  pub represented : Represents conf held w.cells
+  pub represented : Represents (first_stage conf) held w.cells
   pub kept : (n : ℕ) → 0 < n → made_at made n ≡ w.made n
 
 pub going_of : (conf : Conf) (w : Worked) (entries : List Numbered) (gate : Gate) (held : CellsView) (made : List (List Rec)) → IsConsistent conf w → HasCome conf w entries gate held made
@@ -88,7 +89,7 @@ going_of conf w entries gate held made stands come = record {
   represented = come.represented;
   facts = record {
     order = subst (InOrder (feet_of conf)) (sym come.core) stands.holds.order;
-    stand = subst (λ (c : Core). AreCellsOf conf w.cells (filter (λ e. is_applied (c.status e.number)) c.log)) (sym come.core) stands.done.stand;
+    stand = subst (λ (c : Core). AreCellsOf (first_stage conf) w.cells (filter (λ e. is_applied (c.status e.number)) c.log)) (sym come.core) stands.done.stand;
     kept = λ newer older e split d.
         come.kept e.number (number_within (reverse entries) come.whole.full e (subst (In e) (sym split) (in_right newer (e ∷ older) e (inl refl)))).0
         ∙ stands.done.kept newer older e (sym (ap (λ (c : Core). c.log) come.core) ∙ split) (sym (ap (λ (c : Core). is_applied (c.status e.number)) come.core) ∙ d);

@@ -11,13 +11,14 @@ use Rattle.entry_step.proofs.Members.{each_from, each_at, each_filter, filter-ap
 use Rattle.entry_step.proofs.Orders.{insertion, applied_part}
 use Rattle.book.specs.Schedule.{keeping}
 use Rattle.book.proofs.Places.{Rises, in_left, in_right, filter_cong, split_at, older_below, newer_above, same_entry}
+use Rattle.trigger_state.specs.Stages.{first_stage}
 
 -- The cells and records of the entries of a log that are done, by a test of numbers: no entry is done that conflicts with an
 -- older one that isn't
 pub record Done (conf : Conf) (log : List Numbered) (done : ℕ → Bool) (cells : Cells) (made : ℕ → List Rec) : Type 0 where
   pub order : (y e : Numbered) → In y log → In e log → y.number < e.number → done e.number ≡ true → done y.number ≡ false → Apart conf y e
-  pub stand : AreCellsOf conf cells (filter (λ e. done e.number) log)
-  pub kept : (newer older : List Numbered) (e : Numbered) → log ≡ newer ++ e ∷ older → done e.number ≡ true → made e.number ≡ out_of conf older e e.entry (replay conf older)
+  pub stand : AreCellsOf (first_stage conf) cells (filter (λ e. done e.number) log)
+  pub kept : (newer older : List Numbered) (e : Numbered) → log ≡ newer ++ e ∷ older → done e.number ≡ true → made e.number ≡ out_of (first_stage conf) older e e.entry (replay (first_stage conf) older)
 
 -- one more number
 abbrev pub also : (ℕ → Bool) → ℕ → ℕ → Bool
@@ -72,7 +73,7 @@ abbrev pub kept_also : (ℕ → List Rec) → ℕ → List Rec → ℕ → List 
 kept_also made k rs n = cond (n == k) rs (made n)
 
 -- what the search finds in a log stands for it
-look_stands : (conf : Conf) (log : List Numbered) → AreCellsOf conf (look conf log (replay conf log)) log
+look_stands : (conf : Conf) (log : List Numbered) → AreCellsOf (first_stage conf) (look (first_stage conf) log (replay (first_stage conf) log)) log
 unfolding AreCellsOf
 look_stands conf log = refl
 
@@ -102,8 +103,8 @@ module _ (conf : Conf) (log : List Numbered) (rises : Rises log) where
     in_newer newer older split y i = subst (In y) (sym split) (in_left newer (x ∷ older) y i)
 
     -- no newer one that is done conflicts with it, so it joins in its place
-    in_place : (newer older : List Numbered) → log ≡ newer ++ x ∷ older → InPlace conf (filter (λ e. done e.number) newer) x (filter (λ e. done e.number) older) cells
-    in_place newer older split = (insertion conf (filter (λ e. done e.number) newer) x (filter (λ e. done e.number) older) apart).1 cells (subst (AreCellsOf conf cells) before holds.stand)
+    in_place : (newer older : List Numbered) → log ≡ newer ++ x ∷ older → InPlace (first_stage conf) (filter (λ e. done e.number) newer) x (filter (λ e. done e.number) older) cells
+    in_place newer older split = (insertion (first_stage conf) (filter (λ e. done e.number) newer) x (filter (λ e. done e.number) older) (λ event. refl) apart).1 cells (subst (AreCellsOf (first_stage conf) cells) before holds.stand)
       where
         apart : Each (λ a. Apart conf x a) (filter (λ e. done e.number) newer)
         apart =
@@ -117,17 +118,17 @@ module _ (conf : Conf) (log : List Numbered) (rises : Rises log) where
             ∙ ap (λ b. filter (λ e. done e.number) newer ++ cond b (x ∷ filter (λ e. done e.number) older) (filter (λ e. done e.number) older)) waits
 
     -- its records are those of its place in the whole log
-    its_records : (newer older : List Numbered) → log ≡ newer ++ x ∷ older → records conf cells x ≡ out_of conf older x x.entry (replay conf older)
+    its_records : (newer older : List Numbered) → log ≡ newer ++ x ∷ older → records (first_stage conf) cells x ≡ out_of (first_stage conf) older x x.entry (replay (first_stage conf) older)
     its_records newer older split =
         (in_place newer older split).its_records
-        ∙ sym ((insertion conf [] x part tt).1 there (look_stands conf part)).its_records
-        ∙ applied_part conf (λ e. done e.number) older x pairs apart there (look_stands conf part)
+        ∙ sym ((insertion (first_stage conf) [] x part (λ event. refl) tt).1 there (look_stands conf part)).its_records
+        ∙ applied_part (first_stage conf) (λ e. done e.number) older x (λ event. refl) pairs apart there (look_stands conf part)
       where
         part : List Numbered
         part = filter (λ e. done e.number) older
 
         there : Cells
-        there = look conf part (replay conf part)
+        there = look (first_stage conf) part (replay (first_stage conf) part)
 
         apart : Each (λ y. done y.number ≡ false → Apart conf y x) older
         apart =
@@ -167,29 +168,29 @@ module _ (conf : Conf) (log : List Numbered) (rises : Rises log) where
         (filter_cong (λ e. next e.number) (λ e. done e.number) newer (λ y i. also_other done x.number y.number (λ q. let l = newer_above newer x older (rises_at newer older split) y i in omega arith)))
         (filter_cong (λ e. next e.number) (λ e. done e.number) older (λ y i. also_other done x.number y.number (λ q. let l = older_below newer x older (rises_at newer older split) y i in omega arith))))
 
-    stand_next : AreCellsOf conf (after conf cells x) (filter (λ e. next e.number) log)
-    stand_next = let r = split_at log x here in subst (AreCellsOf conf (after conf cells x)) (part_next r.0 r.1 r.2) (in_place r.0 r.1 r.2).stand
+    stand_next : AreCellsOf (first_stage conf) (after (first_stage conf) cells x) (filter (λ e. next e.number) log)
+    stand_next = let r = split_at log x here in subst (AreCellsOf (first_stage conf) (after (first_stage conf) cells x)) (part_next r.0 r.1 r.2) (in_place r.0 r.1 r.2).stand
 
-    kept_next : (newer older : List Numbered) (e : Numbered) → log ≡ newer ++ e ∷ older → next e.number ≡ true → kept_also made x.number (records conf cells x) e.number ≡ out_of conf older e e.entry (replay conf older)
+    kept_next : (newer older : List Numbered) (e : Numbered) → log ≡ newer ++ e ∷ older → next e.number ≡ true → kept_also made x.number (records (first_stage conf) cells x) e.number ≡ out_of (first_stage conf) older e e.entry (replay (first_stage conf) older)
     kept_next newer older e split d = go (e.number == x.number) refl d
       where
-        go : (b : Bool) → (e.number == x.number) ≡ b → cond b true (done e.number) ≡ true → cond b (records conf cells x) (made e.number) ≡ out_of conf older e e.entry (replay conf older)
+        go : (b : Bool) → (e.number == x.number) ≡ b → cond b true (done e.number) ≡ true → cond b (records (first_stage conf) cells x) (made e.number) ≡ out_of (first_stage conf) older e e.entry (replay (first_stage conf) older)
         go true q t =
             let s : e ≡ x = same_entry log rises e x (subst (In e) (sym split) (in_right newer (e ∷ older) e (inl refl))) here (eqb-true e.number x.number q) in
-            its_records newer older (split ∙ ap (λ z. newer ++ z ∷ older) s) ∙ ap (λ z. out_of conf older z z.entry (replay conf older)) (sym s)
+            its_records newer older (split ∙ ap (λ z. newer ++ z ∷ older) s) ∙ ap (λ z. out_of (first_stage conf) older z z.entry (replay (first_stage conf) older)) (sym s)
         go false q t = holds.kept newer older e split t
 
-    pub one_done : Done conf log (also done x.number) (after conf cells x) (kept_also made x.number (records conf cells x))
+    pub one_done : Done conf log (also done x.number) (after (first_stage conf) cells x) (kept_also made x.number (records (first_stage conf) cells x))
     one_done = record { order = order_next; stand = stand_next; kept = kept_next }
 
   -- a batch of such entries, the oldest first
   pub all_done : (es : List Numbered) (done : ℕ → Bool) (cells : Cells) (made : ℕ → List Rec) → Done conf log done cells made
       → ((x : Numbered) → In x es → In x log) → ((x : Numbered) → In x es → done x.number ≡ false) → EachPair (λ x later. x.number < later.number) es
       → ((y x : Numbered) → In y log → In x es → y.number < x.number → done y.number ≡ false → (In y es → ⊥) → Apart conf y x)
-      → Done conf log (also_all done es) (cells_done conf cells es) (keeping made es (records_done conf cells es))
+      → Done conf log (also_all done es) (cells_done (first_stage conf) cells es) (keeping made es (records_done (first_stage conf) cells es))
   all_done [] done cells made holds inside waits rising free = holds
   all_done (x ∷ es) done cells made holds inside waits rising free =
-      all_done es (also done x.number) (after conf cells x) (kept_also made x.number (records conf cells x))
+      all_done es (also done x.number) (after (first_stage conf) cells x) (kept_also made x.number (records (first_stage conf) cells x))
       (one_done done cells made holds x (inside x (inl refl)) (waits x (inl refl)) (λ y i l w. free y x i (inl refl) l w (not_among x es y rising.0 l)))
       (λ z i. inside z (inr i))
       (later_waits done x es rising.0 waits)

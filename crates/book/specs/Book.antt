@@ -14,6 +14,7 @@ use Rattle.book.specs.declared.tally.Tally.{Tally}
 use Rattle.book.specs.Tally.{tally_of}
 use Rattle.book.specs.Outgoing.{Grew, log_lines}
 use Rattle.book.specs.Progress.{ProgressView}
+use Rattle.trigger_state.specs.Stages.{first_stage}
 
 -- The entries in the order of their numbers, where each stands, the cells, and the records kept of each entry; of how
 -- many entries from the first on the lines were made, and what their records count; what the outbox tells, and the
@@ -61,7 +62,7 @@ pub record IsBook (conf : Conf) (kept : List Numbered) (start : SinkTells) (rece
   pub received_is : entries ≡ kept ++ received
   pub within : frontier ≤ length entries
   pub applied : AreApplied marks frontier
-  pub tally_is : tally ≡ tally_of (replay conf (log_of (take frontier entries)))
+  pub tally_is : tally ≡ tally_of (replay (first_stage conf) (log_of (take frontier entries)))
   pub enough : start.held ≤ length (lines_upto conf entries frontier)
   pub out : AreOut start sink unwritten (drop start.held (lines_upto conf entries frontier))
   pub later : start.faults ≤ sink.faults

@@ -20,6 +20,7 @@ use Rattle.syncer_gate.specs.declared.marks.Mark.TheVariants.{Pending, Applied}
 use Rattle.syncer_gate.specs.Marks.{ended}
 use Rattle.book.specs.Entries.{IsWholeLog}
 use Rattle.book.specs.Schedule.{Worked, Facts, keeping}
+use Rattle.trigger_state.specs.Stages.{first_stage}
 
 -- the entries in the order of their numbers, where each stands, the cells, and the records kept of each entry, none
 -- of one that isn't applied
@@ -46,7 +47,7 @@ pub record IsGoing (conf : Conf) (p : ProgressView) : Type 0 where
   pub size : length p.made ≡ length p.entries
   pub known : Holds (feet_of conf) (core_of p.entries p.gate)
   pub cells : Cells
-  pub represented : Represents conf p.cells cells
+  pub represented : Represents (first_stage conf) p.cells cells
   pub facts : Facts conf (worked_of p cells)
 
 -- what contracts see of an order: its batch, the entries of that, and the copies of cells to work on
@@ -59,8 +60,8 @@ pub record OrderView : Type 0 where
 pub record IsOrder (conf : Conf) (batch : Batch) (entries : List Numbered) (part : PartView)
     (scratch : CellsView) : Type 0 where
   pub numbers : map (λ e. e.number) entries ≡ batch.numbers
-  pub workable : IsWorkable conf entries part
-  pub scratch_free : HoldsLog conf scratch []
+  pub workable : IsWorkable (first_stage conf) entries part
+  pub scratch_free : HoldsLog (first_stage conf) scratch []
 
 -- an order that was worked out, with the copies that it leaves and the records of its entries
 pub record DoneView : Type 0 where
@@ -99,21 +100,21 @@ pub record AreReady (conf : Conf) (held : CellsView) (entries : List Numbered) (
   pub places : entries_with numbers entries ≡ map (entry_at entries) numbers
   pub numbered : map (λ e. e.number) (entries_with numbers entries) ≡ numbers
   pub cells : Cells
-  pub represented : Represents conf held cells
-  pub come : AllCome conf cells (entries_with numbers entries)
+  pub represented : Represents (first_stage conf) held cells
+  pub come : AllCome (first_stage conf) cells (entries_with numbers entries)
 
 -- what entries make of these cells
 abbrev pub AreOutputs : Conf → CellsView → List Numbered → PartView → List (List Rec) → Type 0
-AreOutputs conf held es part made = (c : Cells) → Represents conf held c → AllCome conf c es
-    → (made ≡ records_done conf c es) × ((next : CellsView) → IsReplaced held part next
-    → Represents conf next (cells_done conf c es))
+AreOutputs conf held es part made = (c : Cells) → Represents (first_stage conf) held c → AllCome (first_stage conf) c es
+    → (made ≡ records_done (first_stage conf) c es) × ((next : CellsView) → IsReplaced held part next
+    → Represents (first_stage conf) next (cells_done (first_stage conf) c es))
 
 -- Some entries are worked out over what is kept, and their records are put in their places: what there is before and
 -- behind it.
 abbrev pub IsWorkedIn : Conf → List Numbered → CellsView → List (List Rec) → CellsView → List (List Rec) → Type 0
 IsWorkedIn conf es held made next rows = (length rows ≡ length made)
-    × ((c : Cells) → Represents conf held c → AllCome conf c es → Represents conf next (cells_done conf c es)
-    × IsKept made es (records_done conf c es) rows)
+    × ((c : Cells) → Represents (first_stage conf) held c → AllCome (first_stage conf) c es → Represents (first_stage conf) next (cells_done (first_stage conf) c es)
+    × IsKept made es (records_done (first_stage conf) c es) rows)
 
 -- a batch of one entry, which was pending, and what its end with results leaves
 pub record IsSingle (p : ProgressView) (gate : Gate) (batch : Batch) (n : ℕ) : Type 0 where

@@ -12,6 +12,7 @@ use Rattle.syncer_gate.specs.declared.marks.Mark.{Mark}
 use Rattle.syncer_gate.specs.declared.marks.Mark.TheVariants.{Pending, Applied, Taken}
 use Rattle.syncer_gate.specs.Marks.{is_taken}
 use Rattle.syncer_gate.specs.Core.{Core, Step, Offer, Claim, Apply, GiveBack, happens, start, AreAllowed, InOrder}
+use Rattle.trigger_state.specs.Stages.{first_stage}
 
 -- worked out, its records kept
 abbrev pub is_applied : Mark → Bool
@@ -43,13 +44,13 @@ worked conf w (Claim id numbers) = record w { core = happens w.core (Claim id nu
 worked conf w (GiveBack id) = record w { core = happens w.core (GiveBack id) }
 worked conf w (Apply id) = record {
   core = happens w.core (Apply id);
-  cells = cells_done conf w.cells (batch_in w.core id);
-  made = keeping w.made (batch_in w.core id) (records_done conf w.cells (batch_in w.core id));
+  cells = cells_done (first_stage conf) w.cells (batch_in w.core id);
+  made = keeping w.made (batch_in w.core id) (records_done (first_stage conf) w.cells (batch_in w.core id));
 }
 
 -- no entry yet: the cells are what the search finds in an empty log, and nothing is kept
 abbrev pub begin_worked : Conf → Worked
-begin_worked conf = record { core = start; cells = look conf [] []; made = λ n. [] }
+begin_worked conf = record { core = start; cells = look (first_stage conf) [] []; made = λ n. [] }
 
 -- what is there behind some steps
 abbrev pub worked_all : Conf → Worked → List Step → Worked
@@ -64,9 +65,9 @@ has_applied w e = is_applied (w.core.status e.number)
 -- applied entry are those that it makes in its place in one thread's replay.
 pub record Facts (conf : Conf) (w : Worked) : Type 0 where
   pub order : InOrder (feet_of conf) w.core
-  pub stand : AreCellsOf conf w.cells (filter (has_applied w) w.core.log)
+  pub stand : AreCellsOf (first_stage conf) w.cells (filter (has_applied w) w.core.log)
   pub kept : (newer older : List Numbered) (e : Numbered) → w.core.log ≡ newer ++ e ∷ older → has_applied w e ≡ true
-      → w.made e.number ≡ out_of conf older e e.entry (replay conf older)
+      → w.made e.number ≡ out_of (first_stage conf) older e e.entry (replay (first_stage conf) older)
 
 -- whatever is offered, claimed, applied and given back, the facts hold
 abbrev pub EveryScheduleFacts : Type 0
@@ -83,4 +84,4 @@ abbrev pub AtFrontier : Type 0
 AtFrontier = (conf : Conf) (steps : List Step) → AreAllowed (feet_of conf) start steps → (newer older : List Numbered)
     → (worked_all conf (begin_worked conf) steps).core.log ≡ newer ++ older
     → Each (λ e. has_applied (worked_all conf (begin_worked conf) steps) e ≡ true) older
-    → records_kept (worked_all conf (begin_worked conf) steps) older ≡ replay conf older
+    → records_kept (worked_all conf (begin_worked conf) steps) older ≡ replay (first_stage conf) older

@@ -1,7 +1,7 @@
 //! The book: what the syncers share. It takes entries out of the ring, hands out batches of them, and writes their
 //! lines.
 
-ghost use Rattle.std.specs.Prelude.{◌≡◌, ◌≤◌, ◌<◌, ◌+◌, ◌-◌, ◌++◌, [], ℕ, List, min, true, false, length, drop, replicate, get_or, IfOk, IfErr, IfSome, OnOk, OnErr, IsErrOf};
+ghost use Rattle.std.specs.Prelude.{◌≡◌, ◌≤◌, ◌<◌, ◌+◌, ◌-◌, ◌++◌, [], ℕ, List, min, true, false, length, drop, replicate, get_or, is_some, IfOk, IfErr, IfSome, OnOk, OnErr, IsErrOf};
 ghost use Rattle.std.specs.Option.{option_map};
 ghost use mathlib.Core.List.{IsPrefix};
 ghost use Rattle.outside.specs.Causes.{Rose};
@@ -19,6 +19,7 @@ ghost use Rattle.book.specs.Tally.{tally_of};
 ghost use Rattle.book.specs.Outgoing.{Grew, GrewByFront, log_lines};
 ghost use Rattle.book.specs.Progress.{HasInputs, IsOneMore};
 ghost use Rattle.book.specs.Book.{work_of, AreApplied, IsFrontier, lines_upto};
+ghost use Rattle.trigger_state.specs.Stages.{first_stage};
 
 use crate::alone::work_all;
 use crate::errors::{BookError, FlushError};
@@ -95,7 +96,7 @@ impl<S: StartName, N: RunName, O: Sink> Book<S, N, O> {
         ring: RingEnd<S, N>,
         outbox: O,
     ) -> Result<Book<S, N, O>, (O, BookError)>
-        requires conf { ready.now ≡ S.conf }
+        requires conf { ready.now ≡ first_stage S.conf }
         requires kept { kept ≡ S.kept }
         requires whole { IsWholeLog S.conf kept }
         requires received { ring.received ≡ [] }
@@ -189,14 +190,15 @@ impl<S: StartName, N: RunName, O: Sink> Book<S, N, O> {
     }
 
     /// Takes a batch of at most `limit` entries, as the crate `syncer_gate` chooses it, with copies of the cells in
-    /// their feet. None comes exactly where there is nothing to take. Where memory is refused nothing was taken.
+    /// their feet. None comes exactly where there is nothing to take; with no open batch that is exactly where nothing is
+    /// pending. Where memory is refused nothing was taken.
     pub fn claim(
         &mut self,
         alloc: Global,
         ready: &Ready,
         limit: u32,
     ) -> Result<Option<Order<S>>, OutOfMemory>
-        requires conf { ready.now ≡ S.conf }
+        requires conf { ready.now ≡ first_stage S.conf }
         requires limit { 1 ≤ limit }
         ensures batch { IfOk result (λ made. option_map (λ order. order.batch) made ≡ batch_of self.old.gate.next
             (chosen (feet_of S.conf) self.old.gate self.old.entries limit)) }
@@ -207,6 +209,8 @@ impl<S: StartName, N: RunName, O: Sink> Book<S, N, O> {
             × (self.new.made ≡ self.old.made) }
         ensures out { (self.new.frontier ≡ self.old.frontier) × (self.new.tally ≡ self.old.tally)
             × (self.new.sink ≡ self.old.sink) × (self.new.unwritten ≡ self.old.unwritten) }
+        ensures idle { IfOk result (λ made. list_any is_open self.old.gate.marks ≡ false
+            → is_some made ≡ list_any is_pending self.old.gate.marks) }
         ensures err { OnErr result (self.new.gate.marks ≡ self.old.gate.marks) }
     {
         self.progress.going();
@@ -223,7 +227,7 @@ impl<S: StartName, N: RunName, O: Sink> Book<S, N, O> {
         done: Done<S>,
         steps: &mut Steps<L>,
     ) -> Result<(), (Done<S>, OutOfMemory)>
-        requires conf { ready.now ≡ S.conf }
+        requires conf { ready.now ≡ first_stage S.conf }
         ensures entries { self.new.entries ≡ self.old.entries }
         ensures open { OnOk result (IsOpenBatch self.old.gate done.order.batch
             → self.new.gate ≡ with_ended done.order.batch.id Mark.Applied self.old.gate) }
@@ -258,7 +262,7 @@ impl<S: StartName, N: RunName, O: Sink> Book<S, N, O> {
         ready: &Ready,
         steps: &mut Steps<L>,
     ) -> Result<bool, OutOfMemory>
-        requires conf { ready.now ≡ S.conf }
+        requires conf { ready.now ≡ first_stage S.conf }
         ensures entries { self.new.entries ≡ self.old.entries }
         ensures one { IfOk result (λ some. some ≡ true → (id : ℕ)
             × (self.new.gate.marks ≡ (with_ended id Mark.Applied
@@ -369,7 +373,7 @@ impl<S: StartName, N: RunName, O: Sink> Book<S, N, O> {
     /// Ends all open batches, and works out all entries, one after another, in the cells themselves: for one thread.
     /// At `Err` some of them are worked out.
     pub fn work_all(&mut self, alloc: Global, ready: &Ready) -> Result<(), OutOfMemory>
-        requires conf { ready.now ≡ S.conf }
+        requires conf { ready.now ≡ first_stage S.conf }
         ensures entries { self.new.entries ≡ self.old.entries }
         ensures all { OnOk result (AreApplied self.new.gate.marks (length self.new.entries)) }
         ensures out { (self.new.frontier ≡ self.old.frontier) × (self.new.tally ≡ self.old.tally)
@@ -385,7 +389,7 @@ impl<S: StartName, N: RunName, O: Sink> Book<S, N, O> {
         ready: &Ready,
         head: &mut RingHead<S, N>,
     ) -> Result<(), FlushError>
-        requires conf { ready.now ≡ S.conf }
+        requires conf { ready.now ≡ first_stage S.conf }
         ensures within { IsPrefix self.new.entries (S.kept ++ head.old.sent) }
         ensures all { OnOk result (self.new.entries ≡ S.kept ++ head.old.sent) }
         ensures frontier { OnOk result (self.new.frontier ≡ length self.new.entries) }
@@ -423,7 +427,7 @@ impl<S: StartName, N: RunName, O: Sink> Book<S, N, O> {
         ensures lines { Grew S.outbox (O.tells result.outbox)
             (drop S.outbox.held (log_lines S.conf (log_of self.entries))) }
         ensures sink { O.tells result.outbox ≡ self.sink }
-        ensures counts { tally_of (replay S.conf (log_of self.entries)) ≡ record
+        ensures counts { tally_of (replay (first_stage S.conf) (log_of self.entries)) ≡ record
             { problems = result.problems; recoveries = result.recoveries; messages = result.messages; bytes = result.bytes } }
     {
         let Book {
@@ -456,11 +460,11 @@ impl<S: StartName, N: RunName, O: Sink> Book<S, N, O> {
         ready: &Ready,
         head: RingHead<S, N>,
     ) -> Result<Closed<O>, (O, FlushError)>
-        requires conf { ready.now ≡ S.conf }
+        requires conf { ready.now ≡ first_stage S.conf }
         ensures entries { IfOk result (λ closed. closed.entries ≡ S.kept ++ head.sent) }
         ensures lines { IfOk result (λ closed. Grew S.outbox (O.tells closed.outbox)
             (drop S.outbox.held (log_lines S.conf (log_of (S.kept ++ head.sent))))) }
-        ensures counts { IfOk result (λ closed. tally_of (replay S.conf (log_of (S.kept ++ head.sent))) ≡ record
+        ensures counts { IfOk result (λ closed. tally_of (replay (first_stage S.conf) (log_of (S.kept ++ head.sent))) ≡ record
             { problems = closed.problems; recoveries = closed.recoveries; messages = closed.messages; bytes = closed.bytes }) }
         ensures front { IfErr result (λ refused. GrewByFront S.outbox (O.tells refused.0)
             (drop S.outbox.held (log_lines S.conf (log_of (S.kept ++ head.sent))))) }

@@ -1,6 +1,6 @@
 //! What an order needs of the entries and the cells, and what comes of it.
 
-ghost use Rattle.std.specs.Prelude.{◌≡◌, ◌↔◌, ◌≤◌, ◌<◌, [], true, false, length, map, All, IfOk, IfErr, OnOk, OnErr, IfSome, IfNone};
+ghost use Rattle.std.specs.Prelude.{◌≡◌, ◌↔◌, ◌≤◌, ◌<◌, [], true, false, length, map, is_some, All, IfOk, IfErr, OnOk, OnErr, IfSome, IfNone};
 ghost use Rattle.footprint.specs.Feet.{feet_of};
 ghost use Rattle.syncer_gate.specs.Gate.{AreOffered, IsOpenBatch, batch_of, claimed};
 ghost use Rattle.syncer_gate.specs.Chosen.{chosen};
@@ -10,6 +10,7 @@ ghost use Rattle.zbx_types.specs.declared.conf.Conf.{Conf};
 ghost use Rattle.entry_step.specs.Represents.{Holds};
 ghost use Rattle.entry_step.specs.Parts.{IsPartOf, IsSame};
 ghost use Rattle.book.specs.Progress.{entry_at, entries_with, AreHere, AreWithin, AreReady, AreOutputs, IsKept, IsWorkedIn, IsClaim};
+ghost use Rattle.trigger_state.specs.Stages.{first_stage};
 
 use crate::names::StartName;
 use crate::order::{Done, Order};
@@ -83,7 +84,7 @@ fn inputs_of<S: StartName>(
     entries: &[Numbered],
     numbers: &[u64],
 ) -> Result<Inputs, OutOfMemory>
-    requires conf { ready.now ≡ S.conf }
+    requires conf { ready.now ≡ first_stage S.conf }
     requires ready { AreReady S.conf cells.now entries.now numbers.now }
     ensures entries { IfOk result (λ made. made.entries ≡ entries_with numbers.now entries.now) }
     ensures part { IfOk result (λ made. IsPartOf S.conf (entries_with numbers.now entries.now) cells.now made.part) }
@@ -100,10 +101,10 @@ fn scratch_of<S: StartName>(
     ready: &Ready,
     spare: &mut Vec<Cells>,
 ) -> Result<Cells, OutOfMemory>
-    requires conf { ready.now ≡ S.conf }
-    requires spare { All (λ cells. Holds S.conf cells []) spare.old.items }
-    ensures cells { IfOk result (λ cells. Holds S.conf cells []) }
-    ensures spare { All (λ cells. Holds S.conf cells []) spare.new.items }
+    requires conf { ready.now ≡ first_stage S.conf }
+    requires spare { All (λ cells. Holds (first_stage S.conf) cells []) spare.old.items }
+    ensures cells { IfOk result (λ cells. Holds (first_stage S.conf) cells []) }
+    ensures spare { All (λ cells. Holds (first_stage S.conf) cells []) spare.new.items }
 {
     match spare.pop() {
         Some(cells) => Ok(cells),
@@ -113,8 +114,8 @@ fn scratch_of<S: StartName>(
 
 /// Keeps spare cells, if there is room.
 pub(crate) fn put_by(spare: &mut Vec<Cells>, scratch: Cells)
-    ensures { (conf : Conf) → All (λ cells. Holds conf cells []) spare.old.items → Holds conf scratch []
-        → All (λ cells. Holds conf cells []) spare.new.items }
+    ensures { (conf : Conf) → All (λ cells. Holds (first_stage conf) cells []) spare.old.items → Holds (first_stage conf) scratch []
+        → All (λ cells. Holds (first_stage conf) cells []) spare.new.items }
 {
     let _ = spare.push(scratch);
 }
@@ -128,14 +129,14 @@ pub(crate) fn order_of<S: StartName>(
     spare: &mut Vec<Cells>,
     batch: Batch,
 ) -> Result<Order<S>, (Batch, OutOfMemory)>
-    requires conf { ready.now ≡ S.conf }
+    requires conf { ready.now ≡ first_stage S.conf }
     requires ready { AreReady S.conf cells.now entries.now batch.numbers }
-    requires spare { All (λ cells. Holds S.conf cells []) spare.old.items }
+    requires spare { All (λ cells. Holds (first_stage S.conf) cells []) spare.old.items }
     ensures batch { IfOk result (λ order. order.batch ≡ batch) }
     ensures entries { IfOk result (λ order. order.entries ≡ entries_with batch.numbers entries.now) }
     ensures part { IfOk result (λ order. IsPartOf S.conf (entries_with batch.numbers entries.now) cells.now
         order.part) }
-    ensures spare { All (λ cells. Holds S.conf cells []) spare.new.items }
+    ensures spare { All (λ cells. Holds (first_stage S.conf) cells []) spare.new.items }
     ensures back { IfErr result (λ refused. refused.0 ≡ batch) }
 {
     let numbers = batch.numbers.as_slice();
@@ -185,13 +186,13 @@ fn rework<S: StartName, L: Ledger>(
     scratch: &mut Cells,
     steps: &mut Steps<L>,
 ) -> Result<Again, OutOfMemory>
-    requires conf { ready.now ≡ S.conf }
+    requires conf { ready.now ≡ first_stage S.conf }
     requires ready { AreReady S.conf cells.now entries.now numbers.now }
-    requires scratch { Holds S.conf scratch.old [] }
+    requires scratch { Holds (first_stage S.conf) scratch.old [] }
     ensures entries { IfOk result (λ again. again.entries ≡ entries_with numbers.now entries.now) }
     ensures made { IfOk result (λ again. AreOutputs S.conf cells.now (entries_with numbers.now entries.now)
         again.part again.made) }
-    ensures scratch { Holds S.conf scratch.new [] }
+    ensures scratch { Holds (first_stage S.conf) scratch.new [] }
 {
     let inputs = inputs_of::<S>(alloc, ready, cells, entries, numbers)?;
     let own = inputs.entries.as_slice();
@@ -221,13 +222,13 @@ pub(crate) fn outputs_of<S: StartName, L: Ledger>(
     done: Done<S>,
     steps: &mut Steps<L>,
 ) -> Result<Outputs, (Done<S>, OutOfMemory)>
-    requires conf { ready.now ≡ S.conf }
+    requires conf { ready.now ≡ first_stage S.conf }
     requires ready { AreReady S.conf cells.now entries.now done.order.batch.numbers }
     ensures batch { IfOk result (λ made. made.batch ≡ done.order.batch) }
     ensures entries { IfOk result (λ made. made.entries ≡ entries_with done.order.batch.numbers entries.now) }
     ensures made { IfOk result (λ made. AreOutputs S.conf cells.now
         (entries_with done.order.batch.numbers entries.now) made.part made.made) }
-    ensures scratch { IfOk result (λ made. Holds S.conf made.scratch []) }
+    ensures scratch { IfOk result (λ made. Holds (first_stage S.conf) made.scratch []) }
     ensures uncounted { entries_with done.order.batch.numbers entries.now ≡ done.order.entries
         → IsSame cells.now done.order.part → steps.new ≡ steps.old }
     ensures back { IfErr result (λ refused. refused.0 ≡ done) }
@@ -314,7 +315,7 @@ pub(crate) fn work_in<S: StartName, L: Ledger>(
     numbers: &[u64],
     steps: &mut Steps<L>,
 ) -> Result<(), OutOfMemory>
-    requires conf { ready.now ≡ S.conf }
+    requires conf { ready.now ≡ first_stage S.conf }
     requires ready { AreReady S.conf cells.old entries.now numbers.now }
     requires one { length numbers.now ≡ 1 }
     requires size { length made.old.items ≡ length entries.now }
@@ -336,7 +337,7 @@ pub(crate) fn take_batch<S: StartName>(
     entries: &[Numbered],
     limit: u32,
 ) -> Result<Option<Batch>, OutOfMemory>
-    requires conf { ready.now ≡ S.conf }
+    requires conf { ready.now ≡ first_stage S.conf }
     requires limit { 1 ≤ limit }
     requires offered { AreOffered claims.old entries.now }
     ensures batch { IfOk result (λ taken. taken ≡ batch_of claims.old.next
@@ -349,6 +350,8 @@ pub(crate) fn take_batch<S: StartName>(
     ensures none { IfOk result (λ taken. IfNone taken (claims.new ≡ claims.old)) }
     ensures idle { IfOk result (λ taken. IfNone taken (list_any is_open claims.old.marks ≡ false
         → list_any is_pending claims.old.marks ≡ false)) }
+    ensures pending { IfOk result (λ taken. list_any is_open claims.old.marks ≡ false
+        → is_some taken ≡ list_any is_pending claims.old.marks) }
     ensures err { OnErr result (claims.new ≡ claims.old) }
 {
     let taken = claims.claim(alloc, ready.feet(), entries, limit)?;

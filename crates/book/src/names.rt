@@ -9,7 +9,7 @@ pub trait StartName {
     ghost use Rattle.zbx_types.specs.declared.entries.Numbered.{Numbered};
     ghost use Rattle.outside.specs.Tells.{SinkTells};
 
-    /// The configuration.
+    /// The configuration, which is the only one.
     ghost conf: { Conf };
 
     /// The entries that its journal kept, in the order of their numbers. They don't go through the ring.

@@ -7,6 +7,7 @@ ghost use Rattle.book.specs.Entries.{IsWholeLog};
 ghost use Rattle.book.specs.Tally.{tally_of};
 ghost use Rattle.book.specs.Outgoing.{log_lines};
 ghost use Rattle.book.specs.Book.{AreApplied};
+ghost use Rattle.trigger_state.specs.Stages.{first_stage};
 
 use crate::alone::work_all;
 use crate::names::StartName;
@@ -32,7 +33,7 @@ fn worked_out<S: StartName>(
     ready: &Ready,
     kept: Many<Numbered>,
 ) -> Result<Progress<S>, OutOfMemory>
-    requires conf { ready.now ≡ S.conf }
+    requires conf { ready.now ≡ first_stage S.conf }
     requires whole { IsWholeLog S.conf kept }
     ensures entries { IfOk result (λ made. made.entries ≡ kept) }
     ensures applied { IfOk result (λ made. AreApplied made.gate.marks (length made.entries)) }
@@ -49,7 +50,7 @@ fn lines_behind<S: StartName>(
     held: u64,
 ) -> Result<(Tally, Bytes), OutOfMemory>
     requires { AreApplied progress.now.gate.marks (length progress.now.entries) }
-    ensures tally { IfOk result (λ made. made.0 ≡ tally_of (replay S.conf (log_of progress.now.entries))) }
+    ensures tally { IfOk result (λ made. made.0 ≡ tally_of (replay (first_stage S.conf) (log_of progress.now.entries))) }
     ensures lines { IfOk result (λ made. made.1 ≡ drop held (log_lines S.conf (log_of progress.now.entries))) }
 {
     let mut tally = Tally::new();
@@ -68,11 +69,11 @@ pub(crate) fn begin<S: StartName>(
     kept: Many<Numbered>,
     held: u64,
 ) -> Result<Begun<S>, OutOfMemory>
-    requires conf { ready.now ≡ S.conf }
+    requires conf { ready.now ≡ first_stage S.conf }
     requires whole { IsWholeLog S.conf kept }
     ensures entries { IfOk result (λ begun. begun.progress.entries ≡ kept) }
     ensures applied { IfOk result (λ begun. AreApplied begun.progress.gate.marks (length kept)) }
-    ensures tally { IfOk result (λ begun. begun.tally ≡ tally_of (replay S.conf (log_of kept))) }
+    ensures tally { IfOk result (λ begun. begun.tally ≡ tally_of (replay (first_stage S.conf) (log_of kept))) }
     ensures missing { IfOk result (λ begun. begun.missing ≡ drop held (log_lines S.conf (log_of kept))) }
 {
     let progress = worked_out::<S>(alloc, ready, kept)?;

@@ -2,6 +2,7 @@
 
 ghost use Rattle.std.specs.Prelude.{◌≡◌, get_or, IfOk, IfErr, OnOk};
 ghost use Rattle.entry_step.specs.Parts.{IsCounted};
+ghost use Rattle.trigger_state.specs.Stages.{first_stage};
 
 use crate::names::StartName;
 use entry_step::{Cells, Part, Ready, Steps, WorkedOut, work_out};
@@ -40,6 +41,7 @@ pub struct Done<S: StartName> {
 }
 
 impl<S: StartName> Model for Done<S> {
+    ghost use Rattle.trigger_state.specs.Stages.{first_stage};
     ghost use Rattle.entry_step.specs.Parts.{WorksOut};
     ghost use Rattle.book.specs.Progress.{DoneView};
 
@@ -47,7 +49,7 @@ impl<S: StartName> Model for Done<S> {
 
     ghost view = { λ d. record { order = d.order; part = d.part; made = d.made } };
 
-    ghost invariant = { λ d. WorksOut S.conf d.order.entries d.order.part d.part d.made };
+    ghost invariant = { λ d. WorksOut (first_stage S.conf) d.order.entries d.order.part d.part d.made };
 }
 
 impl<S: StartName> Order<S> {
@@ -66,9 +68,9 @@ impl<S: StartName> Order<S> {
         ready: &Ready,
         steps: &mut Steps<L>,
     ) -> Result<Done<S>, (Order<S>, OutOfMemory)>
-        requires conf { ready.now ≡ S.conf }
+        requires conf { ready.now ≡ first_stage S.conf }
         ensures done { IfOk result (λ done. done.order ≡ self) }
-        ensures counted { OnOk result (IsCounted S.conf self.entries self.part steps.old steps.new) }
+        ensures counted { OnOk result (IsCounted (first_stage S.conf) self.entries self.part steps.old steps.new) }
         ensures back { IfErr result (λ refused. refused.0 ≡ self) }
     {
         let Order {

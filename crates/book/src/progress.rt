@@ -1,7 +1,7 @@
 //! How far the work on the entries is: the entries themselves, where each of them stands, the cells, and the records
 //! kept.
 
-ghost use Rattle.std.specs.Prelude.{◌≡◌, ◌≢◌, ◌≤◌, ◌<◌, ◌+◌, ◌++◌, [], ℕ, true, false, length, map, replicate, get_or, IfOk, IfErr, IfSome, OnOk, OnErr, Some, None, take};
+ghost use Rattle.std.specs.Prelude.{◌≡◌, ◌≢◌, ◌≤◌, ◌<◌, ◌+◌, ◌++◌, [], ℕ, true, false, length, map, replicate, get_or, is_some, IfOk, IfErr, IfSome, OnOk, OnErr, Some, None, take};
 ghost use Rattle.std.specs.Option.{option_map};
 ghost use Rattle.footprint.specs.Feet.{feet_of};
 ghost use Rattle.entry_step.specs.Log.{log_of};
@@ -15,6 +15,7 @@ ghost use Rattle.book.specs.Entries.{IsWholeLog};
 ghost use Rattle.book.specs.Progress.{IsGoing, HasInputs, IsOneMore};
 ghost use Rattle.syncer_gate.specs.Marks.{is_open, is_pending, reopened};
 ghost use Rattle.std.specs.List.{list_any};
+ghost use Rattle.trigger_state.specs.Stages.{first_stage};
 
 use crate::inputs::{
     Outputs, is_open_here, order_of, outputs_of, put_by, put_in, take_batch, work_in,
@@ -43,6 +44,7 @@ pub(crate) struct Progress<S: StartName> {
 
 impl<S: StartName> Model for Progress<S> {
     ghost use Rattle.std.specs.Prelude.{[], All};
+    ghost use Rattle.trigger_state.specs.Stages.{first_stage};
     ghost use Rattle.entry_step.specs.Represents.{Holds};
     ghost use Rattle.book.specs.Progress.{ProgressView, IsGoing};
 
@@ -50,7 +52,7 @@ impl<S: StartName> Model for Progress<S> {
 
     ghost view = { λ p. record { entries = p.entries.items; gate = p.claims; cells = p.cells; made = p.made.items } };
 
-    ghost invariant = { λ p. IsGoing S.conf (record { entries = p.entries.items; gate = p.claims; cells = p.cells; made = p.made.items }) × All (λ cells. Holds S.conf cells []) p.spare.items };
+    ghost invariant = { λ p. IsGoing S.conf (record { entries = p.entries.items; gate = p.claims; cells = p.cells; made = p.made.items }) × All (λ cells. Holds (first_stage S.conf) cells []) p.spare.items };
 }
 
 /// The records of so many entries, of which none is applied.
@@ -111,7 +113,7 @@ impl<S: StartName> Progress<S> {
         ready: &Ready,
         entries: Many<Numbered>,
     ) -> Result<Progress<S>, OutOfMemory>
-        requires conf { ready.now ≡ S.conf }
+        requires conf { ready.now ≡ first_stage S.conf }
         requires whole { IsWholeLog S.conf entries }
         ensures entries { IfOk result (λ p. p.entries ≡ entries) }
         ensures pending { IfOk result (λ p. p.gate ≡ record
@@ -167,14 +169,15 @@ impl<S: StartName> Progress<S> {
     }
 
     /// Takes a batch of at most `limit` entries, as the crate `syncer_gate` chooses it, with copies of the cells in
-    /// their feet. None comes exactly where there is nothing to take. Where memory is refused nothing was taken.
+    /// their feet. None comes exactly where there is nothing to take; with no open batch that is exactly where nothing is
+    /// pending. Where memory is refused nothing was taken.
     pub(crate) fn claim(
         &mut self,
         alloc: Global,
         ready: &Ready,
         limit: u32,
     ) -> Result<Option<Order<S>>, OutOfMemory>
-        requires conf { ready.now ≡ S.conf }
+        requires conf { ready.now ≡ first_stage S.conf }
         requires limit { 1 ≤ limit }
         ensures batch { IfOk result (λ made. option_map (λ order. order.batch) made ≡ batch_of self.old.gate.next
             (chosen (feet_of S.conf) self.old.gate self.old.entries limit)) }
@@ -183,6 +186,8 @@ impl<S: StartName> Progress<S> {
             (chosen (feet_of S.conf) self.old.gate self.old.entries limit)) }
         ensures rest { (self.new.entries ≡ self.old.entries) × (self.new.cells ≡ self.old.cells)
             × (self.new.made ≡ self.old.made) }
+        ensures idle { IfOk result (λ made. list_any is_open self.old.gate.marks ≡ false
+            → is_some made ≡ list_any is_pending self.old.gate.marks) }
         ensures err { OnErr result (self.new.gate.marks ≡ self.old.gate.marks) }
     {
         let all = self.entries.as_slice();
@@ -211,7 +216,7 @@ impl<S: StartName> Progress<S> {
         done: Done<S>,
         steps: &mut Steps<L>,
     ) -> Result<(), (Done<S>, OutOfMemory)>
-        requires conf { ready.now ≡ S.conf }
+        requires conf { ready.now ≡ first_stage S.conf }
         ensures entries { self.new.entries ≡ self.old.entries }
         ensures open { OnOk result (IsOpenBatch self.old.gate done.order.batch
             → self.new.gate ≡ with_ended done.order.batch.id Mark.Applied self.old.gate) }
@@ -266,7 +271,7 @@ impl<S: StartName> Progress<S> {
         ready: &Ready,
         steps: &mut Steps<L>,
     ) -> Result<bool, OutOfMemory>
-        requires conf { ready.now ≡ S.conf }
+        requires conf { ready.now ≡ first_stage S.conf }
         ensures entries { self.new.entries ≡ self.old.entries }
         ensures one { IfOk result (λ some. some ≡ true → (id : ℕ)
             × (self.new.gate.marks ≡ (with_ended id Mark.Applied
@@ -308,7 +313,7 @@ impl<S: StartName> Progress<S> {
         ready: &Ready,
         steps: &mut Steps<L>,
     ) -> Result<(), OutOfMemory>
-        requires conf { ready.now ≡ S.conf }
+        requires conf { ready.now ≡ first_stage S.conf }
         ensures entries { self.new.entries ≡ self.old.entries }
         ensures all { OnOk result ((i : ℕ) → i < length self.new.entries
             → get_or self.new.gate.marks i Mark.Pending ≡ Mark.Applied) }
@@ -349,7 +354,7 @@ impl<S: StartName> Progress<S> {
     pub(crate) fn records(&self, place: usize) -> &[Rec]
         ensures made { result.now ≡ get_or self.now.made place [] }
         ensures next { place < length self.now.entries → get_or self.now.gate.marks place Mark.Pending ≡ Mark.Applied
-            → replay S.conf (log_of (take (place + 1) self.now.entries)) ≡ replay S.conf
+            → replay (first_stage S.conf) (log_of (take (place + 1) self.now.entries)) ≡ replay (first_stage S.conf)
             (log_of (take place self.now.entries)) ++ result.now }
     {
         kept_at(&self.made, place)

@@ -17,7 +17,8 @@ use Rattle.event_correlation.specs.Closings.{closes_first, closed_from, closes_n
 use Rattle.event_correlation.specs.Laws.{HasTagsOf, share_reach}
 use Rattle.event_correlation.specs.declared.answer.Closes.{Closes}
 use Rattle.event_correlation.proofs.LeftOut.{within_reach}
-use Rattle.trigger_state.specs.Problems.{home, event_in}
+use Rattle.trigger_state.specs.Stages.{Stage, KeepsIds, home}
+use Rattle.trigger_state.specs.Problems.{event_in}
 use Rattle.trigger_state.specs.declared.problems.Open.{Open}
 use Rattle.entry_step.specs.Each.{Each}
 use Rattle.entry_step.specs.Order.{order, sorted_by}
@@ -31,9 +32,10 @@ use Rattle.entry_step.proofs.Said.{each_flat_map}
 use Rattle.entry_step.proofs.Sorting.{filter_by, each_sorted, sorted_map}
 
 -- the open problems of all triggers are in the cells of their own triggers, and have the names of their tags
-pub record AllTidy (conf : Conf) (all : ℕ → List Open) : Type 0 where
-  pub homes : (id : ℕ) → AllAtHome conf id (all id)
-  pub tagged : (id : ℕ) → AllTagged conf id (all id)
+pub record AllTidy (stage : Stage) (all : ℕ → List Open) : Type 0 where
+  pub ids : KeepsIds stage
+  pub homes : (id : ℕ) → AllAtHome stage id (all id)
+  pub tagged : (id : ℕ) → AllTagged stage.conf id (all id)
 
 -- the open problems agree at the triggers in K
 abbrev pub AgreeOn : (ℕ → Bool) → (ℕ → List Open) → (ℕ → List Open) → Type 0
@@ -47,9 +49,9 @@ pub record Covers (conf : Conf) (K : ℕ → Bool) (id : ℕ) : Type 0 where
   pub reach : (one other : Trigger) (j : ℕ) → at_id conf.triggers id ≡ Some one → at_id conf.triggers j ≡ Some other → share_reach conf.correlations one other ≡ true → K j ≡ true
 
 -- what holds of the problems of each trigger holds of all that are open, and of what closes of them
-pub open_each : (Q : Rec → Type 0) (conf : Conf) (all : ℕ → List Open) → ((id : ℕ) → Each (λ o. Q o.problem) (all id)) → Each Q (problems_open conf all)
+pub open_each : (Q : Rec → Type 0) (stage : Stage) (all : ℕ → List Open) → ((id : ℕ) → Each (λ o. Q o.problem) (all id)) → Each Q (problems_open stage all)
 unfolding by_making
-open_each Q conf all h = each_map Q (λ o. o.problem) (by_making conf all) (each_sorted number_in (λ o. Q o.problem) (flat_map all (order conf)) (each_flat_map (λ o. Q o.problem) all (order conf) h))
+open_each Q stage all h = each_map Q (λ o. o.problem) (by_making stage all) (each_sorted number_in (λ o. Q o.problem) (flat_map all (order stage.conf)) (each_flat_map (λ o. Q o.problem) all (order stage.conf) h))
 
 closed_each : (Q : Rec → Type 0) (m : Rule → Rec → Bool) (old : List Rec) (earlier rules : List Rule) → Each Q old → Each Q (closed_from m old earlier rules)
 closed_each Q m old earlier [] h = tt
@@ -60,9 +62,9 @@ old_each : (P : EventId → Type 0) (conf : Conf) (problem : Rec) (old : List Re
 old_each P conf problem old h =
     each_map P event_of (closed_from (matches conf problem) old [] conf.correlations) (closed_each (λ r. P (event_of r)) (matches conf problem) old [] conf.correlations h)
 
-pub ruled_each : (P : EventId → Type 0) (conf : Conf) (problem : Rec) (all : ℕ → List Open) → ((id : ℕ) → Each (λ o. P (event_in o)) (all id)) → Each P (ruled conf problem all).old
+pub ruled_each : (P : EventId → Type 0) (stage : Stage) (problem : Rec) (all : ℕ → List Open) → ((id : ℕ) → Each (λ o. P (event_in o)) (all id)) → Each P (ruled stage problem all).old
 unfolding ruled
-ruled_each P conf problem all h = old_each P conf problem (problems_open conf all) (open_each (λ r. P (event_of r)) conf all h)
+ruled_each P stage problem all h = old_each P stage.conf problem (problems_open stage all) (open_each (λ r. P (event_of r)) stage all h)
 
 -- Where no rule reaches a trigger, nothing closes for its problems
 closed_none : (m : Rule → Rec → Bool) (earlier rules : List Rule) → closed_from m [] earlier rules ≡ []
@@ -91,32 +93,32 @@ no_share (rule ∷ rest) one other e =
     let here : in_reach rule one ≡ false = or_false_left (in_reach rule one) (some_reaches rest one) e in
     rw here (no_share rest one other (or_false_right (in_reach rule one) (some_reaches rest one) e))
 
-pub nothing_ruled : (conf : Conf) (one : Trigger) (problem : Rec) (all : ℕ → List Open) → some_reaches conf.correlations one ≡ false → HasTagsOf one problem → ruled conf problem all ≡ no_closes
+pub nothing_ruled : (stage : Stage) (one : Trigger) (problem : Rec) (all : ℕ → List Open) → some_reaches stage.conf.correlations one ≡ false → HasTagsOf one problem → ruled stage problem all ≡ no_closes
 unfolding ruled
-nothing_ruled conf one problem all e tagged =
-    within_reach conf problem one old with_its tagged (each_all (λ r. HasTagsOf (with_its r) r) old (each_from (λ r. HasTagsOf (with_its r) r) old (λ r i. refl)))
-    ∙ ap (closes_of conf problem) (filter_none (λ r. share_reach conf.correlations one (with_its r)) old (each_from (λ r. share_reach conf.correlations one (with_its r) ≡ false) old (λ r i. no_share conf.correlations one (with_its r) e)))
-    ∙ nothing_old conf problem
+nothing_ruled stage one problem all e tagged =
+    within_reach stage.conf problem one old with_its tagged (each_all (λ r. HasTagsOf (with_its r) r) old (each_from (λ r. HasTagsOf (with_its r) r) old (λ r i. refl)))
+    ∙ ap (closes_of stage.conf problem) (filter_none (λ r. share_reach stage.conf.correlations one (with_its r)) old (each_from (λ r. share_reach stage.conf.correlations one (with_its r) ≡ false) old (λ r i. no_share stage.conf.correlations one (with_its r) e)))
+    ∙ nothing_old stage.conf problem
   where
     old : List Rec
-    old = problems_open conf all
+    old = problems_open stage all
 
     with_its : Rec → Trigger
     with_its r = record one { tags = tags_of r }
 
 -- what the code finds is what is open, in the order of making
-pub open_found : (conf : Conf) (all : ℕ → List Open) → sorted_by (λ r. (event_of r).number) (flat_map (λ id. map (λ o. o.problem) (all id)) (order conf)) ≡ problems_open conf all
+pub open_found : (stage : Stage) (all : ℕ → List Open) → sorted_by (λ r. (event_of r).number) (flat_map (λ id. map (λ o. o.problem) (all id)) (order stage.conf)) ≡ problems_open stage all
 unfolding by_making
-open_found conf all =
-    ap (sorted_by (λ r. (event_of r).number)) (flat_maps (λ (o : Open). o.problem) all (order conf)) ∙ sorted_map (λ (o : Open). o.problem) (λ r. (event_of r).number) (flat_map all (order conf))
+open_found stage all =
+    ap (sorted_by (λ r. (event_of r).number)) (flat_maps (λ (o : Open). o.problem) all (order stage.conf)) ∙ sorted_map (λ (o : Open). o.problem) (λ r. (event_of r).number) (flat_map all (order stage.conf))
 
 -- and what is closed of it is what the rules close
-pub ruled_is : (conf ready : Conf) (problem : Rec) (all : ℕ → List Open) (ids : List ℕ) (found sorted slice : List Rec) → conf ≡ ready → ids ≡ order ready → found ≡ flat_map (λ id. map (λ o. o.problem) (all id)) ids
+pub ruled_is : (conf : Conf) (ready : Stage) (problem : Rec) (all : ℕ → List Open) (ids : List ℕ) (found sorted slice : List Rec) → conf ≡ ready.conf → ids ≡ order ready.conf → found ≡ flat_map (λ id. map (λ o. o.problem) (all id)) ids
     → sorted ≡ sorted_by (λ r. (event_of r).number) found → slice ≡ sorted → closes_of conf problem slice ≡ ruled ready problem all
 unfolding ruled
 ruled_is conf ready problem all ids found sorted slice c i f s a =
     ap (λ x. closes_of x problem slice) c
-    ∙ ap (closes_of ready problem)
+    ∙ ap (closes_of ready.conf problem)
     (a ∙ s ∙ ap (sorted_by (λ r. (event_of r).number)) (f ∙ ap (flat_map (λ id. map (λ (o : Open). o.problem) (all id))) i) ∙ open_found ready all)
 
 -- whether some rule reaches a trigger, by its place
@@ -132,86 +134,86 @@ reached_is conf inside reached (suc k) one found c r f there =
     at (t ∷ ts) (suc k) e = at ts k e
 
 -- What rules close for a problem of a trigger is in the trigger's reach
-abbrev its_trigger : Conf → Trigger → Rec → Trigger
-its_trigger conf one r = unwrap_or (at_id conf.triggers (event_of r).trigger) one
+abbrev its_trigger : Stage → Trigger → Rec → Trigger
+its_trigger stage one r = unwrap_or (at_id stage.conf.triggers (home stage (event_of r))) one
 
-abbrev shares : Conf → Trigger → Rec → Bool
-shares conf one r = share_reach conf.correlations one (its_trigger conf one r)
+abbrev shares : Stage → Trigger → Rec → Bool
+shares stage one r = share_reach stage.conf.correlations one (its_trigger stage one r)
 
-module _ (conf : Conf) (id : ℕ) (one : Trigger) (there : at_id conf.triggers id ≡ Some one) where
+module _ (stage : Stage) (id : ℕ) (one : Trigger) (there : at_id stage.conf.triggers id ≡ Some one) where
   -- what follows from a problem's trigger
-  tidy_at : (all : ℕ → List Open) → AllTidy conf all → (j : ℕ) (R : Rec → Type 0)
-      → ((r : Rec) (other : Trigger) → (event_of r).trigger ≡ j → at_id conf.triggers j ≡ Some other → its_trigger conf one r ≡ other → HasTagsOf other r → R r) → Each (λ o. R o.problem) (all j)
+  tidy_at : (all : ℕ → List Open) → AllTidy stage all → (j : ℕ) (R : Rec → Type 0)
+      → ((r : Rec) (other : Trigger) → home stage (event_of r) ≡ j → at_id stage.conf.triggers j ≡ Some other → its_trigger stage one r ≡ other → HasTagsOf other r → R r) → Each (λ o. R o.problem) (all j)
   tidy_at all tidy j R h =
-      each_sub (λ o. (home conf (event_in o) ≡ j) × IsTagged conf j o.problem) (λ o. R o.problem) (all j)
-      (λ o both. h o.problem (both.1).0 both.0 (both.1).1 (ap (λ k. unwrap_or (at_id conf.triggers k) one) both.0 ∙ ap (λ t. unwrap_or t one) (both.1).1) (both.1).2)
-      (each_both (λ o. home conf (event_in o) ≡ j) (λ o. IsTagged conf j o.problem) (all j) (tidy.homes j) (tidy.tagged j))
+      each_sub (λ o. (home stage (event_in o) ≡ j) × IsTagged stage.conf j o.problem) (λ o. R o.problem) (all j)
+      (λ o both. h o.problem (both.1).0 both.0 (both.1).1 (ap (λ k. unwrap_or (at_id stage.conf.triggers k) one) both.0 ∙ ap (λ t. unwrap_or t one) (both.1).1) (both.1).2)
+      (each_both (λ o. home stage (event_in o) ≡ j) (λ o. IsTagged stage.conf j o.problem) (all j) (tidy.homes j) (tidy.tagged j))
 
   module _ (problem : Rec) (tagged : HasTagsOf one problem) where
-    ruled_kept : (all : ℕ → List Open) → AllTidy conf all → ruled conf problem all ≡ closes_of conf problem (filter (shares conf one) (problems_open conf all))
+    ruled_kept : (all : ℕ → List Open) → AllTidy stage all → ruled stage problem all ≡ closes_of stage.conf problem (filter (shares stage one) (problems_open stage all))
     unfolding ruled
     ruled_kept all tidy =
-        within_reach conf problem one (problems_open conf all) (its_trigger conf one) tagged
-        (each_all (λ r. HasTagsOf (its_trigger conf one r) r) (problems_open conf all)
-        (open_each (λ r. HasTagsOf (its_trigger conf one r) r) conf all (λ j. tidy_at all tidy j (λ r. HasTagsOf (its_trigger conf one r) r) (λ r other h a e tags. subst (λ t. HasTagsOf t r) (sym e) tags))))
+        within_reach stage.conf problem one (problems_open stage all) (its_trigger stage one) tagged
+        (each_all (λ r. HasTagsOf (its_trigger stage one r) r) (problems_open stage all)
+        (open_each (λ r. HasTagsOf (its_trigger stage one r) r) stage all (λ j. tidy_at all tidy j (λ r. HasTagsOf (its_trigger stage one r) r) (λ r other h a e tags. subst (λ t. HasTagsOf t r) (sym e) tags))))
 
-    module _ (K : ℕ → Bool) (covers : Covers conf K id) where
-      reached : (all : ℕ → List Open) → AllTidy conf all → (j : ℕ) → Each (λ o. shares conf one o.problem ≡ true → K j ≡ true) (all j)
-      reached all tidy j = tidy_at all tidy j (λ r. shares conf one r ≡ true → K j ≡ true) (λ r other h a e tags s. covers.reach one other j there a (ap (share_reach conf.correlations one) (sym e) ∙ s))
+    module _ (K : ℕ → Bool) (covers : Covers stage.conf K id) where
+      reached : (all : ℕ → List Open) → AllTidy stage all → (j : ℕ) → Each (λ o. shares stage one o.problem ≡ true → K j ≡ true) (all j)
+      reached all tidy j = tidy_at all tidy j (λ r. shares stage one r ≡ true → K j ≡ true) (λ r other h a e tags s. covers.reach one other j there a (ap (share_reach stage.conf.correlations one) (sym e) ∙ s))
 
-      pub events_in : (all : ℕ → List Open) → AllTidy conf all → Each (λ e. K (home conf e) ≡ true) (ruled conf problem all).old
+      pub events_in : (all : ℕ → List Open) → AllTidy stage all → Each (λ e. K (home stage e) ≡ true) (ruled stage problem all).old
       events_in all tidy =
-          subst (λ c. Each (λ e. K (home conf e) ≡ true) c.old) (sym (ruled_kept all tidy))
-          (old_each (λ e. K (home conf e) ≡ true) conf problem (filter (shares conf one) (problems_open conf all))
-          (each_filter (λ r. K (home conf (event_of r)) ≡ true) (shares conf one) (problems_open conf all) (λ r i s. each_at (λ x. shares conf one x ≡ true → K (home conf (event_of x)) ≡ true) (problems_open conf all) all_in r i s)))
+          subst (λ c. Each (λ e. K (home stage e) ≡ true) c.old) (sym (ruled_kept all tidy))
+          (old_each (λ e. K (home stage e) ≡ true) stage.conf problem (filter (shares stage one) (problems_open stage all))
+          (each_filter (λ r. K (home stage (event_of r)) ≡ true) (shares stage one) (problems_open stage all) (λ r i s. each_at (λ x. shares stage one x ≡ true → K (home stage (event_of x)) ≡ true) (problems_open stage all) all_in r i s)))
         where
-          all_in : Each (λ r. shares conf one r ≡ true → K (home conf (event_of r)) ≡ true) (problems_open conf all)
-          all_in = open_each (λ r. shares conf one r ≡ true → K (home conf (event_of r)) ≡ true) conf all
-              (λ j. tidy_at all tidy j (λ r. shares conf one r ≡ true → K (home conf (event_of r)) ≡ true)
-              (λ r other h a e tags s. ap K h ∙ covers.reach one other j there a (ap (share_reach conf.correlations one) (sym e) ∙ s)))
+          all_in : Each (λ r. shares stage one r ≡ true → K (home stage (event_of r)) ≡ true) (problems_open stage all)
+          all_in = open_each (λ r. shares stage one r ≡ true → K (home stage (event_of r)) ≡ true) stage all
+              (λ j. tidy_at all tidy j (λ r. shares stage one r ≡ true → K (home stage (event_of r)) ≡ true)
+              (λ r other h a e tags s. ap K h ∙ covers.reach one other j there a (ap (share_reach stage.conf.correlations one) (sym e) ∙ s)))
 
       -- over open problems that agree on K the same closes
-      module _ (p q : ℕ → List Open) (tidy_p : AllTidy conf p) (tidy_q : AllTidy conf q) (agree : AgreeOn K p q) where
-        none_shares : (all : ℕ → List Open) → AllTidy conf all → (j : ℕ) → K j ≡ false → filter (λ o. shares conf one o.problem) (all j) ≡ []
+      module _ (p q : ℕ → List Open) (tidy_p : AllTidy stage p) (tidy_q : AllTidy stage q) (agree : AgreeOn K p q) where
+        none_shares : (all : ℕ → List Open) → AllTidy stage all → (j : ℕ) → K j ≡ false → filter (λ o. shares stage one o.problem) (all j) ≡ []
         none_shares all tidy j f =
-            filter_none (λ o. shares conf one o.problem) (all j)
-            (each_sub (λ o. shares conf one o.problem ≡ true → K j ≡ true) (λ o. shares conf one o.problem ≡ false) (all j) (λ o h. go (true_or_false (shares conf one o.problem)) h) (reached all tidy j))
+            filter_none (λ o. shares stage one o.problem) (all j)
+            (each_sub (λ o. shares stage one o.problem ≡ true → K j ≡ true) (λ o. shares stage one o.problem ≡ false) (all j) (λ o h. go (true_or_false (shares stage one o.problem)) h) (reached all tidy j))
           where
             go : {b : Bool} → (b ≡ true) ⊎ (b ≡ false) → (b ≡ true → K j ≡ true) → b ≡ false
             go (inl t) h = let s = h t in cc
             go (inr e) h = e
 
-        same_at : (j : ℕ) → filter (λ o. shares conf one o.problem) (p j) ≡ filter (λ o. shares conf one o.problem) (q j)
+        same_at : (j : ℕ) → filter (λ o. shares stage one o.problem) (p j) ≡ filter (λ o. shares stage one o.problem) (q j)
         same_at j = go (true_or_false (K j))
           where
-            go : (K j ≡ true) ⊎ (K j ≡ false) → filter (λ o. shares conf one o.problem) (p j) ≡ filter (λ o. shares conf one o.problem) (q j)
-            go (inl t) = ap (filter (λ o. shares conf one o.problem)) (agree j t)
+            go : (K j ≡ true) ⊎ (K j ≡ false) → filter (λ o. shares stage one o.problem) (p j) ≡ filter (λ o. shares stage one o.problem) (q j)
+            go (inl t) = ap (filter (λ o. shares stage one o.problem)) (agree j t)
             go (inr f) = none_shares p tidy_p j f ∙ sym (none_shares q tidy_q j f)
 
-        kept_open : (all : ℕ → List Open) → filter (shares conf one) (problems_open conf all) ≡ map (λ o. o.problem) (sorted_by number_in (flat_map (λ j. filter (λ o. shares conf one o.problem) (all j)) (order conf)))
+        kept_open : (all : ℕ → List Open) → filter (shares stage one) (problems_open stage all) ≡ map (λ o. o.problem) (sorted_by number_in (flat_map (λ j. filter (λ o. shares stage one o.problem) (all j)) (order stage.conf)))
         unfolding by_making
         kept_open all =
-            filter_map (shares conf one) (λ (o : Open). o.problem) (by_making conf all)
-            ∙ ap (map (λ (o : Open). o.problem)) (filter_by number_in (λ o. shares conf one o.problem) (flat_map all (order conf)))
-            ∙ ap (λ os. map (λ (o : Open). o.problem) (sorted_by number_in os)) (filter_flat_map (λ o. shares conf one o.problem) all (order conf))
+            filter_map (shares stage one) (λ (o : Open). o.problem) (by_making stage all)
+            ∙ ap (map (λ (o : Open). o.problem)) (filter_by number_in (λ o. shares stage one o.problem) (flat_map all (order stage.conf)))
+            ∙ ap (λ os. map (λ (o : Open). o.problem) (sorted_by number_in os)) (filter_flat_map (λ o. shares stage one o.problem) all (order stage.conf))
 
-        pub ruled_same : ruled conf problem p ≡ ruled conf problem q
+        pub ruled_same : ruled stage problem p ≡ ruled stage problem q
         ruled_same =
             ruled_kept p tidy_p
-            ∙ ap (closes_of conf problem)
+            ∙ ap (closes_of stage.conf problem)
             (kept_open p
             ∙ ap (λ os. map (λ (o : Open). o.problem) (sorted_by number_in os))
-            (flat_map_cong (λ j. filter (λ o. shares conf one o.problem) (p j)) (λ j. filter (λ o. shares conf one o.problem) (q j)) (order conf) (each_from (λ j. filter (λ o. shares conf one o.problem) (p j) ≡ filter (λ o. shares conf one o.problem) (q j)) (order conf) (λ j i. same_at j)))
+            (flat_map_cong (λ j. filter (λ o. shares stage one o.problem) (p j)) (λ j. filter (λ o. shares stage one o.problem) (q j)) (order stage.conf) (each_from (λ j. filter (λ o. shares stage one o.problem) (p j) ≡ filter (λ o. shares stage one o.problem) (q j)) (order stage.conf) (λ j i. same_at j)))
             ∙ sym (kept_open q))
             ∙ sym (ruled_kept q tidy_q)
 
-        closings_same : (number now : ℕ) (events : List EventId) → Each (λ e. K (home conf e) ≡ true) events → ruled_records conf number now p events ≡ ruled_records conf number now q events
+        closings_same : (number now : ℕ) (events : List EventId) → Each (λ e. K (home stage e) ≡ true) events → ruled_records stage number now p events ≡ ruled_records stage number now q events
         closings_same number now events h =
-            flat_map_cong (λ e. closed_records conf number now causes.Correlation (p (home conf e)) e) (λ e. closed_records conf number now causes.Correlation (q (home conf e)) e) events
-            (each_sub (λ e. K (home conf e) ≡ true) (λ e. closed_records conf number now causes.Correlation (p (home conf e)) e ≡ closed_records conf number now causes.Correlation (q (home conf e)) e) events
-            (λ e k. ap (λ os. closed_records conf number now causes.Correlation os e) (agree (home conf e) k)) h)
+            flat_map_cong (λ e. closed_records stage.conf number now causes.Correlation (p (home stage e)) e) (λ e. closed_records stage.conf number now causes.Correlation (q (home stage e)) e) events
+            (each_sub (λ e. K (home stage e) ≡ true) (λ e. closed_records stage.conf number now causes.Correlation (p (home stage e)) e ≡ closed_records stage.conf number now causes.Correlation (q (home stage e)) e) events
+            (λ e k. ap (λ os. closed_records stage.conf number now causes.Correlation os e) (agree (home stage e) k)) h)
 
-        pub begun_same : (number now : ℕ) → begun_records conf number now p id problem ≡ begun_records conf number now q id problem
+        pub begun_same : (number now : ℕ) → begun_records stage number now p id problem ≡ begun_records stage number now q id problem
         begun_same number now =
-            ap (λ rs. problem ∷ rs ++ Rattle.entry_step.specs.Records.last_records conf number now id problem (ruled conf problem p).new) (closings_same number now (ruled conf problem p).old (events_in p tidy_p))
-            ∙ ap (λ c. begun_with conf number now q id problem c) ruled_same
+            ap (λ rs. problem ∷ rs ++ Rattle.entry_step.specs.Records.last_records stage.conf number now id problem (ruled stage problem p).new) (closings_same number now (ruled stage problem p).old (events_in p tidy_p))
+            ∙ ap (λ c. begun_with stage number now q id problem c) ruled_same

@@ -5,6 +5,7 @@ use Rattle.std.specs.List.{list_any}
 use Rattle.zbx_types.specs.Ids.{at_id, ids_from}
 use Rattle.zbx_types.specs.Masters.{has_id, is_master}
 use Rattle.zbx_types.specs.declared.conf.Conf.{Conf}
+use Rattle.trigger_state.specs.Stages.{Stage, KeepsIds}
 use Rattle.zbx_types.specs.declared.entries.Entry.{Entry}
 use Rattle.zbx_types.specs.declared.entries.Entry.TheVariants.{Config, Value, Tick}
 use Rattle.zbx_types.specs.declared.entries.Numbered.{Numbered}
@@ -79,8 +80,8 @@ covers_over conf now item time value id o = record {
 }
 
 -- what is open in tidy cells
-all_tidy : (conf : Conf) (c : Cells) → IsTidy conf c → AllTidy conf (opens_in c)
-all_tidy conf c tidy = record { homes = tidy.homes; tagged = tidy.tagged }
+all_tidy : (stage : Stage) (c : Cells) → IsTidy stage c → AllTidy stage (opens_in c)
+all_tidy stage c tidy = record { ids = tidy.ids; homes = tidy.homes; tagged = tidy.tagged }
 
 -- an entry has the same visits over cells that agree on its foot
 pub visits_agree : (conf : Conf) (e : Numbered) (c d : Cells) → Agree conf e c d → visits_at conf (memory_in c) e.number e.entry ≡ visits_at conf (memory_in d) e.number e.entry
@@ -103,130 +104,130 @@ triggers_by conf a b number (Tick now) e = refl
 triggers_by conf a b number (Value now item time value) e = ap (λ vs. filter (λ id. has_call (λ i. is_some (stored_at vs i)) (at_id conf.triggers id)) (order conf)) e
 
 -- no step is due at a value
-value_records : (conf : Conf) (c : Cells) (number now item time : ℕ) (value : List ℕ) → records_at conf c number (Value now item time value) ≡ judged_at conf c number (Value now item time value)
+value_records : (stage : Stage) (c : Cells) (number now item time : ℕ) (value : List ℕ) → records_at stage c number (Value now item time value) ≡ judged_at stage c number (Value now item time value)
 unfolding records_at due_at
-value_records conf c number now item time value = append-nil (judged_at conf c number (Value now item time value))
+value_records stage c number now item time value = append-nil (judged_at stage c number (Value now item time value))
 
 -- The records of an entry land in its foot
-land_anywhere : (conf : Conf) (K : ℕ → Bool) (rs : List Rec) → ((id : ℕ) → K id ≡ true) → LandIn conf K rs
-land_anywhere conf K [] all = tt
-land_anywhere conf K (r ∷ rs) all = (λ id e. (let t = all id in cc), land_anywhere conf K rs all)
+land_anywhere : (stage : Stage) (K : ℕ → Bool) (rs : List Rec) → ((id : ℕ) → K id ≡ true) → LandIn stage K rs
+land_anywhere stage K [] all = tt
+land_anywhere stage K (r ∷ rs) all = (λ id e. (let t = all id in cc), land_anywhere stage K rs all)
 
-records_land : (conf : Conf) (c : Cells) (number : ℕ) (entry : Entry) → IsTidy conf c → LandIn conf (λ id. touches conf entry (TriggerKey id)) (records_at conf c number entry)
-records_land conf c number (Config now text) tidy = land_anywhere conf (λ id. touches conf (Config now text) (TriggerKey id)) (records_at conf c number (Config now text)) (λ id. unfold touches in refl)
-records_land conf c number (Tick now) tidy = land_anywhere conf (λ id. touches conf (Tick now) (TriggerKey id)) (records_at conf c number (Tick now)) (λ id. unfold touches in refl)
-records_land conf c number (Value now item time value) tidy = subst (LandIn conf (λ id. touches conf entry (TriggerKey id))) (sym (value_records conf c number now item time value)) (unfold judged_at in
-    land_append conf (λ id. touches conf entry (TriggerKey id)) (failures_at conf (memory_in c) number entry) (phase conf (evaluated conf (occasion_of (c TickKey) number entry) (histories_after conf c number entry)) (opens_in c) (triggers_at conf (memory_in c) number entry))
-    (land_sub conf (λ id. false) (λ id. touches conf entry (TriggerKey id)) (failures_at conf (memory_in c) number entry) (λ id e. refl) (failures_land conf (memory_in c) number entry))
-    (phase_lands conf (occasion_of (c TickKey) number entry) (histories_after conf c number entry) (λ id. touches conf entry (TriggerKey id)) (opens_in c) (all_tidy conf c tidy) (triggers_at conf (memory_in c) number entry)
-    (each_triggered conf (memory_in c) number now item time value (Covers conf (λ id. touches conf entry (TriggerKey id))) (λ id j o. covers_over conf now item time value id o))))
+records_land : (stage : Stage) (c : Cells) (number : ℕ) (entry : Entry) → IsTidy stage c → LandIn stage (λ id. touches stage.conf entry (TriggerKey id)) (records_at stage c number entry)
+records_land stage c number (Config now text) tidy = land_anywhere stage (λ id. touches stage.conf (Config now text) (TriggerKey id)) (records_at stage c number (Config now text)) (λ id. unfold touches in refl)
+records_land stage c number (Tick now) tidy = land_anywhere stage (λ id. touches stage.conf (Tick now) (TriggerKey id)) (records_at stage c number (Tick now)) (λ id. unfold touches in refl)
+records_land stage c number (Value now item time value) tidy = subst (LandIn stage (λ id. touches stage.conf entry (TriggerKey id))) (sym (value_records stage c number now item time value)) (unfold judged_at in
+    land_append stage (λ id. touches stage.conf entry (TriggerKey id)) (failures_at stage.conf (memory_in c) number entry) (phase stage (evaluated stage (occasion_of (c TickKey) number entry) (histories_after stage.conf c number entry)) (opens_in c) (triggers_at stage.conf (memory_in c) number entry))
+    (land_sub stage (λ id. false) (λ id. touches stage.conf entry (TriggerKey id)) (failures_at stage.conf (memory_in c) number entry) (λ id e. refl) (failures_land stage (memory_in c) number entry))
+    (phase_lands stage (occasion_of (c TickKey) number entry) (histories_after stage.conf c number entry) (λ id. touches stage.conf entry (TriggerKey id)) (opens_in c) (all_tidy stage c tidy) (triggers_at stage.conf (memory_in c) number entry)
+    (each_triggered stage.conf (memory_in c) number now item time value (Covers stage.conf (λ id. touches stage.conf entry (TriggerKey id))) (λ id j o. covers_over stage.conf now item time value id o))))
   where
     entry : Entry
     entry = Value now item time value
 
-pub confined : (conf : Conf) (e : Numbered) (c : Cells) → IsTidy conf c → IsConfined conf e c
-confined conf e c tidy (ItemKey i) f = unfold after in
-    item_is conf (memory_in c) e.number e.entry i (c (ItemKey i))
+pub confined : (stage : Stage) (e : Numbered) (c : Cells) → IsTidy stage c → IsConfined stage e c
+confined stage e c tidy (ItemKey i) f = unfold after in
+    item_is stage.conf (memory_in c) e.number e.entry i (c (ItemKey i))
     ∙ ap₂ (λ v b. (let cell : ItemCell = record { history = with_stored (stored_by v) (c (ItemKey i)).history; marks = marks_after v (c (ItemKey i)).marks; seen = cond b (moment_of e.entry) (c (ItemKey i)).seen } in cell))
-    (untouched conf (memory_in c) e.number e.entry i f) f
-confined conf e c tidy (TriggerKey id) f = unfold after in land_off conf (λ u. touches conf e.entry (TriggerKey u)) id (c (TriggerKey id)) (records conf c e) (records_land conf c e.number e.entry tidy) f
-confined conf e c tidy TickKey f = unfold after in go e.entry f
+    (untouched stage.conf (memory_in c) e.number e.entry i f) f
+confined stage e c tidy (TriggerKey id) f = unfold after in land_off stage (λ u. touches stage.conf e.entry (TriggerKey u)) id (c (TriggerKey id)) (records stage c e) (records_land stage c e.number e.entry tidy) f
+confined stage e c tidy TickKey f = unfold after in go e.entry f
   where
     none : (o : Option ℕ) → Rattle.std.specs.Option.option_or o None ≡ o
     none None = refl
     none (Some t) = refl
 
-    go : (entry : Entry) → touches conf entry TickKey ≡ false → Rattle.entry_step.specs.Log.tick_with (c TickKey) entry ≡ c TickKey
+    go : (entry : Entry) → touches stage.conf entry TickKey ≡ false → Rattle.entry_step.specs.Log.tick_with (c TickKey) entry ≡ c TickKey
     go (Config now text) f = none (c TickKey)
     go (Value now item time value) f = none (c TickKey)
     go (Tick now) f = unfold touches in cc
 
 -- everything is in the foot of an entry that is no value
-agree_all : (conf : Conf) (e : Numbered) (c d : Cells) → ((k : Key) → touches conf e.entry k ≡ true) → Agree conf e c d → IsLocal conf e c d
-agree_all conf e c d all agree =
+agree_all : (stage : Stage) (e : Numbered) (c d : Cells) → ((k : Key) → touches stage.conf e.entry k ≡ true) → Agree stage.conf e c d → IsLocal stage e c d
+agree_all stage e c d all agree =
     let same : c ≡ d = fun_ext (λ k. agree.at k (all k)) in
-    record { same_records = ap (λ x. records conf x e) same; same_changes = λ k t. ap (λ x. after conf x e k) same }
+    record { same_records = ap (λ x. records stage x e) same; same_changes = λ k t. ap (λ x. after stage x e k) same }
 
-value_judged : (conf : Conf) (number now item time : ℕ) (value : List ℕ) (c d : Cells) → IsTidy conf c → IsTidy conf d → Agree conf (record { number = number; entry = Value now item time value }) c d
-    → judged_at conf c number (Value now item time value) ≡ judged_at conf d number (Value now item time value)
+value_judged : (stage : Stage) (number now item time : ℕ) (value : List ℕ) (c d : Cells) → IsTidy stage c → IsTidy stage d → Agree stage.conf (record { number = number; entry = Value now item time value }) c d
+    → judged_at stage c number (Value now item time value) ≡ judged_at stage d number (Value now item time value)
 unfolding judged_at failures_at
-value_judged conf number now item time value c d tidy_c tidy_d agree =
-    ap (λ xs. xs ++ made c (triggers_at conf (memory_in c) number entry)) failures
-    ∙ ap (λ xs. failures_at conf (memory_in d) number entry ++ xs)
-    (ap (λ t. phase conf (evaluated conf (occasion_of t number entry) (histories_after conf c number entry)) (opens_in c) (triggers_at conf (memory_in c) number entry)) agree.tick
-    ∙ phase_same conf (occasion_of (d TickKey) number entry) (λ id. touches conf entry (TriggerKey id)) (histories_after conf c number entry) (histories_after conf d number entry) (opens_in c) (opens_in d) (triggers_at conf (memory_in c) number entry) (all_tidy conf c tidy_c) (all_tidy conf d tidy_d) (λ id t. agree.at (TriggerKey id) t)
-    (each_triggered conf (memory_in c) number now item time value (λ id. Covers conf (λ j. touches conf entry (TriggerKey j)) id × SameTo conf (histories_after conf c number entry) (histories_after conf d number entry) id)
-    (λ id j o. (covers_over conf now item time value id o, λ i calls. same_history i (calls_touched conf now item time value id i o calls))))
-    ∙ ap (made d) (triggers_by conf (memory_in c) (memory_in d) number entry visits))
+value_judged stage number now item time value c d tidy_c tidy_d agree =
+    ap (λ xs. xs ++ made c (triggers_at stage.conf (memory_in c) number entry)) failures
+    ∙ ap (λ xs. failures_at stage.conf (memory_in d) number entry ++ xs)
+    (ap (λ t. phase stage (evaluated stage (occasion_of t number entry) (histories_after stage.conf c number entry)) (opens_in c) (triggers_at stage.conf (memory_in c) number entry)) agree.tick
+    ∙ phase_same stage (occasion_of (d TickKey) number entry) (λ id. touches stage.conf entry (TriggerKey id)) (histories_after stage.conf c number entry) (histories_after stage.conf d number entry) (opens_in c) (opens_in d) (triggers_at stage.conf (memory_in c) number entry) (all_tidy stage c tidy_c) (all_tidy stage d tidy_d) (λ id t. agree.at (TriggerKey id) t)
+    (each_triggered stage.conf (memory_in c) number now item time value (λ id. Covers stage.conf (λ j. touches stage.conf entry (TriggerKey j)) id × SameTo stage.conf (histories_after stage.conf c number entry) (histories_after stage.conf d number entry) id)
+    (λ id j o. (covers_over stage.conf now item time value id o, λ i calls. same_history i (calls_touched stage.conf now item time value id i o calls))))
+    ∙ ap (made d) (triggers_by stage.conf (memory_in c) (memory_in d) number entry visits))
   where
     entry : Entry
     entry = Value now item time value
 
     made : Cells → List ℕ → List Rec
-    made x ids = phase conf (evaluated conf (occasion_of (x TickKey) number entry) (histories_after conf x number entry)) (opens_in x) ids
+    made x ids = phase stage (evaluated stage (occasion_of (x TickKey) number entry) (histories_after stage.conf x number entry)) (opens_in x) ids
 
-    visits : visits_at conf (memory_in c) number entry ≡ visits_at conf (memory_in d) number entry
-    visits = visits_agree conf (record { number = number; entry = entry }) c d agree
+    visits : visits_at stage.conf (memory_in c) number entry ≡ visits_at stage.conf (memory_in d) number entry
+    visits = visits_agree stage.conf (record { number = number; entry = entry }) c d agree
 
-    failures : failures_at conf (memory_in c) number entry ≡ failures_at conf (memory_in d) number entry
-    failures = ap (failures_of conf number) visits
+    failures : failures_at stage.conf (memory_in c) number entry ≡ failures_at stage.conf (memory_in d) number entry
+    failures = ap (failures_of stage.conf number) visits
 
-    same_history : (i : ℕ) → (is_one conf.items i ≡ true → touches conf entry (ItemKey i) ≡ true) → histories_after conf c number entry i ≡ histories_after conf d number entry i
-    same_history i touched = go (true_or_false (is_one conf.items i))
+    same_history : (i : ℕ) → (is_one stage.conf.items i ≡ true → touches stage.conf entry (ItemKey i) ≡ true) → histories_after stage.conf c number entry i ≡ histories_after stage.conf d number entry i
+    same_history i touched = go (true_or_false (is_one stage.conf.items i))
       where
         by : List Visit → ItemCell → ItemCell
-        by = item_by i (touches conf entry (ItemKey i)) (moment_of entry)
+        by = item_by i (touches stage.conf entry (ItemKey i)) (moment_of entry)
 
-        go : (is_one conf.items i ≡ true) ⊎ (is_one conf.items i ≡ false) → histories_after conf c number entry i ≡ histories_after conf d number entry i
+        go : (is_one stage.conf.items i ≡ true) ⊎ (is_one stage.conf.items i ≡ false) → histories_after stage.conf c number entry i ≡ histories_after stage.conf d number entry i
         go (inl t) =
             ap (λ (cell : ItemCell). cell.history)
-            (item_is conf (memory_in c) number entry i (c (ItemKey i)) ∙ ap (λ vs. by vs (c (ItemKey i))) visits ∙ ap (by (visits_at conf (memory_in d) number entry)) (agree.at (ItemKey i) (touched t))
-            ∙ sym (item_is conf (memory_in d) number entry i (d (ItemKey i))))
-        go (inr f) = absent_after conf (memory_in c) c number entry i tidy_c (gone conf.items i f) ∙ sym (absent_after conf (memory_in d) d number entry i tidy_d (gone conf.items i f))
+            (item_is stage.conf (memory_in c) number entry i (c (ItemKey i)) ∙ ap (λ vs. by vs (c (ItemKey i))) visits ∙ ap (by (visits_at stage.conf (memory_in d) number entry)) (agree.at (ItemKey i) (touched t))
+            ∙ sym (item_is stage.conf (memory_in d) number entry i (d (ItemKey i))))
+        go (inr f) = absent_after stage (memory_in c) c number entry i tidy_c (gone stage.conf.items i f) ∙ sym (absent_after stage (memory_in d) d number entry i tidy_d (gone stage.conf.items i f))
 
-value_local : (conf : Conf) (number now item time : ℕ) (value : List ℕ) (c d : Cells) → IsTidy conf c → IsTidy conf d → Agree conf (record { number = number; entry = Value now item time value }) c d
-    → records_at conf c number (Value now item time value) ≡ records_at conf d number (Value now item time value)
-value_local conf number now item time value c d tidy_c tidy_d agree =
-    value_records conf c number now item time value ∙ value_judged conf number now item time value c d tidy_c tidy_d agree ∙ sym (value_records conf d number now item time value)
+value_local : (stage : Stage) (number now item time : ℕ) (value : List ℕ) (c d : Cells) → IsTidy stage c → IsTidy stage d → Agree stage.conf (record { number = number; entry = Value now item time value }) c d
+    → records_at stage c number (Value now item time value) ≡ records_at stage d number (Value now item time value)
+value_local stage number now item time value c d tidy_c tidy_d agree =
+    value_records stage c number now item time value ∙ value_judged stage number now item time value c d tidy_c tidy_d agree ∙ sym (value_records stage d number now item time value)
 
-pub local : (conf : Conf) (e : Numbered) (c d : Cells) → IsTidy conf c → IsTidy conf d → Agree conf e c d → IsLocal conf e c d
-local conf e c d tidy_c tidy_d agree = subst (λ x. Agree conf (at x) c d → IsLocal conf (at x) c d) refl (go e.entry) agree
+pub local : (stage : Stage) (e : Numbered) (c d : Cells) → IsTidy stage c → IsTidy stage d → Agree stage.conf e c d → IsLocal stage e c d
+local stage e c d tidy_c tidy_d agree = subst (λ x. Agree stage.conf (at x) c d → IsLocal stage (at x) c d) refl (go e.entry) agree
   where
     at : Entry → Numbered
     at x = record { number = e.number; entry = x }
 
-    changes : (x : Entry) → records conf c (at x) ≡ records conf d (at x) → Agree conf (at x) c d → touches conf x TickKey ≡ false → (k : Key) → touches conf x k ≡ true → after conf c (at x) k ≡ after conf d (at x) k
+    changes : (x : Entry) → records stage c (at x) ≡ records stage d (at x) → Agree stage.conf (at x) c d → touches stage.conf x TickKey ≡ false → (k : Key) → touches stage.conf x k ≡ true → after stage c (at x) k ≡ after stage d (at x) k
     changes x rs a f (ItemKey i) t = unfold after in
-        item_is conf (memory_in c) e.number x i (c (ItemKey i)) ∙ ap (λ vs. item_by i (touches conf x (ItemKey i)) (moment_of x) vs (c (ItemKey i))) (visits_agree conf (at x) c d a)
-        ∙ ap (item_by i (touches conf x (ItemKey i)) (moment_of x) (visits_at conf (memory_in d) e.number x)) (a.at (ItemKey i) t) ∙ sym (item_is conf (memory_in d) e.number x i (d (ItemKey i)))
-    changes x rs a f (TriggerKey id) t = unfold after in ap₂ (absorbed_all conf id) (a.at (TriggerKey id) t) rs
+        item_is stage.conf (memory_in c) e.number x i (c (ItemKey i)) ∙ ap (λ vs. item_by i (touches stage.conf x (ItemKey i)) (moment_of x) vs (c (ItemKey i))) (visits_agree stage.conf (at x) c d a)
+        ∙ ap (item_by i (touches stage.conf x (ItemKey i)) (moment_of x) (visits_at stage.conf (memory_in d) e.number x)) (a.at (ItemKey i) t) ∙ sym (item_is stage.conf (memory_in d) e.number x i (d (ItemKey i)))
+    changes x rs a f (TriggerKey id) t = unfold after in ap₂ (absorbed_all stage id) (a.at (TriggerKey id) t) rs
     changes x rs a f TickKey t = let z : true ≡ false = sym t ∙ f in cc
 
-    go : (x : Entry) → Agree conf (at x) c d → IsLocal conf (at x) c d
-    go (Config now text) a = agree_all conf (at (Config now text)) c d (λ k. unfold touches in refl) a
-    go (Tick now) a = agree_all conf (at (Tick now)) c d (λ k. unfold touches in refl) a
+    go : (x : Entry) → Agree stage.conf (at x) c d → IsLocal stage (at x) c d
+    go (Config now text) a = agree_all stage (at (Config now text)) c d (λ k. unfold touches in refl) a
+    go (Tick now) a = agree_all stage (at (Tick now)) c d (λ k. unfold touches in refl) a
     go (Value now item time value) a =
-        let rs = value_local conf e.number now item time value c d tidy_c tidy_d a in
+        let rs = value_local stage e.number now item time value c d tidy_c tidy_d a in
         record { same_records = rs; same_changes = changes (Value now item time value) rs a (unfold touches in refl) }
 
 pub locality : Locality
-locality conf e c d tidy_c tidy_d agree = (local conf e c d tidy_c tidy_d agree, confined conf e c tidy_c)
+locality stage e c d tidy_c tidy_d agree = (local stage e c d tidy_c tidy_d agree, confined stage e c tidy_c)
 
 -- Insertion, from locality alone
-abbrev pub cells_of : Conf → List Numbered → Cells
-cells_of conf [] = look conf [] []
-cells_of conf (e ∷ log) = after conf (cells_of conf log) e
+abbrev pub cells_of : Stage → List Numbered → Cells
+cells_of stage [] = look stage [] []
+cells_of stage (e ∷ log) = after stage (cells_of stage log) e
 
-pub cells_are : (conf : Conf) (log : List Numbered) → cells_of conf log ≡ look conf log (replay conf log)
-cells_are conf [] = refl
-cells_are conf (e ∷ log) = ap (λ c. after conf c e) (cells_are conf log) ∙ after_is conf log (replay conf log) e
+pub cells_are : (stage : Stage) (log : List Numbered) → cells_of stage log ≡ look stage log (replay stage log)
+cells_are stage [] = refl
+cells_are stage (e ∷ log) = ap (λ c. after stage c e) (cells_are stage log) ∙ after_is stage log (replay stage log) e
 
-pub tidy_cells : (conf : Conf) (log : List Numbered) → IsTidy conf (cells_of conf log)
-tidy_cells conf [] = unfold look in record { homes = λ id. tt; tagged = λ id. tt; absent = λ id q. refl }
-tidy_cells conf (e ∷ log) = stays_tidy conf (cells_of conf log) e (tidy_cells conf log)
+pub tidy_cells : (stage : Stage) → KeepsIds stage → (log : List Numbered) → IsTidy stage (cells_of stage log)
+tidy_cells stage ids [] = unfold look in record { ids = ids; homes = λ id. tt; tagged = λ id. tt; absent = λ id q. refl }
+tidy_cells stage ids (e ∷ log) = stays_tidy stage (cells_of stage log) e (tidy_cells stage ids log)
 
-pub records_of : (conf : Conf) (log : List Numbered) (e : Numbered) → records conf (cells_of conf log) e ≡ out_of conf log e e.entry (replay conf log)
-records_of conf log e = ap (λ c. records conf c e) (cells_are conf log) ∙ records_are conf log (replay conf log) e
+pub records_of : (stage : Stage) (log : List Numbered) (e : Numbered) → records stage (cells_of stage log) e ≡ out_of stage log e e.entry (replay stage log)
+records_of stage log e = ap (λ c. records stage c e) (cells_are stage log) ∙ records_are stage log (replay stage log) e
 
 -- each entry touches something
 pub touches_some : (conf : Conf) (entry : Entry) → (k : Key) × (touches conf entry k ≡ true)
@@ -245,131 +246,131 @@ quiet_tick conf a b h = go a.entry h
     go (Config now text) h = let s = touches_some conf b.entry in absurd (h s.0 (unfold touches in refl) s.1)
     go (Tick now) h = let s = touches_some conf b.entry in absurd (h s.0 (unfold touches in refl) s.1)
 
-module _ (conf : Conf) (a b : Numbered) (apart : Apart conf a b) (c : Cells) (tidy : IsTidy conf c) where
-  off_other : (k : Key) → touches conf b.entry k ≡ true → touches conf a.entry k ≡ false
-  off_other k e = go (true_or_false (touches conf a.entry k))
+module _ (stage : Stage) (a b : Numbered) (apart : Apart stage.conf a b) (c : Cells) (tidy : IsTidy stage c) where
+  off_other : (k : Key) → touches stage.conf b.entry k ≡ true → touches stage.conf a.entry k ≡ false
+  off_other k e = go (true_or_false (touches stage.conf a.entry k))
     where
-      go : (touches conf a.entry k ≡ true) ⊎ (touches conf a.entry k ≡ false) → touches conf a.entry k ≡ false
+      go : (touches stage.conf a.entry k ≡ true) ⊎ (touches stage.conf a.entry k ≡ false) → touches stage.conf a.entry k ≡ false
       go (inl t) = absurd (apart k t e)
       go (inr f) = f
 
-  agree_after : Agree conf b (after conf c a) c
-  agree_after = record { at = λ k e. confined conf a c tidy k (off_other k e); tick = confined conf a c tidy TickKey (quiet_tick conf a b apart) }
+  agree_after : Agree stage.conf b (after stage c a) c
+  agree_after = record { at = λ k e. confined stage a c tidy k (off_other k e); tick = confined stage a c tidy TickKey (quiet_tick stage.conf a b apart) }
 
-  records_apart : records conf (after conf c a) b ≡ records conf c b
-  records_apart = (local conf b (after conf c a) c (stays_tidy conf c a tidy) tidy agree_after).same_records
+  records_apart : records stage (after stage c a) b ≡ records stage c b
+  records_apart = (local stage b (after stage c a) c (stays_tidy stage c a tidy) tidy agree_after).same_records
 
-  changes_apart : (k : Key) → touches conf b.entry k ≡ true → after conf (after conf c a) b k ≡ after conf c b k
-  changes_apart = (local conf b (after conf c a) c (stays_tidy conf c a tidy) tidy agree_after).same_changes
+  changes_apart : (k : Key) → touches stage.conf b.entry k ≡ true → after stage (after stage c a) b k ≡ after stage c b k
+  changes_apart = (local stage b (after stage c a) c (stays_tidy stage c a tidy) tidy agree_after).same_changes
 
-diamond : (conf : Conf) (a b : Numbered) → Apart conf a b → (c : Cells) → IsTidy conf c → after conf (after conf c a) b ≡ after conf (after conf c b) a
-diamond conf a b apart c tidy = fun_ext (λ k. go k (true_or_false (touches conf a.entry k)) (true_or_false (touches conf b.entry k)))
+diamond : (stage : Stage) (a b : Numbered) → Apart stage.conf a b → (c : Cells) → IsTidy stage c → after stage (after stage c a) b ≡ after stage (after stage c b) a
+diamond stage a b apart c tidy = fun_ext (λ k. go k (true_or_false (touches stage.conf a.entry k)) (true_or_false (touches stage.conf b.entry k)))
   where
-    go : (k : Key) → (touches conf a.entry k ≡ true) ⊎ (touches conf a.entry k ≡ false) → (touches conf b.entry k ≡ true) ⊎ (touches conf b.entry k ≡ false) → after conf (after conf c a) b k ≡ after conf (after conf c b) a k
+    go : (k : Key) → (touches stage.conf a.entry k ≡ true) ⊎ (touches stage.conf a.entry k ≡ false) → (touches stage.conf b.entry k ≡ true) ⊎ (touches stage.conf b.entry k ≡ false) → after stage (after stage c a) b k ≡ after stage (after stage c b) a k
     go k (inl p) (inl q) = absurd (apart k p q)
-    go k (inl p) (inr q) = confined conf b (after conf c a) (stays_tidy conf c a tidy) k q ∙ sym (changes_apart conf b a (apart_sym conf a b apart) c tidy k p)
-    go k (inr p) (inl q) = changes_apart conf a b apart c tidy k q ∙ sym (confined conf a (after conf c b) (stays_tidy conf c b tidy) k p)
-    go k (inr p) (inr q) = confined conf b (after conf c a) (stays_tidy conf c a tidy) k q ∙ confined conf a c tidy k p ∙ sym (confined conf a (after conf c b) (stays_tidy conf c b tidy) k p ∙ confined conf b c tidy k q)
+    go k (inl p) (inr q) = confined stage b (after stage c a) (stays_tidy stage c a tidy) k q ∙ sym (changes_apart stage b a (apart_sym stage.conf a b apart) c tidy k p)
+    go k (inr p) (inl q) = changes_apart stage a b apart c tidy k q ∙ sym (confined stage a (after stage c b) (stays_tidy stage c b tidy) k p)
+    go k (inr p) (inr q) = confined stage b (after stage c a) (stays_tidy stage c a tidy) k q ∙ confined stage a c tidy k p ∙ sym (confined stage a (after stage c b) (stays_tidy stage c b tidy) k p ∙ confined stage b c tidy k q)
 
 -- each of the newer entries has the same records with e in its place and without
-abbrev SameRecords : Conf → Numbered → List Numbered → List Numbered → Type 0
-SameRecords conf e [] older = Unit {0}
-SameRecords conf e (a ∷ newer) older = (records conf (cells_of conf (newer ++ older)) a ≡ records conf (cells_of conf (newer ++ e ∷ older)) a) × SameRecords conf e newer older
+abbrev SameRecords : Stage → Numbered → List Numbered → List Numbered → Type 0
+SameRecords stage e [] older = Unit {0}
+SameRecords stage e (a ∷ newer) older = (records stage (cells_of stage (newer ++ older)) a ≡ records stage (cells_of stage (newer ++ e ∷ older)) a) × SameRecords stage e newer older
 
-record Inserts (conf : Conf) (newer : List Numbered) (e : Numbered) (older : List Numbered) : Type 0 where
-  others : SameRecords conf e newer older
-  own : records conf (cells_of conf (newer ++ older)) e ≡ records conf (cells_of conf older) e
-  cells : after conf (cells_of conf (newer ++ older)) e ≡ cells_of conf (newer ++ e ∷ older)
+record Inserts (stage : Stage) (newer : List Numbered) (e : Numbered) (older : List Numbered) : Type 0 where
+  others : SameRecords stage e newer older
+  own : records stage (cells_of stage (newer ++ older)) e ≡ records stage (cells_of stage older) e
+  cells : after stage (cells_of stage (newer ++ older)) e ≡ cells_of stage (newer ++ e ∷ older)
 
-inserts : (conf : Conf) (newer : List Numbered) (e : Numbered) (older : List Numbered) → Each (λ a. Apart conf e a) newer → Inserts conf newer e older
-inserts conf [] e older apart = record { others = tt; own = refl; cells = refl }
-inserts conf (a ∷ newer) e older apart =
-    let ih = inserts conf newer e older apart.1 in
-    let c = cells_of conf (newer ++ older) in
-    let tidy = tidy_cells conf (newer ++ older) in
-    let ae = apart_sym conf e a apart.0 in
+inserts : (stage : Stage) → KeepsIds stage → (newer : List Numbered) (e : Numbered) (older : List Numbered) → Each (λ a. Apart stage.conf e a) newer → Inserts stage newer e older
+inserts stage ids [] e older apart = record { others = tt; own = refl; cells = refl }
+inserts stage ids (a ∷ newer) e older apart =
+    let ih = inserts stage ids newer e older apart.1 in
+    let c = cells_of stage (newer ++ older) in
+    let tidy = tidy_cells stage ids (newer ++ older) in
+    let ae = apart_sym stage.conf e a apart.0 in
     record {
-      others = (sym (records_apart conf e a apart.0 c tidy) ∙ ap (λ x. records conf x a) ih.cells, ih.others);
-      own = records_apart conf a e ae c tidy ∙ ih.own;
-      cells = diamond conf a e ae c tidy ∙ ap (λ x. after conf x a) ih.cells;
+      others = (sym (records_apart stage e a apart.0 c tidy) ∙ ap (λ x. records stage x a) ih.cells, ih.others);
+      own = records_apart stage a e ae c tidy ∙ ih.own;
+      cells = diamond stage a e ae c tidy ∙ ap (λ x. after stage x a) ih.cells;
     }
 
-stand_is : (conf : Conf) (c : Cells) (log : List Numbered) → AreCellsOf conf c log → c ≡ cells_of conf log
+stand_is : (stage : Stage) (c : Cells) (log : List Numbered) → AreCellsOf stage c log → c ≡ cells_of stage log
 unfolding AreCellsOf
-stand_is conf c log h = h ∙ sym (cells_are conf log)
+stand_is stage c log h = h ∙ sym (cells_are stage log)
 
-is_stand : (conf : Conf) (c : Cells) (log : List Numbered) → c ≡ cells_of conf log → AreCellsOf conf c log
+is_stand : (stage : Stage) (c : Cells) (log : List Numbered) → c ≡ cells_of stage log → AreCellsOf stage c log
 unfolding AreCellsOf
-is_stand conf c log h = h ∙ cells_are conf log
+is_stand stage c log h = h ∙ cells_are stage log
 
 pub are_tidy : AreTidyCells
-are_tidy conf c log h = let P : Cells → Type 0 = IsTidy conf in subst P (sym (stand_is conf c log h)) (tidy_cells conf log)
+are_tidy stage c log ids h = let P : Cells → Type 0 = IsTidy stage in subst P (sym (stand_is stage c log h)) (tidy_cells stage ids log)
 
-same_out : (conf : Conf) (e : Numbered) (newer older : List Numbered) → SameRecords conf e newer older → SameOut conf e newer older
-same_out conf e [] older h = tt
-same_out conf e (a ∷ newer) older h = (sym (records_of conf (newer ++ older) a) ∙ h.0 ∙ records_of conf (newer ++ e ∷ older) a, same_out conf e newer older h.1)
+same_out : (stage : Stage) (e : Numbered) (newer older : List Numbered) → SameRecords stage e newer older → SameOut stage e newer older
+same_out stage e [] older h = tt
+same_out stage e (a ∷ newer) older h = (sym (records_of stage (newer ++ older) a) ∙ h.0 ∙ records_of stage (newer ++ e ∷ older) a, same_out stage e newer older h.1)
 
 -- the changes of e behind the newer entries are those in its place
-changes_in_place : (conf : Conf) (newer : List Numbered) (e : Numbered) (older : List Numbered) → Each (λ a. Apart conf e a) newer → (k : Key) → touches conf e.entry k ≡ true
-    → after conf (cells_of conf (newer ++ older)) e k ≡ after conf (cells_of conf older) e k
-changes_in_place conf [] e older apart k t = refl
-changes_in_place conf (a ∷ newer) e older apart k t =
-    changes_apart conf a e (apart_sym conf e a apart.0) (cells_of conf (newer ++ older)) (tidy_cells conf (newer ++ older)) k t ∙ changes_in_place conf newer e older apart.1 k t
+changes_in_place : (stage : Stage) → KeepsIds stage → (newer : List Numbered) (e : Numbered) (older : List Numbered) → Each (λ a. Apart stage.conf e a) newer → (k : Key) → touches stage.conf e.entry k ≡ true
+    → after stage (cells_of stage (newer ++ older)) e k ≡ after stage (cells_of stage older) e k
+changes_in_place stage ids [] e older apart k t = refl
+changes_in_place stage ids (a ∷ newer) e older apart k t =
+    changes_apart stage a e (apart_sym stage.conf e a apart.0) (cells_of stage (newer ++ older)) (tidy_cells stage ids (newer ++ older)) k t ∙ changes_in_place stage ids newer e older apart.1 k t
 
 pub insertion : Insertion
-insertion conf newer e older apart =
-    let r = inserts conf newer e older apart in (
-      same_out conf e newer older r.others,
+insertion stage newer e older ids apart =
+    let r = inserts stage ids newer e older apart in (
+      same_out stage e newer older r.others,
       λ c h.
-          let s = stand_is conf c (newer ++ older) h in
+          let s = stand_is stage c (newer ++ older) h in
           record {
-            its_records = ap (λ x. records conf x e) s ∙ r.own ∙ records_of conf older e;
-            its_changes = λ d g k t. ap (λ x. after conf x e k) s ∙ changes_in_place conf newer e older apart k t ∙ ap (λ x. after conf x e k) (sym (stand_is conf d older g));
-            stand = is_stand conf (after conf c e) (newer ++ e ∷ older) (ap (λ x. after conf x e) s ∙ r.cells);
+            its_records = ap (λ x. records stage x e) s ∙ r.own ∙ records_of stage older e;
+            its_changes = λ d g k t. ap (λ x. after stage x e k) s ∙ changes_in_place stage ids newer e older apart k t ∙ ap (λ x. after stage x e k) (sym (stand_is stage d older g));
+            stand = is_stand stage (after stage c e) (newer ++ e ∷ older) (ap (λ x. after stage x e) s ∙ r.cells);
           },
     )
 
 -- A batch on a copy
-module _ (conf : Conf) (K : Key → Type 0) (ticks : K TickKey) where
-  pub step_agrees : (e : Numbered) (c d : Cells) → IsTidy conf c → IsTidy conf d → ((k : Key) → touches conf e.entry k ≡ true → K k) → ((k : Key) → K k → c k ≡ d k) → (k : Key) → K k → after conf c e k ≡ after conf d e k
-  step_agrees e c d tidy_c tidy_d inside same k m = go (true_or_false (touches conf e.entry k))
+module _ (stage : Stage) (K : Key → Type 0) (ticks : K TickKey) where
+  pub step_agrees : (e : Numbered) (c d : Cells) → IsTidy stage c → IsTidy stage d → ((k : Key) → touches stage.conf e.entry k ≡ true → K k) → ((k : Key) → K k → c k ≡ d k) → (k : Key) → K k → after stage c e k ≡ after stage d e k
+  step_agrees e c d tidy_c tidy_d inside same k m = go (true_or_false (touches stage.conf e.entry k))
     where
-      law : IsLocal conf e c d
-      law = local conf e c d tidy_c tidy_d (record { at = λ j t. same j (inside j t); tick = same TickKey ticks })
+      law : IsLocal stage e c d
+      law = local stage e c d tidy_c tidy_d (record { at = λ j t. same j (inside j t); tick = same TickKey ticks })
 
-      go : (touches conf e.entry k ≡ true) ⊎ (touches conf e.entry k ≡ false) → after conf c e k ≡ after conf d e k
+      go : (touches stage.conf e.entry k ≡ true) ⊎ (touches stage.conf e.entry k ≡ false) → after stage c e k ≡ after stage d e k
       go (inl t) = law.same_changes k t
-      go (inr f) = confined conf e c tidy_c k f ∙ same k m ∙ sym (confined conf e d tidy_d k f)
+      go (inr f) = confined stage e c tidy_c k f ∙ same k m ∙ sym (confined stage e d tidy_d k f)
 
-  batch_agrees : (es : List Numbered) (c d : Cells) → IsTidy conf c → IsTidy conf d → ((e : Numbered) → In e es → (k : Key) → touches conf e.entry k ≡ true → K k) → ((k : Key) → K k → c k ≡ d k)
-      → (records_done conf d es ≡ records_done conf c es) × ((k : Key) → K k → cells_done conf c es k ≡ cells_done conf d es k)
+  batch_agrees : (es : List Numbered) (c d : Cells) → IsTidy stage c → IsTidy stage d → ((e : Numbered) → In e es → (k : Key) → touches stage.conf e.entry k ≡ true → K k) → ((k : Key) → K k → c k ≡ d k)
+      → (records_done stage d es ≡ records_done stage c es) × ((k : Key) → K k → cells_done stage c es k ≡ cells_done stage d es k)
   batch_agrees [] c d tidy_c tidy_d inside same = (refl, same)
   batch_agrees (e ∷ es) c d tidy_c tidy_d inside same =
-      let law : IsLocal conf e c d = local conf e c d tidy_c tidy_d (record { at = λ j t. same j (inside e (inl refl) j t); tick = same TickKey ticks }) in
-      let r = batch_agrees es (after conf c e) (after conf d e) (stays_tidy conf c e tidy_c) (stays_tidy conf d e tidy_d) (λ x i. inside x (inr i)) (step_agrees e c d tidy_c tidy_d (inside e (inl refl)) same) in
+      let law : IsLocal stage e c d = local stage e c d tidy_c tidy_d (record { at = λ j t. same j (inside e (inl refl) j t); tick = same TickKey ticks }) in
+      let r = batch_agrees es (after stage c e) (after stage d e) (stays_tidy stage c e tidy_c) (stays_tidy stage d e tidy_d) (λ x i. inside x (inr i)) (step_agrees e c d tidy_c tidy_d (inside e (inl refl)) same) in
       (ap₂ (λ rs rss. rs ∷ rss) (sym law.same_records) r.0, r.1)
 
-pub batch_off : (conf : Conf) (es : List Numbered) (c : Cells) → IsTidy conf c → (k : Key) → any_touches conf es k ≡ false → cells_done conf c es k ≡ c k
-batch_off conf [] c tidy k f = refl
-batch_off conf (e ∷ es) c tidy k f =
-    batch_off conf es (after conf c e) (stays_tidy conf c e tidy) k (or_false_right (touches conf e.entry k) (any_touches conf es k) f) ∙ confined conf e c tidy k (or_false_left (touches conf e.entry k) (any_touches conf es k) f)
+pub batch_off : (stage : Stage) (es : List Numbered) (c : Cells) → IsTidy stage c → (k : Key) → any_touches stage.conf es k ≡ false → cells_done stage c es k ≡ c k
+batch_off stage [] c tidy k f = refl
+batch_off stage (e ∷ es) c tidy k f =
+    batch_off stage es (after stage c e) (stays_tidy stage c e tidy) k (or_false_right (touches stage.conf e.entry k) (any_touches stage.conf es k) f) ∙ confined stage e c tidy k (or_false_left (touches stage.conf e.entry k) (any_touches stage.conf es k) f)
 
 pub batch_on_a_copy : BatchOnACopy
-batch_on_a_copy conf es c d tidy_c tidy_d copies = (r.0, fun_ext (λ k. go k (any_touches conf es k) refl))
+batch_on_a_copy stage es c d tidy_c tidy_d copies = (r.0, fun_ext (λ k. go k (any_touches stage.conf es k) refl))
   where
     K : Key → Type 0
-    K k = (any_touches conf es k ≡ true) ⊎ (k ≡ TickKey)
+    K k = (any_touches stage.conf es k ≡ true) ⊎ (k ≡ TickKey)
 
     same : (k : Key) → K k → c k ≡ d k
     same k (inl t) = copies.at k t
     same k (inr q) = subst (λ j. c j ≡ d j) (sym q) copies.tick
 
-    r : (records_done conf d es ≡ records_done conf c es) × ((k : Key) → K k → cells_done conf c es k ≡ cells_done conf d es k)
-    r = batch_agrees conf K (inr refl) es c d tidy_c tidy_d (λ e i k t. inl (any_intro (λ x. touches conf x.entry k) e es i t)) same
+    r : (records_done stage d es ≡ records_done stage c es) × ((k : Key) → K k → cells_done stage c es k ≡ cells_done stage d es k)
+    r = batch_agrees stage K (inr refl) es c d tidy_c tidy_d (λ e i k t. inl (any_intro (λ x. touches stage.conf x.entry k) e es i t)) same
 
-    go : (k : Key) (b : Bool) → any_touches conf es k ≡ b → cond {A = CellOf k} b (cells_done conf d es k) (c k) ≡ cells_done conf c es k
+    go : (k : Key) (b : Bool) → any_touches stage.conf es k ≡ b → cond {A = CellOf k} b (cells_done stage d es k) (c k) ≡ cells_done stage c es k
     go k true e = sym (r.1 k (inl e))
-    go k false e = sym (batch_off conf es c tidy_c k e)
+    go k false e = sym (batch_off stage es c tidy_c k e)
 
 -- The applied part of a log
 abbrev Reads : Conf → Numbered → Key → Type 0
@@ -380,47 +381,47 @@ apart_reads conf y x h k (inl t) e = h k e t
 apart_reads conf y x h k (inr q) e = let f = quiet_tick conf y x h in let g : touches conf y.entry TickKey ≡ true = subst (λ z. touches conf y.entry z ≡ true) q e in cc
 
 -- without the entries that aren't applied, and touch nothing in K, the cells in K are the same
-part_agree : (conf : Conf) (applied : Numbered → Bool) (log : List Numbered) (K : Key → Type 0) → EachPair (PassedApart conf applied) log
-    → ((y : Numbered) → In y log → applied y ≡ false → (k : Key) → K k → touches conf y.entry k ≡ true → ⊥)
-    → (k : Key) → K k → cells_of conf (filter applied log) k ≡ cells_of conf log k
-part_agree conf applied [] K order h k m = refl
-part_agree conf applied (x ∷ older) K order h k m = go (applied x) refl (part_agree conf applied older)
+part_agree : (stage : Stage) → KeepsIds stage → (applied : Numbered → Bool) (log : List Numbered) (K : Key → Type 0) → EachPair (PassedApart stage.conf applied) log
+    → ((y : Numbered) → In y log → applied y ≡ false → (k : Key) → K k → touches stage.conf y.entry k ≡ true → ⊥)
+    → (k : Key) → K k → cells_of stage (filter applied log) k ≡ cells_of stage log k
+part_agree stage ids applied [] K order h k m = refl
+part_agree stage ids applied (x ∷ older) K order h k m = go (applied x) refl (part_agree stage ids applied older)
   where
     wider : Key → Type 0
-    wider j = K j ⊎ Reads conf x j
+    wider j = K j ⊎ Reads stage.conf x j
 
-    untouched : applied x ≡ false → touches conf x.entry k ≡ false
-    untouched e = at (true_or_false (touches conf x.entry k))
+    untouched : applied x ≡ false → touches stage.conf x.entry k ≡ false
+    untouched e = at (true_or_false (touches stage.conf x.entry k))
       where
-        at : (touches conf x.entry k ≡ true) ⊎ (touches conf x.entry k ≡ false) → touches conf x.entry k ≡ false
+        at : (touches stage.conf x.entry k ≡ true) ⊎ (touches stage.conf x.entry k ≡ false) → touches stage.conf x.entry k ≡ false
         at (inl t) = absurd (h x (inl refl) e k m t)
         at (inr f) = f
 
-    still : applied x ≡ true → (y : Numbered) → In y older → applied y ≡ false → (j : Key) → wider j → touches conf y.entry j ≡ true → ⊥
+    still : applied x ≡ true → (y : Numbered) → In y older → applied y ≡ false → (j : Key) → wider j → touches stage.conf y.entry j ≡ true → ⊥
     still a y i f j (inl n) t = h y (inr i) f j n t
-    still a y i f j (inr r) t = apart_reads conf y x (each_at (PassedApart conf applied x) older order.0 y i a f) j r t
+    still a y i f j (inr r) t = apart_reads stage.conf y x (each_at (PassedApart stage.conf applied x) older order.0 y i a f) j r t
 
     go : (b : Bool) → applied x ≡ b
-        → ((L : Key → Type 0) → EachPair (PassedApart conf applied) older → ((y : Numbered) → In y older → applied y ≡ false → (j : Key) → L j → touches conf y.entry j ≡ true → ⊥) → (j : Key) → L j → cells_of conf (filter applied older) j ≡ cells_of conf older j)
-        → cells_of conf (cond b (x ∷ filter applied older) (filter applied older)) k ≡ after conf (cells_of conf older) x k
-    go false e ih = ih K order.1 (λ y i. h y (inr i)) k m ∙ sym (confined conf x (cells_of conf older) (tidy_cells conf older) k (untouched e))
-    go true e ih = at (true_or_false (touches conf x.entry k))
+        → ((L : Key → Type 0) → EachPair (PassedApart stage.conf applied) older → ((y : Numbered) → In y older → applied y ≡ false → (j : Key) → L j → touches stage.conf y.entry j ≡ true → ⊥) → (j : Key) → L j → cells_of stage (filter applied older) j ≡ cells_of stage older j)
+        → cells_of stage (cond b (x ∷ filter applied older) (filter applied older)) k ≡ after stage (cells_of stage older) x k
+    go false e ih = ih K order.1 (λ y i. h y (inr i)) k m ∙ sym (confined stage x (cells_of stage older) (tidy_cells stage ids older) k (untouched e))
+    go true e ih = at (true_or_false (touches stage.conf x.entry k))
       where
-        agree : (j : Key) → wider j → cells_of conf (filter applied older) j ≡ cells_of conf older j
+        agree : (j : Key) → wider j → cells_of stage (filter applied older) j ≡ cells_of stage older j
         agree = ih wider order.1 (still e)
 
-        same : Agree conf x (cells_of conf (filter applied older)) (cells_of conf older)
+        same : Agree stage.conf x (cells_of stage (filter applied older)) (cells_of stage older)
         same = record { at = λ j t. agree j (inr (inl t)); tick = agree TickKey (inr (inr refl)) }
 
-        at : (touches conf x.entry k ≡ true) ⊎ (touches conf x.entry k ≡ false) → after conf (cells_of conf (filter applied older)) x k ≡ after conf (cells_of conf older) x k
-        at (inl t) = (local conf x (cells_of conf (filter applied older)) (cells_of conf older) (tidy_cells conf (filter applied older)) (tidy_cells conf older) same).same_changes k t
-        at (inr f) = confined conf x (cells_of conf (filter applied older)) (tidy_cells conf (filter applied older)) k f ∙ agree k (inl m) ∙ sym (confined conf x (cells_of conf older) (tidy_cells conf older) k f)
+        at : (touches stage.conf x.entry k ≡ true) ⊎ (touches stage.conf x.entry k ≡ false) → after stage (cells_of stage (filter applied older)) x k ≡ after stage (cells_of stage older) x k
+        at (inl t) = (local stage x (cells_of stage (filter applied older)) (cells_of stage older) (tidy_cells stage ids (filter applied older)) (tidy_cells stage ids older) same).same_changes k t
+        at (inr f) = confined stage x (cells_of stage (filter applied older)) (tidy_cells stage ids (filter applied older)) k f ∙ agree k (inl m) ∙ sym (confined stage x (cells_of stage older) (tidy_cells stage ids older) k f)
 
 pub applied_part : AppliedPart
-applied_part conf applied older e order free c h =
-    ap (λ x. records conf x e) (stand_is conf c (filter applied older) h)
-    ∙ (local conf e (cells_of conf (filter applied older)) (cells_of conf older) (tidy_cells conf (filter applied older)) (tidy_cells conf older) (record { at = λ k t. agree k (inl t); tick = agree TickKey (inr refl) })).same_records
-    ∙ records_of conf older e
+applied_part stage applied older e ids order free c h =
+    ap (λ x. records stage x e) (stand_is stage c (filter applied older) h)
+    ∙ (local stage e (cells_of stage (filter applied older)) (cells_of stage older) (tidy_cells stage ids (filter applied older)) (tidy_cells stage ids older) (record { at = λ k t. agree k (inl t); tick = agree TickKey (inr refl) })).same_records
+    ∙ records_of stage older e
   where
-    agree : (k : Key) → Reads conf e k → cells_of conf (filter applied older) k ≡ cells_of conf older k
-    agree = part_agree conf applied older (Reads conf e) order (λ y i f k r t. apart_reads conf y e (each_at (λ y. applied y ≡ false → Apart conf y e) older free y i f) k r t)
+    agree : (k : Key) → Reads stage.conf e k → cells_of stage (filter applied older) k ≡ cells_of stage older k
+    agree = part_agree stage ids applied older (Reads stage.conf e) order (λ y i f k r t. apart_reads stage.conf y e (each_at (λ y. applied y ≡ false → Apart stage.conf y e) older free y i f) k r t)

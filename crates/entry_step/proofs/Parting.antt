@@ -5,6 +5,7 @@ use Rattle.std.specs.Option.{unwrap_or}
 use Rattle.std.proofs.lemmas.List.{reverse-append}
 use Rattle.zbx_types.specs.Ids.{at_id, ids_from}
 use Rattle.zbx_types.specs.declared.conf.Conf.{Conf}
+use Rattle.trigger_state.specs.Stages.{Stage}
 use Rattle.zbx_types.specs.declared.entries.Numbered.{Numbered}
 use Rattle.zbx_types.specs.declared.entries.Rec.{Rec}
 use Rattle.prep_steps.specs.declared.memory.StepMemory.{StepMemory}
@@ -253,7 +254,7 @@ some_same {A} {B} xs zs id p = go (at_id xs id) refl (at_id zs id) refl
 
 -- ---- what is kept of two families
 
-module _ (conf : Conf) (test : Key → Bool) (a b x : CellsView) (c d e : Cells) (ra : Represents conf a c) (rb : Represents conf b d)
+module _ (stage : Stage) (test : Key → Bool) (a b x : CellsView) (c d e : Cells) (ra : Represents stage a c) (rb : Represents stage b d)
     (items : (id : ℕ) → at_id x.items id ≡ cond (test (ItemKey id)) (at_id a.items id) (at_id b.items id))
     (memories : (id : ℕ) → at_id x.memories id ≡ cond (test (ItemKey id)) (at_id a.memories id) (at_id b.memories id))
     (problems : (id : ℕ) → at_id x.problems id ≡ cond (test (TriggerKey id)) (at_id a.problems id) (at_id b.problems id))
@@ -264,20 +265,21 @@ module _ (conf : Conf) (test : Key → Bool) (a b x : CellsView) (c d e : Cells)
   there_as xs ys zs id true p q = some_same xs zs id p
   there_as xs ys zs id false p q = some_same ys zs id q
 
-  pub mixed_represents : Represents conf x e
+  pub mixed_represents : Represents stage x e
   unfolding problems_at
   mixed_represents = record {
-    items = same_length x.items conf.items (λ id. ap is_some (items id) ∙ there_as a.items b.items conf.items id (test (ItemKey id)) ra.items rb.items);
+    items = same_length x.items stage.conf.items (λ id. ap is_some (items id) ∙ there_as a.items b.items stage.conf.items id (test (ItemKey id)) ra.items rb.items);
     ordered = λ id. subst (λ o. IfSome o (λ cell. IsOrdered cell.values)) (sym (items id)) (ordered id (test (ItemKey id)));
-    memories = same_length x.memories conf.items (λ id. ap is_some (memories id) ∙ there_as a.memories b.memories conf.items id (test (ItemKey id)) ra.memories rb.memories);
-    triggers = same_length x.problems conf.triggers (λ id. ap is_some (problems id) ∙ there_as a.problems b.problems conf.triggers id (test (TriggerKey id)) ra.triggers rb.triggers);
-    histories = λ id. subst (λ (cell : ItemCell). Keeps conf id cell.seen cell.history (at_id x.items id)) (sym (its id)) (subst (Keeps conf id (own id).seen (own id).history) (sym (items id)) (history id (test (ItemKey id))));
+    memories = same_length x.memories stage.conf.items (λ id. ap is_some (memories id) ∙ there_as a.memories b.memories stage.conf.items id (test (ItemKey id)) ra.memories rb.memories);
+    triggers = same_length x.problems stage.conf.triggers (λ id. ap is_some (problems id) ∙ there_as a.problems b.problems stage.conf.triggers id (test (TriggerKey id)) ra.triggers rb.triggers);
+    histories = λ id. subst (λ (cell : ItemCell). Keeps stage.conf id cell.seen cell.history (at_id x.items id)) (sym (its id)) (subst (Keeps stage.conf id (own id).seen (own id).history) (sym (items id)) (history id (test (ItemKey id))));
     marks = λ id. ap (λ o. unwrap_or o []) (memories id) ∙ mark id (test (ItemKey id)) ∙ ap (λ (cell : ItemCell). cell.marks) (sym (its id));
     problems = λ id. ap (λ o. unwrap_or o []) (problems id) ∙ opened id (test (TriggerKey id)) ∙ sym (opens id);
     tick = tick;
     tidy = record {
-      homes = λ id. subst (AllAtHome conf id) (sym (opens id)) (home id (test (TriggerKey id)));
-      tagged = λ id. subst (AllTagged conf id) (sym (opens id)) (tag id (test (TriggerKey id)));
+      ids = ra.tidy.ids;
+      homes = λ id. subst (AllAtHome stage id) (sym (opens id)) (home id (test (TriggerKey id)));
+      tagged = λ id. subst (AllTagged stage.conf id) (sym (opens id)) (tag id (test (TriggerKey id)));
       absent = λ id q. ap (λ (cell : ItemCell). cell.history) (its id) ∙ gone id q (test (ItemKey id));
     };
   }
@@ -289,7 +291,7 @@ module _ (conf : Conf) (test : Key → Bool) (a b x : CellsView) (c d e : Cells)
       ordered id true = ra.ordered id
       ordered id false = rb.ordered id
 
-      history : (id : ℕ) (t : Bool) → Keeps conf id (cond t (c (ItemKey id)) (d (ItemKey id))).seen (cond t (c (ItemKey id)) (d (ItemKey id))).history (cond t (at_id a.items id) (at_id b.items id))
+      history : (id : ℕ) (t : Bool) → Keeps stage.conf id (cond t (c (ItemKey id)) (d (ItemKey id))).seen (cond t (c (ItemKey id)) (d (ItemKey id))).history (cond t (at_id a.items id) (at_id b.items id))
       history id true = ra.histories id
       history id false = rb.histories id
 
@@ -301,15 +303,15 @@ module _ (conf : Conf) (test : Key → Bool) (a b x : CellsView) (c d e : Cells)
       opened id true = ra.problems id
       opened id false = rb.problems id
 
-      home : (id : ℕ) (t : Bool) → AllAtHome conf id (cond t (c (TriggerKey id)) (d (TriggerKey id)))
+      home : (id : ℕ) (t : Bool) → AllAtHome stage id (cond t (c (TriggerKey id)) (d (TriggerKey id)))
       home id true = ra.tidy.homes id
       home id false = rb.tidy.homes id
 
-      tag : (id : ℕ) (t : Bool) → AllTagged conf id (cond t (c (TriggerKey id)) (d (TriggerKey id)))
+      tag : (id : ℕ) (t : Bool) → AllTagged stage.conf id (cond t (c (TriggerKey id)) (d (TriggerKey id)))
       tag id true = ra.tidy.tagged id
       tag id false = rb.tidy.tagged id
 
-      gone : (id : ℕ) → at_id conf.items id ≡ None → (t : Bool) → (cond t (c (ItemKey id)) (d (ItemKey id))).history ≡ []
+      gone : (id : ℕ) → at_id stage.conf.items id ≡ None → (t : Bool) → (cond t (c (ItemKey id)) (d (ItemKey id))).history ≡ []
       gone id q true = ra.tidy.absent id q
       gone id q false = rb.tidy.absent id q
 
@@ -340,36 +342,36 @@ any_first conf (e ∷ es) rest k f = go (touches conf e.entry k) f (any_first co
     go false f ih = ih f
 
 -- entries come to two families that agree on their feet
-come_agrees : (conf : Conf) (K : Key → Type 0) → K TickKey → (es : List Numbered) (c d : Cells) → IsTidy conf c → IsTidy conf d → ((e : Numbered) → In e es → (k : Key) → touches conf e.entry k ≡ true → K k)
-    → ((k : Key) → K k → c k ≡ d k) → AllCome conf c es → AllCome conf d es
-come_agrees conf K ticks [] c d tidy_c tidy_d inside same h = tt
-come_agrees conf K ticks (e ∷ es) c d tidy_c tidy_d inside same h = (
+come_agrees : (stage : Stage) (K : Key → Type 0) → K TickKey → (es : List Numbered) (c d : Cells) → IsTidy stage c → IsTidy stage d → ((e : Numbered) → In e es → (k : Key) → touches stage.conf e.entry k ≡ true → K k)
+    → ((k : Key) → K k → c k ≡ d k) → AllCome stage c es → AllCome stage d es
+come_agrees stage K ticks [] c d tidy_c tidy_d inside same h = tt
+come_agrees stage K ticks (e ∷ es) c d tidy_c tidy_d inside same h = (
   λ id t. subst (λ (cell : ItemCell). cell.seen ≤ moment_of e.entry) (same (ItemKey id) (inside e (inl refl) (ItemKey id) t)) (h.0 id t),
   h.1,
-  come_agrees conf K ticks es (after conf c e) (after conf d e) (stays_tidy conf c e tidy_c) (stays_tidy conf d e tidy_d) (λ x i. inside x (inr i)) (step_agrees conf K ticks e c d tidy_c tidy_d (inside e (inl refl)) same) h.2,
+  come_agrees stage K ticks es (after stage c e) (after stage d e) (stays_tidy stage c e tidy_c) (stays_tidy stage d e tidy_d) (λ x i. inside x (inr i)) (step_agrees stage K ticks e c d tidy_c tidy_d (inside e (inl refl)) same) h.2,
 )
 
 -- so many triggers are evaluated over both
-same_evaluations : (conf : Conf) (K : Key → Type 0) → K TickKey → (es : List Numbered) (c d : Cells) → IsTidy conf c → IsTidy conf d → ((e : Numbered) → In e es → (k : Key) → touches conf e.entry k ≡ true → K k)
-    → ((k : Key) → K k → c k ≡ d k) → evaluations conf c es ≡ evaluations conf d es
-same_evaluations conf K ticks [] c d tidy_c tidy_d inside same = refl
-same_evaluations conf K ticks (e ∷ es) c d tidy_c tidy_d inside same =
-    let own : triggers_at conf (memory_in c) e.number e.entry ≡ triggers_at conf (memory_in d) e.number e.entry =
-    triggers_by conf (memory_in c) (memory_in d) e.number e.entry (visits_agree conf e c d (record { at = λ k t. same k (inside e (inl refl) k t); tick = same TickKey ticks })) in
-    let rest : evaluations conf (after conf c e) es ≡ evaluations conf (after conf d e) es =
-    same_evaluations conf K ticks es (after conf c e) (after conf d e) (stays_tidy conf c e tidy_c) (stays_tidy conf d e tidy_d) (λ x i. inside x (inr i)) (step_agrees conf K ticks e c d tidy_c tidy_d (inside e (inl refl)) same) in
-    ap (λ ids. length ids + evaluations conf (after conf c e) es) own ∙ ap (λ n. length (triggers_at conf (memory_in d) e.number e.entry) + n) rest
+same_evaluations : (stage : Stage) (K : Key → Type 0) → K TickKey → (es : List Numbered) (c d : Cells) → IsTidy stage c → IsTidy stage d → ((e : Numbered) → In e es → (k : Key) → touches stage.conf e.entry k ≡ true → K k)
+    → ((k : Key) → K k → c k ≡ d k) → evaluations stage c es ≡ evaluations stage d es
+same_evaluations stage K ticks [] c d tidy_c tidy_d inside same = refl
+same_evaluations stage K ticks (e ∷ es) c d tidy_c tidy_d inside same =
+    let own : triggers_at stage.conf (memory_in c) e.number e.entry ≡ triggers_at stage.conf (memory_in d) e.number e.entry =
+    triggers_by stage.conf (memory_in c) (memory_in d) e.number e.entry (visits_agree stage.conf e c d (record { at = λ k t. same k (inside e (inl refl) k t); tick = same TickKey ticks })) in
+    let rest : evaluations stage (after stage c e) es ≡ evaluations stage (after stage d e) es =
+    same_evaluations stage K ticks es (after stage c e) (after stage d e) (stays_tidy stage c e tidy_c) (stays_tidy stage d e tidy_d) (λ x i. inside x (inr i)) (step_agrees stage K ticks e c d tidy_c tidy_d (inside e (inl refl)) same) in
+    ap (λ ids. length ids + evaluations stage (after stage c e) es) own ∙ ap (λ n. length (triggers_at stage.conf (memory_in d) e.number e.entry) + n) rest
 
 -- the cells of the feet and the first Tick, over cells before the first entry
-abbrev mixed : Conf → List Numbered → Cells → Cells
-mixed conf es c (ItemKey id) = cond (any_touches conf es (ItemKey id)) (c (ItemKey id)) (look conf [] [] (ItemKey id))
-mixed conf es c (TriggerKey id) = cond (any_touches conf es (TriggerKey id)) (c (TriggerKey id)) (look conf [] [] (TriggerKey id))
-mixed conf es c TickKey = c TickKey
+abbrev mixed : Stage → List Numbered → Cells → Cells
+mixed stage es c (ItemKey id) = cond (any_touches stage.conf es (ItemKey id)) (c (ItemKey id)) (look stage [] [] (ItemKey id))
+mixed stage es c (TriggerKey id) = cond (any_touches stage.conf es (TriggerKey id)) (c (TriggerKey id)) (look stage [] [] (TriggerKey id))
+mixed stage es c TickKey = c TickKey
 
-module _ (conf : Conf) (es : List Numbered) (part copied back : PartView) (s first : CellsView) (blank : Represents conf s (look conf [] [])) (copy : IsCopy copied part) (in_place : IsReplaced s copied first) (taken : IsTaken s copied back)
-    (held : CellsView) (c : Cells) (of : IsPartOf conf es held part) (r : Represents conf held c) where
+module _ (stage : Stage) (es : List Numbered) (part copied back : PartView) (s first : CellsView) (blank : Represents stage s (look stage [] [])) (copy : IsCopy copied part) (in_place : IsReplaced s copied first) (taken : IsTaken s copied back)
+    (held : CellsView) (c : Cells) (of : IsPartOf stage.conf es held part) (r : Represents stage held c) where
   abbrev m : Cells
-  m = mixed conf es c
+  m = mixed stage es c
 
   size_items : length s.items ≡ length held.items
   size_items = blank.items ∙ sym r.items
@@ -380,112 +382,112 @@ module _ (conf : Conf) (es : List Numbered) (part copied back : PartView) (s fir
   size_problems : length s.problems ≡ length held.problems
   size_problems = blank.triggers ∙ sym r.triggers
 
-  pub begins : Represents conf first m
-  begins = mixed_represents conf (any_touches conf es) held s first c (look conf [] []) m r blank
-      (λ id. into (any_touches conf es (ItemKey id)) (at_id held.items id) (at_id s.items id) (at_id first.items id) (cell_in copied id) (some_same s.items held.items id size_items) (copy.cells id ∙ of.cells id) (in_place.items id))
-      (λ id. into (any_touches conf es (ItemKey id)) (at_id held.memories id) (at_id s.memories id) (at_id first.memories id) (marks_in copied id) (some_same s.memories held.memories id size_memories) (copy.marks id ∙ of.marks id) (in_place.memories id))
-      (λ id. into (any_touches conf es (TriggerKey id)) (at_id held.problems id) (at_id s.problems id) (at_id first.problems id) (problems_in copied id) (some_same s.problems held.problems id size_problems) (copy.problems id ∙ of.problems id) (in_place.problems id))
+  pub begins : Represents stage first m
+  begins = mixed_represents stage (any_touches stage.conf es) held s first c (look stage [] []) m r blank
+      (λ id. into (any_touches stage.conf es (ItemKey id)) (at_id held.items id) (at_id s.items id) (at_id first.items id) (cell_in copied id) (some_same s.items held.items id size_items) (copy.cells id ∙ of.cells id) (in_place.items id))
+      (λ id. into (any_touches stage.conf es (ItemKey id)) (at_id held.memories id) (at_id s.memories id) (at_id first.memories id) (marks_in copied id) (some_same s.memories held.memories id size_memories) (copy.marks id ∙ of.marks id) (in_place.memories id))
+      (λ id. into (any_touches stage.conf es (TriggerKey id)) (at_id held.problems id) (at_id s.problems id) (at_id first.problems id) (problems_in copied id) (some_same s.problems held.problems id size_problems) (copy.problems id ∙ of.problems id) (in_place.problems id))
       (λ id. refl) (λ id. refl) (in_place.tick ∙ copy.tick ∙ of.tick ∙ r.tick)
 
-  back_cells : (id : ℕ) → cell_in back id ≡ cond (any_touches conf es (ItemKey id)) (at_id s.items id) None
-  back_cells id = back_from (any_touches conf es (ItemKey id)) (at_id held.items id) (at_id s.items id) (cell_in copied id) (cell_in back id) (some_same s.items held.items id size_items) (copy.cells id ∙ of.cells id) (taken.cells id)
+  back_cells : (id : ℕ) → cell_in back id ≡ cond (any_touches stage.conf es (ItemKey id)) (at_id s.items id) None
+  back_cells id = back_from (any_touches stage.conf es (ItemKey id)) (at_id held.items id) (at_id s.items id) (cell_in copied id) (cell_in back id) (some_same s.items held.items id size_items) (copy.cells id ∙ of.cells id) (taken.cells id)
 
-  back_marks : (id : ℕ) → marks_in back id ≡ cond (any_touches conf es (ItemKey id)) (at_id s.memories id) None
-  back_marks id = back_from (any_touches conf es (ItemKey id)) (at_id held.memories id) (at_id s.memories id) (marks_in copied id) (marks_in back id) (some_same s.memories held.memories id size_memories) (copy.marks id ∙ of.marks id) (taken.marks id)
+  back_marks : (id : ℕ) → marks_in back id ≡ cond (any_touches stage.conf es (ItemKey id)) (at_id s.memories id) None
+  back_marks id = back_from (any_touches stage.conf es (ItemKey id)) (at_id held.memories id) (at_id s.memories id) (marks_in copied id) (marks_in back id) (some_same s.memories held.memories id size_memories) (copy.marks id ∙ of.marks id) (taken.marks id)
 
-  back_problems : (id : ℕ) → problems_in back id ≡ cond (any_touches conf es (TriggerKey id)) (at_id s.problems id) None
-  back_problems id = back_from (any_touches conf es (TriggerKey id)) (at_id held.problems id) (at_id s.problems id) (problems_in copied id) (problems_in back id) (some_same s.problems held.problems id size_problems) (copy.problems id ∙ of.problems id) (taken.problems id)
+  back_problems : (id : ℕ) → problems_in back id ≡ cond (any_touches stage.conf es (TriggerKey id)) (at_id s.problems id) None
+  back_problems id = back_from (any_touches stage.conf es (TriggerKey id)) (at_id held.problems id) (at_id s.problems id) (problems_in copied id) (problems_in back id) (some_same s.problems held.problems id size_problems) (copy.problems id ∙ of.problems id) (taken.problems id)
 
-  touched : (k : Key) → any_touches conf es k ≡ true → c k ≡ m k
-  touched (ItemKey id) t = sym (ap (λ b. cond b (c (ItemKey id)) (look conf [] [] (ItemKey id))) t)
-  touched (TriggerKey id) t = sym (ap (λ b. cond b (c (TriggerKey id)) (look conf [] [] (TriggerKey id))) t)
+  touched : (k : Key) → any_touches stage.conf es k ≡ true → c k ≡ m k
+  touched (ItemKey id) t = sym (ap (λ b. cond b (c (ItemKey id)) (look stage [] [] (ItemKey id))) t)
+  touched (TriggerKey id) t = sym (ap (λ b. cond b (c (TriggerKey id)) (look stage [] [] (TriggerKey id))) t)
   touched TickKey t = refl
 
-  read : (k : Key) → (any_touches conf es k ≡ true) ⊎ (k ≡ TickKey) → c k ≡ m k
+  read : (k : Key) → (any_touches stage.conf es k ≡ true) ⊎ (k ≡ TickKey) → c k ≡ m k
   read k (inl t) = touched k t
   read k (inr q) = subst (λ j. c j ≡ m j) (sym q) refl
 
-  pub come : AllCome conf c es → AllCome conf m es
-  come = come_agrees conf (λ k. (any_touches conf es k ≡ true) ⊎ (k ≡ TickKey)) (inr refl) es c m r.tidy begins.tidy (λ e i k t. inl (any_intro (λ x. touches conf x.entry k) e es i t)) read
+  pub come : AllCome stage c es → AllCome stage m es
+  come = come_agrees stage (λ k. (any_touches stage.conf es k ≡ true) ⊎ (k ≡ TickKey)) (inr refl) es c m r.tidy begins.tidy (λ e i k t. inl (any_intro (λ x. touches stage.conf x.entry k) e es i t)) read
 
-  pub counts : evaluations conf c es ≡ evaluations conf m es
-  counts = same_evaluations conf (λ k. (any_touches conf es k ≡ true) ⊎ (k ≡ TickKey)) (inr refl) es c m r.tidy begins.tidy (λ e i k t. inl (any_intro (λ x. touches conf x.entry k) e es i t)) read
+  pub counts : evaluations stage c es ≡ evaluations stage m es
+  counts = same_evaluations stage (λ k. (any_touches stage.conf es k ≡ true) ⊎ (k ≡ TickKey)) (inr refl) es c m r.tidy begins.tidy (λ e i k t. inl (any_intro (λ x. touches stage.conf x.entry k) e es i t)) read
 
-  batch : (records_done conf m es ≡ records_done conf c es) × (put_over conf es (cells_done conf m es) c ≡ cells_done conf c es)
-  batch = batch_on_a_copy conf es c m r.tidy begins.tidy (record { at = touched; tick = refl })
+  batch : (records_done stage m es ≡ records_done stage c es) × (put_over stage.conf es (cells_done stage m es) c ≡ cells_done stage c es)
+  batch = batch_on_a_copy stage es c m r.tidy begins.tidy (record { at = touched; tick = refl })
 
-  pub records_same : records_done conf m es ≡ records_done conf c es
+  pub records_same : records_done stage m es ≡ records_done stage c es
   records_same = batch.0
 
-  tick_done : cells_done conf m es TickKey ≡ cells_done conf c es TickKey
-  tick_done = go (any_touches conf es TickKey) refl
+  tick_done : cells_done stage m es TickKey ≡ cells_done stage c es TickKey
+  tick_done = go (any_touches stage.conf es TickKey) refl
     where
-      over : put_over conf es (cells_done conf m es) c TickKey ≡ cells_done conf c es TickKey
+      over : put_over stage.conf es (cells_done stage m es) c TickKey ≡ cells_done stage c es TickKey
       over = ap (λ (f : Cells). f TickKey) batch.1
 
-      go : (b : Bool) → any_touches conf es TickKey ≡ b → cells_done conf m es TickKey ≡ cells_done conf c es TickKey
-      go true e = sym (ap (λ b. cond {A = Option ℕ} b (cells_done conf m es TickKey) (c TickKey)) e) ∙ over
-      go false e = batch_off conf es m begins.tidy TickKey e ∙ sym (ap (λ b. cond {A = Option ℕ} b (cells_done conf m es TickKey) (c TickKey)) e) ∙ over
+      go : (b : Bool) → any_touches stage.conf es TickKey ≡ b → cells_done stage m es TickKey ≡ cells_done stage c es TickKey
+      go true e = sym (ap (λ b. cond {A = Option ℕ} b (cells_done stage m es TickKey) (c TickKey)) e) ∙ over
+      go false e = batch_off stage es m begins.tidy TickKey e ∙ sym (ap (λ b. cond {A = Option ℕ} b (cells_done stage m es TickKey) (c TickKey)) e) ∙ over
 
   -- behind the entries
-  module _ (left : CellsView) (done : PartView) (stands : Represents conf left (cells_done conf m es)) (out : IsTaken left back done) (next : CellsView) (put : IsReplaced held done next) where
-    pub ends : Represents conf next (cells_done conf c es)
-    ends = mixed_represents conf (any_touches conf es) left held next (cells_done conf m es) c (cells_done conf c es) stands r
-        (λ id. into (any_touches conf es (ItemKey id)) (at_id left.items id) (at_id held.items id) (at_id next.items id) (cell_in done id) (some_same held.items left.items id (r.items ∙ sym stands.items))
-        (back_from (any_touches conf es (ItemKey id)) (at_id s.items id) (at_id left.items id) (cell_in back id) (cell_in done id) (some_same left.items s.items id (stands.items ∙ sym blank.items)) (back_cells id) (out.cells id)) (put.items id))
-        (λ id. into (any_touches conf es (ItemKey id)) (at_id left.memories id) (at_id held.memories id) (at_id next.memories id) (marks_in done id) (some_same held.memories left.memories id (r.memories ∙ sym stands.memories))
-        (back_from (any_touches conf es (ItemKey id)) (at_id s.memories id) (at_id left.memories id) (marks_in back id) (marks_in done id) (some_same left.memories s.memories id (stands.memories ∙ sym blank.memories)) (back_marks id) (out.marks id)) (put.memories id))
-        (λ id. into (any_touches conf es (TriggerKey id)) (at_id left.problems id) (at_id held.problems id) (at_id next.problems id) (problems_in done id) (some_same held.problems left.problems id (r.triggers ∙ sym stands.triggers))
-        (back_from (any_touches conf es (TriggerKey id)) (at_id s.problems id) (at_id left.problems id) (problems_in back id) (problems_in done id) (some_same left.problems s.problems id (stands.triggers ∙ sym blank.triggers)) (back_problems id) (out.problems id)) (put.problems id))
+  module _ (left : CellsView) (done : PartView) (stands : Represents stage left (cells_done stage m es)) (out : IsTaken left back done) (next : CellsView) (put : IsReplaced held done next) where
+    pub ends : Represents stage next (cells_done stage c es)
+    ends = mixed_represents stage (any_touches stage.conf es) left held next (cells_done stage m es) c (cells_done stage c es) stands r
+        (λ id. into (any_touches stage.conf es (ItemKey id)) (at_id left.items id) (at_id held.items id) (at_id next.items id) (cell_in done id) (some_same held.items left.items id (r.items ∙ sym stands.items))
+        (back_from (any_touches stage.conf es (ItemKey id)) (at_id s.items id) (at_id left.items id) (cell_in back id) (cell_in done id) (some_same left.items s.items id (stands.items ∙ sym blank.items)) (back_cells id) (out.cells id)) (put.items id))
+        (λ id. into (any_touches stage.conf es (ItemKey id)) (at_id left.memories id) (at_id held.memories id) (at_id next.memories id) (marks_in done id) (some_same held.memories left.memories id (r.memories ∙ sym stands.memories))
+        (back_from (any_touches stage.conf es (ItemKey id)) (at_id s.memories id) (at_id left.memories id) (marks_in back id) (marks_in done id) (some_same left.memories s.memories id (stands.memories ∙ sym blank.memories)) (back_marks id) (out.marks id)) (put.memories id))
+        (λ id. into (any_touches stage.conf es (TriggerKey id)) (at_id left.problems id) (at_id held.problems id) (at_id next.problems id) (problems_in done id) (some_same held.problems left.problems id (r.triggers ∙ sym stands.triggers))
+        (back_from (any_touches stage.conf es (TriggerKey id)) (at_id s.problems id) (at_id left.problems id) (problems_in back id) (problems_in done id) (some_same left.problems s.problems id (stands.triggers ∙ sym blank.triggers)) (back_problems id) (out.problems id)) (put.problems id))
         (λ id. sym (ap (λ (f : Cells). f (ItemKey id)) batch.1)) (λ id. sym (ap (λ (f : Cells). f (TriggerKey id)) batch.1)) (put.tick ∙ out.tick ∙ stands.tick ∙ tick_done)
 
   -- and where the cells before the first entry come back
-  module _ (left end : CellsView) (some : SomeTaken conf m es left) (put : IsReplaced left back end) where
-    untouched : (k : Key) → any_touches conf es k ≡ false → cells_done conf m some.taken k ≡ m k
-    untouched k f = batch_off conf some.taken m begins.tidy k (any_first conf some.taken some.rest k (ap (λ xs. any_touches conf xs k) some.all ∙ f))
+  module _ (left end : CellsView) (some : SomeTaken stage m es left) (put : IsReplaced left back end) where
+    untouched : (k : Key) → any_touches stage.conf es k ≡ false → cells_done stage m some.taken k ≡ m k
+    untouched k f = batch_off stage some.taken m begins.tidy k (any_first stage.conf some.taken some.rest k (ap (λ xs. any_touches stage.conf xs k) some.all ∙ f))
 
-    pub comes_back : Represents conf end (look conf [] [])
-    comes_back = mixed_represents conf (any_touches conf es) s left end (look conf [] []) (cells_done conf m some.taken) (look conf [] []) blank some.represented
-        (λ id. into (any_touches conf es (ItemKey id)) (at_id s.items id) (at_id left.items id) (at_id end.items id) (cell_in back id) (some_same left.items s.items id (some.represented.items ∙ sym blank.items)) (back_cells id) (put.items id))
-        (λ id. into (any_touches conf es (ItemKey id)) (at_id s.memories id) (at_id left.memories id) (at_id end.memories id) (marks_in back id) (some_same left.memories s.memories id (some.represented.memories ∙ sym blank.memories)) (back_marks id) (put.memories id))
-        (λ id. into (any_touches conf es (TriggerKey id)) (at_id s.problems id) (at_id left.problems id) (at_id end.problems id) (problems_in back id) (some_same left.problems s.problems id (some.represented.triggers ∙ sym blank.triggers)) (back_problems id) (put.problems id))
-        (λ id. item id (any_touches conf es (ItemKey id)) refl) (λ id. trigger id (any_touches conf es (TriggerKey id)) refl) (put.tick ∙ taken.tick ∙ blank.tick)
+    pub comes_back : Represents stage end (look stage [] [])
+    comes_back = mixed_represents stage (any_touches stage.conf es) s left end (look stage [] []) (cells_done stage m some.taken) (look stage [] []) blank some.represented
+        (λ id. into (any_touches stage.conf es (ItemKey id)) (at_id s.items id) (at_id left.items id) (at_id end.items id) (cell_in back id) (some_same left.items s.items id (some.represented.items ∙ sym blank.items)) (back_cells id) (put.items id))
+        (λ id. into (any_touches stage.conf es (ItemKey id)) (at_id s.memories id) (at_id left.memories id) (at_id end.memories id) (marks_in back id) (some_same left.memories s.memories id (some.represented.memories ∙ sym blank.memories)) (back_marks id) (put.memories id))
+        (λ id. into (any_touches stage.conf es (TriggerKey id)) (at_id s.problems id) (at_id left.problems id) (at_id end.problems id) (problems_in back id) (some_same left.problems s.problems id (some.represented.triggers ∙ sym blank.triggers)) (back_problems id) (put.problems id))
+        (λ id. item id (any_touches stage.conf es (ItemKey id)) refl) (λ id. trigger id (any_touches stage.conf es (TriggerKey id)) refl) (put.tick ∙ taken.tick ∙ blank.tick)
       where
-        item : (id : ℕ) (b : Bool) → any_touches conf es (ItemKey id) ≡ b → look conf [] [] (ItemKey id) ≡ cond b (look conf [] [] (ItemKey id)) (cells_done conf m some.taken (ItemKey id))
+        item : (id : ℕ) (b : Bool) → any_touches stage.conf es (ItemKey id) ≡ b → look stage [] [] (ItemKey id) ≡ cond b (look stage [] [] (ItemKey id)) (cells_done stage m some.taken (ItemKey id))
         item id true e = refl
-        item id false e = sym (untouched (ItemKey id) e ∙ ap (λ b. cond b (c (ItemKey id)) (look conf [] [] (ItemKey id))) e)
+        item id false e = sym (untouched (ItemKey id) e ∙ ap (λ b. cond b (c (ItemKey id)) (look stage [] [] (ItemKey id))) e)
 
-        trigger : (id : ℕ) (b : Bool) → any_touches conf es (TriggerKey id) ≡ b → look conf [] [] (TriggerKey id) ≡ cond b (look conf [] [] (TriggerKey id)) (cells_done conf m some.taken (TriggerKey id))
+        trigger : (id : ℕ) (b : Bool) → any_touches stage.conf es (TriggerKey id) ≡ b → look stage [] [] (TriggerKey id) ≡ cond b (look stage [] [] (TriggerKey id)) (cells_done stage m some.taken (TriggerKey id))
         trigger id true e = refl
-        trigger id false e = sym (untouched (TriggerKey id) e ∙ ap (λ b. cond b (c (TriggerKey id)) (look conf [] [] (TriggerKey id))) e)
+        trigger id false e = sym (untouched (TriggerKey id) e ∙ ap (λ b. cond b (c (TriggerKey id)) (look stage [] [] (TriggerKey id))) e)
 
-blank_of : (conf : Conf) (s : CellsView) → Holds conf s [] → Represents conf s (look conf [] [])
+blank_of : (stage : Stage) (s : CellsView) → Holds stage s [] → Represents stage s (look stage [] [])
 unfolding AreCellsOf
-blank_of conf s h = subst (Represents conf s) h.stand h.represented
+blank_of stage s h = subst (Represents stage s) h.stand h.represented
 
-holds_blank : (conf : Conf) (s : CellsView) → Represents conf s (look conf [] []) → Holds conf s []
+holds_blank : (stage : Stage) (s : CellsView) → Represents stage s (look stage [] []) → Holds stage s []
 unfolding AreCellsOf
-holds_blank conf s r = record { cells = look conf [] []; stand = refl; represented = r }
+holds_blank stage s r = record { cells = look stage [] []; stand = refl; represented = r }
 
-module _ (conf : Conf) (es : List Numbered) (part copied back : PartView) (s first : CellsView) (holds : Holds conf s []) (copy : IsCopy copied part) (in_place : IsReplaced s copied first) (taken : IsTaken s copied back) where
-  pub holds_again : (left end : CellsView) → IsWorkable conf es part → AreSteppedTo conf first es left → IsReplaced left back end → Holds conf end []
+module _ (stage : Stage) (es : List Numbered) (part copied back : PartView) (s first : CellsView) (holds : Holds stage s []) (copy : IsCopy copied part) (in_place : IsReplaced s copied first) (taken : IsTaken s copied back) where
+  pub holds_again : (left end : CellsView) → IsWorkable stage es part → AreSteppedTo stage first es left → IsReplaced left back end → Holds stage end []
   holds_again left end w stepped put =
-      holds_blank conf end (comes_back conf es part copied back s first (blank_of conf s holds) copy in_place taken w.held w.cells w.of w.represented left end
-      (stepped (mixed conf es w.cells) (begins conf es part copied back s first (blank_of conf s holds) copy in_place taken w.held w.cells w.of w.represented) (come conf es part copied back s first (blank_of conf s holds) copy in_place taken w.held w.cells w.of w.represented w.come)) put)
+      holds_blank stage end (comes_back stage es part copied back s first (blank_of stage s holds) copy in_place taken w.held w.cells w.of w.represented left end
+      (stepped (mixed stage es w.cells) (begins stage es part copied back s first (blank_of stage s holds) copy in_place taken w.held w.cells w.of w.represented) (come stage es part copied back s first (blank_of stage s holds) copy in_place taken w.held w.cells w.of w.represented w.come)) put)
 
-  pub worked_out : (left : CellsView) (done : PartView) (made : List (List Rec)) → AllMade conf first es made left → IsTaken left back done → WorksOut conf es part done made
+  pub worked_out : (left : CellsView) (done : PartView) (made : List (List Rec)) → AllMade stage first es made left → IsTaken left back done → WorksOut stage es part done made
   unfolding WorksOut
   worked_out left done made all out held c of r come_c =
-      let b = begins conf es part copied back s first (blank_of conf s holds) copy in_place taken held c of r in
-      let a = all (mixed conf es c) b (come conf es part copied back s first (blank_of conf s holds) copy in_place taken held c of r come_c) in
-      (a.0 ∙ records_same conf es part copied back s first (blank_of conf s holds) copy in_place taken held c of r, λ next put. ends conf es part copied back s first (blank_of conf s holds) copy in_place taken held c of r left done a.1 out next put)
+      let b = begins stage es part copied back s first (blank_of stage s holds) copy in_place taken held c of r in
+      let a = all (mixed stage es c) b (come stage es part copied back s first (blank_of stage s holds) copy in_place taken held c of r come_c) in
+      (a.0 ∙ records_same stage es part copied back s first (blank_of stage s holds) copy in_place taken held c of r, λ next put. ends stage es part copied back s first (blank_of stage s holds) copy in_place taken held c of r left done a.1 out next put)
 
-  pub was_counted : (before now : ℕ) → AllCounted conf first es before now → IsCounted conf es part before now
+  pub was_counted : (before now : ℕ) → AllCounted stage first es before now → IsCounted stage es part before now
   unfolding IsCounted
   was_counted before now all held c of r come_c =
-      let b = begins conf es part copied back s first (blank_of conf s holds) copy in_place taken held c of r in
-      all (mixed conf es c) b (come conf es part copied back s first (blank_of conf s holds) copy in_place taken held c of r come_c)
-      ∙ ap (λ n. before + n) (sym (counts conf es part copied back s first (blank_of conf s holds) copy in_place taken held c of r))
+      let b = begins stage es part copied back s first (blank_of stage s holds) copy in_place taken held c of r in
+      all (mixed stage es c) b (come stage es part copied back s first (blank_of stage s holds) copy in_place taken held c of r come_c)
+      ∙ ap (λ n. before + n) (sym (counts stage es part copied back s first (blank_of stage s holds) copy in_place taken held c of r))
 
 -- ---- entries that suit a log come to its cells
 
@@ -496,13 +498,13 @@ suits_older conf (e ∷ newer) older h = suits_older conf newer older h.0
 onto : (e : Numbered) (es log : List Numbered) → reverse (e ∷ es) ++ log ≡ reverse es ++ e ∷ log
 onto e es log = ap (λ xs. xs ++ log) (reverse-append (e ∷ []) es) ∙ append_assoc (reverse es) (e ∷ []) log
 
-pub all_come : (conf : Conf) (es log : List Numbered) (c : Cells) → AreCellsOf conf c log → Suits conf (reverse es ++ log) → AllCome conf c es
-all_come conf [] log c stand h = tt
-all_come conf (e ∷ es) log c stand h =
-    let all : Suits conf (reverse es ++ e ∷ log) = subst (Suits conf) (onto e es log) h in
-    let own : Suits conf (e ∷ log) = suits_older conf (reverse es) (e ∷ log) all in
-    (comes_after conf c log e stand own, own.2, all_come conf es (e ∷ log) (after conf c e) (one_entry conf c log e stand).1 all)
+pub all_come : (stage : Stage) (es log : List Numbered) (c : Cells) → AreCellsOf stage c log → Suits stage.conf (reverse es ++ log) → AllCome stage c es
+all_come stage [] log c stand h = tt
+all_come stage (e ∷ es) log c stand h =
+    let all : Suits stage.conf (reverse es ++ e ∷ log) = subst (Suits stage.conf) (onto e es log) h in
+    let own : Suits stage.conf (e ∷ log) = suits_older stage.conf (reverse es) (e ∷ log) all in
+    (comes_after stage c log e stand own, own.2, all_come stage es (e ∷ log) (after stage c e) (one_entry stage c log e stand).1 all)
 
-pub workable_first : (conf : Conf) (es : List Numbered) (held : CellsView) (part : PartView) → Holds conf held [] → IsPartOf conf es held part → Suits conf (log_of es) → IsWorkable conf es part
-workable_first conf es held part h of s =
-    record { held = held; cells = h.cells; of = of; represented = h.represented; come = all_come conf es [] h.cells h.stand (subst (Suits conf) (sym (append-nil (reverse es))) s) }
+pub workable_first : (stage : Stage) (es : List Numbered) (held : CellsView) (part : PartView) → Holds stage held [] → IsPartOf stage.conf es held part → Suits stage.conf (log_of es) → IsWorkable stage es part
+workable_first stage es held part h of s =
+    record { held = held; cells = h.cells; of = of; represented = h.represented; come = all_come stage es [] h.cells h.stand (subst (Suits stage.conf) (sym (append-nil (reverse es))) s) }

@@ -4,7 +4,7 @@ use mathlib.Core.Path.{fun_ext}
 use Rattle.std.specs.Option.{unwrap_or}
 use Rattle.std.proofs.lemmas.List.{take_more, length-set}
 use Rattle.zbx_types.specs.Ids.{at_id}
-use Rattle.zbx_types.specs.declared.conf.Conf.{Conf}
+use Rattle.trigger_state.specs.Stages.{Stage}
 use Rattle.zbx_types.specs.declared.entries.Rec.{Rec}
 use Rattle.trigger_state.specs.Problems.{absorbed_all, grown, open_of}
 use Rattle.zbx_types.specs.declared.entries.Stored.{Stored}
@@ -23,22 +23,22 @@ use Rattle.entry_step.proofs.Problems.{open_append, absorbed_append, home_all}
 use Rattle.entry_step.specs.declared.occasions.Occasion.{Occasion}
 
 -- by search, the same is made
-pub phase_is : (conf : Conf) (one : (ℕ → List Open) → ℕ → List Rec) (rs : List Rec) (ids : List ℕ) → phase conf one (open_of conf rs) ids ≡ phase_over conf one rs ids
-phase_is conf one rs [] = refl
-phase_is conf one rs (id ∷ ids) =
-    ap (λ xs. one (open_of conf rs) id ++ xs)
-    (ap (λ p. phase conf one p ids) (fun_ext (λ u. sym (open_append conf u rs (one (open_of conf rs) id)))) ∙ phase_is conf one (rs ++ one (open_of conf rs) id) ids)
+pub phase_is : (stage : Stage) (one : (ℕ → List Open) → ℕ → List Rec) (rs : List Rec) (ids : List ℕ) → phase stage one (open_of stage rs) ids ≡ phase_over stage one rs ids
+phase_is stage one rs [] = refl
+phase_is stage one rs (id ∷ ids) =
+    ap (λ xs. one (open_of stage rs) id ++ xs)
+    (ap (λ p. phase stage one p ids) (fun_ext (λ u. sym (open_append stage u rs (one (open_of stage rs) id)))) ∙ phase_is stage one (rs ++ one (open_of stage rs) id) ids)
 
 -- one trigger more
-pub phase_push : (conf : Conf) (one : (ℕ → List Open) → ℕ → List Rec) (all : ℕ → List Open) (ids : List ℕ) (id : ℕ)
-    → phase conf one all (ids ++ id ∷ []) ≡ phase conf one all ids ++ one (grown conf all (phase conf one all ids)) id
-phase_push conf one all [] id = append-nil (one all id)
-phase_push conf one all (x ∷ ids) id =
+pub phase_push : (stage : Stage) (one : (ℕ → List Open) → ℕ → List Rec) (all : ℕ → List Open) (ids : List ℕ) (id : ℕ)
+    → phase stage one all (ids ++ id ∷ []) ≡ phase stage one all ids ++ one (grown stage all (phase stage one all ids)) id
+phase_push stage one all [] id = append-nil (one all id)
+phase_push stage one all (x ∷ ids) id =
     let rs = one all x in
-    let more = phase conf one (grown conf all rs) ids in
-    ap (λ xs. rs ++ xs) (phase_push conf one (grown conf all rs) ids id)
-    ∙ sym (append_assoc rs more (one (grown conf (grown conf all rs) more) id))
-    ∙ ap (λ p. (rs ++ more) ++ one p id) (fun_ext (λ u. sym (absorbed_append conf u (all u) rs more)))
+    let more = phase stage one (grown stage all rs) ids in
+    ap (λ xs. rs ++ xs) (phase_push stage one (grown stage all rs) ids id)
+    ∙ sym (append_assoc rs more (one (grown stage (grown stage all rs) more) id))
+    ∙ ap (λ p. (rs ++ more) ++ one p id) (fun_ext (λ u. sym (absorbed_append stage u (all u) rs more)))
 
 -- a row that is put in
 with_suc : (rows : List (List Open)) (k : ℕ) (os : List Open) → with_row rows (suc k) os ≡ set rows k os
@@ -84,9 +84,9 @@ none_same {A} {B} xs ys (suc k) l e = elim (leb_tells (length xs) k) [
     go (x ∷ xs) (suc k) l e = go xs k (omega arith) e
 
 -- Rows with more records, of one trigger and of some others: those in which the records land
-module _ (conf : Conf) (rows : List (List Open)) (rs : List Rec) (gone : (j : ℕ) → at_id rows j ≡ None → absorbed_all conf j [] rs ≡ []) where
+module _ (stage : Stage) (rows : List (List Open)) (rs : List Rec) (gone : (j : ℕ) → at_id rows j ≡ None → absorbed_all stage j [] rs ≡ []) where
   abbrev goal : ℕ → List Open
-  goal j = absorbed_all conf j (problems_at rows j) rs
+  goal j = absorbed_all stage j (problems_at rows j) rs
 
   one_put : (now : List (List Open)) (i : ℕ) (os : List Open) → length now ≡ length rows → os ≡ goal i → (j : ℕ) → problems_at (with_row now i os) j ≡ cond (i == j) (goal j) (problems_at now j)
   one_put now i os size is j = go (i == j) refl
@@ -94,14 +94,14 @@ module _ (conf : Conf) (rows : List (List Open)) (rs : List Rec) (gone : (j : �
       own : (o : Option (List Open)) → at_id now i ≡ o → unwrap_or (option_map (λ _. os) (at_id now i)) [] ≡ goal i
       own None q = unfold problems_at in
           ap (λ o. unwrap_or (option_map (λ _. os) o) []) q
-          ∙ sym (ap (λ o. absorbed_all conf i (unwrap_or o []) rs) (none_same now rows i size q) ∙ gone i (none_same now rows i size q))
+          ∙ sym (ap (λ o. absorbed_all stage i (unwrap_or o []) rs) (none_same now rows i size q) ∙ gone i (none_same now rows i size q))
       own (Some x) q = ap (λ o. unwrap_or (option_map (λ _. os) o) []) q ∙ is
 
       go : (b : Bool) → (i == j) ≡ b → problems_at (with_row now i os) j ≡ cond b (goal j) (problems_at now j)
       go true e = subst (λ k. problems_at (with_row now i os) k ≡ goal k) (eqb-true i j e) (row_same now i os ∙ own (at_id now i) refl)
       go false e = row_other now i j os (λ q. let t : (i == j) ≡ true = eq-eqb i j q in cc)
 
-  all_put : (now : List (List Open)) (fresh : List Fresh) → length now ≡ length rows → Each (IsAbsorbed conf rows rs) fresh → (j : ℕ) → problems_at (with_all now fresh) j ≡ cond (has_fresh fresh j) (goal j) (problems_at now j)
+  all_put : (now : List (List Open)) (fresh : List Fresh) → length now ≡ length rows → Each (IsAbsorbed stage rows rs) fresh → (j : ℕ) → problems_at (with_all now fresh) j ≡ cond (has_fresh fresh j) (goal j) (problems_at now j)
   all_put now [] size each j = refl
   all_put now (f ∷ fs) size each j =
       all_put (with_row now f.id f.opens) fs (length_row now f.id f.opens ∙ size) each.1 j
@@ -112,7 +112,7 @@ module _ (conf : Conf) (rows : List (List Open)) (rs : List Rec) (gone : (j : �
       go true false = refl
       go false b = refl
 
-  pub rows_absorbed : (id : ℕ) (own : List Open) (fresh : List Fresh) → own ≡ goal id → Each (IsAbsorbed conf rows rs) fresh → LandIn conf (λ j. only id j || has_fresh fresh j) rs → Absorbed conf rows rs (with_all (with_row rows id own) fresh)
+  pub rows_absorbed : (id : ℕ) (own : List Open) (fresh : List Fresh) → own ≡ goal id → Each (IsAbsorbed stage rows rs) fresh → LandIn stage (λ j. only id j || has_fresh fresh j) rs → Absorbed stage rows rs (with_all (with_row rows id own) fresh)
   rows_absorbed id own fresh is each land = record {
     each = λ j. all_put (with_row rows id own) fresh (length_row rows id own) each j ∙ ap (λ os. cond (has_fresh fresh j) (goal j) os) (one_put rows id own refl is j) ∙ go j (only id j) (has_fresh fresh j) refl refl;
     size = length_all (with_row rows id own) fresh ∙ length_row rows id own;
@@ -122,38 +122,38 @@ module _ (conf : Conf) (rows : List (List Open)) (rs : List Rec) (gone : (j : �
       go j true true p q = refl
       go j true false p q = refl
       go j false true p q = refl
-      go j false false p q = sym (land_off conf (λ k. only id k || has_fresh fresh k) j (problems_at rows j) rs land (ap (λ a. a || has_fresh fresh j) p ∙ q))
+      go j false false p q = sym (land_off stage (λ k. only id k || has_fresh fresh k) j (problems_at rows j) rs land (ap (λ a. a || has_fresh fresh j) p ∙ q))
 
 -- No trigger yet
-pub run_none : (conf : Conf) (one : (ℕ → List Open) → ℕ → List Rec) (rows : List (List Open)) (made : List Rec) → made ≡ [] → Runs conf one rows [] made rows
-run_none conf one rows made e = record { records = e; changes = λ id. ap (absorbed_all conf id (problems_at rows id)) (sym e); size = refl }
+pub run_none : (stage : Stage) (one : (ℕ → List Open) → ℕ → List Rec) (rows : List (List Open)) (made : List Rec) → made ≡ [] → Runs stage one rows [] made rows
+run_none stage one rows made e = record { records = e; changes = λ id. ap (absorbed_all stage id (problems_at rows id)) (sym e); size = refl }
 
 -- One trigger more, as the loop has it
-pub run_more : (conf : Conf) (occasion : Occasion) (items : ℕ → List Stored) (before rows next : List (List Open)) (ids : List ℕ) (k id : ℕ) (made more : List Rec) (o : Option TriggerOutcome)
-    → k < length ids → id ≡ get_or ids k 0 → outcome_records o ≡ evaluated conf occasion items (problems_at rows) id
-    → (AreTidy conf rows → Absorbed conf rows (outcome_records o) (outcome_rows rows id o))
+pub run_more : (stage : Stage) (occasion : Occasion) (items : ℕ → List Stored) (before rows next : List (List Open)) (ids : List ℕ) (k id : ℕ) (made more : List Rec) (o : Option TriggerOutcome)
+    → k < length ids → id ≡ get_or ids k 0 → outcome_records o ≡ evaluated stage occasion items (problems_at rows) id
+    → (AreTidy stage rows → Absorbed stage rows (outcome_records o) (outcome_rows rows id o))
     → more ≡ made ++ outcome_records o → next ≡ outcome_rows rows id o
-    → AreTidy conf before → Runs conf (evaluated conf occasion items) before (take k ids) made rows → Runs conf (evaluated conf occasion items) before (take (k + 1) ids) more next
-run_more conf occasion items before rows next ids k id made more o l is r lands m n tidy runs =
+    → AreTidy stage before → Runs stage (evaluated stage occasion items) before (take k ids) made rows → Runs stage (evaluated stage occasion items) before (take (k + 1) ids) more next
+run_more stage occasion items before rows next ids k id made more o l is r lands m n tidy runs =
     record {
-      records = m ∙ ap (λ xs. xs ++ outcome_records o) runs.records ∙ ap (λ xs. so_far ++ xs) (r ∙ ap (λ p. one p id) all) ∙ sym (phase_push conf one (problems_at before) (take k ids) id) ∙ ap (phase conf one (problems_at before)) (sym front);
+      records = m ∙ ap (λ xs. xs ++ outcome_records o) runs.records ∙ ap (λ xs. so_far ++ xs) (r ∙ ap (λ p. one p id) all) ∙ sym (phase_push stage one (problems_at before) (take k ids) id) ∙ ap (phase stage one (problems_at before)) (sym front);
       changes = λ j. ap (λ rs. problems_at rs j) n ∙ absorbed.each j
-          ∙ ap (λ os. absorbed_all conf j os (outcome_records o)) (runs.changes j)
-          ∙ sym (absorbed_append conf j (problems_at before j) made (outcome_records o)) ∙ ap (absorbed_all conf j (problems_at before j)) (sym m);
+          ∙ ap (λ os. absorbed_all stage j os (outcome_records o)) (runs.changes j)
+          ∙ sym (absorbed_append stage j (problems_at before j) made (outcome_records o)) ∙ ap (absorbed_all stage j (problems_at before j)) (sym m);
       size = ap length n ∙ absorbed.size ∙ runs.size;
     }
   where
     one : (ℕ → List Open) → ℕ → List Rec
-    one = evaluated conf occasion items
+    one = evaluated stage occasion items
 
     so_far : List Rec
-    so_far = phase conf one (problems_at before) (take k ids)
+    so_far = phase stage one (problems_at before) (take k ids)
 
-    all : problems_at rows ≡ grown conf (problems_at before) so_far
-    all = fun_ext (λ j. runs.changes j ∙ ap (absorbed_all conf j (problems_at before j)) runs.records)
+    all : problems_at rows ≡ grown stage (problems_at before) so_far
+    all = fun_ext (λ j. runs.changes j ∙ ap (absorbed_all stage j (problems_at before j)) runs.records)
 
-    absorbed : Absorbed conf rows (outcome_records o) (outcome_rows rows id o)
-    absorbed = lands (record { size = runs.size ∙ tidy.size; homes = λ j. subst (AllAtHome conf j) (sym (runs.changes j)) (home_all conf j (problems_at before j) made (tidy.homes j)) })
+    absorbed : Absorbed stage rows (outcome_records o) (outcome_rows rows id o)
+    absorbed = lands (record { ids = tidy.ids; size = runs.size ∙ tidy.size; homes = λ j. subst (AllAtHome stage j) (sym (runs.changes j)) (home_all stage j (problems_at before j) made (tidy.homes j)) })
 
     front : take (k + 1) ids ≡ take k ids ++ id ∷ []
     front = take_more ids k 0 l ∙ ap (λ i. take k ids ++ i ∷ []) (sym is)

@@ -26,7 +26,8 @@ use Rattle.entry_step.proofs.Visited.{Memory}
 use Rattle.entry_step.specs.History.{visits_at, memory_of, history_of}
 use Rattle.entry_step.specs.Order.{level, by_depth, above_depths, order}
 use Rattle.zbx_types.specs.Records.{event_of}
-use Rattle.trigger_state.specs.Problems.{home, event_in, opens, recovers, opened, open_of}
+use Rattle.trigger_state.specs.Stages.{first_stage, home}
+use Rattle.trigger_state.specs.Problems.{event_in, opens, recovers, opened, open_of}
 use Rattle.entry_step.specs.Records.{problem_of, ruled, ruled_records, last_records, begun_records, closed_records, verdict_records, evaluated, phase_over, has_call, is_timed_trigger, timed_triggers, stores, triggers_at, failures_at, judged_of, out_of, replay}
 use Rattle.trigger_state.specs.Verdicts.{is_held}
 use Rattle.trigger_state.specs.declared.answer.Verdict.{Verdict}
@@ -237,18 +238,18 @@ quiet_named conf qs e = each_sub IsQuiet (IsOf conf) qs go e
     go (Message event action step recipient subject body) q = tt
 
 -- the events of open problems are done
-open_done : (conf : Conf) (n : ℕ) (done : List ℕ) (rs : List Rec) (id : ℕ) → Each (IsDone n done) rs → Each (λ o. Done n done (event_in o)) (open_of conf rs id)
+open_done : (conf : Conf) (n : ℕ) (done : List ℕ) (rs : List Rec) (id : ℕ) → Each (IsDone n done) rs → Each (λ o. Done n done (event_in o)) (open_of (first_stage conf) rs id)
 open_done conf n done [] id e = tt
-open_done conf n done (r ∷ rs) id e = go (opens conf id r) refl (not (list_any (recovers (event_of r)) rs)) (open_done conf n done rs id e.1)
+open_done conf n done (r ∷ rs) id e = go (opens (first_stage conf) id r) refl (not (list_any (recovers (event_of r)) rs)) (open_done conf n done rs id e.1)
   where
-    own : (r : Rec) → IsDone n done r → opens conf id r ≡ true → Done n done (event_of r)
+    own : (r : Rec) → IsDone n done r → opens (first_stage conf) id r ≡ true → Done n done (event_of r)
     own (Problem event now severity suppressed host trigger name tags) d q = d
     own (Recovery event by now cause) d q = cc
     own (Failure number host key why) d q = cc
     own (Step event action step now) d q = cc
     own (Message event action step recipient subject body) d q = cc
 
-    go : (a : Bool) → opens conf id r ≡ a → (b : Bool) → Each (λ o. Done n done (event_in o)) (open_of conf rs id) → Each (λ o. Done n done (event_in o)) (cond (a && b) (opened conf r rs ∷ open_of conf rs id) (open_of conf rs id))
+    go : (a : Bool) → opens (first_stage conf) id r ≡ a → (b : Bool) → Each (λ o. Done n done (event_in o)) (open_of (first_stage conf) rs id) → Each (λ o. Done n done (event_in o)) (cond (a && b) (opened (first_stage conf) r rs ∷ open_of (first_stage conf) rs id) (open_of (first_stage conf) rs id))
     go true q true ih = (own r e.0 q, ih)
     go true q false ih = ih
     go false q b ih = ih
@@ -311,45 +312,45 @@ module _ (conf : Conf) (occasion : Occasion) (items : ℕ → List Stored) (done
       let quiet = closed_quiet conf n now causes.Expression (λ x. os) events in
       right_append conf n (id ∷ done) rs made weaker (quiet_right conf n (id ∷ done) made quiet (closed_right conf n now causes.Expression (λ x. os) (id ∷ done) events e)) (quiet_all rs made quiet)
 
-  begin_next : (values : List (Option Held)) (t : Trigger) → at_id conf.triggers id ≡ Some t → (all : ℕ → List Open) → ((j : ℕ) → Each (λ o. Done n (id ∷ done) (event_in o)) (all j)) → Next (begun_records conf n now all id (problem_of conf n now values id t))
+  begin_next : (values : List (Option Held)) (t : Trigger) → at_id conf.triggers id ≡ Some t → (all : ℕ → List Open) → ((j : ℕ) → Each (λ o. Done n (id ∷ done) (event_in o)) (all j)) → Next (begun_records (first_stage conf) n now all id (problem_of conf n now values id t))
   unfolding problem_of
   begin_next values t is all old =
       let problem : Rec = problem_of conf n now values id t in
-      let closes : Closes = ruled conf problem all in
-      let ends : List Rec = ruled_records conf n now all closes.old in
+      let closes : Closes = ruled (first_stage conf) problem all in
+      let ends : List Rec = ruled_records (first_stage conf) n now all closes.old in
       let last : List Rec = last_records conf n now id problem closes.new in
-      let quiet = begun_quiet conf n now all id problem closes in
-      let ended = closed_right conf n now causes.Correlation (λ e. all (home conf e)) (id ∷ done) closes.old (ruled_each (Done n (id ∷ done)) conf problem all old) in
+      let quiet = begun_quiet (first_stage conf) n now all id problem closes in
+      let ended = closed_right conf n now causes.Correlation (λ e. all (home (first_stage conf) e)) (id ∷ done) closes.old (ruled_each (Done n (id ∷ done)) (first_stage conf) problem all old) in
       let its = each_append (IsDone n (id ∷ done)) ends last ended (last_right conf n now id (id ∷ done) problem closes.new (inr (refl, inl refl))) in
       right_append conf n (id ∷ done) rs (problem ∷ ends ++ last) weaker
       (record { early = (quiet_again problem (ends ++ last) quiet, quiet_early (ends ++ last) quiet); ids = (inr (refl, inl refl), its); named = ((t, is, refl, refl), quiet_named conf (ends ++ last) quiet) })
       (each_sub (IsDone n done) (λ x. Each (NotAgain x) (problem ∷ ends ++ last)) rs (λ x d. (fresh n id done out x d, quiet_again x (ends ++ last) quiet)) right.ids)
 
-  verdict_next : (values : List (Option Held)) (t : Trigger) → at_id conf.triggers id ≡ Some t → (all : ℕ → List Open) → ((j : ℕ) → Each (λ o. Done n (id ∷ done) (event_in o)) (all j)) → (v : Verdict) → EachClosed (Done n (id ∷ done)) v → Next (verdict_records conf n now values id t all v)
+  verdict_next : (values : List (Option Held)) (t : Trigger) → at_id conf.triggers id ≡ Some t → (all : ℕ → List Open) → ((j : ℕ) → Each (λ o. Done n (id ∷ done) (event_in o)) (all j)) → (v : Verdict) → EachClosed (Done n (id ∷ done)) v → Next (verdict_records (first_stage conf) n now values id t all v)
   unfolding verdict_records
   verdict_next values t is all old Nothing h = none_next
   verdict_next values t is all old New h = begin_next values t is all old
   verdict_next values t is all old (Close events) h = close_next (all id) events h
 
-  one_next : Next (evaluated conf occasion items (open_of conf rs) id)
+  one_next : Next (evaluated (first_stage conf) occasion items (open_of (first_stage conf) rs) id)
   one_next = go (at_id conf.triggers id) refl
     where
-      old : (j : ℕ) → Each (λ o. Done n (id ∷ done) (event_in o)) (open_of conf rs j)
+      old : (j : ℕ) → Each (λ o. Done n (id ∷ done) (event_in o)) (open_of (first_stage conf) rs j)
       old j = open_done conf n (id ∷ done) rs j weaker.ids
 
-      go : (t : Option Trigger) → at_id conf.triggers id ≡ t → Next (evaluated conf occasion items (open_of conf rs) id)
-      go None e = subst Next (sym (evaluated_none conf occasion items (open_of conf rs) id e)) none_next
+      go : (t : Option Trigger) → at_id conf.triggers id ≡ t → Next (evaluated (first_stage conf) occasion items (open_of (first_stage conf) rs) id)
+      go None e = subst Next (sym (evaluated_none (first_stage conf) occasion items (open_of (first_stage conf) rs) id e)) none_next
       go (Some t) e =
-          subst Next (sym (judged_is conf occasion items (open_of conf rs) id t e))
-          (judged_has (Done n (id ∷ done)) Next conf occasion (seen_in items occasion conf.utc_offset t) id t (is_held conf (open_of conf rs) id) (open_of conf rs) (verdict_next (shown_values items occasion.now t) t e (open_of conf rs) old) (old id))
+          subst Next (sym (judged_is (first_stage conf) occasion items (open_of (first_stage conf) rs) id t e))
+          (judged_has (Done n (id ∷ done)) Next (first_stage conf) occasion (seen_in items occasion conf.utc_offset t) id t (is_held conf (open_of (first_stage conf) rs) id) (open_of (first_stage conf) rs) (verdict_next (shown_values items occasion.now t) t e (open_of (first_stage conf) rs) old) (old id))
 
 phase_next : (conf : Conf) (occasion : Occasion) (items : ℕ → List Stored) (done ids : List ℕ) (rs : List Rec) → Right conf occasion.number done rs → Once ids → ((x : ℕ) → In x ids → In x done → ⊥)
-    → (all : List ℕ) × Right conf occasion.number all (rs ++ phase_over conf (evaluated conf occasion items) rs ids)
+    → (all : List ℕ) × Right conf occasion.number all (rs ++ phase_over (first_stage conf) (evaluated (first_stage conf) occasion items) rs ids)
 phase_next conf occasion items done [] rs right once apart = (done, subst (Right conf occasion.number done) (sym (append-nil rs)) right)
 phase_next conf occasion items done (id ∷ ids) rs right once apart =
-    let new = evaluated conf occasion items (open_of conf rs) id in
+    let new = evaluated (first_stage conf) occasion items (open_of (first_stage conf) rs) id in
     let r = phase_next conf occasion items (id ∷ done) ids (rs ++ new) (one_next conf occasion items done id rs right (apart id (inl refl))) once.1 still in
-    (r.0, subst (Right conf occasion.number r.0) (append_assoc rs new (phase_over conf (evaluated conf occasion items) (rs ++ new) ids)) r.1)
+    (r.0, subst (Right conf occasion.number r.0) (append_assoc rs new (phase_over (first_stage conf) (evaluated (first_stage conf) occasion items) (rs ++ new) ids)) r.1)
   where
     still : (x : ℕ) → In x ids → In x (id ∷ done) → ⊥
     still x i (inl q) = once.0 (subst (λ y. In y ids) q i)
@@ -381,7 +382,7 @@ once_triggers conf memory number (Config now text) = tt
 once_triggers conf memory number (Tick now) = once_filter (λ id. is_timed_trigger (at_id conf.triggers id)) (order conf) (once_order conf)
 once_triggers conf memory number (Value now item time value) = once_filter (λ id. has_call (stores conf memory number (Value now item time value)) (at_id conf.triggers id)) (order conf) (once_order conf)
 
-judged_next : (conf : Conf) (log : List Numbered) (e : Numbered) (rs : List Rec) → Right conf e.number [] rs → (all : List ℕ) × Right conf e.number all (rs ++ judged_of conf log e e.entry rs)
+judged_next : (conf : Conf) (log : List Numbered) (e : Numbered) (rs : List Rec) → Right conf e.number [] rs → (all : List ℕ) × Right conf e.number all (rs ++ judged_of (first_stage conf) log e e.entry rs)
 unfolding judged_of
 judged_next conf log e rs right =
     let f = failures_at conf (memory_of conf log) e.number e.entry in
@@ -389,36 +390,36 @@ judged_next conf log e rs right =
     let ids = triggers_at conf (memory_of conf log) e.number e.entry in
     let r = phase_next conf (occasion_of (first_tick log) e.number e.entry) (history_of conf (e ∷ log)) [] ids (rs ++ f) (right_append conf e.number [] rs f right (quiet_right conf e.number [] f q.0 q.1) (quiet_all rs f q.0))
     (once_triggers conf (memory_of conf log) e.number e.entry) (λ x i j. j) in
-    (r.0, subst (Right conf e.number r.0) (append_assoc rs f (phase_over conf (evaluated conf (occasion_of (first_tick log) e.number e.entry) (history_of conf (e ∷ log))) (rs ++ f) ids)) r.1)
+    (r.0, subst (Right conf e.number r.0) (append_assoc rs f (phase_over (first_stage conf) (evaluated (first_stage conf) (occasion_of (first_tick log) e.number e.entry) (history_of conf (e ∷ log))) (rs ++ f) ids)) r.1)
 
-due_quiet : (conf : Conf) (n : ℕ) (done : List ℕ) (entry : Entry) (all : ℕ → List Open) → Each IsQuiet (due_at conf entry all) × Each (IsDone n done) (due_at conf entry all)
+due_quiet : (conf : Conf) (n : ℕ) (done : List ℕ) (entry : Entry) (all : ℕ → List Open) → Each IsQuiet (due_at (first_stage conf) entry all) × Each (IsDone n done) (due_at (first_stage conf) entry all)
 unfolding due_at due_over
 due_quiet conf n done (Config now text) all = (tt, tt)
 due_quiet conf n done (Value now item time value) all = (tt, tt)
 due_quiet conf n done (Tick now) all = (
-  each_flat_map IsQuiet (due_for conf now) (by_making conf all) (λ o. (right o).0),
-  each_flat_map (IsDone n done) (due_for conf now) (by_making conf all) (λ o. (right o).1),
+  each_flat_map IsQuiet (due_for (first_stage conf) now) (by_making (first_stage conf) all) (λ o. (right o).0),
+  each_flat_map (IsDone n done) (due_for (first_stage conf) now) (by_making (first_stage conf) all) (λ o. (right o).1),
 )
   where
-    right : (o : Open) → Each IsQuiet (due_for conf now o) × Each (IsDone n done) (due_for conf now o)
+    right : (o : Open) → Each IsQuiet (due_for (first_stage conf) now o) × Each (IsDone n done) (due_for (first_stage conf) now o)
     right o =
-        let about = due_about conf (home conf (event_in o)) o.problem o.steps now in
-        (about_quiet (event_in o) (due_for conf now o) about, about_right (event_in o) n done (due_for conf now o) about)
+        let about = due_about conf (home (first_stage conf) (event_in o)) o.problem o.steps now in
+        (about_quiet (event_in o) (due_for (first_stage conf) now o) about, about_right (event_in o) n done (due_for (first_stage conf) now o) about)
 
-out_next : (conf : Conf) (log : List Numbered) (e : Numbered) (rs : List Rec) → Right conf e.number [] rs → (all : List ℕ) × Right conf e.number all (rs ++ out_of conf log e e.entry rs)
+out_next : (conf : Conf) (log : List Numbered) (e : Numbered) (rs : List Rec) → Right conf e.number [] rs → (all : List ℕ) × Right conf e.number all (rs ++ out_of (first_stage conf) log e e.entry rs)
 unfolding out_of
 out_next conf log e rs right =
     let r = judged_next conf log e rs right in
-    let judged : List Rec = judged_of conf log e e.entry rs in
-    let due : List Rec = due_at conf e.entry (open_of conf (rs ++ judged)) in
-    let q = due_quiet conf e.number r.0 e.entry (open_of conf (rs ++ judged)) in
+    let judged : List Rec = judged_of (first_stage conf) log e e.entry rs in
+    let due : List Rec = due_at (first_stage conf) e.entry (open_of (first_stage conf) (rs ++ judged)) in
+    let q = due_quiet conf e.number r.0 e.entry (open_of (first_stage conf) (rs ++ judged)) in
     (r.0, subst (Right conf e.number r.0) (append_assoc rs judged due) (right_append conf e.number r.0 (rs ++ judged) due r.1 (quiet_right conf e.number r.0 due q.0 q.1) (quiet_all (rs ++ judged) due q.0)))
 
-replay_right : (conf : Conf) (log : List Numbered) → IsRising log → (m : ℕ) → last_number log < m → Right conf m [] (replay conf log)
+replay_right : (conf : Conf) (log : List Numbered) → IsRising log → (m : ℕ) → last_number log < m → Right conf m [] (replay (first_stage conf) log)
 replay_right conf [] r m l = record { early = tt; ids = tt; named = tt }
 replay_right conf (e ∷ log) r m l =
-    let here = out_next conf log e (replay conf log) (replay_right conf log r.1 e.number r.0) in
-    right_sub conf e.number m here.0 [] (replay conf (e ∷ log)) (later here.0) here.1
+    let here = out_next conf log e (replay (first_stage conf) log) (replay_right conf log r.1 e.number r.0) in
+    right_sub conf e.number m here.0 [] (replay (first_stage conf) (e ∷ log)) (later here.0) here.1
   where
     later : (all : List ℕ) (event : EventId) → Done e.number all event → Done m [] event
     later all event (inl k) = inl (omega arith)
@@ -467,11 +468,11 @@ module _ (conf : Conf) (id : ℕ) (trigger : Trigger) (distinct : AreDistinct co
           at true false ea eb = refl
           at false b ea eb = refl
 
-  tells : (rs : List Rec) → Each (IsOf conf) rs → All (λ r. is_named (host_of conf trigger) trigger.name r ≡ opens conf id r) rs
-  tells [] e = All-nil (λ r. is_named (host_of conf trigger) trigger.name r ≡ opens conf id r)
-  tells (r ∷ rs) e = All-cons (λ r. is_named (host_of conf trigger) trigger.name r ≡ opens conf id r) r rs (one r e.0) (tells rs e.1)
+  tells : (rs : List Rec) → Each (IsOf conf) rs → All (λ r. is_named (host_of conf trigger) trigger.name r ≡ opens (first_stage conf) id r) rs
+  tells [] e = All-nil (λ r. is_named (host_of conf trigger) trigger.name r ≡ opens (first_stage conf) id r)
+  tells (r ∷ rs) e = All-cons (λ r. is_named (host_of conf trigger) trigger.name r ≡ opens (first_stage conf) id r) r rs (one r e.0) (tells rs e.1)
     where
-      one : (r : Rec) → IsOf conf r → is_named (host_of conf trigger) trigger.name r ≡ opens conf id r
+      one : (r : Rec) → IsOf conf r → is_named (host_of conf trigger) trigger.name r ≡ opens (first_stage conf) id r
       one (Problem event now severity suppressed host t name tags) n = sym (named_is event host t n)
       one (Recovery event by now cause) n = refl
       one (Failure number host key why) n = refl
@@ -494,5 +495,5 @@ pub open_by_names : OpenByNames
 open_by_names conf log rising distinct id trigger is =
     let bound : last_number log < last_number log + 1 = omega arith in
     let right = replay_right conf log rising (last_number log + 1) bound in
-    open_by_test conf id (is_named (host_of conf trigger) trigger.name) (replay conf log) (tells conf id trigger distinct is (replay conf log) right.named)
-    (comes_first (host_of conf trigger) trigger.name [] (replay conf log) (free_none (replay conf log)) right.early)
+    open_by_test (first_stage conf) id (is_named (host_of conf trigger) trigger.name) (replay (first_stage conf) log) (tells conf id trigger distinct is (replay (first_stage conf) log) right.named)
+    (comes_first (host_of conf trigger) trigger.name [] (replay (first_stage conf) log) (free_none (replay (first_stage conf) log)) right.early)

@@ -25,7 +25,8 @@ use Rattle.preprocess.specs.declared.visit.Visit.{Visit}
 use Rattle.preprocess.specs.declared.visit.ItemOutcome.{ItemOutcome}
 use Rattle.preprocess.specs.declared.visit.ItemOutcome.TheVariants as outcome
 use Rattle.preprocess.proofs.Logs.{at_map, hold_nothing}
-use Rattle.trigger_state.specs.Problems.{home, event_in, absorbed_all, grown, open_of}
+use Rattle.trigger_state.specs.Stages.{Stage, KeepsIds, home, first_stage}
+use Rattle.trigger_state.specs.Problems.{event_in, absorbed_all, grown, open_of}
 use Rattle.trigger_state.specs.declared.problems.Open.{Open}
 use Rattle.entry_step.specs.declared.occasions.Occasion.{Occasion}
 use Rattle.entry_step.specs.declared.changes.Row.{Row}
@@ -71,57 +72,58 @@ unfolding stored_of
 unstored conf memory number entry i e = ap stored_by e
 
 -- cells stay tidy
-pub absent_after : (conf : Conf) (memory : Memory) (c : Cells) (number : ℕ) (entry : Entry) (i : ℕ) → IsTidy conf c → at_id conf.items i ≡ None → (item_after conf memory number entry i (c (ItemKey i))).history ≡ []
+pub absent_after : (stage : Stage) (memory : Memory) (c : Cells) (number : ℕ) (entry : Entry) (i : ℕ) → IsTidy stage c → at_id stage.conf.items i ≡ None → (item_after stage.conf memory number entry i (c (ItemKey i))).history ≡ []
 unfolding item_after
-absent_after conf memory c number entry i tidy e = ap (λ o. with_stored o (c (ItemKey i)).history) (unstored conf memory number entry i (absent conf memory number entry i e)) ∙ tidy.absent i e
+absent_after stage memory c number entry i tidy e = ap (λ o. with_stored o (c (ItemKey i)).history) (unstored stage.conf memory number entry i (absent stage.conf memory number entry i e)) ∙ tidy.absent i e
 
 -- no record makes a problem without the names of its trigger's tags
-failures_tagged : (conf : Conf) (memory : Memory) (number : ℕ) (entry : Entry) → Each (MakesTagged conf) (failures_at conf memory number entry)
+failures_tagged : (stage : Stage) (memory : Memory) (number : ℕ) (entry : Entry) → Each (MakesTagged stage) (failures_at stage.conf memory number entry)
 unfolding failures_at
-failures_tagged conf memory number entry = quiet_tagged conf (failures_of conf number (visits_at conf memory number entry)) (go (visits_at conf memory number entry))
+failures_tagged stage memory number entry = quiet_tagged stage (failures_of stage.conf number (visits_at stage.conf memory number entry)) (go (visits_at stage.conf memory number entry))
   where
-    by : (v : Visit) (rest : List Rec) → Each IsQuiet rest → (x : Option Item) (why : List ℕ) → Each IsQuiet (cons_option (failure_by conf number why x) rest)
+    by : (v : Visit) (rest : List Rec) → Each IsQuiet rest → (x : Option Item) (why : List ℕ) → Each IsQuiet (cons_option (failure_by stage.conf number why x) rest)
     by v rest h None why = h
     by v rest h (Some item) why = (tt, h)
 
-    one : (v : Visit) (rest : List Rec) → Each IsQuiet rest → (o : ItemOutcome) → Each IsQuiet (cons_option (failure_of conf number v o) rest)
+    one : (v : Visit) (rest : List Rec) → Each IsQuiet rest → (o : ItemOutcome) → Each IsQuiet (cons_option (failure_of stage.conf number v o) rest)
     one v rest h (outcome.Stored s) = h
     one v rest h outcome.Discarded = h
-    one v rest h (outcome.Failed why) = by v rest h (at_id conf.items v.item) why
+    one v rest h (outcome.Failed why) = by v rest h (at_id stage.conf.items v.item) why
 
-    go : (visits : List Visit) → Each IsQuiet (failures_of conf number visits)
+    go : (visits : List Visit) → Each IsQuiet (failures_of stage.conf number visits)
     go [] = tt
-    go (v ∷ visits) = one v (failures_of conf number visits) (go visits) v.outcome
+    go (v ∷ visits) = one v (failures_of stage.conf number visits) (go visits) v.outcome
 
-due_tagged : (conf : Conf) (entry : Entry) (all : ℕ → List Open) → Each (MakesTagged conf) (due_at conf entry all)
+due_tagged : (stage : Stage) (entry : Entry) (all : ℕ → List Open) → Each (MakesTagged stage) (due_at stage entry all)
 unfolding due_at due_over
-due_tagged conf (Config now text) all = tt
-due_tagged conf (Value now item time value) all = tt
-due_tagged conf (Tick now) all =
-    each_flat_map (MakesTagged conf) (due_for conf now) (by_making conf all)
-    (λ o. quiet_tagged conf (due_for conf now o) (about_quiet (event_in o) (due_for conf now o) (due_about conf (home conf (event_in o)) o.problem o.steps now)))
+due_tagged stage (Config now text) all = tt
+due_tagged stage (Value now item time value) all = tt
+due_tagged stage (Tick now) all =
+    each_flat_map (MakesTagged stage) (due_for stage now) (by_making stage all)
+    (λ o. quiet_tagged stage (due_for stage now o) (about_quiet (event_in o) (due_for stage now o) (due_about stage.conf (home stage (event_in o)) o.problem o.steps now)))
 
-records_tagged : (conf : Conf) (c : Cells) (number : ℕ) (entry : Entry) → Each (MakesTagged conf) (records_at conf c number entry)
+records_tagged : (stage : Stage) → KeepsIds stage → (c : Cells) (number : ℕ) (entry : Entry) → Each (MakesTagged stage) (records_at stage c number entry)
 unfolding records_at judged_at
-records_tagged conf c number entry =
-    each_append (MakesTagged conf) (judged_at conf c number entry) (due_at conf entry (grown conf (opens_in c) (judged_at conf c number entry)))
-    (each_append (MakesTagged conf) (failures_at conf (memory_in c) number entry) (phase conf one (opens_in c) (triggers_at conf (memory_in c) number entry)) (failures_tagged conf (memory_in c) number entry)
-    (phase_tagged conf (occasion_of (c TickKey) number entry) (histories_after conf c number entry) (opens_in c) (triggers_at conf (memory_in c) number entry)))
-    (due_tagged conf entry (grown conf (opens_in c) (judged_at conf c number entry)))
+records_tagged stage ids c number entry =
+    each_append (MakesTagged stage) (judged_at stage c number entry) (due_at stage entry (grown stage (opens_in c) (judged_at stage c number entry)))
+    (each_append (MakesTagged stage) (failures_at stage.conf (memory_in c) number entry) (phase stage one (opens_in c) (triggers_at stage.conf (memory_in c) number entry)) (failures_tagged stage (memory_in c) number entry)
+    (phase_tagged stage ids (occasion_of (c TickKey) number entry) (histories_after stage.conf c number entry) (opens_in c) (triggers_at stage.conf (memory_in c) number entry)))
+    (due_tagged stage entry (grown stage (opens_in c) (judged_at stage c number entry)))
   where
     one : (ℕ → List Open) → ℕ → List Rec
-    one = evaluated conf (occasion_of (c TickKey) number entry) (histories_after conf c number entry)
+    one = evaluated stage (occasion_of (c TickKey) number entry) (histories_after stage.conf c number entry)
 
-pub stays_tidy : (conf : Conf) (c : Cells) (e : Numbered) → IsTidy conf c → IsTidy conf (after conf c e)
+pub stays_tidy : (stage : Stage) (c : Cells) (e : Numbered) → IsTidy stage c → IsTidy stage (after stage c e)
 unfolding after
-stays_tidy conf c e tidy = record {
-  homes = λ id. home_all conf id (c (TriggerKey id)) (records conf c e) (tidy.homes id);
-  tagged = λ id. tagged_all conf id (c (TriggerKey id)) (records conf c e) (records_tagged conf c e.number e.entry) (tidy.tagged id);
-  absent = λ i q. absent_after conf (memory_in c) c e.number e.entry i tidy q;
+stays_tidy stage c e tidy = record {
+  ids = tidy.ids;
+  homes = λ id. home_all stage id (c (TriggerKey id)) (records stage c e) (tidy.homes id);
+  tagged = λ id. tagged_all stage id (c (TriggerKey id)) (records stage c e) (records_tagged stage tidy.ids c e.number e.entry) (tidy.tagged id);
+  absent = λ i q. absent_after stage (memory_in c) c e.number e.entry i tidy q;
 }
 
-pub tidy_rows : (conf : Conf) (held : CellsView) (c : Cells) → Represents conf held c → AreTidy conf held.problems
-tidy_rows conf held c r = record { size = r.triggers; homes = λ id. subst (AllAtHome conf id) (sym (r.problems id)) (r.tidy.homes id) }
+pub tidy_rows : (stage : Stage) (held : CellsView) (c : Cells) → Represents stage held c → AreTidy stage held.problems
+tidy_rows stage held c r = record { ids = r.tidy.ids; size = r.triggers; homes = λ id. subst (AllAtHome stage id) (sym (r.problems id)) (r.tidy.homes id) }
 
 -- What is kept behind an entry
 seen_later : (b : Bool) (now seen : ℕ) → (b ≡ true → seen ≤ now) → seen ≤ cond b now seen
@@ -129,138 +131,138 @@ seen_later true now seen h = h refl
 seen_later false now seen h = omega arith
 
 -- what is kept of the steps is what they remember
-pub memory_is : (conf : Conf) (held : CellsView) (c : Cells) → Represents conf held c → memory_kept held.memories ≡ memory_in c
-memory_is conf held c r = fun_ext (λ i. fun_ext (λ k. ap (λ marks. memory_at marks k) (r.marks i)))
+pub memory_is : (stage : Stage) (held : CellsView) (c : Cells) → Represents stage held c → memory_kept held.memories ≡ memory_in c
+memory_is stage held c r = fun_ext (λ i. fun_ext (λ k. ap (λ marks. memory_at marks k) (r.marks i)))
 
 -- where rows are as many as items, one that isn't there is of none
 none_there : {A : Type 0} (rows : List A) (items : List Item) (id : ℕ) → length rows ≡ length items → at_id rows id ≡ None → at_id items id ≡ None
 none_there rows items id e q = none_same rows items id e q
 
-pub failures_land : (conf : Conf) (memory : Memory) (number : ℕ) (entry : Entry) → LandIn conf (λ id. false) (failures_at conf memory number entry)
+pub failures_land : (stage : Stage) (memory : Memory) (number : ℕ) (entry : Entry) → LandIn stage (λ id. false) (failures_at stage.conf memory number entry)
 unfolding failures_at
-failures_land conf memory number entry = go (visits_at conf memory number entry)
+failures_land stage memory number entry = go (visits_at stage.conf memory number entry)
   where
-    by : (v : Visit) (rest : List Rec) → LandIn conf (λ id. false) rest → (x : Option Item) (why : List ℕ) → LandIn conf (λ id. false) (cons_option (failure_by conf number why x) rest)
+    by : (v : Visit) (rest : List Rec) → LandIn stage (λ id. false) rest → (x : Option Item) (why : List ℕ) → LandIn stage (λ id. false) (cons_option (failure_by stage.conf number why x) rest)
     by v rest h None why = h
     by v rest h (Some item) why = (λ id e. refl, h)
 
-    one : (v : Visit) (rest : List Rec) → LandIn conf (λ id. false) rest → (o : ItemOutcome) → LandIn conf (λ id. false) (cons_option (failure_of conf number v o) rest)
+    one : (v : Visit) (rest : List Rec) → LandIn stage (λ id. false) rest → (o : ItemOutcome) → LandIn stage (λ id. false) (cons_option (failure_of stage.conf number v o) rest)
     one v rest h (outcome.Stored s) = h
     one v rest h outcome.Discarded = h
-    one v rest h (outcome.Failed why) = by v rest h (at_id conf.items v.item) why
+    one v rest h (outcome.Failed why) = by v rest h (at_id stage.conf.items v.item) why
 
-    go : (visits : List Visit) → LandIn conf (λ id. false) (failures_of conf number visits)
+    go : (visits : List Visit) → LandIn stage (λ id. false) (failures_of stage.conf number visits)
     go [] = tt
-    go (v ∷ visits) = one v (failures_of conf number visits) (go visits) v.outcome
+    go (v ∷ visits) = one v (failures_of stage.conf number visits) (go visits) v.outcome
 
-module _ (conf : Conf) (held : CellsView) (c : Cells) (e : Numbered) (r : Represents conf held c) (comes : ComesAfter conf c e) where
+module _ (stage : Stage) (held : CellsView) (c : Cells) (e : Numbered) (r : Represents stage held c) (comes : ComesAfter stage.conf c e) where
   abbrev behind : ℕ → ItemCell
-  behind i = item_after conf (memory_in c) e.number e.entry i (c (ItemKey i))
+  behind i = item_after stage.conf (memory_in c) e.number e.entry i (c (ItemKey i))
 
   abbrev stored : ℕ → Option Stored
-  stored = stored_of conf (memory_in c) e.number e.entry
+  stored = stored_of stage.conf (memory_in c) e.number e.entry
 
   later : (i : ℕ) → (c (ItemKey i)).seen ≤ (behind i).seen
   unfolding item_after
-  later i = seen_later (touches conf e.entry (ItemKey i)) (moment_of e.entry) (c (ItemKey i)).seen (comes i)
+  later i = seen_later (touches stage.conf e.entry (ItemKey i)) (moment_of e.entry) (c (ItemKey i)).seen (comes i)
 
   -- where nothing is kept of an item, nothing is stored, and it has no history
   none_stored : (i : ℕ) → at_id held.items i ≡ None → stored i ≡ None
-  none_stored i q = unstored conf (memory_in c) e.number e.entry i (absent conf (memory_in c) e.number e.entry i (none_there held.items conf.items i r.items q))
+  none_stored i q = unstored stage.conf (memory_in c) e.number e.entry i (absent stage.conf (memory_in c) e.number e.entry i (none_there held.items stage.conf.items i r.items q))
 
   nothing : (i : ℕ) → at_id held.items i ≡ None → (behind i).history ≡ []
   unfolding item_after
   nothing i q =
-      let empty : (c (ItemKey i)).history ≡ [] = subst (Keeps conf i (c (ItemKey i)).seen (c (ItemKey i)).history) q (r.histories i) in
+      let empty : (c (ItemKey i)).history ≡ [] = subst (Keeps stage.conf i (c (ItemKey i)).seen (c (ItemKey i)).history) q (r.histories i) in
       ap (λ o. with_stored o (c (ItemKey i)).history) (none_stored i q) ∙ empty
 
   -- what is stored is of the foot
   moments : (i : ℕ) → stored i ≢ None → ((c (ItemKey i)).seen ≤ moment_of e.entry) × (moment_of e.entry ≤ (behind i).seen)
   unfolding item_after
-  moments i some = go (touches conf e.entry (ItemKey i)) refl
+  moments i some = go (touches stage.conf e.entry (ItemKey i)) refl
     where
-      go : (b : Bool) → touches conf e.entry (ItemKey i) ≡ b → ((c (ItemKey i)).seen ≤ moment_of e.entry) × (moment_of e.entry ≤ cond b (moment_of e.entry) (c (ItemKey i)).seen)
+      go : (b : Bool) → touches stage.conf e.entry (ItemKey i) ≡ b → ((c (ItemKey i)).seen ≤ moment_of e.entry) × (moment_of e.entry ≤ cond b (moment_of e.entry) (c (ItemKey i)).seen)
       go true t = (comes i t, omega arith)
-      go false f = absurd (some (unstored conf (memory_in c) e.number e.entry i (untouched conf (memory_in c) e.number e.entry i f)))
+      go false f = absurd (some (unstored stage.conf (memory_in c) e.number e.entry i (untouched stage.conf (memory_in c) e.number e.entry i f)))
 
   -- what is kept of an item, with what the entry stores of it
-  pub still_kept : (i : ℕ) (next : Option CellView) → Became (at_id held.items i) (stored i) (moment_of e.entry) next → Keeps conf i (behind i).seen (behind i).history next
+  pub still_kept : (i : ℕ) (next : Option CellView) → Became (at_id held.items i) (stored i) (moment_of e.entry) next → Keeps stage.conf i (behind i).seen (behind i).history next
   unfolding item_after
   still_kept i next came =
-      keeps_with conf i (c (ItemKey i)).seen (behind i).seen (moment_of e.entry) (c (ItemKey i)).history (stored i) (at_id held.items i) next (later i) (moments i) (none_stored i) (r.ordered i) came (r.histories i)
+      keeps_with stage.conf i (c (ItemKey i)).seen (behind i).seen (moment_of e.entry) (c (ItemKey i)).history (stored i) (at_id held.items i) next (later i) (moments i) (none_stored i) (r.ordered i) came (r.histories i)
 
   -- what the evaluation sees is the histories behind the entry
-  sees_one : (i : ℕ) → (is_one conf.items i ≡ true → touches conf e.entry (ItemKey i) ≡ true) → Sees conf i (at_id held.items i) (stored i) (moment_of e.entry) (behind i).history
+  sees_one : (i : ℕ) → (is_one stage.conf.items i ≡ true → touches stage.conf e.entry (ItemKey i) ≡ true) → Sees stage.conf i (at_id held.items i) (stored i) (moment_of e.entry) (behind i).history
   sees_one i touched = go (at_id held.items i) refl
     where
-      go : (o : Option CellView) → at_id held.items i ≡ o → Sees conf i o (stored i) (moment_of e.entry) (behind i).history
+      go : (o : Option CellView) → at_id held.items i ≡ o → Sees stage.conf i o (stored i) (moment_of e.entry) (behind i).history
       go None q = nothing i q
       go (Some cell) q = record {
         seen = (c (ItemKey i)).seen;
         before = (c (ItemKey i)).history;
         by = comes i (touched (ap (λ n. is_in (n + 1) i) (sym r.items) ∙ there held.items i cell q));
-        keeps = subst (Keeps conf i (c (ItemKey i)).seen (c (ItemKey i)).history) q (r.histories i);
+        keeps = subst (Keeps stage.conf i (c (ItemKey i)).seen (c (ItemKey i)).history) q (r.histories i);
         is = unfold item_after in refl;
       }
 
-  sees_all : Each (SeesFor conf held.items stored (moment_of e.entry) (histories_after conf c e.number e.entry)) (triggers_at conf (memory_in c) e.number e.entry)
+  sees_all : Each (SeesFor stage.conf held.items stored (moment_of e.entry) (histories_after stage.conf c e.number e.entry)) (triggers_at stage.conf (memory_in c) e.number e.entry)
   sees_all =
-      each_sub (λ id. (i : ℕ) → IsCalled conf id i → is_one conf.items i ≡ true → touches conf e.entry (ItemKey i) ≡ true)
-      (SeesFor conf held.items stored (moment_of e.entry) (histories_after conf c e.number e.entry)) (triggers_at conf (memory_in c) e.number e.entry)
-      (λ id h i calls. sees_one i (h i calls)) (touched_calls conf (memory_in c) e.number e.entry)
+      each_sub (λ id. (i : ℕ) → IsCalled stage.conf id i → is_one stage.conf.items i ≡ true → touches stage.conf e.entry (ItemKey i) ≡ true)
+      (SeesFor stage.conf held.items stored (moment_of e.entry) (histories_after stage.conf c e.number e.entry)) (triggers_at stage.conf (memory_in c) e.number e.entry)
+      (λ id h i calls. sees_one i (h i calls)) (touched_calls stage.conf (memory_in c) e.number e.entry)
 
   -- what steps remember
-  marked : (next : List (List StepMemory)) → ((id : ℕ) → at_id next id ≡ option_map (marks_after (visit_at (visits_at conf (memory_in c) e.number e.entry) id)) (at_id held.memories id)) → (id : ℕ) → listed next id ≡ (behind id).marks
+  marked : (next : List (List StepMemory)) → ((id : ℕ) → at_id next id ≡ option_map (marks_after (visit_at (visits_at stage.conf (memory_in c) e.number e.entry) id)) (at_id held.memories id)) → (id : ℕ) → listed next id ≡ (behind id).marks
   unfolding item_after
   marked next marks id =
-      marks_listed held.memories next (visit_at (visits_at conf (memory_in c) e.number e.entry) id) id (λ q. absent conf (memory_in c) e.number e.entry id (none_there held.memories conf.items id r.memories q)) (marks id)
-      ∙ ap (marks_after (visit_at (visits_at conf (memory_in c) e.number e.entry) id)) (r.marks id)
+      marks_listed held.memories next (visit_at (visits_at stage.conf (memory_in c) e.number e.entry) id) id (λ q. absent stage.conf (memory_in c) e.number e.entry id (none_there held.memories stage.conf.items id r.memories q)) (marks id)
+      ∙ ap (marks_after (visit_at (visits_at stage.conf (memory_in c) e.number e.entry) id)) (r.marks id)
 
   -- an entry that makes its failures, evaluates its triggers, which leaves these rows, and runs the steps that are due
   module _ (next : CellsView) (rows : List (List Open)) (judged made : List Rec)
-      (runs : RunsOver conf (occasion_of held.tick e.number e.entry) held.items stored held.problems (triggers_at conf (memory_in c) e.number e.entry) judged rows)
-      (is : made ≡ (failures_at conf (memory_in c) e.number e.entry ++ judged) ++ due_at conf e.entry (problems_at rows)) (lands : Absorbed conf rows (due_at conf e.entry (problems_at rows)) next.problems)
-      (came : CameIn (moment_of e.entry) (visits_at conf (memory_in c) e.number e.entry) held.items next.items held.memories next.memories) (ticks : next.tick ≡ tick_with held.tick e.entry) where
-    abbrev run : Runs conf (evaluated conf (occasion_of held.tick e.number e.entry) (histories_after conf c e.number e.entry)) held.problems (triggers_at conf (memory_in c) e.number e.entry) judged rows
-    run = runs (histories_after conf c e.number e.entry) sees_all (tidy_rows conf held c r)
+      (runs : RunsOver stage (occasion_of held.tick e.number e.entry) held.items stored held.problems (triggers_at stage.conf (memory_in c) e.number e.entry) judged rows)
+      (is : made ≡ (failures_at stage.conf (memory_in c) e.number e.entry ++ judged) ++ due_at stage e.entry (problems_at rows)) (lands : Absorbed stage rows (due_at stage e.entry (problems_at rows)) next.problems)
+      (came : CameIn (moment_of e.entry) (visits_at stage.conf (memory_in c) e.number e.entry) held.items next.items held.memories next.memories) (ticks : next.tick ≡ tick_with held.tick e.entry) where
+    abbrev run : Runs stage (evaluated stage (occasion_of held.tick e.number e.entry) (histories_after stage.conf c e.number e.entry)) held.problems (triggers_at stage.conf (memory_in c) e.number e.entry) judged rows
+    run = runs (histories_after stage.conf c e.number e.entry) sees_all (tidy_rows stage held c r)
 
-    run_judged : failures_at conf (memory_in c) e.number e.entry ++ judged ≡ judged_at conf c e.number e.entry
+    run_judged : failures_at stage.conf (memory_in c) e.number e.entry ++ judged ≡ judged_at stage c e.number e.entry
     unfolding judged_at
-    run_judged = ap (λ xs. failures_at conf (memory_in c) e.number e.entry ++ xs)
+    run_judged = ap (λ xs. failures_at stage.conf (memory_in c) e.number e.entry ++ xs)
         (run.records
-        ∙ ap (λ p. phase conf (evaluated conf (occasion_of held.tick e.number e.entry) (histories_after conf c e.number e.entry)) p (triggers_at conf (memory_in c) e.number e.entry)) (fun_ext r.problems)
-        ∙ ap (λ t. phase conf (evaluated conf (occasion_of t e.number e.entry) (histories_after conf c e.number e.entry)) (opens_in c) (triggers_at conf (memory_in c) e.number e.entry)) r.tick)
+        ∙ ap (λ p. phase stage (evaluated stage (occasion_of held.tick e.number e.entry) (histories_after stage.conf c e.number e.entry)) p (triggers_at stage.conf (memory_in c) e.number e.entry)) (fun_ext r.problems)
+        ∙ ap (λ t. phase stage (evaluated stage (occasion_of t e.number e.entry) (histories_after stage.conf c e.number e.entry)) (opens_in c) (triggers_at stage.conf (memory_in c) e.number e.entry)) r.tick)
 
-    run_left : problems_at rows ≡ grown conf (opens_in c) (judged_at conf c e.number e.entry)
-    run_left = fun_ext (λ id. run.changes id ∙ ap (λ os. absorbed_all conf id os judged) (r.problems id)
-        ∙ ap (λ os. absorbed_all conf id os judged) (sym (land_off conf (λ u. false) id (c (TriggerKey id)) (failures_at conf (memory_in c) e.number e.entry) (failures_land conf (memory_in c) e.number e.entry) refl))
-        ∙ sym (absorbed_append conf id (c (TriggerKey id)) (failures_at conf (memory_in c) e.number e.entry) judged) ∙ ap (absorbed_all conf id (c (TriggerKey id))) run_judged)
+    run_left : problems_at rows ≡ grown stage (opens_in c) (judged_at stage c e.number e.entry)
+    run_left = fun_ext (λ id. run.changes id ∙ ap (λ os. absorbed_all stage id os judged) (r.problems id)
+        ∙ ap (λ os. absorbed_all stage id os judged) (sym (land_off stage (λ u. false) id (c (TriggerKey id)) (failures_at stage.conf (memory_in c) e.number e.entry) (failures_land stage (memory_in c) e.number e.entry) refl))
+        ∙ sym (absorbed_append stage id (c (TriggerKey id)) (failures_at stage.conf (memory_in c) e.number e.entry) judged) ∙ ap (absorbed_all stage id (c (TriggerKey id))) run_judged)
 
-    pub run_records : made ≡ records conf c e
+    pub run_records : made ≡ records stage c e
     unfolding records_at
     run_records =
-        is ∙ ap (λ rs. rs ++ due_at conf e.entry (problems_at rows)) run_judged
-        ∙ ap (λ all. judged_at conf c e.number e.entry ++ due_at conf e.entry all) run_left
+        is ∙ ap (λ rs. rs ++ due_at stage e.entry (problems_at rows)) run_judged
+        ∙ ap (λ all. judged_at stage c e.number e.entry ++ due_at stage e.entry all) run_left
 
-    left_is : (id : ℕ) → absorbed_all conf id (problems_at rows id) (due_at conf e.entry (problems_at rows)) ≡ absorbed_all conf id (c (TriggerKey id)) (records conf c e)
+    left_is : (id : ℕ) → absorbed_all stage id (problems_at rows id) (due_at stage e.entry (problems_at rows)) ≡ absorbed_all stage id (c (TriggerKey id)) (records stage c e)
     unfolding records_at
     left_is id =
-        ap (λ (all : ℕ → List Open). absorbed_all conf id (all id) (due_at conf e.entry all)) run_left
-        ∙ sym (absorbed_append conf id (c (TriggerKey id)) (judged_at conf c e.number e.entry) (due_at conf e.entry (grown conf (opens_in c) (judged_at conf c e.number e.entry))))
+        ap (λ (all : ℕ → List Open). absorbed_all stage id (all id) (due_at stage e.entry all)) run_left
+        ∙ sym (absorbed_append stage id (c (TriggerKey id)) (judged_at stage c e.number e.entry) (due_at stage e.entry (grown stage (opens_in c) (judged_at stage c e.number e.entry))))
 
-    pub run_represents : Represents conf next (after conf c e)
+    pub run_represents : Represents stage next (after stage c e)
     unfolding after stored_of
     run_represents = record {
-      items = same_length next.items held.items (λ id. sym (some_map kept_of (at_id next.items id)) ∙ ap is_some (sym (at_map kept_of next.items id) ∙ came.cells id ∙ ap (option_map (kept_after (moment_of e.entry) (visit_at (visits_at conf (memory_in c) e.number e.entry) id))) (at_map kept_of held.items id))
-          ∙ some_map (kept_after (moment_of e.entry) (visit_at (visits_at conf (memory_in c) e.number e.entry) id)) (option_map kept_of (at_id held.items id)) ∙ some_map kept_of (at_id held.items id)) ∙ r.items;
+      items = same_length next.items held.items (λ id. sym (some_map kept_of (at_id next.items id)) ∙ ap is_some (sym (at_map kept_of next.items id) ∙ came.cells id ∙ ap (option_map (kept_after (moment_of e.entry) (visit_at (visits_at stage.conf (memory_in c) e.number e.entry) id))) (at_map kept_of held.items id))
+          ∙ some_map (kept_after (moment_of e.entry) (visit_at (visits_at stage.conf (memory_in c) e.number e.entry) id)) (option_map kept_of (at_id held.items id)) ∙ some_map kept_of (at_id held.items id)) ∙ r.items;
       ordered = λ id. still_ordered (at_id held.items id) (at_id next.items id) (stored id) (moment_of e.entry) (own id) (r.ordered id);
-      memories = same_length next.memories held.memories (λ id. ap is_some (came.marks id) ∙ some_map (marks_after (visit_at (visits_at conf (memory_in c) e.number e.entry) id)) (at_id held.memories id)) ∙ r.memories;
+      memories = same_length next.memories held.memories (λ id. ap is_some (came.marks id) ∙ some_map (marks_after (visit_at (visits_at stage.conf (memory_in c) e.number e.entry) id)) (at_id held.memories id)) ∙ r.memories;
       triggers = lands.size ∙ run.size ∙ r.triggers;
       histories = λ id. still_kept id (at_id next.items id) (own id);
       marks = marked next.memories came.marks;
       problems = λ id. lands.each id ∙ left_is id;
       tick = ticks ∙ ap (λ t. tick_with t e.entry) r.tick;
-      tidy = stays_tidy conf c e r.tidy;
+      tidy = stays_tidy stage c e r.tidy;
     }
       where
         own : (id : ℕ) → Became (at_id held.items id) (stored id) (moment_of e.entry) (at_id next.items id)
@@ -278,51 +280,51 @@ still now visits items memories none = subst (λ vs. CameIn now vs items items m
     same None = refl
     same (Some x) = refl
 
-pub config_steps : (conf : Conf) (held : CellsView) (e : Numbered) (now : ℕ) (text : List ℕ) (made : List Rec) → e.entry ≡ Config now text → made ≡ [] → StepsTo conf held e made held
-config_steps conf held e now text made is none c r comes fits =
-    subst (λ entry. (made ≡ records conf c (record { number = e.number; entry = entry })) × Represents conf held (after conf c (record { number = e.number; entry = entry }))) (sym is) (both (subst (λ entry. ComesAfter conf c (record { number = e.number; entry = entry })) is comes))
+pub config_steps : (stage : Stage) (held : CellsView) (e : Numbered) (now : ℕ) (text : List ℕ) (made : List Rec) → e.entry ≡ Config now text → made ≡ [] → StepsTo stage held e made held
+config_steps stage held e now text made is none c r comes fits =
+    subst (λ entry. (made ≡ records stage c (record { number = e.number; entry = entry })) × Represents stage held (after stage c (record { number = e.number; entry = entry }))) (sym is) (both (subst (λ entry. ComesAfter stage.conf c (record { number = e.number; entry = entry })) is comes))
   where
     at : Numbered
     at = record { number = e.number; entry = Config now text }
 
-    both : ComesAfter conf c at → (made ≡ records conf c at) × Represents conf held (after conf c at)
+    both : ComesAfter stage.conf c at → (made ≡ records stage c at) × Represents stage held (after stage c at)
     both before =
-        let runs : RunsOver conf (occasion_of held.tick e.number (Config now text)) held.items (stored_of conf (memory_in c) e.number (Config now text)) held.problems (triggers_at conf (memory_in c) e.number (Config now text)) [] held.problems =
+        let runs : RunsOver stage (occasion_of held.tick e.number (Config now text)) held.items (stored_of stage.conf (memory_in c) e.number (Config now text)) held.problems (triggers_at stage.conf (memory_in c) e.number (Config now text)) [] held.problems =
         unfold triggers_at in λ items sees tidy. record { records = refl; changes = λ id. refl; size = refl } in
-        let made_is : made ≡ (failures_at conf (memory_in c) e.number (Config now text) ++ []) ++ due_at conf (Config now text) (problems_at held.problems) = unfold failures_at in unfold due_at in none in
-        let lands : Absorbed conf held.problems (due_at conf (Config now text) (problems_at held.problems)) held.problems = unfold due_at in record { each = λ id. refl; size = refl } in
-        let came : CameIn now (visits_at conf (memory_in c) e.number (Config now text)) held.items held.items held.memories held.memories = still now [] held.items held.memories refl in (
-          run_records conf held c at r before held held.problems [] made runs made_is lands came (sym (none_option held.tick)),
-          run_represents conf held c at r before held held.problems [] made runs made_is lands came (sym (none_option held.tick)),
+        let made_is : made ≡ (failures_at stage.conf (memory_in c) e.number (Config now text) ++ []) ++ due_at stage (Config now text) (problems_at held.problems) = unfold failures_at in unfold due_at in none in
+        let lands : Absorbed stage held.problems (due_at stage (Config now text) (problems_at held.problems)) held.problems = unfold due_at in record { each = λ id. refl; size = refl } in
+        let came : CameIn now (visits_at stage.conf (memory_in c) e.number (Config now text)) held.items held.items held.memories held.memories = still now [] held.items held.memories refl in (
+          run_records stage held c at r before held held.problems [] made runs made_is lands came (sym (none_option held.tick)),
+          run_represents stage held c at r before held held.problems [] made runs made_is lands came (sym (none_option held.tick)),
         )
 
 -- A Tick
-ticks_on : (conf : Conf) (held next : CellsView) (number now : ℕ) (made : List Rec) → TakesTick conf (occasion_of held.tick number (Tick now)) held made next → StepsTo conf held (record { number = number; entry = Tick now }) made next
-ticks_on conf held next number now made takes c r comes fits =
-    let runs : RunsOver conf (occasion_of held.tick number (Tick now)) held.items (stored_of conf (memory_in c) number (Tick now)) held.problems (triggers_at conf (memory_in c) number (Tick now)) takes.judged takes.rows =
+ticks_on : (stage : Stage) (held next : CellsView) (number now : ℕ) (made : List Rec) → TakesTick stage (occasion_of held.tick number (Tick now)) held made next → StepsTo stage held (record { number = number; entry = Tick now }) made next
+ticks_on stage held next number now made takes c r comes fits =
+    let runs : RunsOver stage (occasion_of held.tick number (Tick now)) held.items (stored_of stage.conf (memory_in c) number (Tick now)) held.problems (triggers_at stage.conf (memory_in c) number (Tick now)) takes.judged takes.rows =
     unfold stored_of in unfold triggers_at in takes.runs in
-    let is : made ≡ (failures_at conf (memory_in c) number (Tick now) ++ takes.judged) ++ due_at conf (Tick now) (problems_at takes.rows) = unfold failures_at in unfold due_at in takes.records in
-    let lands : Absorbed conf takes.rows (due_at conf (Tick now) (problems_at takes.rows)) next.problems = unfold due_at in takes.changes in
-    let came : CameIn now (visits_at conf (memory_in c) number (Tick now)) held.items next.items held.memories next.memories =
+    let is : made ≡ (failures_at stage.conf (memory_in c) number (Tick now) ++ takes.judged) ++ due_at stage (Tick now) (problems_at takes.rows) = unfold failures_at in unfold due_at in takes.records in
+    let lands : Absorbed stage takes.rows (due_at stage (Tick now) (problems_at takes.rows)) next.problems = unfold due_at in takes.changes in
+    let came : CameIn now (visits_at stage.conf (memory_in c) number (Tick now)) held.items next.items held.memories next.memories =
     subst (λ items. CameIn now [] held.items items held.memories next.memories) (sym takes.items) (subst (λ memories. CameIn now [] held.items held.items held.memories memories) (sym takes.memories) (still now [] held.items held.memories refl)) in (
-      run_records conf held c (record { number = number; entry = Tick now }) r comes next takes.rows takes.judged made runs is lands came takes.tick,
-      run_represents conf held c (record { number = number; entry = Tick now }) r comes next takes.rows takes.judged made runs is lands came takes.tick,
+      run_records stage held c (record { number = number; entry = Tick now }) r comes next takes.rows takes.judged made runs is lands came takes.tick,
+      run_represents stage held c (record { number = number; entry = Tick now }) r comes next takes.rows takes.judged made runs is lands came takes.tick,
     )
 
-pub tick_taken : (conf : Conf) (held next : CellsView) (e : Numbered) (now : ℕ) (made : List Rec) (occasion : Occasion) → e.entry ≡ Tick now → occasion ≡ occasion_of held.tick e.number e.entry → TakesTick conf occasion held made next → StepsTo conf held e made next
-tick_taken conf held next e now made occasion is on takes =
-    subst (λ entry. StepsTo conf held (record { number = e.number; entry = entry }) made next) (sym is)
-    (ticks_on conf held next e.number now made (subst (λ entry. TakesTick conf (occasion_of held.tick e.number entry) held made next) is (subst (λ o. TakesTick conf o held made next) on takes)))
+pub tick_taken : (stage : Stage) (held next : CellsView) (e : Numbered) (now : ℕ) (made : List Rec) (occasion : Occasion) → e.entry ≡ Tick now → occasion ≡ occasion_of held.tick e.number e.entry → TakesTick stage occasion held made next → StepsTo stage held e made next
+tick_taken stage held next e now made occasion is on takes =
+    subst (λ entry. StepsTo stage held (record { number = e.number; entry = entry }) made next) (sym is)
+    (ticks_on stage held next e.number now made (subst (λ entry. TakesTick stage (occasion_of held.tick e.number entry) held made next) is (subst (λ o. TakesTick stage o held made next) on takes)))
 
 pub own_touched : (conf : Conf) (now item time : ℕ) (value : List ℕ) → touches conf (Value now item time value) (ItemKey item) ≡ true
 unfolding touches
 own_touched conf now item time value = or_left (item == item) (has_id ((feet_of conf).items item) item) (eq-eqb item item refl)
 
 -- A value: its visits are those over the memories that are kept
-value_on : (conf : Conf) (held next : CellsView) (number now item time : ℕ) (value : List ℕ) (made : List Rec)
-    → TakesIn conf (occasion_of held.tick number (Value now item time value)) (visits_at conf (memory_kept held.memories) number (Value now item time value)) (triggers_at conf (memory_kept held.memories) number (Value now item time value)) held made next
-    → StepsTo conf held (record { number = number; entry = Value now item time value }) made next
-value_on conf held next number now item time value made takes c r comes fits = taken (memory_kept held.memories) (memory_is conf held c r) takes
+value_on : (stage : Stage) (held next : CellsView) (number now item time : ℕ) (value : List ℕ) (made : List Rec)
+    → TakesIn stage (occasion_of held.tick number (Value now item time value)) (visits_at stage.conf (memory_kept held.memories) number (Value now item time value)) (triggers_at stage.conf (memory_kept held.memories) number (Value now item time value)) held made next
+    → StepsTo stage held (record { number = number; entry = Value now item time value }) made next
+value_on stage held next number now item time value made takes c r comes fits = taken (memory_kept held.memories) (memory_is stage held c r) takes
   where
     entry : Entry
     entry = Value now item time value
@@ -330,26 +332,26 @@ value_on conf held next number now item time value made takes c r comes fits = t
     e : Numbered
     e = record { number = number; entry = entry }
 
-    both : TakesIn conf (occasion_of held.tick number entry) (visits_at conf (memory_in c) number entry) (triggers_at conf (memory_in c) number entry) held made next → (made ≡ records conf c e) × Represents conf next (after conf c e)
+    both : TakesIn stage (occasion_of held.tick number entry) (visits_at stage.conf (memory_in c) number entry) (triggers_at stage.conf (memory_in c) number entry) held made next → (made ≡ records stage c e) × Represents stage next (after stage c e)
     both t =
-        let runs : RunsOver conf (occasion_of held.tick number entry) held.items (stored_of conf (memory_in c) number entry) held.problems (triggers_at conf (memory_in c) number entry) t.judged next.problems = unfold stored_of in t.runs in
-        let is : made ≡ (failures_at conf (memory_in c) number entry ++ t.judged) ++ due_at conf entry (problems_at next.problems) =
-        unfold failures_at in unfold due_at in t.records ∙ sym (append-nil (failures_of conf number (visits_at conf (memory_in c) number entry) ++ t.judged)) in
-        let lands : Absorbed conf next.problems (due_at conf entry (problems_at next.problems)) next.problems = unfold due_at in record { each = λ id. refl; size = refl } in (
-          run_records conf held c e r comes next next.problems t.judged made runs is lands t.came (t.tick ∙ sym (none_option held.tick)),
-          run_represents conf held c e r comes next next.problems t.judged made runs is lands t.came (t.tick ∙ sym (none_option held.tick)),
+        let runs : RunsOver stage (occasion_of held.tick number entry) held.items (stored_of stage.conf (memory_in c) number entry) held.problems (triggers_at stage.conf (memory_in c) number entry) t.judged next.problems = unfold stored_of in t.runs in
+        let is : made ≡ (failures_at stage.conf (memory_in c) number entry ++ t.judged) ++ due_at stage entry (problems_at next.problems) =
+        unfold failures_at in unfold due_at in t.records ∙ sym (append-nil (failures_of stage.conf number (visits_at stage.conf (memory_in c) number entry) ++ t.judged)) in
+        let lands : Absorbed stage next.problems (due_at stage entry (problems_at next.problems)) next.problems = unfold due_at in record { each = λ id. refl; size = refl } in (
+          run_records stage held c e r comes next next.problems t.judged made runs is lands t.came (t.tick ∙ sym (none_option held.tick)),
+          run_represents stage held c e r comes next next.problems t.judged made runs is lands t.came (t.tick ∙ sym (none_option held.tick)),
         )
 
-    taken : (memory : Memory) → memory ≡ memory_in c → TakesIn conf (occasion_of held.tick number entry) (visits_at conf memory number entry) (triggers_at conf memory number entry) held made next → (made ≡ records conf c e) × Represents conf next (after conf c e)
-    taken memory same t = both (subst (λ m. TakesIn conf (occasion_of held.tick number entry) (visits_at conf m number entry) (triggers_at conf m number entry) held made next) same t)
+    taken : (memory : Memory) → memory ≡ memory_in c → TakesIn stage (occasion_of held.tick number entry) (visits_at stage.conf memory number entry) (triggers_at stage.conf memory number entry) held made next → (made ≡ records stage c e) × Represents stage next (after stage c e)
+    taken memory same t = both (subst (λ m. TakesIn stage (occasion_of held.tick number entry) (visits_at stage.conf m number entry) (triggers_at stage.conf m number entry) held made next) same t)
 
 -- the same, on the occasion of the entry
-pub value_taken : (conf : Conf) (held next : CellsView) (e : Numbered) (now item time : ℕ) (value : List ℕ) (made : List Rec) (occasion : Occasion) → e.entry ≡ Value now item time value → occasion ≡ occasion_of held.tick e.number e.entry
-    → TakesIn conf occasion (visits_at conf (memory_kept held.memories) occasion.number (Value occasion.now item time value)) (triggers_at conf (memory_kept held.memories) occasion.number (Value occasion.now item time value)) held made next → StepsTo conf held e made next
-value_taken conf held next e now item time value made occasion is on takes =
-    subst (λ entry. StepsTo conf held (record { number = e.number; entry = entry }) made next) (sym is)
-    (value_on conf held next e.number now item time value made
-    (subst (λ o. TakesIn conf o (visits_at conf (memory_kept held.memories) o.number (Value o.now item time value)) (triggers_at conf (memory_kept held.memories) o.number (Value o.now item time value)) held made next) (on ∙ ap (occasion_of held.tick e.number) is) takes))
+pub value_taken : (stage : Stage) (held next : CellsView) (e : Numbered) (now item time : ℕ) (value : List ℕ) (made : List Rec) (occasion : Occasion) → e.entry ≡ Value now item time value → occasion ≡ occasion_of held.tick e.number e.entry
+    → TakesIn stage occasion (visits_at stage.conf (memory_kept held.memories) occasion.number (Value occasion.now item time value)) (triggers_at stage.conf (memory_kept held.memories) occasion.number (Value occasion.now item time value)) held made next → StepsTo stage held e made next
+value_taken stage held next e now item time value made occasion is on takes =
+    subst (λ entry. StepsTo stage held (record { number = e.number; entry = entry }) made next) (sym is)
+    (value_on stage held next e.number now item time value made
+    (subst (λ o. TakesIn stage o (visits_at stage.conf (memory_kept held.memories) o.number (Value o.now item time value)) (triggers_at stage.conf (memory_kept held.memories) o.number (Value o.now item time value)) held made next) (on ∙ ap (occasion_of held.tick e.number) is) takes))
 
 -- Over logs
 seen_by : (conf : Conf) (log : List Numbered) (i : ℕ) → Suits conf log → seen_of conf log i ≤ last_moment log
@@ -360,58 +362,58 @@ seen_by conf (e ∷ log) i h = go (touches conf e.entry (ItemKey i)) (seen_by co
     go true k = omega arith
     go false k = let m = h.1 in omega arith
 
-pub comes_after : (conf : Conf) (c : Cells) (log : List Numbered) (e : Numbered) → AreCellsOf conf c log → Suits conf (e ∷ log) → ComesAfter conf c e
+pub comes_after : (stage : Stage) (c : Cells) (log : List Numbered) (e : Numbered) → AreCellsOf stage c log → Suits stage.conf (e ∷ log) → ComesAfter stage.conf c e
 unfolding AreCellsOf look
-comes_after conf c log e stand h id t =
-    let k = seen_by conf log id h.0 in
+comes_after stage c log e stand h id t =
+    let k = seen_by stage.conf log id h.0 in
     let m = h.1 in
-    let s : (c (ItemKey id)).seen ≡ seen_of conf log id = ap (λ x. (x (ItemKey id)).seen) stand in omega arith
+    let s : (c (ItemKey id)).seen ≡ seen_of stage.conf log id = ap (λ x. (x (ItemKey id)).seen) stand in omega arith
 
-judged_are : (conf : Conf) (log : List Numbered) (rs : List Rec) (e : Numbered) → judged_at conf (look conf log rs) e.number e.entry ≡ judged_of conf log e e.entry rs
+judged_are : (stage : Stage) (log : List Numbered) (rs : List Rec) (e : Numbered) → judged_at stage (look stage log rs) e.number e.entry ≡ judged_of stage log e e.entry rs
 unfolding judged_at judged_of look item_after
-judged_are conf log rs e =
+judged_are stage log rs e =
     ap (λ xs. failures ++ xs)
-    (ap (λ p. phase conf one p ids) (sym quietly) ∙ phase_is conf one (rs ++ failures) ids)
+    (ap (λ p. phase stage one p ids) (sym quietly) ∙ phase_is stage one (rs ++ failures) ids)
   where
     failures : List Rec
-    failures = failures_at conf (memory_of conf log) e.number e.entry
+    failures = failures_at stage.conf (memory_of stage.conf log) e.number e.entry
 
     ids : List ℕ
-    ids = triggers_at conf (memory_of conf log) e.number e.entry
+    ids = triggers_at stage.conf (memory_of stage.conf log) e.number e.entry
 
     one : (ℕ → List Open) → ℕ → List Rec
-    one = evaluated conf (occasion_of (first_tick log) e.number e.entry) (λ i. with_stored (stored_of conf (memory_of conf log) e.number e.entry i) (history_of conf log i))
+    one = evaluated stage (occasion_of (first_tick log) e.number e.entry) (λ i. with_stored (stored_of stage.conf (memory_of stage.conf log) e.number e.entry i) (history_of stage.conf log i))
 
-    quietly : open_of conf (rs ++ failures) ≡ open_of conf rs
-    quietly = fun_ext (λ id. open_append conf id rs failures ∙ land_off conf (λ id. false) id (open_of conf rs id) failures (failures_land conf (memory_of conf log) e.number e.entry) refl)
+    quietly : open_of stage (rs ++ failures) ≡ open_of stage rs
+    quietly = fun_ext (λ id. open_append stage id rs failures ∙ land_off stage (λ id. false) id (open_of stage rs id) failures (failures_land stage (memory_of stage.conf log) e.number e.entry) refl)
 
-pub records_are : (conf : Conf) (log : List Numbered) (rs : List Rec) (e : Numbered) → records conf (look conf log rs) e ≡ out_of conf log e e.entry rs
+pub records_are : (stage : Stage) (log : List Numbered) (rs : List Rec) (e : Numbered) → records stage (look stage log rs) e ≡ out_of stage log e e.entry rs
 unfolding records_at out_of look
-records_are conf log rs e =
-    let more : List Rec = judged_of conf log e e.entry rs in
-    ap (λ xs. xs ++ due_at conf e.entry (grown conf (opens_in (look conf log rs)) xs)) (judged_are conf log rs e)
-    ∙ ap (λ all. more ++ due_at conf e.entry all) (fun_ext (λ id. sym (open_append conf id rs more)))
+records_are stage log rs e =
+    let more : List Rec = judged_of stage log e e.entry rs in
+    ap (λ xs. xs ++ due_at stage e.entry (grown stage (opens_in (look stage log rs)) xs)) (judged_are stage log rs e)
+    ∙ ap (λ all. more ++ due_at stage e.entry all) (fun_ext (λ id. sym (open_append stage id rs more)))
 
-pub after_is : (conf : Conf) (log : List Numbered) (rs : List Rec) (e : Numbered) → after conf (look conf log rs) e ≡ look conf (e ∷ log) (rs ++ out_of conf log e e.entry rs)
+pub after_is : (stage : Stage) (log : List Numbered) (rs : List Rec) (e : Numbered) → after stage (look stage log rs) e ≡ look stage (e ∷ log) (rs ++ out_of stage log e e.entry rs)
 unfolding after look item_after marks_of
-after_is conf log rs e = fun_ext go
+after_is stage log rs e = fun_ext go
   where
-    go : (k : Key) → after conf (look conf log rs) e k ≡ look conf (e ∷ log) (rs ++ out_of conf log e e.entry rs) k
+    go : (k : Key) → after stage (look stage log rs) e k ≡ look stage (e ∷ log) (rs ++ out_of stage log e e.entry rs) k
     go (ItemKey i) = refl
-    go (TriggerKey id) = ap (absorbed_all conf id (open_of conf rs id)) (records_are conf log rs e) ∙ sym (open_append conf id rs (out_of conf log e e.entry rs))
+    go (TriggerKey id) = ap (absorbed_all stage id (open_of stage rs id)) (records_are stage log rs e) ∙ sym (open_append stage id rs (out_of stage log e e.entry rs))
     go TickKey = refl
 
 -- One entry over cells that stand for a log
-pub one_entry : (conf : Conf) (c : Cells) (log : List Numbered) (e : Numbered) → AreCellsOf conf c log → (records conf c e ≡ out_of conf log e e.entry (replay conf log)) × AreCellsOf conf (after conf c e) (e ∷ log)
+pub one_entry : (stage : Stage) (c : Cells) (log : List Numbered) (e : Numbered) → AreCellsOf stage c log → (records stage c e ≡ out_of stage log e e.entry (replay stage log)) × AreCellsOf stage (after stage c e) (e ∷ log)
 unfolding AreCellsOf
-one_entry conf c log e h = (ap (λ x. records conf x e) h ∙ records_are conf log (replay conf log) e, ap (λ x. after conf x e) h ∙ after_is conf log (replay conf log) e)
+one_entry stage c log e h = (ap (λ x. records stage x e) h ∙ records_are stage log (replay stage log) e, ap (λ x. after stage x e) h ∙ after_is stage log (replay stage log) e)
 
-pub steps_out : (conf : Conf) (held next : CellsView) (e : Numbered) (made : List Rec) → StepsTo conf held e made next → (log : List Numbered) → Holds conf held log → Suits conf (e ∷ log)
-    → (made ≡ out_of conf log e e.entry (replay conf log)) × Holds conf next (e ∷ log)
-steps_out conf held next e made steps log h suit =
-    let both = steps h.cells h.represented (comes_after conf h.cells log e h.stand suit) suit.2 in
-    let one = one_entry conf h.cells log e h.stand in
-    (both.0 ∙ one.0, record { cells = after conf h.cells e; stand = one.1; represented = both.1 })
+pub steps_out : (stage : Stage) (held next : CellsView) (e : Numbered) (made : List Rec) → StepsTo stage held e made next → (log : List Numbered) → Holds stage held log → Suits stage.conf (e ∷ log)
+    → (made ≡ out_of stage log e e.entry (replay stage log)) × Holds stage next (e ∷ log)
+steps_out stage held next e made steps log h suit =
+    let both = steps h.cells h.represented (comes_after stage h.cells log e h.stand suit) suit.2 in
+    let one = one_entry stage h.cells log e h.stand in
+    (both.0 ∙ one.0, record { cells = after stage h.cells e; stand = one.1; represented = both.1 })
 
 -- Cells of a configuration, before its first entry
 replicated_rows : (n id : ℕ) → problems_at (replicate n []) id ≡ []
@@ -432,10 +434,10 @@ length_replicated zero x = refl
 length_replicated (suc n) x = ap suc (length_replicated n x)
 
 pub holds_nothing : (conf : Conf) (made : ItemCells) (problems : List (List Open)) → AreNew conf made → problems ≡ replicate (length conf.triggers) []
-    → Holds conf (record { items = map roomless made.cells.items; memories = made.memories.items; problems = problems; tick = None }) []
+    → Holds (first_stage conf) (record { items = map roomless made.cells.items; memories = made.memories.items; problems = problems; tick = None }) []
 unfolding AreCellsOf look marks_of Rattle.preprocess.specs.Laws.marks_behind
 holds_nothing conf made problems new none = record {
-  cells = look conf [] [];
+  cells = look (first_stage conf) [] [];
   stand = refl;
   represented = record {
     items = size_roomless made.cells.items ∙ same_length made.cells.items conf.items (λ id. sym (some_map kept_of (at_id made.cells.items id)) ∙ ap is_some (sym (at_map kept_of made.cells.items id) ∙ holds.kept id) ∙ some_map (λ (item : Item). kept_behind conf [] id) (at_id conf.items id));
@@ -446,7 +448,7 @@ holds_nothing conf made problems new none = record {
     marks = λ id. ap (λ o. unwrap_or o []) (holds.memories id) ∙ first (at_id conf.items id) (marks_behind conf [] id) (λ q. ap (λ o. option_map_or no_marks o []) q);
     problems = λ id. ap (λ xs. problems_at xs id) none ∙ replicated_rows (length conf.triggers) id;
     tick = refl;
-    tidy = record { homes = λ id. tt; tagged = λ id. tt; absent = λ id q. refl };
+    tidy = record { ids = λ event. refl; homes = λ id. tt; tagged = λ id. tt; absent = λ id q. refl };
   };
 }
   where
@@ -482,7 +484,7 @@ on_ok (Ok x) P Q f p = f x p
 on_ok (Err x) P Q f p = tt
 
 -- what holds nothing holds a log of a configuration's entry
-pub config_holds : (conf : Conf) (held : CellsView) (e : Numbered) (now : ℕ) (text : List ℕ) → e.entry ≡ Config now text → Holds conf held [] → Holds conf held (e ∷ [])
-config_holds conf held e now text is h =
-    (steps_out conf held held e [] (config_steps conf held e now text [] is refl) [] h
-    (tt, omega arith, subst (IsFitting conf) (sym is) tt)).1
+pub config_holds : (stage : Stage) (held : CellsView) (e : Numbered) (now : ℕ) (text : List ℕ) → e.entry ≡ Config now text → Holds stage held [] → Holds stage held (e ∷ [])
+config_holds stage held e now text is h =
+    (steps_out stage held held e [] (config_steps stage held e now text [] is refl) [] h
+    (tt, omega arith, subst (IsFitting stage.conf) (sym is) tt)).1

@@ -14,7 +14,8 @@ use Rattle.maintenance.specs.Suppression.{is_suppressed}
 use Rattle.escalations.specs.Escalations.{next_step, records_at, next_records, first_records_of, due_records_of, recovery_records, recovered_records}
 use Rattle.escalations.specs.Messages.{message_to, operation_records, step_records, sending_records}
 use Rattle.escalations.specs.Steps.{operations_of, last_step}
-use Rattle.trigger_state.specs.Problems.{home, event_in, opens}
+use Rattle.trigger_state.specs.Stages.{Stage, home}
+use Rattle.trigger_state.specs.Problems.{event_in, opens}
 use Rattle.trigger_state.specs.declared.problems.Open.{Open}
 use Rattle.entry_step.specs.Each.{Each}
 use Rattle.entry_step.specs.Due.{IsAbout}
@@ -88,16 +89,16 @@ last_quiet conf number now id problem true = (tt, tt)
 last_quiet conf number now id problem false = about_quiet (event_of problem) (first_records_of conf id problem now) (due_about conf id problem [] now)
 
 -- what comes behind a new problem
-pub begun_quiet : (conf : Conf) (number now : ℕ) (all : ℕ → List Open) (id : ℕ) (problem : Rec) (closes : Closes) → Each IsQuiet (ruled_records conf number now all closes.old ++ last_records conf number now id problem closes.new)
-begun_quiet conf number now all id problem closes =
-    each_append IsQuiet (ruled_records conf number now all closes.old) (last_records conf number now id problem closes.new)
-    (closed_quiet conf number now causes.Correlation (λ e. all (home conf e)) closes.old) (last_quiet conf number now id problem closes.new)
+pub begun_quiet : (stage : Stage) (number now : ℕ) (all : ℕ → List Open) (id : ℕ) (problem : Rec) (closes : Closes) → Each IsQuiet (ruled_records stage number now all closes.old ++ last_records stage.conf number now id problem closes.new)
+begun_quiet stage number now all id problem closes =
+    each_append IsQuiet (ruled_records stage number now all closes.old) (last_records stage.conf number now id problem closes.new)
+    (closed_quiet stage.conf number now causes.Correlation (λ e. all (home stage e)) closes.old) (last_quiet stage.conf number now id problem closes.new)
 
 -- such a record opens nothing
-pub quiet_opens : (conf : Conf) (id : ℕ) (rs : List Rec) → Each IsQuiet rs → Each (λ r. opens conf id r ≡ false) rs
-quiet_opens conf id rs q = each_sub IsQuiet (λ r. opens conf id r ≡ false) rs one q
+pub quiet_opens : (stage : Stage) (id : ℕ) (rs : List Rec) → Each IsQuiet rs → Each (λ r. opens stage id r ≡ false) rs
+quiet_opens stage id rs q = each_sub IsQuiet (λ r. opens stage id r ≡ false) rs one q
   where
-    one : (r : Rec) → IsQuiet r → opens conf id r ≡ false
+    one : (r : Rec) → IsQuiet r → opens stage id r ≡ false
     one (Problem event now severity suppressed host trigger name tags) is = absurd is
     one (Recovery event by now cause) is = refl
     one (Failure number host key why) is = refl

@@ -2,6 +2,7 @@
 use Rattle.std.proofs.Common.{◌≡◌, ℕ, Option, Some, None, List, [], ◌∷◌, ◌++◌, map, filter, Result, Ok, Err, IfOk, OnOk, OnErr, refl, sym, ◌∙◌, ap, subst}
 use mathlib.Core.Path.{fun_ext}
 use Rattle.zbx_types.specs.declared.conf.Conf.{Conf}
+use Rattle.trigger_state.specs.Stages.{Stage}
 use Rattle.zbx_types.specs.declared.entries.Rec.{Rec}
 use Rattle.zbx_types.specs.declared.entries.Stored.{Stored}
 use Rattle.value_cache.specs.Cells.{CellView}
@@ -22,30 +23,30 @@ use Rattle.entry_step.specs.Changes.{is_asked, RunsOver, Absorbed, Drafted, Take
 use Rattle.entry_step.proofs.Members.{each_sub}
 use Rattle.entry_step.proofs.Coming.{roomless_same, sees_roomless, came_in}
 
-same_runs : (conf : Conf) (occasion : Occasion) (cells kept : List CellView) (stored more : ℕ → Option Stored) (rows before : List (List Open)) (ids all : List ℕ) (made : List Rec) (next : List (List Open)) → cells ≡ kept → stored ≡ more → rows ≡ before → ids ≡ all
-    → RunsOver conf occasion cells stored rows ids made next → RunsOver conf occasion kept more before all made next
-same_runs conf occasion cells kept stored more rows before ids all made next c s r i runs =
-    subst (λ xs. RunsOver conf occasion xs more before all made next) c
-    (subst (λ m. RunsOver conf occasion cells m before all made next) s (subst (λ os. RunsOver conf occasion cells stored os all made next) r (subst (λ is. RunsOver conf occasion cells stored rows is made next) i runs)))
+same_runs : (stage : Stage) (occasion : Occasion) (cells kept : List CellView) (stored more : ℕ → Option Stored) (rows before : List (List Open)) (ids all : List ℕ) (made : List Rec) (next : List (List Open)) → cells ≡ kept → stored ≡ more → rows ≡ before → ids ≡ all
+    → RunsOver stage occasion cells stored rows ids made next → RunsOver stage occasion kept more before all made next
+same_runs stage occasion cells kept stored more rows before ids all made next c s r i runs =
+    subst (λ xs. RunsOver stage occasion xs more before all made next) c
+    (subst (λ m. RunsOver stage occasion cells m before all made next) s (subst (λ os. RunsOver stage occasion cells stored os all made next) r (subst (λ is. RunsOver stage occasion cells stored rows is made next) i runs)))
 
 -- what was evaluated over cells was so over what they keep alone
-runs_roomless : (conf : Conf) (occasion : Occasion) (cells : List CellView) (stored : ℕ → Option Stored) (before : List (List Open)) (ids : List ℕ) (made : List Rec) (rows : List (List Open))
-    → RunsOver conf occasion cells stored before ids made rows → RunsOver conf occasion (map roomless cells) stored before ids made rows
-runs_roomless conf occasion cells stored before ids made rows runs = λ items sees tidy.
-    runs items (each_sub (SeesFor conf (map roomless cells) stored occasion.now items) (SeesFor conf cells stored occasion.now items) ids (λ id h item calls. sees_roomless conf item cells (stored item) occasion.now (items item) (h item calls)) sees) tidy
+runs_roomless : (stage : Stage) (occasion : Occasion) (cells : List CellView) (stored : ℕ → Option Stored) (before : List (List Open)) (ids : List ℕ) (made : List Rec) (rows : List (List Open))
+    → RunsOver stage occasion cells stored before ids made rows → RunsOver stage occasion (map roomless cells) stored before ids made rows
+runs_roomless stage occasion cells stored before ids made rows runs = λ items sees tidy.
+    runs items (each_sub (SeesFor stage.conf (map roomless cells) stored occasion.now items) (SeesFor stage.conf cells stored occasion.now items) ids (λ id h item calls. sees_roomless stage.conf item cells (stored item) occasion.now (items item) (h item calls)) sees) tidy
 
 -- a value is taken in
-pub takes_in : (conf : Conf) (occasion : Occasion) (draft : Draft) (visits : List Visit) (failures : List Rec) (ids all : List ℕ) (old between new : ItemCells) (problems rows : List (List Open)) (tick : Option ℕ) (before : CellsView) (made : List Rec)
+pub takes_in : (stage : Stage) (occasion : Occasion) (draft : Draft) (visits : List Visit) (failures : List Rec) (ids all : List ℕ) (old between new : ItemCells) (problems rows : List (List Open)) (tick : Option ℕ) (before : CellsView) (made : List Rec)
     → before ≡ record { items = map roomless old.cells.items; memories = old.memories.items; problems = problems; tick = tick }
-    → draft.visits ≡ visits → failures ≡ failures_of conf occasion.number visits → ids ≡ all → AreSame between old
-    → Drafted conf occasion (Some draft) ids failures between.cells.items problems made rows → Becomes occasion.now draft.visits between new
-    → TakesIn conf occasion visits all before made (record { items = map roomless new.cells.items; memories = new.memories.items; problems = rows; tick = tick })
-takes_in conf occasion draft visits failures ids all old between new problems rows tick before made is same fails listed still drafted becomes =
-    subst (λ v. TakesIn conf occasion visits all v made after) (sym is) (record {
+    → draft.visits ≡ visits → failures ≡ failures_of stage.conf occasion.number visits → ids ≡ all → AreSame between old
+    → Drafted stage occasion (Some draft) ids failures between.cells.items problems made rows → Becomes occasion.now draft.visits between new
+    → TakesIn stage occasion visits all before made (record { items = map roomless new.cells.items; memories = new.memories.items; problems = rows; tick = tick })
+takes_in stage occasion draft visits failures ids all old between new problems rows tick before made is same fails listed still drafted becomes =
+    subst (λ v. TakesIn stage occasion visits all v made after) (sym is) (record {
       judged = drafted.judged;
-      runs = subst (λ vs. RunsOver conf occasion (map roomless old.cells.items) (stored_at vs) problems all drafted.judged rows) same (subst (λ xs. RunsOver conf occasion (map roomless old.cells.items) (stored_at draft.visits) problems xs drafted.judged rows) listed
-          (subst (λ cells. RunsOver conf occasion cells (stored_at draft.visits) problems ids drafted.judged rows) (roomless_same between.cells.items old.cells.items still.cells)
-          (runs_roomless conf occasion between.cells.items (stored_at draft.visits) problems ids drafted.judged rows drafted.runs)));
+      runs = subst (λ vs. RunsOver stage occasion (map roomless old.cells.items) (stored_at vs) problems all drafted.judged rows) same (subst (λ xs. RunsOver stage occasion (map roomless old.cells.items) (stored_at draft.visits) problems xs drafted.judged rows) listed
+          (subst (λ cells. RunsOver stage occasion cells (stored_at draft.visits) problems ids drafted.judged rows) (roomless_same between.cells.items old.cells.items still.cells)
+          (runs_roomless stage occasion between.cells.items (stored_at draft.visits) problems ids drafted.judged rows drafted.runs)));
       records = drafted.records ∙ ap (λ fs. fs ++ drafted.judged) fails;
       came = came_in occasion.now visits old new (same_becomes occasion.now visits old between new still (subst (λ vs. Becomes occasion.now vs between new) same becomes));
       tick = refl;
@@ -85,14 +86,14 @@ pub asked_all : (conf : Conf) (ids : List ℕ) → filter (is_asked conf None) i
 asked_all conf [] = refl
 asked_all conf (id ∷ ids) = ap (λ xs. id ∷ xs) (asked_all conf ids)
 
-pub takes_tick : (conf : Conf) (occasion : Occasion) (before after : CellsView) (cells : List CellView) (rows left : List (List Open)) (ids : List ℕ) (judged made : List Rec) → map roomless cells ≡ before.items → rows ≡ before.problems → ids ≡ timed_triggers conf
-    → RunsOver conf occasion cells (still_to_come None) rows (filter (is_asked conf None) ids) judged left → made ≡ judged ++ due_over conf occasion.now (problems_at left) → Absorbed conf left (due_over conf occasion.now (problems_at left)) after.problems
-    → after.items ≡ before.items → after.memories ≡ before.memories → after.tick ≡ occasion.tick → TakesTick conf occasion before made after
-takes_tick conf occasion before after cells rows left ids judged made c r i runs is lands items memories tick = record {
+pub takes_tick : (stage : Stage) (occasion : Occasion) (before after : CellsView) (cells : List CellView) (rows left : List (List Open)) (ids : List ℕ) (judged made : List Rec) → map roomless cells ≡ before.items → rows ≡ before.problems → ids ≡ timed_triggers stage.conf
+    → RunsOver stage occasion cells (still_to_come None) rows (filter (is_asked stage.conf None) ids) judged left → made ≡ judged ++ due_over stage occasion.now (problems_at left) → Absorbed stage left (due_over stage occasion.now (problems_at left)) after.problems
+    → after.items ≡ before.items → after.memories ≡ before.memories → after.tick ≡ occasion.tick → TakesTick stage occasion before made after
+takes_tick stage occasion before after cells rows left ids judged made c r i runs is lands items memories tick = record {
   judged = judged;
   rows = left;
-  runs = same_runs conf occasion (map roomless cells) before.items (still_to_come None) (λ id. None) rows before.problems (filter (is_asked conf None) ids) (timed_triggers conf) judged left c (fun_ext (λ id. refl)) r (asked_all conf ids ∙ i)
-      (runs_roomless conf occasion cells (still_to_come None) rows (filter (is_asked conf None) ids) judged left runs);
+  runs = same_runs stage occasion (map roomless cells) before.items (still_to_come None) (λ id. None) rows before.problems (filter (is_asked stage.conf None) ids) (timed_triggers stage.conf) judged left c (fun_ext (λ id. refl)) r (asked_all stage.conf ids ∙ i)
+      (runs_roomless stage occasion cells (still_to_come None) rows (filter (is_asked stage.conf None) ids) judged left runs);
   records = is;
   changes = lands;
   items = items;

@@ -2,7 +2,7 @@
 use Rattle.std.proofs.Common.{◌≡◌, ◌<◌, ◌+◌, ℕ, zero, suc, Bool, true, false, cond, inl, inr, Option, List, [], ◌∷◌, ◌++◌, length, filter, take, get_or, refl, sym, ◌∙◌, ap, subst, arith}
 use Rattle.std.proofs.lemmas.List.{take_more}
 use Rattle.std.proofs.lemmas.List.Elements.{filter-append}
-use Rattle.zbx_types.specs.declared.conf.Conf.{Conf}
+use Rattle.trigger_state.specs.Stages.{Stage}
 use Rattle.zbx_types.specs.declared.entries.Rec.{Rec}
 use Rattle.zbx_types.specs.declared.entries.Stored.{Stored}
 use Rattle.value_cache.specs.Cells.{CellView}
@@ -30,25 +30,25 @@ take_last xs y = let l : length xs < length (xs ++ y ∷ []) = below xs in take_
     below (z ∷ zs) = let ih = below zs in omega (arith, ih)
 
 -- one trigger more
-pub run_on : (conf : Conf) (occasion : Occasion) (cells : List CellView) (stored : ℕ → Option Stored) (rows next : List (List Open)) (id : ℕ) (made more : List Rec) (o : Option TriggerOutcome)
-    → ((items : ℕ → List Stored) → SeesFor conf cells stored occasion.now items id → outcome_records o ≡ evaluated conf occasion items (problems_at rows) id)
-    → (AreTidy conf rows → Absorbed conf rows (outcome_records o) (outcome_rows rows id o))
-    → more ≡ made ++ outcome_records o → next ≡ outcome_rows rows id o → (asked : Bool) → asked ≡ true → RunsOn conf occasion cells stored asked id made rows more next
-run_on conf occasion cells stored rows next id made more o records lands m n false q = cc
-run_on conf occasion cells stored rows next id made more o records lands m n true q = λ items before ids tidy runs sees.
+pub run_on : (stage : Stage) (occasion : Occasion) (cells : List CellView) (stored : ℕ → Option Stored) (rows next : List (List Open)) (id : ℕ) (made more : List Rec) (o : Option TriggerOutcome)
+    → ((items : ℕ → List Stored) → SeesFor stage.conf cells stored occasion.now items id → outcome_records o ≡ evaluated stage occasion items (problems_at rows) id)
+    → (AreTidy stage rows → Absorbed stage rows (outcome_records o) (outcome_rows rows id o))
+    → more ≡ made ++ outcome_records o → next ≡ outcome_rows rows id o → (asked : Bool) → asked ≡ true → RunsOn stage occasion cells stored asked id made rows more next
+run_on stage occasion cells stored rows next id made more o records lands m n false q = cc
+run_on stage occasion cells stored rows next id made more o records lands m n true q = λ items before ids tidy runs sees.
     let all : List ℕ = ids ++ id ∷ [] in
-    subst (λ is. Runs conf (evaluated conf occasion items) before is more next) (take_last ids id)
-    (run_more conf occasion items before rows next all (length ids) id made more o (within ids) (sym (get_last ids id 0)) (records items (sees refl)) lands m n tidy
-    (subst (λ is. Runs conf (evaluated conf occasion items) before is made rows) (sym (take_front ids (id ∷ []))) runs))
+    subst (λ is. Runs stage (evaluated stage occasion items) before is more next) (take_last ids id)
+    (run_more stage occasion items before rows next all (length ids) id made more o (within ids) (sym (get_last ids id 0)) (records items (sees refl)) lands m n tidy
+    (subst (λ is. Runs stage (evaluated stage occasion items) before is made rows) (sym (take_front ids (id ∷ []))) runs))
   where
     within : (zs : List ℕ) → length zs < length (zs ++ id ∷ [])
     within [] = omega arith
     within (z ∷ zs) = let ih = within zs in omega (arith, ih)
 
 -- a trigger that is passed over
-pub run_past : (conf : Conf) (occasion : Occasion) (cells : List CellView) (stored : ℕ → Option Stored) (rows : List (List Open)) (id : ℕ) (made : List Rec) (asked : Bool) → asked ≡ false → RunsOn conf occasion cells stored asked id made rows made rows
-run_past conf occasion cells stored rows id made true q = cc
-run_past conf occasion cells stored rows id made false q = λ items before ids tidy runs sees. runs
+pub run_past : (stage : Stage) (occasion : Occasion) (cells : List CellView) (stored : ℕ → Option Stored) (rows : List (List Open)) (id : ℕ) (made : List Rec) (asked : Bool) → asked ≡ false → RunsOn stage occasion cells stored asked id made rows made rows
+run_past stage occasion cells stored rows id made true q = cc
+run_past stage occasion cells stored rows id made false q = λ items before ids tidy runs sees. runs
 
 -- the triggers so far that are evaluated, with one more
 pub asked_more : (p : ℕ → Bool) (ids : List ℕ) (k : ℕ) → k < length ids → filter p (take (k + 1) ids) ≡ cond (p (get_or ids k 0)) (filter p (take k ids) ++ get_or ids k 0 ∷ []) (filter p (take k ids))

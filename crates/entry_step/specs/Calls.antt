@@ -14,11 +14,11 @@ use Rattle.entry_step.specs.declared.plans.Node.{Node}
 -- what is kept shows the trigger these histories
 abbrev pub Shown : Calls → (ℕ → List Stored) → Type 0
 Shown calls items =
-    SeesFor calls.ready.now calls.items.now (still_to_come calls.coming.now) calls.occasion.now items calls.id
+    SeesFor calls.ready.now.conf calls.items.now (still_to_come calls.coming.now) calls.occasion.now items calls.id
 
 -- the values of the calls, by their places, over histories
 abbrev pub values_of : Calls → (ℕ → List Stored) → ℕ → Option ℤ
-values_of calls items = call_value items calls.occasion calls.ready.now.utc_offset calls.trigger.now
+values_of calls items = call_value items calls.occasion calls.ready.now.conf.utc_offset calls.trigger.now
 
 -- values by their places; None behind the last
 abbrev pub value_in : List (Option ℤ) → ℕ → Option ℤ

@@ -3,6 +3,7 @@ use Rattle.std.specs.Prelude.{◌≡◌, ℕ, ◌==◌, Bool, true, false, ◌||
 use Rattle.std.specs.List.{list_any}
 use Rattle.zbx_types.specs.Masters.{has_id}
 use Rattle.zbx_types.specs.declared.conf.Conf.{Conf}
+use Rattle.trigger_state.specs.Stages.{Stage}
 use Rattle.zbx_types.specs.declared.entries.Entry.{Entry}
 use Rattle.zbx_types.specs.declared.entries.Entry.TheVariants.{Config, Value, Tick}
 use Rattle.zbx_types.specs.declared.entries.Numbered.{Numbered}
@@ -76,26 +77,26 @@ histories_after conf c number entry i = (item_after conf (memory_in c) number en
 
 -- what an entry makes over cells before any step is due: its failures, and then the records of the triggers that it
 -- evaluates
-unfoldable pub judged_at : Conf → Cells → ℕ → Entry → List Rec
-judged_at conf c number entry =
-    failures_at conf (memory_in c) number entry
-    ++ phase conf (evaluated conf (occasion_of (c TickKey) number entry) (histories_after conf c number entry))
-    (opens_in c) (triggers_at conf (memory_in c) number entry)
+unfoldable pub judged_at : Stage → Cells → ℕ → Entry → List Rec
+judged_at stage c number entry =
+    failures_at stage.conf (memory_in c) number entry
+    ++ phase stage (evaluated stage (occasion_of (c TickKey) number entry) (histories_after stage.conf c number entry))
+    (opens_in c) (triggers_at stage.conf (memory_in c) number entry)
 
 -- the records that an entry makes over cells: with those, at a Tick, the steps that are due for what is open then
-unfoldable pub records_at : Conf → Cells → ℕ → Entry → List Rec
-records_at conf c number entry =
-    judged_at conf c number entry ++ due_at conf entry (grown conf (opens_in c) (judged_at conf c number entry))
+unfoldable pub records_at : Stage → Cells → ℕ → Entry → List Rec
+records_at stage c number entry =
+    judged_at stage c number entry ++ due_at stage entry (grown stage (opens_in c) (judged_at stage c number entry))
 
 -- the records that an entry makes over cells, with its own number
-abbrev pub records : Conf → Cells → Numbered → List Rec
-records conf c e = records_at conf c e.number e.entry
+abbrev pub records : Stage → Cells → Numbered → List Rec
+records stage c e = records_at stage c e.number e.entry
 
 -- the cells behind an entry
-unfoldable pub after : Conf → Cells → Numbered → Cells
-after conf c e (ItemKey i) = item_after conf (memory_in c) e.number e.entry i (c (ItemKey i))
-after conf c e (TriggerKey id) = absorbed_all conf id (c (TriggerKey id)) (records conf c e)
-after conf c e TickKey = tick_with (c TickKey) e.entry
+unfoldable pub after : Stage → Cells → Numbered → Cells
+after stage c e (ItemKey i) = item_after stage.conf (memory_in c) e.number e.entry i (c (ItemKey i))
+after stage c e (TriggerKey id) = absorbed_all stage id (c (TriggerKey id)) (records stage c e)
+after stage c e TickKey = tick_with (c TickKey) e.entry
 
 -- the moment of the last entry of a log whose foot holds the item
 abbrev pub seen_of : Conf → List Numbered → ℕ → ℕ
@@ -103,12 +104,12 @@ seen_of conf [] i = 0
 seen_of conf (e ∷ log) i = if touches conf e.entry (ItemKey i) then moment_of e.entry else seen_of conf log i
 
 -- what the cells hold, found by searching a log and its records
-unfoldable pub look : Conf → List Numbered → List Rec → Cells
-look conf log rs (ItemKey i) =
-    record { history = history_of conf log i; marks = marks_of conf log i; seen = seen_of conf log i }
-look conf log rs (TriggerKey id) = open_of conf rs id
-look conf log rs TickKey = first_tick log
+unfoldable pub look : Stage → List Numbered → List Rec → Cells
+look stage log rs (ItemKey i) =
+    record { history = history_of stage.conf log i; marks = marks_of stage.conf log i; seen = seen_of stage.conf log i }
+look stage log rs (TriggerKey id) = open_of stage rs id
+look stage log rs TickKey = first_tick log
 
 -- cells stand for a log: they are what the search finds in it and in its records
-unfoldable pub AreCellsOf : Conf → Cells → List Numbered → Type 0
-AreCellsOf conf c log = c ≡ look conf log (replay conf log)
+unfoldable pub AreCellsOf : Stage → Cells → List Numbered → Type 0
+AreCellsOf stage c log = c ≡ look stage log (replay stage log)

@@ -3,6 +3,7 @@ use Rattle.std.specs.Prelude.{◌≡◌, ◌⊎◌, ℕ, ◌-◌, ◌==◌, ◌|
 use Rattle.std.specs.List.{list_any}
 use Rattle.std.specs.Option.{unwrap_or}
 use Rattle.zbx_types.specs.declared.conf.Conf.{Conf}
+use Rattle.trigger_state.specs.Stages.{Stage, KeepsIds, home}
 use Rattle.zbx_types.specs.declared.triggers.Trigger.{Trigger}
 use Rattle.zbx_types.specs.declared.entries.EventId.{EventId}
 use Rattle.zbx_types.specs.declared.entries.Rec.{Rec}
@@ -74,8 +75,8 @@ outcome_rows rows id None = rows
 outcome_rows rows id (Some o) = with_all (with_row rows id (changed (problems_at rows id) o.change)) o.others
 
 -- fresh open problems of a trigger: those in the rows with more records
-abbrev pub IsAbsorbed : Conf → List (List Open) → List Rec → Fresh → Type 0
-IsAbsorbed conf rows more f = f.opens ≡ absorbed_all conf f.id (problems_at rows f.id) more
+abbrev pub IsAbsorbed : Stage → List (List Open) → List Rec → Fresh → Type 0
+IsAbsorbed stage rows more f = f.opens ≡ absorbed_all stage f.id (problems_at rows f.id) more
 
 -- the trigger with an id has fresh ones
 abbrev pub has_fresh : List Fresh → ℕ → Bool
@@ -90,16 +91,16 @@ pub record Adds (one : Open) (records : List Rec) (o : TriggerOutcome) : Type 0 
 
 -- the outcome of some records: the open problems of the trigger with an id behind them, and those of the triggers of
 -- these events
-pub record Leaves (conf : Conf) (rows : List (List Open)) (id : ℕ) (events : List EventId) (records : List Rec)
+pub record Leaves (stage : Stage) (rows : List (List Open)) (id : ℕ) (events : List EventId) (records : List Rec)
     (o : TriggerOutcome) : Type 0 where
   pub made : o.records ≡ records
-  pub own : o.change ≡ change.Leave (absorbed_all conf id (problems_at rows id) records)
-  pub others : Each (IsAbsorbed conf rows records) o.others
-  pub whole : Each (λ (e : EventId). ((id == e.trigger) || has_fresh o.others e.trigger) ≡ true) events
+  pub own : o.change ≡ change.Leave (absorbed_all stage id (problems_at rows id) records)
+  pub others : Each (IsAbsorbed stage rows records) o.others
+  pub whole : Each (λ (e : EventId). ((id == home stage e) || has_fresh o.others (home stage e)) ≡ true) events
 
 -- the outcome of a new problem that makes these records, as rules close the problems of these events
-abbrev pub Lands : Conf → List (List Open) → ℕ → Open → List EventId → List Rec → TriggerOutcome → Type 0
-Lands conf rows id one events records o = Adds one records o ⊎ Leaves conf rows id events records o
+abbrev pub Lands : Stage → List (List Open) → ℕ → Open → List EventId → List Rec → TriggerOutcome → Type 0
+Lands stage rows id one events records o = Adds one records o ⊎ Leaves stage rows id events records o
 
 -- each event that a verdict closes has the property
 abbrev pub EachClosed : (EventId → Type 0) → Verdict → Type 0
@@ -108,11 +109,11 @@ EachClosed P New = Unit {0}
 EachClosed P (Close events) = Each P events
 
 -- what a trigger adds that sees this and is held or not, over the open problems of all triggers
-abbrev pub judged : Conf → Occasion → Seen → ℕ → Trigger → Bool → (ℕ → List Open) → List Rec
-judged conf occasion seen id trigger held all =
-    verdict_records conf occasion.number occasion.now seen.values id trigger all
+abbrev pub judged : Stage → Occasion → Seen → ℕ → Trigger → Bool → (ℕ → List Open) → List Rec
+judged stage occasion seen id trigger held all =
+    verdict_records stage occasion.number occasion.now seen.values id trigger all
     (verdict_over trigger held (all id) (expression_value seen.calls trigger.expr)
-    (recovery_value seen.calls trigger.recovery_expr) (event_tags conf id seen.values) occasion.is_value)
+    (recovery_value seen.calls trigger.recovery_expr) (event_tags stage.conf id seen.values) occasion.is_value)
 
 -- tags serve a trigger in place of others: with both it has the same verdict over its open problems
 abbrev pub Serve : Trigger → List Open → List Tag → List Tag → Type 0
@@ -120,34 +121,36 @@ Serve trigger os tags others =
     (held : Bool) (p r : Option ℤ) (is_value : Bool) → verdict_over trigger held os p r tags is_value ≡ verdict_over
     trigger held os p r others is_value
 
--- each trigger has a row, and each open problem is in the row of its own trigger
-pub record AreTidy (conf : Conf) (rows : List (List Open)) : Type 0 where
-  pub size : length rows ≡ length conf.triggers
-  pub homes : (id : ℕ) → AllAtHome conf id (problems_at rows id)
+-- the triggers of events still have the ids in them, each trigger has a row, and each open problem is in the row of its
+-- own trigger
+pub record AreTidy (stage : Stage) (rows : List (List Open)) : Type 0 where
+  pub ids : KeepsIds stage
+  pub size : length rows ≡ length stage.conf.triggers
+  pub homes : (id : ℕ) → AllAtHome stage id (problems_at rows id)
 
 -- the triggers with these ids, evaluated one after another over rows, make these records and leave these rows
-pub record Runs (conf : Conf) (one : (ℕ → List Open) → ℕ → List Rec) (before : List (List Open)) (ids : List ℕ)
+pub record Runs (stage : Stage) (one : (ℕ → List Open) → ℕ → List Rec) (before : List (List Open)) (ids : List ℕ)
     (made : List Rec) (rows : List (List Open)) : Type 0 where
-  pub records : made ≡ phase conf one (problems_at before) ids
-  pub changes : (id : ℕ) → problems_at rows id ≡ absorbed_all conf id (problems_at before id) made
+  pub records : made ≡ phase stage one (problems_at before) ids
+  pub changes : (id : ℕ) → problems_at rows id ≡ absorbed_all stage id (problems_at before id) made
   pub size : length rows ≡ length before
 
 -- triggers are evaluated on an occasion, over whichever histories they are shown by cells with what is still to come
-abbrev pub RunsOver : Conf → Occasion → List CellView → (ℕ → Option Stored) → List (List Open) → List ℕ → List Rec
+abbrev pub RunsOver : Stage → Occasion → List CellView → (ℕ → Option Stored) → List (List Open) → List ℕ → List Rec
     → List (List Open) → Type 0
-RunsOver conf occasion cells stored before ids made rows =
-    (items : ℕ → List Stored) → Each (SeesFor conf cells stored occasion.now items) ids → AreTidy conf before
-    → Runs conf (evaluated conf occasion items) before ids made rows
+RunsOver stage occasion cells stored before ids made rows =
+    (items : ℕ → List Stored) → Each (SeesFor stage.conf cells stored occasion.now items) ids → AreTidy stage before
+    → Runs stage (evaluated stage occasion items) before ids made rows
 
 -- one trigger more, if it is evaluated: whatever was evaluated before it and made these records and rows, now these
 -- are made
-abbrev pub RunsOn : Conf → Occasion → List CellView → (ℕ → Option Stored) → Bool → ℕ → List Rec → List (List Open)
+abbrev pub RunsOn : Stage → Occasion → List CellView → (ℕ → Option Stored) → Bool → ℕ → List Rec → List (List Open)
     → List Rec → List (List Open) → Type 0
-RunsOn conf occasion cells stored asked id made rows more next =
-    (items : ℕ → List Stored) (before : List (List Open)) (ids : List ℕ) → AreTidy conf before
-    → Runs conf (evaluated conf occasion items) before ids made rows
-    → (asked ≡ true → SeesFor conf cells stored occasion.now items id)
-    → Runs conf (evaluated conf occasion items) before (if asked then ids ++ id ∷ [] else ids) more next
+RunsOn stage occasion cells stored asked id made rows more next =
+    (items : ℕ → List Stored) (before : List (List Open)) (ids : List ℕ) → AreTidy stage before
+    → Runs stage (evaluated stage occasion items) before ids made rows
+    → (asked ≡ true → SeesFor stage.conf cells stored occasion.now items id)
+    → Runs stage (evaluated stage occasion items) before (if asked then ids ++ id ∷ [] else ids) more next
 
 -- the triggers with a call over an item that a draft stores a value of; without a draft all
 abbrev pub is_asked : Conf → Option Draft → ℕ → Bool
@@ -155,42 +158,42 @@ is_asked conf None id = true
 is_asked conf (Some draft) id = has_call (λ item. is_some (stored_at draft.visits item)) (at_id conf.triggers id)
 
 -- triggers are evaluated over cells with what is still to come, and their records stand behind some failures
-pub record Drafted (conf : Conf) (occasion : Occasion) (coming : Option Draft) (ids : List ℕ) (failures : List Rec)
+pub record Drafted (stage : Stage) (occasion : Occasion) (coming : Option Draft) (ids : List ℕ) (failures : List Rec)
     (cells : List CellView) (before : List (List Open)) (made : List Rec) (rows : List (List Open)) : Type 0 where
   pub judged : List Rec
-  pub runs : RunsOver conf occasion cells (still_to_come coming) before ids judged rows
+  pub runs : RunsOver stage occasion cells (still_to_come coming) before ids judged rows
   pub records : made ≡ failures ++ judged
 
 -- the cells take in these visits of a value: the triggers over what is stored are evaluated, and their records stand
 -- behind the failures
-pub record TakesIn (conf : Conf) (occasion : Occasion) (visits : List Visit) (ids : List ℕ) (before : CellsView)
+pub record TakesIn (stage : Stage) (occasion : Occasion) (visits : List Visit) (ids : List ℕ) (before : CellsView)
     (made : List Rec) (after : CellsView) : Type 0 where
   pub judged : List Rec
-  pub runs : RunsOver conf occasion before.items (stored_at visits) before.problems ids judged after.problems
-  pub records : made ≡ failures_of conf occasion.number visits ++ judged
+  pub runs : RunsOver stage occasion before.items (stored_at visits) before.problems ids judged after.problems
+  pub records : made ≡ failures_of stage.conf occasion.number visits ++ judged
   pub came : CameIn occasion.now visits before.items after.items before.memories after.memories
   pub tick : after.tick ≡ before.tick
 
 -- records change the rows that were there before into these
-pub record Absorbed (conf : Conf) (before : List (List Open)) (made : List Rec) (rows : List (List Open)) : Type 0 where
-  pub each : (id : ℕ) → problems_at rows id ≡ absorbed_all conf id (problems_at before id) made
+pub record Absorbed (stage : Stage) (before : List (List Open)) (made : List Rec) (rows : List (List Open)) : Type 0 where
+  pub each : (id : ℕ) → problems_at rows id ≡ absorbed_all stage id (problems_at before id) made
   pub size : length rows ≡ length before
 
 -- the cells take a Tick: the triggers are evaluated, and then the steps run that are due over the rows that these leave
-pub record TakesTick (conf : Conf) (occasion : Occasion) (before : CellsView) (made : List Rec)
+pub record TakesTick (stage : Stage) (occasion : Occasion) (before : CellsView) (made : List Rec)
     (after : CellsView) : Type 0 where
   pub judged : List Rec
   pub rows : List (List Open)
-  pub runs : RunsOver conf occasion before.items (λ id. None) before.problems (timed_triggers conf) judged rows
-  pub records : made ≡ judged ++ due_over conf occasion.now (problems_at rows)
-  pub changes : Absorbed conf rows (due_over conf occasion.now (problems_at rows)) after.problems
+  pub runs : RunsOver stage occasion before.items (λ id. None) before.problems (timed_triggers stage.conf) judged rows
+  pub records : made ≡ judged ++ due_over stage occasion.now (problems_at rows)
+  pub changes : Absorbed stage rows (due_over stage occasion.now (problems_at rows)) after.problems
   pub items : after.items ≡ before.items
   pub memories : after.memories ≡ before.memories
   pub tick : after.tick ≡ occasion.tick
 
 -- what is due for an open problem, with its event
-abbrev pub due_of : Conf → ℕ → Open → Due
-due_of conf now o = record { event = event_in o; records = due_for conf now o }
+abbrev pub due_of : Stage → ℕ → Open → Due
+due_of stage now o = record { event = event_in o; records = due_for stage now o }
 
 -- rows with a fresh one in a place, where there is one
 abbrev pub with_fresh : List (List Open) → ℕ → Option (List Open) → List (List Open)

@@ -13,6 +13,7 @@ use Rattle.entry_step.specs.Log.{IsRising}
 use Rattle.zbx_types.specs.Records.{event_of}
 use Rattle.trigger_state.specs.Problems.{recovers, open_of}
 use Rattle.entry_step.specs.Records.{replay}
+use Rattle.trigger_state.specs.Stages.{first_stage}
 
 -- a record is a Problem with these names of host and trigger
 abbrev pub is_named : List ℕ → List ℕ → Rec → Bool
@@ -40,5 +41,5 @@ abbrev pub OpenByNames : Type 0
 OpenByNames =
     (conf : Conf) (log : List Numbered) → IsRising log → AreDistinct conf → (id : ℕ) (trigger : Trigger)
     → at_id conf.triggers id ≡ Some trigger
-    → map (λ o. o.problem) (open_of conf (replay conf log) id) ≡ open_problems (replay conf log)
+    → map (λ o. o.problem) (open_of (first_stage conf) (replay (first_stage conf) log) id) ≡ open_problems (replay (first_stage conf) log)
     (host_of conf trigger) trigger.name

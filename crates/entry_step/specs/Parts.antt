@@ -3,6 +3,7 @@ use Rattle.std.specs.Prelude.{◌≡◌, ℕ, ◌+◌, ◌==◌, List, [], ◌�
 use Rattle.std.specs.Option.{unwrap_or}
 use Rattle.zbx_types.specs.Ids.{at_id}
 use Rattle.zbx_types.specs.declared.conf.Conf.{Conf}
+use Rattle.trigger_state.specs.Stages.{Stage}
 use Rattle.zbx_types.specs.declared.entries.Numbered.{Numbered}
 use Rattle.zbx_types.specs.declared.entries.Rec.{Rec}
 use Rattle.prep_steps.specs.declared.memory.StepMemory.{StepMemory}
@@ -69,34 +70,34 @@ pub record IsReplaced (held : CellsView) (part : PartView) (next : CellsView) : 
   pub tick : next.tick ≡ part.tick
 
 -- each of these entries, as those before it are worked out, comes after what the cells have seen, and fits
-abbrev pub AllCome : Conf → Cells → List Numbered → Type 0
-AllCome conf c [] = Unit {0}
-AllCome conf c (e ∷ es) = ComesAfter conf c e × IsFitting conf e.entry × AllCome conf (after conf c e) es
+abbrev pub AllCome : Stage → Cells → List Numbered → Type 0
+AllCome stage c [] = Unit {0}
+AllCome stage c (e ∷ es) = ComesAfter stage.conf c e × IsFitting stage.conf e.entry × AllCome stage (after stage c e) es
 
 -- how many triggers they evaluate
-abbrev pub evaluations : Conf → Cells → List Numbered → ℕ
-evaluations conf c [] = 0
-evaluations conf c (e ∷ es) =
-    length (triggers_at conf (memory_in c) e.number e.entry) + evaluations conf (after conf c e) es
+abbrev pub evaluations : Stage → Cells → List Numbered → ℕ
+evaluations stage c [] = 0
+evaluations stage c (e ∷ es) =
+    length (triggers_at stage.conf (memory_in c) e.number e.entry) + evaluations stage (after stage c e) es
 
 -- a part is of some cells that represent others to which the entries come
-pub record IsWorkable (conf : Conf) (es : List Numbered) (part : PartView) : Type 0 where
+pub record IsWorkable (stage : Stage) (es : List Numbered) (part : PartView) : Type 0 where
   pub held : CellsView
   pub cells : Cells
-  pub of : IsPartOf conf es held part
-  pub represented : Represents conf held cells
-  pub come : AllCome conf cells es
+  pub of : IsPartOf stage.conf es held part
+  pub represented : Represents stage held cells
+  pub come : AllCome stage cells es
 
 -- What the entries make of a part, whatever cells it is of: the records of each, one after another, and copies that
 -- leave what the entries leave, once they come into their places.
-unfoldable pub WorksOut : Conf → List Numbered → PartView → PartView → List (List Rec) → Type 0
-WorksOut conf es part done made =
-    (held : CellsView) (c : Cells) → IsPartOf conf es held part → Represents conf held c → AllCome conf c es
-    → (made ≡ records_done conf c es) × ((next : CellsView) → IsReplaced held done next
-    → Represents conf next (cells_done conf c es))
+unfoldable pub WorksOut : Stage → List Numbered → PartView → PartView → List (List Rec) → Type 0
+WorksOut stage es part done made =
+    (held : CellsView) (c : Cells) → IsPartOf stage.conf es held part → Represents stage held c → AllCome stage c es
+    → (made ≡ records_done stage c es) × ((next : CellsView) → IsReplaced held done next
+    → Represents stage next (cells_done stage c es))
 
 -- so many triggers were evaluated for that
-unfoldable pub IsCounted : Conf → List Numbered → PartView → ℕ → ℕ → Type 0
-IsCounted conf es part before now =
-    (held : CellsView) (c : Cells) → IsPartOf conf es held part → Represents conf held c → AllCome conf c es
-    → now ≡ before + evaluations conf c es
+unfoldable pub IsCounted : Stage → List Numbered → PartView → ℕ → ℕ → Type 0
+IsCounted stage es part before now =
+    (held : CellsView) (c : Cells) → IsPartOf stage.conf es held part → Represents stage held c → AllCome stage c es
+    → now ≡ before + evaluations stage c es

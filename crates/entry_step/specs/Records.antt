@@ -35,7 +35,8 @@ use Rattle.event_correlation.specs.declared.answer.Closes.{Closes}
 use Rattle.zbx_types.specs.Records.{same_event, event_of}
 use Rattle.entry_step.specs.Order.{order}
 use Rattle.entry_step.specs.Due.{by_making, due_at}
-use Rattle.trigger_state.specs.Problems.{home, event_in, open_of, grown}
+use Rattle.trigger_state.specs.Stages.{Stage, home}
+use Rattle.trigger_state.specs.Problems.{event_in, open_of, grown}
 use Rattle.trigger_state.specs.Verdicts.{verdict_of}
 use Rattle.trigger_state.specs.declared.answer.Verdict.{Verdict}
 use Rattle.trigger_state.specs.declared.answer.Verdict.TheVariants.{Nothing, New, Close}
@@ -62,17 +63,17 @@ closed_records conf number now cause os event =
     ∷ flat_map (λ o. recovered_records conf o.problem o.steps now) (filter (λ o. same_event (event_in o) event) os)
 
 -- the problems that are open, in the order of making
-abbrev pub problems_open : Conf → (ℕ → List Open) → List Rec
-problems_open conf all = map (λ o. o.problem) (by_making conf all)
+abbrev pub problems_open : Stage → (ℕ → List Open) → List Rec
+problems_open stage all = map (λ o. o.problem) (by_making stage all)
 
 -- what the rules of global correlation close for a new problem, over what was open when it was made
-unfoldable pub ruled : Conf → Rec → (ℕ → List Open) → Closes
-ruled conf problem all = closes_of conf problem (problems_open conf all)
+unfoldable pub ruled : Stage → Rec → (ℕ → List Open) → Closes
+ruled stage problem all = closes_of stage.conf problem (problems_open stage all)
 
 -- what the ends of the problems that rules close make, each of its own trigger
-abbrev pub ruled_records : Conf → ℕ → ℕ → (ℕ → List Open) → List EventId → List Rec
-ruled_records conf number now all events =
-    flat_map (λ e. closed_records conf number now causes.Correlation (all (home conf e)) e) events
+abbrev pub ruled_records : Stage → ℕ → ℕ → (ℕ → List Open) → List EventId → List Rec
+ruled_records stage number now all events =
+    flat_map (λ e. closed_records stage.conf number now causes.Correlation (all (home stage e)) e) events
 
 -- what comes last: the new problem's own Recovery where a rule closes it, else step 1 of each action that matches it
 -- and isn't paused
@@ -83,22 +84,22 @@ last_records conf number now id problem is_closed =
 
 -- what a new problem of a trigger makes where this closes for it: its record, then the ends of the old problems, then
 -- its own end or its first steps
-abbrev pub begun_with : Conf → ℕ → ℕ → (ℕ → List Open) → ℕ → Rec → Closes → List Rec
-begun_with conf number now all id problem closes =
-    problem ∷ ruled_records conf number now all closes.old ++ last_records conf number now id problem closes.new
+abbrev pub begun_with : Stage → ℕ → ℕ → (ℕ → List Open) → ℕ → Rec → Closes → List Rec
+begun_with stage number now all id problem closes =
+    problem ∷ ruled_records stage number now all closes.old ++ last_records stage.conf number now id problem closes.new
 
 -- and where the rules tell what closes
-abbrev pub begun_records : Conf → ℕ → ℕ → (ℕ → List Open) → ℕ → Rec → List Rec
-begun_records conf number now all id problem = begun_with conf number now all id problem (ruled conf problem all)
+abbrev pub begun_records : Stage → ℕ → ℕ → (ℕ → List Open) → ℕ → Rec → List Rec
+begun_records stage number now all id problem = begun_with stage number now all id problem (ruled stage problem all)
 
 -- the records that a verdict on a trigger makes over the open problems of all triggers: a new one with what rules
 -- close, or the ends of those that close
-unfoldable pub verdict_records : Conf → ℕ → ℕ → List (Option Held) → ℕ → Trigger → (ℕ → List Open) → Verdict → List Rec
-verdict_records conf number now values id trigger all Nothing = []
-verdict_records conf number now values id trigger all New =
-    begun_records conf number now all id (problem_of conf number now values id trigger)
-verdict_records conf number now values id trigger all (Close events) =
-    flat_map (closed_records conf number now causes.Expression (all id)) events
+unfoldable pub verdict_records : Stage → ℕ → ℕ → List (Option Held) → ℕ → Trigger → (ℕ → List Open) → Verdict → List Rec
+verdict_records stage number now values id trigger all Nothing = []
+verdict_records stage number now values id trigger all New =
+    begun_records stage number now all id (problem_of stage.conf number now values id trigger)
+verdict_records stage number now values id trigger all (Close events) =
+    flat_map (closed_records stage.conf number now causes.Expression (all id)) events
 
 -- the value of an expression over the values of the calls
 abbrev pub expression_value : (ℕ → Option ℤ) → Expr → Option ℤ
@@ -110,32 +111,32 @@ recovery_value calls None = None
 recovery_value calls (Some expr) = expression_value calls expr
 
 -- the records of the verdict on a trigger that sees this: its tags are those that it has now
-abbrev pub judged_by : Conf → Occasion → Seen → (ℕ → List Open) → ℕ → Trigger → List Rec
-judged_by conf occasion seen all id trigger =
-    verdict_records conf occasion.number occasion.now seen.values id trigger all
-    (verdict_of conf all id (expression_value seen.calls trigger.expr)
-    (recovery_value seen.calls trigger.recovery_expr) (event_tags conf id seen.values) occasion.is_value)
+abbrev pub judged_by : Stage → Occasion → Seen → (ℕ → List Open) → ℕ → Trigger → List Rec
+judged_by stage occasion seen all id trigger =
+    verdict_records stage occasion.number occasion.now seen.values id trigger all
+    (verdict_of stage.conf all id (expression_value seen.calls trigger.expr)
+    (recovery_value seen.calls trigger.recovery_expr) (event_tags stage.conf id seen.values) occasion.is_value)
 
 -- the records of the verdict on the trigger with an id, over these histories. No trigger: none.
-abbrev pub records_by : Conf → Occasion → (ℕ → List Stored) → (ℕ → List Open) → ℕ → Option Trigger → List Rec
-records_by conf occasion items all id None = []
-records_by conf occasion items all id (Some trigger) =
-    judged_by conf occasion (seen_in items occasion conf.utc_offset trigger) all id trigger
+abbrev pub records_by : Stage → Occasion → (ℕ → List Stored) → (ℕ → List Open) → ℕ → Option Trigger → List Rec
+records_by stage occasion items all id None = []
+records_by stage occasion items all id (Some trigger) =
+    judged_by stage occasion (seen_in items occasion stage.conf.utc_offset trigger) all id trigger
 
 -- What the trigger with an id adds on an occasion, over the histories of the items and the open problems of the
 -- triggers: the records of its verdict.
-unfoldable pub evaluated : Conf → Occasion → (ℕ → List Stored) → (ℕ → List Open) → ℕ → List Rec
-evaluated conf occasion items all id = records_by conf occasion items all id (at_id conf.triggers id)
+unfoldable pub evaluated : Stage → Occasion → (ℕ → List Stored) → (ℕ → List Open) → ℕ → List Rec
+evaluated stage occasion items all id = records_by stage occasion items all id (at_id stage.conf.triggers id)
 
 -- triggers evaluated one after another, each over the open problems that those before it leave
-abbrev pub phase : Conf → ((ℕ → List Open) → ℕ → List Rec) → (ℕ → List Open) → List ℕ → List Rec
-phase conf one all [] = []
-phase conf one all (id ∷ ids) = one all id ++ phase conf one (grown conf all (one all id)) ids
+abbrev pub phase : Stage → ((ℕ → List Open) → ℕ → List Rec) → (ℕ → List Open) → List ℕ → List Rec
+phase stage one all [] = []
+phase stage one all (id ∷ ids) = one all id ++ phase stage one (grown stage all (one all id)) ids
 
 -- and by search: each over the open problems of all records so far
-abbrev pub phase_over : Conf → ((ℕ → List Open) → ℕ → List Rec) → List Rec → List ℕ → List Rec
-phase_over conf one rs [] = []
-phase_over conf one rs (id ∷ ids) = one (open_of conf rs) id ++ phase_over conf one (rs ++ one (open_of conf rs) id) ids
+abbrev pub phase_over : Stage → ((ℕ → List Open) → ℕ → List Rec) → List Rec → List ℕ → List Rec
+phase_over stage one rs [] = []
+phase_over stage one rs (id ∷ ids) = one (open_of stage rs) id ++ phase_over stage one (rs ++ one (open_of stage rs) id) ids
 
 -- a trigger is enabled and has a call over an item that passes a test
 abbrev pub has_call : (ℕ → Bool) → Option Trigger → Bool
@@ -178,20 +179,20 @@ failures_at conf memory number entry = failures_of conf number (visits_at conf m
 
 -- what an entry makes before any step is due, behind this log and the records before it: its failures, and then the
 -- records of the triggers that it evaluates
-unfoldable pub judged_of : Conf → List Numbered → Numbered → Entry → List Rec → List Rec
-judged_of conf log e entry rs =
-    failures_at conf (memory_of conf log) e.number entry
-    ++ phase_over conf (evaluated conf (occasion_of (first_tick log) e.number entry) (history_of conf (e ∷ log)))
-    (rs ++ failures_at conf (memory_of conf log) e.number entry)
-    (triggers_at conf (memory_of conf log) e.number entry)
+unfoldable pub judged_of : Stage → List Numbered → Numbered → Entry → List Rec → List Rec
+judged_of stage log e entry rs =
+    failures_at stage.conf (memory_of stage.conf log) e.number entry
+    ++ phase_over stage (evaluated stage (occasion_of (first_tick log) e.number entry) (history_of stage.conf (e ∷ log)))
+    (rs ++ failures_at stage.conf (memory_of stage.conf log) e.number entry)
+    (triggers_at stage.conf (memory_of stage.conf log) e.number entry)
 
 -- the records that an entry adds to those before it, behind this log: with those, at a Tick, the steps that are due
 -- for what is open then
-unfoldable pub out_of : Conf → List Numbered → Numbered → Entry → List Rec → List Rec
-out_of conf log e entry rs =
-    judged_of conf log e entry rs ++ due_at conf entry (open_of conf (rs ++ judged_of conf log e entry rs))
+unfoldable pub out_of : Stage → List Numbered → Numbered → Entry → List Rec → List Rec
+out_of stage log e entry rs =
+    judged_of stage log e entry rs ++ due_at stage entry (open_of stage (rs ++ judged_of stage log e entry rs))
 
 -- all records that the entries of a log make, one thread taking them in the order of their numbers
-abbrev pub replay : Conf → List Numbered → List Rec
-replay conf [] = []
-replay conf (e ∷ log) = replay conf log ++ out_of conf log e e.entry (replay conf log)
+abbrev pub replay : Stage → List Numbered → List Rec
+replay stage [] = []
+replay stage (e ∷ log) = replay stage log ++ out_of stage log e e.entry (replay stage log)

@@ -10,7 +10,8 @@ use Rattle.event_correlation.specs.Laws.{HasTagsOf}
 use Rattle.entry_step.specs.Each.{Each}
 use Rattle.zbx_types.specs.Entries.{moment_of}
 use Rattle.entry_step.specs.Log.{IsFitting}
-use Rattle.trigger_state.specs.Problems.{home, event_in}
+use Rattle.trigger_state.specs.Stages.{Stage, KeepsIds, home}
+use Rattle.trigger_state.specs.Problems.{event_in}
 use Rattle.prep_steps.specs.declared.memory.StepMemory.{StepMemory}
 use Rattle.preprocess.specs.Chains.{listed}
 use Rattle.value_cache.specs.Cells.{CellView}
@@ -32,8 +33,8 @@ unfoldable pub problems_at : List (List Open) → ℕ → List Open
 problems_at rows id = unwrap_or (at_id rows id) []
 
 -- each open problem is of the trigger with this id
-abbrev pub AllAtHome : Conf → ℕ → List Open → Type 0
-AllAtHome conf id os = Each (λ o. home conf (event_in o) ≡ id) os
+abbrev pub AllAtHome : Stage → ℕ → List Open → Type 0
+AllAtHome stage id os = Each (λ o. home stage (event_in o) ≡ id) os
 
 -- a problem has, in order, the names of the tags of the trigger with this id, which is there
 abbrev pub IsTagged : Conf → ℕ → Rec → Type 0
@@ -43,31 +44,32 @@ IsTagged conf id problem = (trigger : Trigger) × (at_id conf.triggers id ≡ So
 abbrev pub AllTagged : Conf → ℕ → List Open → Type 0
 AllTagged conf id os = Each (λ o. IsTagged conf id o.problem) os
 
--- each open problem is in the cell of its own trigger and has the names of its tags, and what is no item of the
--- configuration has no history
-pub record IsTidy (conf : Conf) (c : Cells) : Type 0 where
-  pub homes : (id : ℕ) → AllAtHome conf id (opens_in c id)
-  pub tagged : (id : ℕ) → AllTagged conf id (opens_in c id)
-  pub absent : (id : ℕ) → at_id conf.items id ≡ None → (c (ItemKey id)).history ≡ []
+-- The triggers of events still have the ids in them, each open problem is in the cell of its own trigger and has the names
+-- of its tags, and what is no item of the configuration has no history.
+pub record IsTidy (stage : Stage) (c : Cells) : Type 0 where
+  pub ids : KeepsIds stage
+  pub homes : (id : ℕ) → AllAtHome stage id (opens_in c id)
+  pub tagged : (id : ℕ) → AllTagged stage.conf id (opens_in c id)
+  pub absent : (id : ℕ) → at_id stage.conf.items id ≡ None → (c (ItemKey id)).history ≡ []
 
 -- What a run keeps represents cells: the same open problems and first Tick, and of each item what its steps remember
 -- and what stands for its history from the last moment on that its cell has seen. The cells are tidy.
-pub record Represents (conf : Conf) (held : CellsView) (c : Cells) : Type 0 where
-  pub items : length held.items ≡ length conf.items
+pub record Represents (stage : Stage) (held : CellsView) (c : Cells) : Type 0 where
+  pub items : length held.items ≡ length stage.conf.items
   pub ordered : (id : ℕ) → IfSome (at_id held.items id) (λ cell. IsOrdered cell.values)
-  pub memories : length held.memories ≡ length conf.items
-  pub triggers : length held.problems ≡ length conf.triggers
-  pub histories : (id : ℕ) → Keeps conf id (c (ItemKey id)).seen (c (ItemKey id)).history (at_id held.items id)
+  pub memories : length held.memories ≡ length stage.conf.items
+  pub triggers : length held.problems ≡ length stage.conf.triggers
+  pub histories : (id : ℕ) → Keeps stage.conf id (c (ItemKey id)).seen (c (ItemKey id)).history (at_id held.items id)
   pub marks : (id : ℕ) → listed held.memories id ≡ (c (ItemKey id)).marks
   pub problems : (id : ℕ) → problems_at held.problems id ≡ c (TriggerKey id)
   pub tick : held.tick ≡ c TickKey
-  pub tidy : IsTidy conf c
+  pub tidy : IsTidy stage c
 
 -- what a run keeps represents the cells that stand for a log
-pub record Holds (conf : Conf) (held : CellsView) (log : List Numbered) : Type 0 where
+pub record Holds (stage : Stage) (held : CellsView) (log : List Numbered) : Type 0 where
   pub cells : Cells
-  pub stand : AreCellsOf conf cells log
-  pub represented : Represents conf held cells
+  pub stand : AreCellsOf stage cells log
+  pub represented : Represents stage held cells
 
 -- an entry isn't before the last moment that each item of its foot has seen
 abbrev pub ComesAfter : Conf → Cells → Numbered → Type 0
@@ -75,7 +77,7 @@ ComesAfter conf c e = (id : ℕ) → touches conf e.entry (ItemKey id) ≡ true 
 
 -- what a step makes and leaves, whatever cells it is that the kept ones represent: the records of the entry over
 -- them, and what represents the cells behind it
-abbrev pub StepsTo : Conf → CellsView → Numbered → List Rec → CellsView → Type 0
-StepsTo conf held e made next =
-    (c : Cells) → Represents conf held c → ComesAfter conf c e → IsFitting conf e.entry → (made ≡ records conf c e)
-    × Represents conf next (after conf c e)
+abbrev pub StepsTo : Stage → CellsView → Numbered → List Rec → CellsView → Type 0
+StepsTo stage held e made next =
+    (c : Cells) → Represents stage held c → ComesAfter stage.conf c e → IsFitting stage.conf e.entry → (made ≡ records stage c e)
+    × Represents stage next (after stage c e)

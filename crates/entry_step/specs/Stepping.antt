@@ -1,6 +1,6 @@
 -- Entries that are taken one after another.
 use Rattle.std.specs.Prelude.{◌≡◌, ℕ, ◌+◌, List, ◌++◌}
-use Rattle.zbx_types.specs.declared.conf.Conf.{Conf}
+use Rattle.trigger_state.specs.Stages.{Stage}
 use Rattle.zbx_types.specs.declared.entries.Numbered.{Numbered}
 use Rattle.zbx_types.specs.declared.entries.Rec.{Rec}
 use Rattle.entry_step.specs.Cells.{Cells}
@@ -9,23 +9,23 @@ use Rattle.entry_step.specs.Represents.{CellsView, Represents}
 use Rattle.entry_step.specs.Parts.{AllCome, evaluations}
 
 -- what entries make and leave, whatever cells it is that the kept ones represent
-abbrev pub AllMade : Conf → CellsView → List Numbered → List (List Rec) → CellsView → Type 0
-AllMade conf held es made next =
-    (c : Cells) → Represents conf held c → AllCome conf c es
-    → (made ≡ records_done conf c es) × Represents conf next (cells_done conf c es)
+abbrev pub AllMade : Stage → CellsView → List Numbered → List (List Rec) → CellsView → Type 0
+AllMade stage held es made next =
+    (c : Cells) → Represents stage held c → AllCome stage c es
+    → (made ≡ records_done stage c es) × Represents stage next (cells_done stage c es)
 
 -- how many triggers they evaluate
-abbrev pub AllCounted : Conf → CellsView → List Numbered → ℕ → ℕ → Type 0
-AllCounted conf held es before now =
-    (c : Cells) → Represents conf held c → AllCome conf c es → now ≡ before + evaluations conf c es
+abbrev pub AllCounted : Stage → CellsView → List Numbered → ℕ → ℕ → Type 0
+AllCounted stage held es before now =
+    (c : Cells) → Represents stage held c → AllCome stage c es → now ≡ before + evaluations stage c es
 
 -- some of these entries, from the first one on, are taken
-pub record SomeTaken (conf : Conf) (c : Cells) (es : List Numbered) (next : CellsView) : Type 0 where
+pub record SomeTaken (stage : Stage) (c : Cells) (es : List Numbered) (next : CellsView) : Type 0 where
   pub taken : List Numbered
   pub rest : List Numbered
   pub all : taken ++ rest ≡ es
-  pub represented : Represents conf next (cells_done conf c taken)
+  pub represented : Represents stage next (cells_done stage c taken)
 
 -- whatever cells the kept ones represent, some of the entries that come to them are taken
-abbrev pub AreSteppedTo : Conf → CellsView → List Numbered → CellsView → Type 0
-AreSteppedTo conf held es next = (c : Cells) → Represents conf held c → AllCome conf c es → SomeTaken conf c es next
+abbrev pub AreSteppedTo : Stage → CellsView → List Numbered → CellsView → Type 0
+AreSteppedTo stage held es next = (c : Cells) → Represents stage held c → AllCome stage c es → SomeTaken stage c es next

@@ -27,9 +27,9 @@ fn value_over(
     pattern: u32,
     window: &[Stored],
 ) -> Result<Option<Fix>, OutOfMemory>
-    requires { at_id calls.now.ready.now.patterns pattern ≡ call_pattern call.now }
+    requires { at_id calls.now.ready.now.conf.patterns pattern ≡ call_pattern call.now }
     ensures { IfOk result (λ v. v ≡ value_of call.now window.now calls.now.occasion.now calls.now.occasion.tick
-        calls.now.ready.now.utc_offset) }
+        calls.now.ready.now.conf.utc_offset) }
 {
     value_at(
         alloc,
@@ -67,9 +67,9 @@ fn value_beside(
     pattern: u32,
     window: &Window,
 ) -> Result<Option<Fix>, OutOfMemory>
-    requires { at_id calls.now.ready.now.patterns pattern ≡ call_pattern call.now }
+    requires { at_id calls.now.ready.now.conf.patterns pattern ≡ call_pattern call.now }
     ensures { IfOk result (λ v. v ≡ value_of call.now (shown window.now) calls.now.occasion.now
-        calls.now.occasion.tick calls.now.ready.now.utc_offset) }
+        calls.now.occasion.tick calls.now.ready.now.conf.utc_offset) }
 {
     if let Some(values) = whole(window) {
         return value_over(alloc, calls, call, pattern, values);
@@ -97,12 +97,12 @@ fn value_in(
     cell: &ItemCell,
     stored: Option<&Stored>,
 ) -> Result<Option<Fix>, OutOfMemory>
-    requires { at_id calls.now.ready.now.patterns pattern ≡ call_pattern call.now }
+    requires { at_id calls.now.ready.now.conf.patterns pattern ≡ call_pattern call.now }
     ensures { IfOk result (λ v. (id : ℕ) (history : List Stored)
-        → Sees calls.now.ready.now id (Some cell.now) (option_copied stored.entry) calls.now.occasion.now history
-        → IsWithin (keep_of calls.now.ready.now id) call.now.range call.now.shift
+        → Sees calls.now.ready.now.conf id (Some cell.now) (option_copied stored.entry) calls.now.occasion.now history
+        → IsWithin (keep_of calls.now.ready.now.conf id) call.now.range call.now.shift
         → v ≡ value_of call.now (window_of call.now.range call.now.shift calls.now.occasion.now history)
-        calls.now.occasion.now calls.now.occasion.tick calls.now.ready.now.utc_offset) }
+        calls.now.occasion.now calls.now.occasion.tick calls.now.ready.now.conf.utc_offset) }
 {
     match stored {
         None => {
@@ -135,7 +135,7 @@ fn item_at(trigger: &Trigger, place: usize) -> Option<u32>
 
 /// The value of a call, by its place, over what is kept of its item.
 fn call_value(alloc: Global, calls: &Calls, place: usize) -> Result<Option<Fix>, OutOfMemory>
-    requires { at_id calls.now.ready.now.triggers calls.now.id ≡ Some calls.now.trigger.now }
+    requires { at_id calls.now.ready.now.conf.triggers calls.now.id ≡ Some calls.now.trigger.now }
     ensures { IfOk result (λ v. (items : ℕ → List Stored) → Shown calls.now items
         → v ≡ values_of calls.now items place) }
 {
@@ -158,7 +158,7 @@ fn call_value(alloc: Global, calls: &Calls, place: usize) -> Result<Option<Fix>,
 
 /// The values of the calls, by their places.
 pub(crate) fn values_of(alloc: Global, calls: &Calls) -> Result<Many<Option<Fix>>, OutOfMemory>
-    requires { at_id calls.now.ready.now.triggers calls.now.id ≡ Some calls.now.trigger.now }
+    requires { at_id calls.now.ready.now.conf.triggers calls.now.id ≡ Some calls.now.trigger.now }
     ensures { IfOk result (AreValues calls.now) }
 {
     let mut values = Many::new(alloc);

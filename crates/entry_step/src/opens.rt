@@ -5,8 +5,8 @@ ghost use Rattle.trigger_state.specs.Problems.{absorbed_all};
 ghost use Rattle.entry_step.specs.Represents.{problems_at};
 
 use std::alloc::Global;
-use trigger_state::{Open, Opens, absorb_into};
-use zbx_types::{Conf, Many, OutOfMemory, Rec, by_id};
+use trigger_state::{InForce, Open, Opens, absorb_into};
+use zbx_types::{Many, OutOfMemory, Rec, by_id};
 
 /// The open problems of the trigger with an id.
 #[tactic(auto, unfolding(crate::specs::Represents::problems_at))]
@@ -47,16 +47,16 @@ pub(crate) fn copies(alloc: Global, opens: &[Open]) -> Result<Many<Open>, OutOfM
 /// The open problems of the trigger with an id, brought up to more records.
 pub(crate) fn absorbed(
     alloc: Global,
-    conf: &Conf,
+    stage: &InForce,
     id: u32,
     opens: Many<Open>,
     more: &[Rec],
 ) -> Result<Many<Open>, OutOfMemory>
-    ensures { IfOk result (λ made. made ≡ absorbed_all conf.now id opens more.now) }
+    ensures { IfOk result (λ made. made ≡ absorbed_all stage.now id opens more.now) }
 {
     let mut made = opens;
     for rec in more {
-        absorb_into(alloc, conf, id, &mut made, rec)?;
+        absorb_into(alloc, stage, id, &mut made, rec)?;
     }
     Ok(made)
 }
@@ -64,12 +64,12 @@ pub(crate) fn absorbed(
 /// Copies of the open problems of the trigger with an id, brought up to more records.
 pub(crate) fn absorbed_row(
     alloc: Global,
-    conf: &Conf,
+    stage: &InForce,
     id: u32,
     opens: &[Open],
     more: &[Rec],
 ) -> Result<Many<Open>, OutOfMemory>
-    ensures { IfOk result (λ made. made ≡ absorbed_all conf.now id opens.now more.now) }
+    ensures { IfOk result (λ made. made ≡ absorbed_all stage.now id opens.now more.now) }
 {
-    absorbed(alloc, conf, id, copies(alloc, opens)?, more)
+    absorbed(alloc, stage, id, copies(alloc, opens)?, more)
 }

@@ -92,7 +92,7 @@ impl Cells {
         ready: &Ready,
         entries: &[Numbered],
     ) -> Result<Part, OutOfMemory>
-        ensures { IfOk result (λ part. IsPartOf ready.now entries.now self.now part) }
+        ensures { IfOk result (λ part. IsPartOf ready.now.conf entries.now self.now part) }
     {
         let cells = self.items.cells();
         let memories = self.items.memories();

@@ -7,7 +7,8 @@ ghost use Rattle.zbx_types.specs.Ids.{at_id};
 ghost use Rattle.zbx_types.specs.Records.{same_event};
 ghost use Rattle.zbx_types.specs.declared.entries.EventId.{EventId};
 ghost use Rattle.event_correlation.specs.Laws.{HasTagsOf};
-ghost use Rattle.trigger_state.specs.Problems.{home, event_in, absorbed_all};
+ghost use Rattle.trigger_state.specs.Stages.{KeepsIds, home};
+ghost use Rattle.trigger_state.specs.Problems.{event_in, absorbed_all};
 ghost use Rattle.entry_step.specs.Records.{problem_of, recovery_of, ruled, begun_with, begun_records, closed_records, ruled_records, last_records, verdict_records};
 ghost use Rattle.entry_step.specs.Each.{Each};
 ghost use Rattle.entry_step.specs.Represents.{problems_at};
@@ -31,7 +32,7 @@ use escalations::{first_of, recovered};
 use event_correlation::Closes;
 use maintenance::suppressed;
 use std::alloc::Global;
-use trigger_state::{Open, Verdict, verdict_over};
+use trigger_state::{InForce, Open, Verdict, verdict_over};
 use zbx_types::{
     Cause2, Conf, EventId, Fix, Held, Many, Moment, OutOfMemory, Rec, Tag, Text, Trigger,
 };
@@ -47,7 +48,7 @@ fn problem_of(
     id: u32,
     trigger: &Trigger,
 ) -> Result<Rec, OutOfMemory>
-    ensures { IfOk result (λ made. made ≡ problem_of ready.now number now values.now id trigger.now) }
+    ensures { IfOk result (λ made. made ≡ problem_of ready.now.conf number now values.now id trigger.now) }
 {
     let conf = ready.conf();
     let tags = ready.tags_of(alloc, id, values)?;
@@ -149,19 +150,20 @@ fn closings(
 /// Adds what the ends of the problems that rules close make, each of its own trigger.
 fn push_ruled(
     alloc: Global,
-    conf: &Conf,
+    stage: &InForce,
     number: u64,
     now: Moment,
     problems: &[Many<Open>],
     events: &[EventId],
     out: &mut Many<Rec>,
 ) -> Result<(), OutOfMemory>
-    ensures { OnOk result (out.new ≡ out.old ++ ruled_records conf.now number now (problems_at problems.now)
+    ensures { OnOk result (out.new ≡ out.old ++ ruled_records stage.now number now (problems_at problems.now)
         events.now) }
 {
+    let conf = stage.conf();
     let cause = Cause2::Correlation;
     for event in events {
-        let opens = problems_at(problems, event.trigger);
+        let opens = problems_at(problems, stage.home(*event));
         push_closed(alloc, conf, number, now, cause, opens, *event, out)?;
     }
     Ok(())
@@ -194,7 +196,7 @@ fn push_last(
 /// and what comes last.
 fn begun(
     alloc: Global,
-    conf: &Conf,
+    stage: &InForce,
     number: u64,
     now: Moment,
     problems: &[Many<Open>],
@@ -202,14 +204,23 @@ fn begun(
     problem: &Rec,
     closes: &Closes,
 ) -> Result<Many<Rec>, OutOfMemory>
-    ensures { IfOk result (λ made. made ≡ begun_with conf.now number now (problems_at problems.now) id problem.now
+    ensures { IfOk result (λ made. made ≡ begun_with stage.now number now (problems_at problems.now) id problem.now
         closes.now) }
 {
     let old = closes.old.as_slice();
     let mut made = Many::new(alloc);
     made.push(problem.copy(alloc)?)?;
-    push_ruled(alloc, conf, number, now, problems, old, &mut made)?;
-    push_last(alloc, conf, number, now, id, problem, closes.new, &mut made)?;
+    push_ruled(alloc, stage, number, now, problems, old, &mut made)?;
+    push_last(
+        alloc,
+        stage.conf(),
+        number,
+        now,
+        id,
+        problem,
+        closes.new,
+        &mut made,
+    )?;
     Ok(made)
 }
 
@@ -232,12 +243,20 @@ fn begun_by(
 ) -> Result<Beginning, OutOfMemory>
     ensures records { IfOk result (λ made. made.records ≡ begun_with ready.now number now (problems_at problems.now) id
         problem.now made.closes) }
-    ensures closes { IfOk result (λ made. (trigger : Trigger) → at_id ready.now.triggers id ≡ Some trigger
+    ensures closes { IfOk result (λ made. (trigger : Trigger) → at_id ready.now.conf.triggers id ≡ Some trigger
         → HasTagsOf trigger problem.now → made.closes ≡ ruled ready.now problem.now (problems_at problems.now)) }
 {
-    let conf = ready.conf();
     let closes = ruled(alloc, ready, id, problem, problems)?;
-    let records = begun(alloc, conf, number, now, problems, id, problem, &closes)?;
+    let records = begun(
+        alloc,
+        ready.stage(),
+        number,
+        now,
+        problems,
+        id,
+        problem,
+        &closes,
+    )?;
     Ok(Beginning { records, closes })
 }
 
@@ -251,19 +270,19 @@ struct Left {
 /// The open problems of the trigger with an id behind some records, and those of the triggers of these events.
 fn left_by(
     alloc: Global,
-    conf: &Conf,
+    stage: &InForce,
     id: u32,
     problems: &[Many<Open>],
     events: &[EventId],
     records: &[Rec],
 ) -> Result<Left, OutOfMemory>
-    ensures all { IfOk result (λ left. left.all ≡ absorbed_all conf.now id (problems_at problems.now id) records.now) }
-    ensures others { IfOk result (λ left. Each (IsAbsorbed conf.now problems.now records.now) left.others) }
-    ensures whole { IfOk result (λ left. Each (λ (e : EventId). ((id == e.trigger) || has_fresh left.others
-        e.trigger) ≡ true) events.now) }
+    ensures all { IfOk result (λ left. left.all ≡ absorbed_all stage.now id (problems_at problems.now id) records.now) }
+    ensures others { IfOk result (λ left. Each (IsAbsorbed stage.now problems.now records.now) left.others) }
+    ensures whole { IfOk result (λ left. Each (λ (e : EventId). ((id == home stage.now e) || has_fresh left.others
+        (home stage.now e)) ≡ true) events.now) }
 {
-    let all = absorbed_row(alloc, conf, id, problems_at(problems, id), records)?;
-    match others_of(alloc, conf, id, problems, events, records) {
+    let all = absorbed_row(alloc, stage, id, problems_at(problems, id), records)?;
+    match others_of(alloc, stage, id, problems, events, records) {
         Ok(others) => Ok(Left { all, others }),
         Err(OutOfMemory) => {
             drop(all);
@@ -277,15 +296,15 @@ fn left_by(
 #[tactic(auto, using(crate::proofs::Started::leaves_with))]
 fn outcome_with(
     alloc: Global,
-    conf: &Conf,
+    stage: &InForce,
     id: u32,
     problems: &[Many<Open>],
     events: &[EventId],
     records: Many<Rec>,
 ) -> Result<TriggerOutcome, OutOfMemory>
-    ensures { IfOk result (λ made. Leaves conf.now problems.now id events.now records made) }
+    ensures { IfOk result (λ made. Leaves stage.now problems.now id events.now records made) }
 {
-    match left_by(alloc, conf, id, problems, events, records.as_slice()) {
+    match left_by(alloc, stage, id, problems, events, records.as_slice()) {
         Ok(Left { all, others }) => Ok(TriggerOutcome {
             records,
             change: Change::Leave(all),
@@ -298,18 +317,18 @@ fn outcome_with(
     }
 }
 
-/// The outcome of a trigger, of this depth, with a new problem that makes this. Where no rule and no action does
+/// The outcome of a trigger with a new problem, whose event has this rank, that makes this. Where no rule and no action does
 /// anything about it, the open problems stay where they are.
 fn landed(
     alloc: Global,
-    conf: &Conf,
+    stage: &InForce,
     id: u32,
-    depth: u32,
+    rank: u32,
     problems: &[Many<Open>],
     problem: Rec,
     made: Beginning,
 ) -> Result<TriggerOutcome, OutOfMemory>
-    ensures { IfOk result (λ o. Lands conf.now problems.now id (record { problem = problem; steps = []; depth = depth })
+    ensures { IfOk result (λ o. Lands stage.now problems.now id (record { problem = problem; steps = []; rank = rank })
         made.closes.old made.records o) }
 {
     let Beginning { records, closes } = made;
@@ -319,14 +338,14 @@ fn landed(
             change: Change::Add(Open {
                 problem,
                 steps: Many::new(alloc),
-                depth,
+                rank,
             }),
             others: Many::new(alloc),
         });
     }
     drop(problem);
     let old = closes.old.as_slice();
-    outcome_with(alloc, conf, id, problems, old, records)
+    outcome_with(alloc, stage, id, problems, old, records)
 }
 
 /// A new problem of a trigger, behind those that are open.
@@ -340,16 +359,20 @@ fn begin(
     trigger: &Trigger,
     problems: &[Many<Open>],
 ) -> Result<TriggerOutcome, OutOfMemory>
-    requires { at_id ready.now.triggers id ≡ Some trigger.now }
+    requires { at_id ready.now.conf.triggers id ≡ Some trigger.now }
     ensures records { IfOk result (λ made. made.records ≡ begun_records ready.now number now
-        (problems_at problems.now) id (problem_of ready.now number now values.now id trigger.now)) }
-    ensures rows { IfOk result (λ made. length problems.now ≡ length ready.now.triggers
+        (problems_at problems.now) id (problem_of ready.now.conf number now values.now id trigger.now)) }
+    ensures rows { IfOk result (λ made. KeepsIds ready.now → length problems.now ≡ length ready.now.conf.triggers
         → Absorbed ready.now problems.now made.records (outcome_rows problems.now id (Some made))) }
 {
-    let conf = ready.conf();
+    let stage = ready.stage();
+    let event = EventId {
+        number,
+        trigger: id,
+    };
     let problem = problem_of(alloc, ready, number, now, values, id, trigger)?;
     match begun_by(alloc, ready, number, now, problems, id, &problem) {
-        Ok(made) => landed(alloc, conf, id, trigger.depth, problems, problem, made),
+        Ok(made) => landed(alloc, stage, id, stage.rank(event), problems, problem, made),
         Err(OutOfMemory) => {
             drop(problem);
             Err(OutOfMemory)
@@ -360,7 +383,7 @@ fn begin(
 /// The end of the open problems of a trigger with these events.
 fn end(
     alloc: Global,
-    conf: &Conf,
+    stage: &InForce,
     number: u64,
     now: Moment,
     id: u32,
@@ -368,14 +391,14 @@ fn end(
     events: &[EventId],
 ) -> Result<TriggerOutcome, OutOfMemory>
     ensures records { IfOk result (λ made. made.records ≡ flat_map
-        (closed_records conf.now number now Cause2.Expression (problems_at problems.now id)) events.now) }
-    ensures rows { IfOk result (λ made. Each (λ e. home conf.now e ≡ id) events.now
-        → length problems.now ≡ length conf.now.triggers
-        → Absorbed conf.now problems.now made.records (outcome_rows problems.now id (Some made))) }
+        (closed_records stage.now.conf number now Cause2.Expression (problems_at problems.now id)) events.now) }
+    ensures rows { IfOk result (λ made. Each (λ e. home stage.now e ≡ id) events.now
+        → length problems.now ≡ length stage.now.conf.triggers
+        → Absorbed stage.now problems.now made.records (outcome_rows problems.now id (Some made))) }
 {
     let opens = problems_at(problems, id);
-    let records = closings(alloc, conf, number, now, opens, events)?;
-    let all = absorbed_row(alloc, conf, id, opens, records.as_slice())?;
+    let records = closings(alloc, stage.conf(), number, now, opens, events)?;
+    let all = absorbed_row(alloc, stage, id, opens, records.as_slice())?;
     Ok(TriggerOutcome {
         records,
         change: Change::Leave(all),
@@ -391,13 +414,13 @@ fn settled(
     problems: &[Many<Open>],
     verdict: &Verdict,
 ) -> Result<Option<TriggerOutcome>, OutOfMemory>
-    requires { at_id calls.now.ready.now.triggers calls.now.id ≡ Some calls.now.trigger.now }
+    requires { at_id calls.now.ready.now.conf.triggers calls.now.id ≡ Some calls.now.trigger.now }
     ensures records { IfOk result (λ made. (items : ℕ → List Stored) → Shown calls.now items
         → outcome_records made ≡ verdict_records calls.now.ready.now calls.now.occasion.number calls.now.occasion.now
         (shown_values items calls.now.occasion.now calls.now.trigger.now) calls.now.id calls.now.trigger.now
         (problems_at problems.now) verdict.now) }
-    ensures rows { IfOk result (λ made. EachClosed (λ e. home calls.now.ready.now e ≡ calls.now.id) verdict.now
-        → length problems.now ≡ length calls.now.ready.now.triggers
+    ensures rows { IfOk result (λ made. KeepsIds calls.now.ready.now → EachClosed (λ e. home calls.now.ready.now e ≡ calls.now.id) verdict.now
+        → length problems.now ≡ length calls.now.ready.now.conf.triggers
         → Absorbed calls.now.ready.now problems.now (outcome_records made)
         (outcome_rows problems.now calls.now.id made)) }
 {
@@ -421,9 +444,9 @@ fn settled(
             )?))
         }
         Verdict::Close(events) => {
-            let conf = ready.conf();
+            let stage = ready.stage();
             let events = events.as_slice();
-            Ok(Some(end(alloc, conf, number, now, id, problems, events)?))
+            Ok(Some(end(alloc, stage, number, now, id, problems, events)?))
         }
     }
 }
@@ -431,9 +454,9 @@ fn settled(
 /// The tags that a trigger has now, as far as its verdict needs them: only open problems that close by a tag do.
 #[tactic(auto, using(crate::proofs::Sight::serve_same, crate::proofs::Sight::serve_untagged, crate::proofs::Sight::serve_none))]
 fn closing_tags(alloc: Global, calls: &Calls, opens: &[Open]) -> Result<Many<Tag>, OutOfMemory>
-    requires { at_id calls.now.ready.now.triggers calls.now.id ≡ Some calls.now.trigger.now }
+    requires { at_id calls.now.ready.now.conf.triggers calls.now.id ≡ Some calls.now.trigger.now }
     ensures { IfOk result (λ made. (items : ℕ → List Stored) → Shown calls.now items
-        → Serve calls.now.trigger.now opens.now made (event_tags calls.now.ready.now calls.now.id
+        → Serve calls.now.trigger.now opens.now made (event_tags calls.now.ready.now.conf calls.now.id
         (shown_values items calls.now.occasion.now calls.now.trigger.now))) }
 {
     if calls.trigger.close_tag.len() == 0 {
@@ -456,7 +479,7 @@ pub(crate) fn judge(
     held: bool,
     problems: &[Many<Open>],
 ) -> Result<Option<TriggerOutcome>, OutOfMemory>
-    requires there { at_id calls.now.ready.now.triggers calls.now.id ≡ Some calls.now.trigger.now }
+    requires there { at_id calls.now.ready.now.conf.triggers calls.now.id ≡ Some calls.now.trigger.now }
     requires plan { plan.now ≡ plan_of calls.now.trigger.now }
     requires recovery { recovery.now ≡ recovery_plan_of calls.now.trigger.now }
     ensures records { IfOk result (λ made. (items : ℕ → List Stored) → Shown calls.now items

@@ -47,8 +47,8 @@ fn latest_in(
     stored: Option<&Stored>,
 ) -> Result<Option<Held>, OutOfMemory>
     ensures { IfOk result (λ made. (id : ℕ) (history : List Stored)
-        → Sees calls.now.ready.now id (Some cell.now) (option_copied stored.entry) calls.now.occasion.now history
-        → IsWithin (keep_of calls.now.ready.now id) (Count 1) 0
+        → Sees calls.now.ready.now.conf id (Some cell.now) (option_copied stored.entry) calls.now.occasion.now history
+        → IsWithin (keep_of calls.now.ready.now.conf id) (Count 1) 0
         → made ≡ latest_in calls.now.occasion.now history) }
 {
     match stored {
@@ -66,7 +66,7 @@ fn latest_in(
 /// The latest value of the item with an id, where the trigger has a call over it.
 fn latest_of(alloc: Global, calls: &Calls, item: u32) -> Result<Option<Held>, OutOfMemory>
     ensures { IfOk result (λ made. (items : ℕ → List Stored) → Shown calls.now items
-        → IsCalled calls.now.ready.now calls.now.id item → IsWithin (keep_of calls.now.ready.now item) (Count 1) 0
+        → IsCalled calls.now.ready.now.conf calls.now.id item → IsWithin (keep_of calls.now.ready.now.conf item) (Count 1) 0
         → made ≡ latest_in calls.now.occasion.now (items item)) }
 {
     match by_id(calls.items, item) {
@@ -92,7 +92,7 @@ fn items_of(trigger: &Trigger) -> &[u32]
 
 /// The latest values of the items of the trigger's history calls, in the order of the calls.
 pub(crate) fn shown_values(alloc: Global, calls: &Calls) -> Result<Many<Option<Held>>, OutOfMemory>
-    requires { at_id calls.now.ready.now.triggers calls.now.id ≡ Some calls.now.trigger.now }
+    requires { at_id calls.now.ready.now.conf.triggers calls.now.id ≡ Some calls.now.trigger.now }
     ensures { IfOk result (AreShown calls.now) }
 {
     let mut made = Many::new(alloc);

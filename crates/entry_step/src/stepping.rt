@@ -73,7 +73,7 @@ fn outcome_of(
     id: u32,
 ) -> Result<Option<TriggerOutcome>, OutOfMemory>
     ensures records { IfOk result (λ made. (histories : ℕ → List Stored)
-        → SeesFor ready.now items.now (still_to_come coming.now) occasion.entry.now.now histories id
+        → SeesFor ready.now.conf items.now (still_to_come coming.now) occasion.entry.now.now histories id
         → outcome_records made ≡ evaluated ready.now occasion.entry.now histories (problems_at problems.now) id) }
     ensures rows { IfOk result (λ made. AreTidy ready.now problems.now
         → Absorbed ready.now problems.now (outcome_records made) (outcome_rows problems.now id made)) }
@@ -118,10 +118,10 @@ fn evaluate_one<L: Ledger>(
 ) -> Result<(), OutOfMemory>
     ensures same { put_back problems.new.items draft.new.taken ≡ put_back problems.old.items draft.old.taken }
     ensures runs { OnOk result (RunsOn ready.now occasion.entry.now items.now (still_to_come coming.now)
-        (is_asked ready.now coming.now id) id draft.old.records problems.old.items draft.new.records
+        (is_asked ready.now.conf coming.now id) id draft.old.records problems.old.items draft.new.records
         problems.new.items) }
-    ensures counted { OnOk result (steps.new ≡ steps.old + (if is_asked ready.now coming.now id then 1 else 0)) }
-    ensures most { steps.new ≤ steps.old + (if is_asked ready.now coming.now id then 1 else 0) }
+    ensures counted { OnOk result (steps.new ≡ steps.old + (if is_asked ready.now.conf coming.now id then 1 else 0)) }
+    ensures most { steps.new ≤ steps.old + (if is_asked ready.now.conf coming.now id then 1 else 0) }
 {
     if !is_asked(ready.conf(), coming, id) {
         return Ok(());
@@ -148,9 +148,9 @@ fn evaluate_all<L: Ledger>(
     requires { draft.old.records ≡ [] }
     ensures same { put_back problems.new.items draft.new.taken ≡ put_back problems.old.items draft.old.taken }
     ensures runs { OnOk result (RunsOver ready.now occasion.entry.now items.now (still_to_come coming.now)
-        problems.old.items (filter (is_asked ready.now coming.now) ids.now) draft.new.records problems.new.items) }
-    ensures counted { OnOk result (steps.new ≡ steps.old + length (filter (is_asked ready.now coming.now) ids.now)) }
-    ensures most { steps.new ≤ steps.old + length (filter (is_asked ready.now coming.now) ids.now) }
+        problems.old.items (filter (is_asked ready.now.conf coming.now) ids.now) draft.new.records problems.new.items) }
+    ensures counted { OnOk result (steps.new ≡ steps.old + length (filter (is_asked ready.now.conf coming.now) ids.now)) }
+    ensures most { steps.new ≤ steps.old + length (filter (is_asked ready.now.conf coming.now) ids.now) }
 {
     for id in ids {
         evaluate_one(
@@ -173,9 +173,9 @@ fn evaluated<L: Ledger>(
 ) -> Result<Draft, OutOfMemory>
     ensures same { IfOk result (λ draft. put_back problems.new.items draft.taken ≡ problems.old.items) }
     ensures runs { IfOk result (λ draft. RunsOver ready.now occasion.entry.now items.now (still_to_come coming.now)
-        problems.old.items (filter (is_asked ready.now coming.now) ids.now) draft.records problems.new.items) }
-    ensures counted { OnOk result (steps.new ≡ steps.old + length (filter (is_asked ready.now coming.now) ids.now)) }
-    ensures most { steps.new ≤ steps.old + length (filter (is_asked ready.now coming.now) ids.now) }
+        problems.old.items (filter (is_asked ready.now.conf coming.now) ids.now) draft.records problems.new.items) }
+    ensures counted { OnOk result (steps.new ≡ steps.old + length (filter (is_asked ready.now.conf coming.now) ids.now)) }
+    ensures most { steps.new ≤ steps.old + length (filter (is_asked ready.now.conf coming.now) ids.now) }
     ensures err { OnErr result (problems.new.items ≡ problems.old.items) }
 {
     let mut draft = Draft {
@@ -206,16 +206,16 @@ fn take_value<L: Ledger>(
     steps: &mut Steps<L>,
 ) -> Result<Many<Rec>, OutOfMemory>
     ensures ok { IfOk result (λ made. TakesIn ready.now occasion.entry.now
-        (visits_at ready.now (memory_in cells.old.memories) occasion.entry.now.number
+        (visits_at ready.now.conf (memory_in cells.old.memories) occasion.entry.now.number
         (Value occasion.entry.now.now item time value.now))
-        (triggers_at ready.now (memory_in cells.old.memories) occasion.entry.now.number
+        (triggers_at ready.now.conf (memory_in cells.old.memories) occasion.entry.now.number
         (Value occasion.entry.now.now item time value.now)) cells.old made cells.new) }
     ensures err { OnErr result (cells.new ≡ cells.old) }
     ensures counted { OnOk result (steps.new ≡ steps.old + length
-        (triggers_at ready.now (memory_in cells.old.memories) occasion.entry.now.number
+        (triggers_at ready.now.conf (memory_in cells.old.memories) occasion.entry.now.number
         (Value occasion.entry.now.now item time value.now))) }
     ensures most { steps.new ≤ steps.old + length
-        (triggers_at ready.now (memory_in cells.old.memories) occasion.entry.now.number
+        (triggers_at ready.now.conf (memory_in cells.old.memories) occasion.entry.now.number
         (Value occasion.entry.now.now item time value.now)) }
 {
     let Prepared { draft, failures } = ready.prepare(
@@ -255,13 +255,13 @@ fn take_draft<L: Ledger>(
     requires apart { IfSome coming (λ draft. AreApart draft.visits) }
     requires room { IfSome coming (λ draft. HaveRoom items.old.cells.items draft.visits) }
     ensures made { IfOk result (λ made. Drafted ready.now occasion.entry.now coming
-        (filter (is_asked ready.now coming) (triggers_under ready.now item)) failures items.old.cells.items
+        (filter (is_asked ready.now.conf coming) (triggers_under ready.now.conf item)) failures items.old.cells.items
         problems.old.items made problems.new.items) }
     ensures came { OnOk result (IfSome coming (λ draft. Becomes occasion.entry.now.now draft.visits items.old
         items.new)) }
     ensures counted { OnOk result (steps.new ≡ steps.old + length
-        (filter (is_asked ready.now coming) (triggers_under ready.now item))) }
-    ensures most { steps.new ≤ steps.old + length (filter (is_asked ready.now coming) (triggers_under ready.now item)) }
+        (filter (is_asked ready.now.conf coming) (triggers_under ready.now.conf item))) }
+    ensures most { steps.new ≤ steps.old + length (filter (is_asked ready.now.conf coming) (triggers_under ready.now.conf item)) }
     ensures items { OnErr result (items.new ≡ items.old) }
     ensures problems { OnErr result (problems.new.items ≡ problems.old.items) }
 {
@@ -320,8 +320,8 @@ fn take_tick<L: Ledger>(
 ) -> Result<Many<Rec>, OutOfMemory>
     ensures ok { IfOk result (λ made. TakesTick ready.now occasion.entry.now cells.old made cells.new) }
     ensures err { OnErr result (cells.new ≡ cells.old) }
-    ensures counted { OnOk result (steps.new ≡ steps.old + length (timed_triggers ready.now)) }
-    ensures most { steps.new ≤ steps.old + length (timed_triggers ready.now) }
+    ensures counted { OnOk result (steps.new ≡ steps.old + length (timed_triggers ready.now.conf)) }
+    ensures most { steps.new ≤ steps.old + length (timed_triggers ready.now.conf) }
 {
     let mut draft = evaluated(
         alloc,
@@ -356,9 +356,9 @@ fn advance<L: Ledger>(
 ) -> Result<Many<Rec>, OutOfMemory>
     ensures made { IfOk result (λ made. StepsTo ready.now cells.old entry.now made cells.new) }
     ensures counted { OnOk result (steps.new ≡ steps.old + length
-        (triggers_at ready.now (memory_in cells.old.memories) entry.now.number entry.now.entry)) }
+        (triggers_at ready.now.conf (memory_in cells.old.memories) entry.now.number entry.now.entry)) }
     ensures most { steps.new ≤ steps.old + length
-        (triggers_at ready.now (memory_in cells.old.memories) entry.now.number entry.now.entry) }
+        (triggers_at ready.now.conf (memory_in cells.old.memories) entry.now.number entry.now.entry) }
     ensures err { OnErr result (cells.new ≡ cells.old) }
 {
     let occasion = occasion_of(cells.tick, entry);
@@ -395,14 +395,14 @@ pub fn step<L: Ledger>(
 ) -> Result<Many<Rec>, OutOfMemory>
     ensures made { IfOk result (λ made. StepsTo ready.now cells.old entry.now made cells.new) }
     ensures out { IfOk result (λ made. (log : List Numbered) → Holds ready.now cells.old log
-        → Suits ready.now (entry.now ∷ log) → made ≡ out_of ready.now log entry.now entry.now.entry
+        → Suits ready.now.conf (entry.now ∷ log) → made ≡ out_of ready.now log entry.now entry.now.entry
         (replay ready.now log)) }
     ensures holds { OnOk result ((log : List Numbered) → Holds ready.now cells.old log
-        → Suits ready.now (entry.now ∷ log) → Holds ready.now cells.new (entry.now ∷ log)) }
+        → Suits ready.now.conf (entry.now ∷ log) → Holds ready.now cells.new (entry.now ∷ log)) }
     ensures counted { OnOk result (steps.new ≡ steps.old + length
-        (triggers_at ready.now (memory_in cells.old.memories) entry.now.number entry.now.entry)) }
+        (triggers_at ready.now.conf (memory_in cells.old.memories) entry.now.number entry.now.entry)) }
     ensures most { steps.new ≤ steps.old + length
-        (triggers_at ready.now (memory_in cells.old.memories) entry.now.number entry.now.entry) }
+        (triggers_at ready.now.conf (memory_in cells.old.memories) entry.now.number entry.now.entry) }
     ensures err { OnErr result (cells.new ≡ cells.old) }
 {
     advance(alloc, ready, cells, entry, steps)

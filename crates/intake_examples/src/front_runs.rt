@@ -1,6 +1,7 @@
 //! Runs of `intake_front` over a disk that may fail, their answers and what the disk keeps.
 
-ghost use Rattle.std.specs.Prelude.{◌≡◌, None, IsTrue, IfOk};
+ghost use Rattle.std.specs.Prelude.{◌≡◌, IsTrue, IfOk};
+ghost use Rattle.outside.specs.Disk.{silent, silent_lawful};
 ghost use Rattle.intake_journal.specs.declared.state.State.TheVariants as state;
 ghost use Rattle.intake_front.specs.Batch.{IsIdle};
 
@@ -29,21 +30,9 @@ pub(crate) struct Frail {
 }
 
 impl Disk for Frail {
-    ghost bytes = { λ _. None };
+    ghost tells = { λ m. silent m.faults };
 
-    ghost images = { λ _ _. ⊥ };
-
-    ghost moment = { λ _. 0 };
-
-    ghost images_since = { λ _ _ _. ⊥ };
-
-    ghost faults = { λ m. m.faults };
-
-    ghost reads_as = { λ _. tt };
-
-    ghost counts_now = { λ _ _ _ _ image. image };
-
-    ghost only_now = { λ _ _ image. image };
+    ghost lawful = { λ m. silent_lawful m.faults };
 
     fn faults(&self) -> u64 {
         self.faults

@@ -1,6 +1,7 @@
 -- An event that is taken and committed alone.
 use Rattle.std.proofs.Common.{◌≡◌, ◌≢◌, ℕ, ◌+◌, ◌<◌, List, [], ◌∷◌, ◌++◌, length, take, Option, Some, None, refl, sym, ◌∙◌, ap, subst, arith, length-append}
 use Rattle.std.specs.Prelude.{Ok, Err}
+use Rattle.outside.specs.Disk.{DiskTells, IsLawful}
 use Rattle.zbx_types.specs.declared.entries.Entry.{Entry}
 use Rattle.zbx_types.specs.declared.entries.Numbered.{Numbered}
 use Rattle.zbx_types.specs.declared.memory.OutOfMemory.{OutOfMemory}
@@ -34,7 +35,7 @@ number_of i (Some stop.Closed) plain = refl
 number_of i (Some stop.DiskFault) plain = absurd (plain refl)
 number_of i (Some (stop.Full entries bytes)) plain = refl
 
-module _ {D : Type 0} (bytes : D → Option (List ℕ)) (moment : D → ℕ) (since : D → ℕ → List ℕ → Type 0) (faults : D → ℕ)
+module _ {D : Type 0} (tells : D → DiskTells)
     (old new : Journaled D) (i m j : Intake) (b c : Batch) (says : ℕ → Handled) (s : Option Stop) (none : b.block ≡ []) (batch : IsBatch i b) (t : IsTaken i m b c says s)
     (front : take b.mark.kept (says 0).intake.entries ≡ take b.mark.kept i.entries) where
   all_kept : take b.mark.kept i.entries ≡ i.entries
@@ -43,17 +44,17 @@ module _ {D : Type 0} (bytes : D → Option (List ℕ)) (moment : D → ℕ) (si
   before : take c.mark.kept m.entries ≡ i.entries
   before = ap (λ (k : Mark). take k.kept m.entries) t.mark ∙ ap (λ (k : Intake). take b.mark.kept k.entries) t.after ∙ front ∙ all_kept
 
-  written : IsWritten bytes moment since faults old.disk new.disk (take c.mark.kept m.entries) m.entries → IsWritten bytes moment since faults old.disk new.disk i.entries (says 0).intake.entries
+  written : IsWritten (tells old.disk) (tells new.disk) (take c.mark.kept m.entries) m.entries → IsWritten (tells old.disk) (tells new.disk) i.entries (says 0).intake.entries
   written w =
-      subst (λ (es : List Numbered). IsWritten bytes moment since faults old.disk new.disk i.entries es) (ap (λ (k : Intake). k.entries) t.after)
-      (subst (λ (es : List Numbered). IsWritten bytes moment since faults old.disk new.disk es m.entries) before w)
+      subst (λ (es : List Numbered). IsWritten (tells old.disk) (tells new.disk) i.entries es) (ap (λ (k : Intake). k.entries) t.after)
+      (subst (λ (es : List Numbered). IsWritten (tells old.disk) (tells new.disk) es m.entries) before w)
 
   answers_are : b.answers.items ≡ [] → c.answers.items ≡ (says 0).answer ∷ []
   answers_are empty = t.answers ∙ ap (λ (l : List Answer). l ++ (says 0).answer ∷ []) empty
 
   -- its groups were kept
-  pub alone_kept : (rest : List Answer) (a : Answer) → b.answers.items ≡ [] → rest ++ a ∷ [] ≡ c.answers.items → j ≡ m → IsReady old new → IsWritten bytes moment since faults old.disk new.disk (take c.mark.kept m.entries) m.entries
-      → IsOffered bytes moment since faults old new i j says (Ok a)
+  pub alone_kept : (rest : List Answer) (a : Answer) → b.answers.items ≡ [] → rest ++ a ∷ [] ≡ c.answers.items → j ≡ m → IsReady old new → IsWritten (tells old.disk) (tells new.disk) (take c.mark.kept m.entries) m.entries
+      → IsOffered tells old new i j says (Ok a)
   alone_kept rest a empty is same ready w =
       let answered : a ≡ (says 0).answer = last_of rest a (says 0).answer (is ∙ answers_are empty) in
       let plain : a.stop ≢ Some stop.DiskFault = λ stops. t.no_fault (ap (λ (x : Answer). x.stop) (sym answered) ∙ stops) in
@@ -72,14 +73,14 @@ module _ {D : Type 0} (bytes : D → Option (List ℕ)) (moment : D → ℕ) (si
   first_none (Some f) has = absurd (omega (arith, has.0, ap length none))
 
   -- the disk refused them
-  pub alone_failed : (rest : List Answer) (a : Answer) → b.answers.items ≡ [] → rest ++ a ∷ [] ≡ failing_of c.answers.items c.first → j ≡ back_to m c.mark → 0 < length c.block → Rose (faults old.disk) (faults new.disk) → new.state ≡ Broken
-      → IsWritten bytes moment since faults old.disk new.disk (take c.mark.kept m.entries) m.entries → IsOffered bytes moment since faults old new i j says (Ok a)
+  pub alone_failed : (rest : List Answer) (a : Answer) → b.answers.items ≡ [] → rest ++ a ∷ [] ≡ failing_of c.answers.items c.first → j ≡ back_to m c.mark → 0 < length c.block → Rose (tells old.disk).faults (tells new.disk).faults → new.state ≡ Broken
+      → IsWritten (tells old.disk) (tells new.disk) (take c.mark.kept m.entries) m.entries → IsOffered tells old new i j says (Ok a)
   alone_failed rest a empty is back some rose broken w =
       let there = first_none b.first batch.first_is in
       by_first c.first refl t.batch.first_is (subst (λ (o : Option First). FirstBy i b.answers.items says o c.first) there.0 t.first) there
     where
       by_first : (first : Option First) → first ≡ c.first → HasFirst m c.mark c.block c.answers.items first → FirstBy i b.answers.items says None first → (b.first ≡ None) × (b.mark.tick ≡ i.tick) × (b.mark.groups ≡ i.groups)
-          → IsOffered bytes moment since faults old new i j says (Ok a)
+          → IsOffered tells old new i j says (Ok a)
       by_first None at has by there = absurd (omega (arith, some, ap length has.0))
       by_first (Some f) at has by there =
           let place : f.at ≡ 0 = by.0 ∙ ap length empty in
@@ -107,30 +108,30 @@ module _ {D : Type 0} (bytes : D → Option (List ℕ)) (moment : D → ℕ) (si
   failing_some None list empty is none_there = alone_some list empty is none_there
   failing_some (Some f) list empty is none_there = absurd (omega (arith, ap length is, length-append (take f.at c.answers.items) (f.answer ∷ []), none_there))
 
-module _ {D : Type 0} (bytes : D → Option (List ℕ)) (images : D → List ℕ → Type 0) (moment : D → ℕ) (since : D → ℕ → List ℕ → Type 0) (faults : D → ℕ) where
+module _ {D : Type 0} (tells : D → DiskTells) where
   -- no memory was to be had
-  pub alone_left : ((disk : D) (c : List ℕ) → since disk (moment disk) c → images disk c) → (old : Journaled D) (i j : Intake) (b c : Batch) (says : ℕ → Handled) (e : OutOfMemory) → old.state ≡ Ready → IsWaiting bytes images old i b
-      → b.block ≡ [] → IsLeft i j b c → IsOffered bytes moment since faults old old i j says (Err e)
-  alone_left only_now old i j b c says e ready is none left =
+  pub alone_left : ((disk : D) → IsLawful (tells disk)) → (old : Journaled D) (i j : Intake) (b c : Batch) (says : ℕ → Handled) (e : OutOfMemory) → old.state ≡ Ready → IsWaiting tells old i b
+      → b.block ≡ [] → IsLeft i j b c → IsOffered tells old old i j says (Err e)
+  alone_left lawful old i j b c says e ready is none left =
       let all : take b.mark.kept i.entries ≡ i.entries = none_waits i.entries (take b.mark.kept i.entries) b.block is.batch.entries_are none in
-      let has = subst (λ (es : List Numbered). HasJournaled bytes images old es b.mark.bytes) all (is.journaled ready) in
+      let has = subst (λ (es : List Numbered). HasJournaled tells old es b.mark.bytes) all (is.journaled ready) in
       record {
         answer = tt;
         after = tt;
         err = (left.entries, refl);
         fault = tt;
         ready = tt;
-        written = record { later = omega arith; told = refl; any_moment = leaves_same bytes images moment since only_now old i.entries (says 0).intake.entries b.mark.bytes has };
+        written = record { later = omega arith; told = refl; any_moment = leaves_same tells lawful old i.entries (says 0).intake.entries b.mark.bytes has };
       }
 
 -- what waits after an event that was taken, or for which no memory was to be had
-pub taken_waiting : {D : Type 0} (bytes : D → Option (List ℕ)) (images : D → List ℕ → Type 0) (journal : Journaled D) (i m : Intake) (b c : Batch) → IsWaiting bytes images journal i b → IsBatch m c → HasRoom journal c.block → c.mark ≡ b.mark
-    → take b.mark.kept m.entries ≡ take b.mark.kept i.entries → IsWaiting bytes images journal m c
-taken_waiting bytes images journal i m b c is batch room mark front =
+pub taken_waiting : {D : Type 0} (tells : D → DiskTells) (journal : Journaled D) (i m : Intake) (b c : Batch) → IsWaiting tells journal i b → IsBatch m c → HasRoom journal c.block → c.mark ≡ b.mark
+    → take b.mark.kept m.entries ≡ take b.mark.kept i.entries → IsWaiting tells journal m c
+taken_waiting tells journal i m b c is batch room mark front =
     let kept : take c.mark.kept m.entries ≡ take b.mark.kept i.entries = ap (λ (k : Mark). take k.kept m.entries) mark ∙ front in
     record {
       batch = batch;
       room = room;
-      journaled = λ ready. subst (λ (es : List Numbered). HasJournaled bytes images journal es c.mark.bytes) (sym kept)
-          (subst (λ (k : Mark). HasJournaled bytes images journal (take b.mark.kept i.entries) k.bytes) (sym mark) (is.journaled ready));
+      journaled = λ ready. subst (λ (es : List Numbered). HasJournaled tells journal es c.mark.bytes) (sym kept)
+          (subst (λ (k : Mark). HasJournaled tells journal (take b.mark.kept i.entries) k.bytes) (sym mark) (is.journaled ready));
     }

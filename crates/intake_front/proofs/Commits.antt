@@ -4,7 +4,7 @@ use Rattle.std.specs.Prelude.{is_some}
 use Rattle.std.proofs.lemmas.List.{take_all, length-take-le}
 use Rattle.zbx_types.specs.declared.entries.Entry.{Entry}
 use Rattle.zbx_types.specs.declared.entries.Numbered.{Numbered}
-use Rattle.outside.specs.Disk.{LeavesOnly}
+use Rattle.outside.specs.Disk.{DiskTells, LeavesOnly}
 use Rattle.intake_journal.specs.Block.{opened_bytes}
 use Rattle.intake_journal.specs.Settled.{Journaled}
 use Rattle.intake_journal.specs.declared.state.State.TheVariants.{Ready, Broken}
@@ -36,9 +36,9 @@ idle_batch i b block first ticked mark few =
 none_room : {D : Type 0} (journal : Journaled D) (block : List (List Entry)) → block ≡ [] → HasRoom journal block
 none_room journal block none some = absurd (omega (arith, ap length none))
 
-module _ {D : Type 0} (bytes : D → Option (List ℕ)) (images : D → List ℕ → Type 0) where
+module _ {D : Type 0} (tells : D → DiskTells) where
   -- a journal with all of an intake's entries, behind which nothing waits
-  pub idle_waiting : (journal : Journaled D) (i : Intake) (b : Batch) → IsBatch i b → b.block ≡ [] → b.mark ≡ mark_of i → (journal.state ≡ Ready → HasJournaled bytes images journal i.entries i.bytes) → IsWaiting bytes images journal i b
+  pub idle_waiting : (journal : Journaled D) (i : Intake) (b : Batch) → IsBatch i b → b.block ≡ [] → b.mark ≡ mark_of i → (journal.state ≡ Ready → HasJournaled tells journal i.entries i.bytes) → IsWaiting tells journal i b
   idle_waiting journal i b batch block mark has =
       let kept : b.mark.kept ≡ length i.entries = ap (λ (m : Mark). m.kept) mark in
       let all : take b.mark.kept i.entries ≡ i.entries = take_all b.mark.kept i.entries (omega (arith, kept)) in
@@ -46,11 +46,11 @@ module _ {D : Type 0} (bytes : D → Option (List ℕ)) (images : D → List ℕ
       record {
         batch = batch;
         room = none_room journal b.block block;
-        journaled = λ ready. subst (λ (es : List Numbered). HasJournaled bytes images journal es b.mark.bytes) (sym all) (subst (λ (n : ℕ). HasJournaled bytes images journal i.entries n) (sym size) (has ready));
+        journaled = λ ready. subst (λ (es : List Numbered). HasJournaled tells journal es b.mark.bytes) (sym all) (subst (λ (n : ℕ). HasJournaled tells journal i.entries n) (sym size) (has ready));
       }
 
   -- an intake stands behind the journal and what waits
-  pub stands_of : (journal : Journaled D) (i : Intake) (b : Batch) → IsWaiting bytes images journal i b → journal.state ≡ Ready → FollowsBlock journal b.block i
+  pub stands_of : (journal : Journaled D) (i : Intake) (b : Batch) → IsWaiting tells journal i b → journal.state ≡ Ready → FollowsBlock journal b.block i
   stands_of journal i b is ready =
       let has = is.journaled ready in
       let kept = take b.mark.kept i.entries in
@@ -60,16 +60,16 @@ module _ {D : Type 0} (bytes : D → Option (List ℕ)) (images : D → List ℕ
       }
 
   -- once all that waited was appended
-  pub kept_waiting : (journal : Journaled D) (i : Intake) (b c : Batch) → IsBatch i b → HasJournaled bytes images journal (with_group (take b.mark.kept i.entries) (all_of b.block)) (b.mark.bytes + length (opened_bytes b.block))
-      → c.block ≡ [] → c.first ≡ None → c.is_ticked ≡ false → c.mark ≡ mark_of i → i.groups ≤ length i.entries → IsWaiting bytes images journal i c
+  pub kept_waiting : (journal : Journaled D) (i : Intake) (b c : Batch) → IsBatch i b → HasJournaled tells journal (with_group (take b.mark.kept i.entries) (all_of b.block)) (b.mark.bytes + length (opened_bytes b.block))
+      → c.block ≡ [] → c.first ≡ None → c.is_ticked ≡ false → c.mark ≡ mark_of i → i.groups ≤ length i.entries → IsWaiting tells journal i c
   kept_waiting journal i b c batch has block first ticked mark few =
-      let all = subst (λ (es : List Numbered). HasJournaled bytes images journal es (b.mark.bytes + length (opened_bytes b.block))) (sym batch.entries_are) has in
-      let now = subst (λ (n : ℕ). HasJournaled bytes images journal i.entries n) (sym batch.size_is) all in
+      let all = subst (λ (es : List Numbered). HasJournaled tells journal es (b.mark.bytes + length (opened_bytes b.block))) (sym batch.entries_are) has in
+      let now = subst (λ (n : ℕ). HasJournaled tells journal i.entries n) (sym batch.size_is) all in
       idle_waiting journal i c (idle_batch i c block first ticked mark few) block mark (λ _. now)
 
   -- once the disk refused it
   pub back_waiting : (journal : Journaled D) (i : Intake) (b c : Batch) → IsBatch i b → journal.state ≡ Broken → c.block ≡ [] → c.first ≡ None → c.is_ticked ≡ false → c.mark ≡ b.mark
-      → IsWaiting bytes images journal (back_to i b.mark) c
+      → IsWaiting tells journal (back_to i b.mark) c
   back_waiting journal i b c batch broken block first ticked mark =
       let back = back_to i b.mark in
       let long : length back.entries ≡ b.mark.kept = length-take-le b.mark.kept i.entries batch.within in
@@ -80,11 +80,11 @@ module _ {D : Type 0} (bytes : D → Option (List ℕ)) (images : D → List ℕ
       not_both ready = let both = sym ready ∙ broken in absurd (cc)
 
 -- what was written of what waited
-pub commit_written : {D : Type 0} (bytes : D → Option (List ℕ)) (moment : D → ℕ) (since : D → ℕ → List ℕ → Type 0) (faults : D → ℕ) (old new : D) (i : Intake) (b : Batch) → IsBatch i b → faults old ≤ faults new
-    → is_some (bytes new) ≡ is_some (bytes old) → IfSome (bytes old) (λ _. LeavesOnly moment since old new (KeepsEither (take b.mark.kept i.entries) (with_group (take b.mark.kept i.entries) (all_of b.block))))
-    → IsWritten bytes moment since faults old new (take b.mark.kept i.entries) i.entries
-commit_written bytes moment since faults old new i b batch later told left = record {
+pub commit_written : (old new : DiskTells) (i : Intake) (b : Batch) → IsBatch i b → old.faults ≤ new.faults
+    → is_some new.bytes ≡ is_some old.bytes → IfSome old.bytes (λ _. LeavesOnly old new (KeepsEither (take b.mark.kept i.entries) (with_group (take b.mark.kept i.entries) (all_of b.block))))
+    → IsWritten old new (take b.mark.kept i.entries) i.entries
+commit_written old new i b batch later told left = record {
   later = later;
   told = told;
-  any_moment = subst (λ (es : List Numbered). IfSome (bytes old) (λ _. LeavesOnly moment since old new (KeepsEither (take b.mark.kept i.entries) es))) (sym batch.entries_are) left;
+  any_moment = subst (λ (es : List Numbered). IfSome old.bytes (λ _. LeavesOnly old new (KeepsEither (take b.mark.kept i.entries) es))) (sym batch.entries_are) left;
 }

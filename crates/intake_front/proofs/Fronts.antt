@@ -1,6 +1,7 @@
 -- What contracts see of a front that takes an event.
 use Rattle.std.proofs.Common.{◌≡◌, ℕ, List, [], ◌∷◌, ◌++◌, take, Option, None, ◌∙◌, ap}
 use Rattle.std.specs.Prelude.{Result, Ok, Err, IfOk, OnOk, OnErr}
+use Rattle.outside.specs.Disk.{DiskTells}
 use Rattle.zbx_types.specs.declared.conf.Conf.{Conf}
 use Rattle.zbx_types.specs.declared.memory.OutOfMemory.{OutOfMemory}
 use Rattle.outside.specs.declared.event.WireEvent.{WireEvent}
@@ -62,6 +63,6 @@ module _ {D : Type 0} (journal : Journaled D) (conf : Conf) (i j : Intake) (b c 
   did_err (Ok s) did = tt
   did_err (Err refused) did = (did.entries, did.block, did.answers, failing_same b.answers.items c.answers.items b.first c.first did.answers did.first)
 
-  pub did_waiting : (bytes : D → Option (List ℕ)) (images : D → List ℕ → Type 0) (result : Result (Option Stop) OutOfMemory) → IsWaiting bytes images journal i b → (HasRoom journal b.block → HasRoom journal c.block) → DidThis result
-      → IsWaiting bytes images journal j c
-  did_waiting bytes images result is room did = taken_waiting bytes images journal i j b c is (did_batch result did) (room is.room) (did_mark result did) (did_front result is.batch did)
+  pub did_waiting : (tells : D → DiskTells) (result : Result (Option Stop) OutOfMemory) → IsWaiting tells journal i b → (HasRoom journal b.block → HasRoom journal c.block) → DidThis result
+      → IsWaiting tells journal j c
+  did_waiting tells result is room did = taken_waiting tells journal i j b c is (did_batch result did) (room is.room) (did_mark result did) (did_front result is.batch did)

@@ -6,7 +6,7 @@ use Rattle.std.specs.Option.{option_map}
 use Rattle.std.proofs.lemmas.Grind.{flat_map-append}
 use Rattle.zbx_types.specs.declared.entries.Entry.{Entry}
 use Rattle.zbx_types.specs.declared.entries.Numbered.{Numbered}
-use Rattle.outside.specs.Disk.{Only, LeavesOnly}
+use Rattle.outside.specs.Disk.{DiskTells, IsLawful, Only, LeavesOnly}
 use Rattle.intake_journal.specs.Bytes.{entries_bytes}
 use Rattle.intake_journal.specs.Kept.{kept, groups_of}
 use Rattle.intake_journal.specs.Block.{opened_bytes, placed, count_all, added_all, KeepsNoneOrAll}
@@ -53,53 +53,52 @@ keeps_either at block entries b c is (inl same) = inl (ap (λ (o : Option (List 
 keeps_either at block entries b c is (inr added) = inr (keeps_more at block entries b c is added)
 
 -- moments of which each leaves P leave Q, where that follows
-pub leaves_as : {D : Type 0} (moment : D → ℕ) (since : D → ℕ → List ℕ → Type 0) (old new : D) (P Q : List ℕ → Type 0) → ((c : List ℕ) → P c → Q c) → LeavesOnly moment since old new P → LeavesOnly moment since old new Q
-leaves_as moment since old new P Q follows left = record {
+pub leaves_as : (old new : DiskTells) (P Q : List ℕ → Type 0) → ((c : List ℕ) → P c → Q c) → LeavesOnly old new P → LeavesOnly old new Q
+leaves_as old new P Q follows left = record {
   later = left.later;
   each = λ c s. follows c (left.each c s);
   before = λ t c le s. ⊎_elim (λ was. inl was) (λ now. inr (follows c now)) (left.before t c le s);
 }
 
-module _ {D : Type 0} (bytes : D → Option (List ℕ)) (images : D → List ℕ → Type 0) where
+module _ {D : Type 0} (tells : D → DiskTells) where
   -- each crash leaves what a journal has
-  pub kept_of : (journal : Journaled D) (entries : List Numbered) (size : ℕ) → HasJournaled bytes images journal entries size → IsKept bytes images journal.disk entries
-  kept_of journal entries size has = if_some (bytes journal.disk) _ (λ b is.
-      let keeps : Keeps entries b = told_of (bytes journal.disk) b (Keeps entries) is has.keeps in
-      let only : Only b (images journal.disk) = told_of (bytes journal.disk) b (λ b. Only b (images journal.disk)) is has.durable in
+  pub kept_of : (journal : Journaled D) (entries : List Numbered) (size : ℕ) → HasJournaled tells journal entries size → IsKept (tells journal.disk) entries
+  kept_of journal entries size has = if_some (tells journal.disk).bytes _ (λ b is.
+      let keeps : Keeps entries b = told_of (tells journal.disk).bytes b (Keeps entries) is has.keeps in
+      let only : Only b (tells journal.disk) = told_of (tells journal.disk).bytes b (λ b. Only b (tells journal.disk)) is has.durable in
       (keeps, λ c image. subst (Keeps entries) (sym (only c image)) keeps))
 
-  module _ (moment : D → ℕ) (since : D → ℕ → List ℕ → Type 0) where
-    -- a journal that was left alone
-    pub leaves_same : ((disk : D) (c : List ℕ) → since disk (moment disk) c → images disk c) → (journal : Journaled D) (entries after : List Numbered) (size : ℕ)
-        → HasJournaled bytes images journal entries size → IfSome (bytes journal.disk) (λ _. LeavesOnly moment since journal.disk journal.disk (KeepsEither entries after))
-    leaves_same only_now journal entries after size has = if_some (bytes journal.disk) _ (λ b is.
-        let keeps : Keeps entries b = told_of (bytes journal.disk) b (Keeps entries) is has.keeps in
-        let only : Only b (images journal.disk) = told_of (bytes journal.disk) b (λ b. Only b (images journal.disk)) is has.durable in
-        let each : (c : List ℕ) → images journal.disk c → KeepsEither entries after c = λ c image. inl (subst (Keeps entries) (sym (only c image)) keeps) in
-        (started images moment since (KeepsEither entries after) journal.disk (only_now journal.disk) each).moments)
+  -- a journal that was left alone
+  pub leaves_same : ((disk : D) → IsLawful (tells disk)) → (journal : Journaled D) (entries after : List Numbered) (size : ℕ)
+      → HasJournaled tells journal entries size → IfSome (tells journal.disk).bytes (λ _. LeavesOnly (tells journal.disk) (tells journal.disk) (KeepsEither entries after))
+  leaves_same lawful journal entries after size has = if_some (tells journal.disk).bytes _ (λ b is.
+      let keeps : Keeps entries b = told_of (tells journal.disk).bytes b (Keeps entries) is has.keeps in
+      let only : Only b (tells journal.disk) = told_of (tells journal.disk).bytes b (λ b. Only b (tells journal.disk)) is has.durable in
+      let each : (c : List ℕ) → (tells journal.disk).images c → KeepsEither entries after c = λ c image. inl (subst (Keeps entries) (sym (only c image)) keeps) in
+      (started (KeepsEither entries after) (tells journal.disk) (lawful journal.disk) each).moments)
 
-    -- a block that is appended
-    pub leaves_either : (old new : Journaled D) (block : List (List Entry)) (entries : List Numbered) (size : ℕ) → HasJournaled bytes images old entries size
-        → IfSome (bytes old.disk) (λ b. LeavesOnly moment since old.disk new.disk (KeepsNoneOrAll (groups_of (kept b)) old.at block))
-        → IfSome (bytes old.disk) (λ _. LeavesOnly moment since old.disk new.disk (KeepsEither entries (with_group entries (all_of block))))
-    leaves_either old new block entries size has left = if_some (bytes old.disk) _ (λ b is.
-        let keeps : Keeps entries b = told_of (bytes old.disk) b (Keeps entries) is has.keeps in
-        let told = told_of (bytes old.disk) b (λ b. LeavesOnly moment since old.disk new.disk (KeepsNoneOrAll (groups_of (kept b)) old.at block)) is left in
-        leaves_as moment since old.disk new.disk (KeepsNoneOrAll (groups_of (kept b)) old.at block) (KeepsEither entries (with_group entries (all_of block)))
-        (λ c. keeps_either old.at block entries b c keeps) told)
+  -- a block that is appended
+  pub leaves_either : (old new : Journaled D) (block : List (List Entry)) (entries : List Numbered) (size : ℕ) → HasJournaled tells old entries size
+      → IfSome (tells old.disk).bytes (λ b. LeavesOnly (tells old.disk) (tells new.disk) (KeepsNoneOrAll (groups_of (kept b)) old.at block))
+      → IfSome (tells old.disk).bytes (λ _. LeavesOnly (tells old.disk) (tells new.disk) (KeepsEither entries (with_group entries (all_of block))))
+  leaves_either old new block entries size has left = if_some (tells old.disk).bytes _ (λ b is.
+      let keeps : Keeps entries b = told_of (tells old.disk).bytes b (Keeps entries) is has.keeps in
+      let told = told_of (tells old.disk).bytes b (λ b. LeavesOnly (tells old.disk) (tells new.disk) (KeepsNoneOrAll (groups_of (kept b)) old.at block)) is left in
+      leaves_as (tells old.disk) (tells new.disk) (KeepsNoneOrAll (groups_of (kept b)) old.at block) (KeepsEither entries (with_group entries (all_of block)))
+      (λ c. keeps_either old.at block entries b c keeps) told)
 
   -- a block that was appended
-  pub has_more : (old new : Journaled D) (block : List (List Entry)) (entries : List Numbered) (size : ℕ) → HasJournaled bytes images old entries size
+  pub has_more : (old new : Journaled D) (block : List (List Entry)) (entries : List Numbered) (size : ℕ) → HasJournaled tells old entries size
       → new.at ≡ old.at + length (opened_bytes block) → new.entries ≡ old.entries + count_all block
-      → IfSome (bytes old.disk) (λ b. IfSome (bytes new.disk) (λ c. groups_of (kept c) ≡ added_all old.at block (groups_of (kept b))))
-      → IfSome (bytes new.disk) (λ c. Only c (images new.disk)) → is_some (bytes new.disk) ≡ is_some (bytes old.disk)
-      → HasJournaled bytes images new (with_group entries (all_of block)) (size + length (opened_bytes block))
+      → IfSome (tells old.disk).bytes (λ b. IfSome (tells new.disk).bytes (λ c. groups_of (kept c) ≡ added_all old.at block (groups_of (kept b))))
+      → IfSome (tells new.disk).bytes (λ c. Only c (tells new.disk)) → is_some (tells new.disk).bytes ≡ is_some (tells old.disk).bytes
+      → HasJournaled tells new (with_group entries (all_of block)) (size + length (opened_bytes block))
   has_more old new block entries size has at count added durable told = record {
     count = omega (arith, has.count, count, count_of block, length-append entries (numbered_from (length entries + 1) (all_of block)), length_numbered (length entries + 1) (all_of block));
     size_is = omega (arith, has.size_is, at);
-    keeps = told_too (bytes old.disk) (bytes new.disk) (Keeps (with_group entries (all_of block))) told (λ b is c is_new.
-        let keeps : Keeps entries b = told_of (bytes old.disk) b (Keeps entries) is has.keeps in
-        let more = told_of (bytes old.disk) b (λ b. IfSome (bytes new.disk) (λ c. groups_of (kept c) ≡ added_all old.at block (groups_of (kept b)))) is added in
-        keeps_more old.at block entries b c keeps (told_of (bytes new.disk) c (λ c. groups_of (kept c) ≡ added_all old.at block (groups_of (kept b))) is_new more));
+    keeps = told_too (tells old.disk).bytes (tells new.disk).bytes (Keeps (with_group entries (all_of block))) told (λ b is c is_new.
+        let keeps : Keeps entries b = told_of (tells old.disk).bytes b (Keeps entries) is has.keeps in
+        let more = told_of (tells old.disk).bytes b (λ b. IfSome (tells new.disk).bytes (λ c. groups_of (kept c) ≡ added_all old.at block (groups_of (kept b)))) is added in
+        keeps_more old.at block entries b c keeps (told_of (tells new.disk).bytes c (λ c. groups_of (kept c) ≡ added_all old.at block (groups_of (kept b))) is_new more));
     durable = durable;
   }

@@ -4,7 +4,7 @@ use Rattle.std.specs.List.{flat_map}
 use Rattle.std.specs.Option.{option_map}
 use Rattle.zbx_types.specs.declared.entries.Entry.{Entry}
 use Rattle.zbx_types.specs.declared.entries.Numbered.{Numbered}
-use Rattle.outside.specs.Disk.{Only}
+use Rattle.outside.specs.Disk.{DiskTells, Only}
 use Rattle.intake_journal.specs.Kept.{kept, groups_of}
 use Rattle.intake_journal.specs.Block.{passes_with_all}
 use Rattle.intake_journal.specs.Settled.{Journaled}
@@ -44,17 +44,16 @@ abbrev pub KeepsEither : List Numbered → List Numbered → List ℕ → Type 0
 KeepsEither before after file = Keeps before file ⊎ Keeps after file
 
 -- a journal has these entries and so many bytes, and its disk keeps them through any crash, where it tells
-pub record HasJournaled {D : Type 0} (bytes : D → Option (List ℕ)) (images : D → List ℕ → Type 0)
-    (journal : Journaled D) (entries : List Numbered) (size : ℕ) : Type 0 where
+pub record HasJournaled {D : Type 0} (tells : D → DiskTells) (journal : Journaled D) (entries : List Numbered)
+    (size : ℕ) : Type 0 where
   pub count : journal.entries ≡ length entries
   pub size_is : journal.at + 1 ≡ size
-  pub keeps : IfSome (bytes journal.disk) (Keeps entries)
-  pub durable : IfSome (bytes journal.disk) (λ b. Only b (images journal.disk))
+  pub keeps : IfSome (tells journal.disk).bytes (Keeps entries)
+  pub durable : IfSome (tells journal.disk).bytes (λ b. Only b (tells journal.disk))
 
 -- each crash leaves bytes that keep these entries, where the disk tells
-abbrev pub IsKept : {D : Type 0} → (D → Option (List ℕ)) → (D → List ℕ → Type 0) → D → List Numbered → Type 0
-IsKept bytes images disk entries =
-    IfSome (bytes disk) (λ b. Keeps entries b × ((c : List ℕ) → images disk c → Keeps entries c))
+abbrev pub IsKept : DiskTells → List Numbered → Type 0
+IsKept disk entries = IfSome disk.bytes (λ b. Keeps entries b × ((c : List ℕ) → disk.images c → Keeps entries c))
 
 -- the limits of a journal whose disk refuses the group with this number
 abbrev pub limits_of : {D : Type 0} → Journaled D → ℕ → Limits

@@ -4,7 +4,7 @@ use Rattle.zbx_types.specs.declared.entries.Entry.{Entry}
 use Rattle.zbx_types.specs.declared.entries.Numbered.{Numbered}
 use Rattle.zbx_types.specs.declared.memory.OutOfMemory.{OutOfMemory}
 use Rattle.outside.specs.Causes.{Rose}
-use Rattle.outside.specs.Disk.{LeavesOnly}
+use Rattle.outside.specs.Disk.{DiskTells, LeavesOnly}
 use Rattle.intake_journal.specs.Block.{opened_bytes, count_all, entries_with_all, bytes_with_all, passes_with_all}
 use Rattle.intake_journal.specs.Settled.{Journaled}
 use Rattle.intake_journal.specs.declared.state.State.TheVariants.{Broken}
@@ -74,20 +74,18 @@ settled (OnlyTick full) ticks made last added = record {
 settled (Neither full) ticks made last added = record { ticks = []; group = []; now = stopping full; fault = None }
 
 -- what was written, or not, changes what a crash leaves only from these entries to those, at each moment
-pub record IsWritten {D : Type 0} (bytes : D → Option (List ℕ)) (moment : D → ℕ) (since : D → ℕ → List ℕ → Type 0)
-    (faults : D → ℕ) (old new : D) (before after : List Numbered) : Type 0 where
-  pub later : faults old ≤ faults new
-  pub told : is_some (bytes new) ≡ is_some (bytes old)
-  pub any_moment : IfSome (bytes old) (λ _. LeavesOnly moment since old new (KeepsEither before after))
+pub record IsWritten (old new : DiskTells) (before after : List Numbered) : Type 0 where
+  pub later : old.faults ≤ new.faults
+  pub told : is_some new.bytes ≡ is_some old.bytes
+  pub any_moment : IfSome old.bytes (λ _. LeavesOnly old new (KeepsEither before after))
 
 -- an event was answered, and left what this says where the disk refuses the group with a number, or none
-pub record IsOffered {D : Type 0} (bytes : D → Option (List ℕ)) (moment : D → ℕ) (since : D → ℕ → List ℕ → Type 0)
-    (faults : D → ℕ)
-    (old new : Journaled D) (i j : Intake) (says : ℕ → Handled) (result : Result Answer OutOfMemory) : Type 0 where
+pub record IsOffered {D : Type 0} (tells : D → DiskTells) (old new : Journaled D) (i j : Intake)
+    (says : ℕ → Handled) (result : Result Answer OutOfMemory) : Type 0 where
   pub answer : IfOk result (λ a. a ≡ (says (refused_group i a.stop)).answer)
   pub after : IfOk result (λ a. j ≡ (says (refused_group i a.stop)).intake)
   pub err : OnErr result ((j.entries ≡ i.entries) × (new ≡ old))
   pub fault : IfOk result (λ a. a.stop ≡ Some stop.DiskFault → (new.state ≡ Broken)
-      × Rose (faults old.disk) (faults new.disk))
+      × Rose (tells old.disk).faults (tells new.disk).faults)
   pub ready : IfOk result (λ a. a.stop ≢ Some stop.DiskFault → IsReady old new)
-  pub written : IsWritten bytes moment since faults old.disk new.disk i.entries (says 0).intake.entries
+  pub written : IsWritten (tells old.disk) (tells new.disk) i.entries (says 0).intake.entries

@@ -3,6 +3,7 @@ use Rattle.std.specs.Prelude.{◌≡◌, ◌≢◌, ◌≤◌, ◌<◌, ℕ, ◌
 use Rattle.std.specs.List.{list_any}
 use Rattle.zbx_types.specs.declared.entries.Entry.{Entry}
 use Rattle.entry_step.specs.Log.{tick_of}
+use Rattle.outside.specs.Disk.{DiskTells}
 use Rattle.intake_journal.specs.Block.{opened_bytes}
 use Rattle.intake_journal.specs.Settled.{Journaled}
 use Rattle.intake_journal.specs.declared.state.State.TheVariants.{Ready}
@@ -48,11 +49,10 @@ pub record IsBatch (i : Intake) (b : Batch) : Type 0 where
   pub ticked : b.is_ticked ≡ has_tick (all_of b.block)
 
 -- the groups that wait fit into the journal, and unless its disk failed it keeps what stands before them
-pub record IsWaiting {D : Type 0} (bytes : D → Option (List ℕ)) (images : D → List ℕ → Type 0)
-    (journal : Journaled D) (i : Intake) (b : Batch) : Type 0 where
+pub record IsWaiting {D : Type 0} (tells : D → DiskTells) (journal : Journaled D) (i : Intake) (b : Batch) : Type 0 where
   pub batch : IsBatch i b
   pub room : HasRoom journal b.block
-  pub journaled : journal.state ≡ Ready → HasJournaled bytes images journal (take b.mark.kept i.entries) b.mark.bytes
+  pub journaled : journal.state ≡ Ready → HasJournaled tells journal (take b.mark.kept i.entries) b.mark.bytes
 
 -- what contracts see of a journal, an intake and what waits
 abbrev pub front_of : {D : Type 0} → Journaled D → Intake → Batch → Fronted D

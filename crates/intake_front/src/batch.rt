@@ -169,16 +169,16 @@ pub(crate) fn commit<D: Disk>(
     batch: &mut Batch,
 ) -> Many<Answer>
     requires ready { journal.old.state ≡ state.Ready }
-    requires waiting { IsWaiting D.bytes D.images journal.old held.old batch.old }
+    requires waiting { IsWaiting D.tells journal.old held.old batch.old }
     ensures state { (journal.new.state ≡ state.Ready) ⊎ (journal.new.state ≡ state.Broken) }
     ensures done { journal.new.state ≡ state.Ready → (result ≡ batch.old.answers.items) × (held.new ≡ held.old)
         × IsReady journal.old journal.new }
     ensures failed { journal.new.state ≡ state.Broken → (result ≡ failing_of batch.old.answers.items batch.old.first)
         × (held.new ≡ back_to held.old batch.old.mark)
-        × (0 < length batch.old.block) × Rose (D.faults journal.old.disk) (D.faults journal.new.disk) }
-    ensures written { IsWritten D.bytes D.moment D.images_since D.faults journal.old.disk journal.new.disk
+        × (0 < length batch.old.block) × Rose (D.tells journal.old.disk).faults (D.tells journal.new.disk).faults }
+    ensures written { IsWritten (D.tells journal.old.disk) (D.tells journal.new.disk)
         (take batch.old.mark.kept held.old.entries) held.old.entries }
-    ensures waiting { IsWaiting D.bytes D.images journal.new held.new batch.new }
+    ensures waiting { IsWaiting D.tells journal.new held.new batch.new }
     ensures block { batch.new.block ≡ [] }
     ensures answers { batch.new.answers.items ≡ [] }
     ensures first { batch.new.first ≡ None }

@@ -33,22 +33,22 @@ impl<'a> Model for Collection<'a> {
 
     ghost coded = { Prim.hlevel (codes, tree_code) };
 
-    ghost view = { λ c. c.ready.now };
+    ghost view = { λ c. c.ready.now.conf };
 
-    ghost invariant = { λ c. HasFound c.ready.now c.found };
+    ghost invariant = { λ c. HasFound c.ready.now.conf c.found };
 }
 
 impl<'a> Collection<'a> {
     /// Values are taken by this configuration. Takes no memory.
     pub fn new(ready: &'a Ready) -> Collection<'a>
-        ensures { result ≡ ready.now }
+        ensures { result ≡ ready.now.conf }
     {
         Collection { ready, found: None }
     }
 
     /// The configuration.
     pub fn ready(&self) -> &'a Ready
-        ensures { result.now ≡ self.now }
+        ensures { result.now.conf ≡ self.now }
     {
         self.ready
     }

@@ -53,7 +53,7 @@ impl<D: Disk> Model for Front<D> {
 
     ghost view = { λ f. front_of f.inside.journal f.inside.held f.inside.batch };
 
-    ghost invariant = { λ f. IsWaiting D.bytes D.images f.inside.journal f.inside.held f.inside.batch };
+    ghost invariant = { λ f. IsWaiting D.tells f.inside.journal f.inside.held f.inside.batch };
 }
 
 impl<D: Disk> Front<D> {
@@ -72,33 +72,33 @@ impl<D: Disk> Front<D> {
         kept: Many<Numbered>,
     ) -> Result<Front<D>, Unmade<D>>
         requires read { journal.state ≡ state.Ready }
-        requires journaled { HasJournaled D.bytes D.images journal kept (journal.at + 1) }
+        requires journaled { HasJournaled D.tells journal kept (journal.at + 1) }
 
-        ensures made { IfOk result (λ f. f.intake ≡ start ready.now.text kept (journal.at + 1)) }
-        ensures sound { IfOk result (λ f. IsFull (log_of kept) → Fits ready.now (log_of kept)
-            → IsSound ready.now f.intake) }
-        ensures durable { IfOk result (λ f. IsKept D.bytes D.images f.journal.disk f.intake.entries) }
+        ensures made { IfOk result (λ f. f.intake ≡ start ready.now.conf.text kept (journal.at + 1)) }
+        ensures sound { IfOk result (λ f. IsFull (log_of kept) → Fits ready.now.conf (log_of kept)
+            → IsSound ready.now.conf f.intake) }
+        ensures durable { IfOk result (λ f. IsKept (D.tells f.journal.disk) f.intake.entries) }
         ensures state { IfOk result (λ f. IsReady journal f.journal) }
         ensures idle { IfOk result (λ f. IsIdle f) }
 
         ensures back { IfErr result (λ u. u.kept ≡ kept) }
-        ensures full { kept ≡ [] → IsTrue (passes_with_all journal (first_group ready.now.text ∷ []))
+        ensures full { kept ≡ [] → IsTrue (passes_with_all journal (first_group ready.now.conf.text ∷ []))
             → IfOk result (λ _. ⊥) × IfErr result (λ u. u.error ≢ error.DiskFault) }
         ensures only_full { IfErr result (λ u. (entries bytes : ℕ) → u.error ≡ error.Full entries bytes → (kept ≡ [])
-            × IsTrue (passes_with_all journal (first_group ready.now.text ∷ []))
-            × (entries ≡ entries_with_all journal (first_group ready.now.text ∷ []))
-            × (bytes ≡ bytes_with_all journal (first_group ready.now.text ∷ []))) }
+            × IsTrue (passes_with_all journal (first_group ready.now.conf.text ∷ []))
+            × (entries ≡ entries_with_all journal (first_group ready.now.conf.text ∷ []))
+            × (bytes ≡ bytes_with_all journal (first_group ready.now.conf.text ∷ []))) }
         ensures fault { IfErr result (λ u. u.error ≡ error.DiskFault → (kept ≡ [])
-            × Rose (D.faults journal.disk) (D.faults u.disk)) }
+            × Rose (D.tells journal.disk).faults (D.tells u.disk).faults) }
         ensures same { IfErr result (λ u. u.error ≢ error.DiskFault → u.disk ≡ journal.disk) }
-        ensures later { D.faults journal.disk ≤ D.faults (disk_of result) }
-        ensures told { is_some (D.bytes (disk_of result)) ≡ is_some (D.bytes journal.disk) }
+        ensures later { (D.tells journal.disk).faults ≤ (D.tells (disk_of result)).faults }
+        ensures told { is_some (D.tells (disk_of result)).bytes ≡ is_some (D.tells journal.disk).bytes }
 
         // A crash at any moment of the call leaves the entries that were kept, or with none of these the
         // configuration alone.
-        ensures any_moment { IfSome (D.bytes journal.disk)
-            (λ _. LeavesOnly D.moment D.images_since journal.disk (disk_of result)
-            (KeepsEither kept (start ready.now.text kept (journal.at + 1)).entries)) }
+        ensures any_moment { IfSome (D.tells journal.disk).bytes
+            (λ _. LeavesOnly (D.tells journal.disk) (D.tells (disk_of result))
+            (KeepsEither kept (start ready.now.conf.text kept (journal.at + 1)).entries)) }
     {
         let mut journal = journal;
         let block = match Block::new(alloc) {
@@ -171,30 +171,30 @@ impl<D: Disk> Front<D> {
         requires idle { IsIdle self.old }
 
         ensures answer { IfOk result (λ a. a ≡ (handled
-            (limits_of self.old.journal (refused_group self.old.intake a.stop)) ready.now self.old.intake
+            (limits_of self.old.journal (refused_group self.old.intake a.stop)) ready.now.conf self.old.intake
             event.now).answer) }
         ensures after { IfOk result (λ a. self.new.intake ≡ (handled
-            (limits_of self.old.journal (refused_group self.old.intake a.stop)) ready.now self.old.intake
+            (limits_of self.old.journal (refused_group self.old.intake a.stop)) ready.now.conf self.old.intake
             event.now).intake) }
-        ensures keeps { OnOk result (IsSound ready.now self.old.intake → IsSound ready.now self.new.intake) }
+        ensures keeps { OnOk result (IsSound ready.now.conf self.old.intake → IsSound ready.now.conf self.new.intake) }
         ensures err { OnErr result ((self.new.intake.entries ≡ self.old.intake.entries)
             × (self.new.journal ≡ self.old.journal)) }
 
         // An answer is given once each crash leaves all entries, unless the disk failed: a reply counts no value as
         // processed then.
         ensures durable { IfOk result (λ a. a.stop ≢ Some stop.DiskFault
-            → IsKept D.bytes D.images self.new.journal.disk self.new.intake.entries) }
+            → IsKept (D.tells self.new.journal.disk) self.new.intake.entries) }
 
         // A crash at any moment of the call leaves the entries from before it, or these with all that the event adds.
-        ensures any_moment { IfSome (D.bytes self.old.journal.disk)
-            (λ _. LeavesOnly D.moment D.images_since self.old.journal.disk self.new.journal.disk
-            (KeepsEither self.old.intake.entries (handled (limits_of self.old.journal 0) ready.now self.old.intake
+        ensures any_moment { IfSome (D.tells self.old.journal.disk).bytes
+            (λ _. LeavesOnly (D.tells self.old.journal.disk) (D.tells self.new.journal.disk)
+            (KeepsEither self.old.intake.entries (handled (limits_of self.old.journal 0) ready.now.conf self.old.intake
             event.now).intake.entries)) }
 
         ensures fault { IfOk result (λ a. a.stop ≡ Some stop.DiskFault
-            → Rose (D.faults self.old.journal.disk) (D.faults self.new.journal.disk)) }
-        ensures later { D.faults self.old.journal.disk ≤ D.faults self.new.journal.disk }
-        ensures told { is_some (D.bytes self.new.journal.disk) ≡ is_some (D.bytes self.old.journal.disk) }
+            → Rose (D.tells self.old.journal.disk).faults (D.tells self.new.journal.disk).faults) }
+        ensures later { (D.tells self.old.journal.disk).faults ≤ (D.tells self.new.journal.disk).faults }
+        ensures told { is_some (D.tells self.new.journal.disk).bytes ≡ is_some (D.tells self.old.journal.disk).bytes }
         ensures state { IfOk result (λ a. a.stop ≢ Some stop.DiskFault → IsReady self.old.journal self.new.journal) }
         ensures broken { IfOk result (λ a. a.stop ≡ Some stop.DiskFault → self.new.journal.state ≡ state.Broken) }
         ensures idle { IsIdle self.new }
@@ -274,20 +274,20 @@ impl<D: Disk> Front<D> {
             × (self.new.intake ≡ self.old.intake) × IsReady self.old.journal self.new.journal }
         ensures failed { self.new.journal.state ≡ state.Broken → (result ≡ self.old.failing)
             × (self.new.intake.entries ≡ self.old.kept) × (0 < length self.old.block)
-            × Rose (D.faults self.old.journal.disk) (D.faults self.new.journal.disk) }
+            × Rose (D.tells self.old.journal.disk).faults (D.tells self.new.journal.disk).faults }
         ensures idle { IsIdle self.new }
 
         // Answers are given once each crash leaves all entries, unless the disk failed.
         ensures durable { self.new.journal.state ≡ state.Ready
-            → IsKept D.bytes D.images self.new.journal.disk self.new.intake.entries }
+            → IsKept (D.tells self.new.journal.disk) self.new.intake.entries }
 
         // A crash at any moment of the call leaves the entries that were kept before it, or these with all that waited.
-        ensures any_moment { IfSome (D.bytes self.old.journal.disk)
-            (λ _. LeavesOnly D.moment D.images_since self.old.journal.disk self.new.journal.disk
+        ensures any_moment { IfSome (D.tells self.old.journal.disk).bytes
+            (λ _. LeavesOnly (D.tells self.old.journal.disk) (D.tells self.new.journal.disk)
             (KeepsEither self.old.kept self.old.intake.entries)) }
 
-        ensures later { D.faults self.old.journal.disk ≤ D.faults self.new.journal.disk }
-        ensures told { is_some (D.bytes self.new.journal.disk) ≡ is_some (D.bytes self.old.journal.disk) }
+        ensures later { (D.tells self.old.journal.disk).faults ≤ (D.tells self.new.journal.disk).faults }
+        ensures told { is_some (D.tells self.new.journal.disk).bytes ≡ is_some (D.tells self.old.journal.disk).bytes }
     {
         let inside = &mut self.inside;
         commit(

@@ -118,12 +118,12 @@ pub(crate) fn receive_alone<D: Disk>(
     event: &WireEvent,
 ) -> Result<Answer, OutOfMemory>
     requires ready { journal.old.state ≡ state.Ready }
-    requires waiting { IsWaiting D.bytes D.images journal.old held.old batch.old }
+    requires waiting { IsWaiting D.tells journal.old held.old batch.old }
     requires block { batch.old.block ≡ [] }
     requires answers { batch.old.answers.items ≡ [] }
-    ensures offered { IsOffered D.bytes D.moment D.images_since D.faults journal.old journal.new held.old held.new
-        (λ s. handled (limits_of journal.old s) ready.now held.old event.now) result }
-    ensures waiting { IsWaiting D.bytes D.images journal.new held.new batch.new }
+    ensures offered { IsOffered D.tells journal.old journal.new held.old held.new
+        (λ s. handled (limits_of journal.old s) ready.now.conf held.old event.now) result }
+    ensures waiting { IsWaiting D.tells journal.new held.new batch.new }
     ensures block { batch.new.block ≡ [] }
     ensures answers { batch.new.answers.items ≡ [] }
     ensures first { batch.new.first ≡ None }

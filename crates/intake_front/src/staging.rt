@@ -100,18 +100,18 @@ pub(crate) fn write<D: Disk>(journal: &mut Journal<D>, block: &Block) -> bool
     requires ready { journal.old.state ≡ Ready }
     requires room { HasRoom journal.old block.now }
     ensures kept { IsTrue result → (entries : List Numbered) (size : ℕ)
-        → HasJournaled D.bytes D.images journal.old entries size
-        → HasJournaled D.bytes D.images journal.new (with_group entries (all_of block.now))
+        → HasJournaled D.tells journal.old entries size
+        → HasJournaled D.tells journal.new (with_group entries (all_of block.now))
         (size + length (opened_bytes block.now)) }
-    ensures any_moment { (entries : List Numbered) (size : ℕ) → HasJournaled D.bytes D.images journal.old entries size
-        → IfSome (D.bytes journal.old.disk) (λ _. LeavesOnly D.moment D.images_since journal.old.disk
-        journal.new.disk (KeepsEither entries (with_group entries (all_of block.now)))) }
+    ensures any_moment { (entries : List Numbered) (size : ℕ) → HasJournaled D.tells journal.old entries size
+        → IfSome (D.tells journal.old.disk).bytes (λ _. LeavesOnly (D.tells journal.old.disk)
+        (D.tells journal.new.disk) (KeepsEither entries (with_group entries (all_of block.now)))) }
     ensures ready { IsTrue result → IsReady journal.old journal.new }
     ensures broken { result ≡ false → journal.new.state ≡ Broken }
     ensures fault { result ≡ false → (0 < length block.now)
-        × Rose (D.faults journal.old.disk) (D.faults journal.new.disk) }
-    ensures later { D.faults journal.old.disk ≤ D.faults journal.new.disk }
-    ensures told { is_some (D.bytes journal.new.disk) ≡ is_some (D.bytes journal.old.disk) }
+        × Rose (D.tells journal.old.disk).faults (D.tells journal.new.disk).faults }
+    ensures later { (D.tells journal.old.disk).faults ≤ (D.tells journal.new.disk).faults }
+    ensures told { is_some (D.tells journal.new.disk).bytes ≡ is_some (D.tells journal.old.disk).bytes }
 {
     if block.is_empty() {
         return true;

@@ -20,7 +20,7 @@ use zbx_types::{
 };
 
 fn asked_host(ready: &Ready, name: &Option<Text>) -> Option<u32>
-    ensures { result ≡ option_and_then (host_named ready.now) name.now }
+    ensures { result ≡ option_and_then (host_named ready.now.conf) name.now }
 {
     match name {
         Some(name) => ready.host_named(name),
@@ -29,7 +29,7 @@ fn asked_host(ready: &Ready, name: &Option<Text>) -> Option<u32>
 }
 
 fn asked_item(ready: &Ready, host: u32, key: &Option<Text>) -> Option<u32>
-    ensures { result ≡ option_and_then (item_keyed ready.now host) key.now }
+    ensures { result ≡ option_and_then (item_keyed ready.now.conf host) key.now }
 {
     match key {
         Some(key) => ready.item_keyed(host, key),
@@ -164,8 +164,8 @@ fn hosted(
     asked: Asked,
     host: Option<u32>,
 ) -> Result<Entry, ValueRefusal>
-    requires { some_out ≡ false → AllCollected ready.now now }
-    ensures { result ≡ hosted ready.now now asked host }
+    requires { some_out ≡ false → AllCollected ready.now.conf now }
+    ensures { result ≡ hosted ready.now.conf now asked host }
 {
     let Some(host) = host else {
         return Err(ValueRefusal::UnknownHost);
@@ -177,8 +177,8 @@ fn hosted(
 /// The entry that an asked value becomes, or the cause for which it is refused.
 #[tactic(auto, unfolding(crate::specs::Taking::taken_of))]
 fn taken(ready: &Ready, now: Moment, some_out: bool, asked: Asked) -> Result<Entry, ValueRefusal>
-    requires { some_out ≡ false → AllCollected ready.now now }
-    ensures { result ≡ taken_of ready.now now asked }
+    requires { some_out ≡ false → AllCollected ready.now.conf now }
+    ensures { result ≡ taken_of ready.now.conf now asked }
 {
     let host = asked_host(ready, &asked.host);
     hosted(ready, now, some_out, asked, host)

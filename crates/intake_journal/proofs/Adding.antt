@@ -3,6 +3,7 @@ use Rattle.std.proofs.Common.{◌≡◌, ◌≢◌, inl, inr, ℕ, ◌≤◌, tr
 use Rattle.std.specs.Prelude.{is_some, nat_le, unwrap_or}
 use Rattle.std.proofs.lemmas.Bool.{cases_lt, le-leb}
 use Rattle.std.proofs.lemmas.List.{drop_at, take-append-le}
+use Rattle.outside.specs.Disk.{DiskTells}
 use Rattle.intake_journal.specs.Kept.{Fresh, Groups, magic, kept_behind, kept, groups_of}
 use Rattle.intake_journal.specs.Settled.{IsFront, IsDurable, IsSettled}
 use Rattle.intake_journal.specs.declared.format.Group.{Group}
@@ -45,13 +46,13 @@ told_too None (Some b) P same has = absurd (true≢false same)
 told_too (Some a) (Some b) P same has = has a refl b refl
 
 -- what a journal knows that isn't being read nor broken
-pub ready_of : (state : State) (images : List ℕ → Type 0) (at entries : ℕ) (bytes : Option (List ℕ)) → state ≢ Reading → state ≢ Broken → IsSettled state images at entries bytes → IfSome bytes (λ b. IsDurable images at entries b × (get_or b at 1 ≢ 1))
-ready_of Reading images at entries bytes read broken settled = absurd (read refl)
-ready_of Ready images at entries bytes read broken settled = settled
-ready_of Broken images at entries bytes read broken settled = absurd (broken refl)
+pub ready_of : (state : State) (disk : DiskTells) (at entries : ℕ) → state ≢ Reading → state ≢ Broken → IsSettled state disk at entries → IfSome disk.bytes (λ b. IsDurable disk at entries b × (get_or b at 1 ≢ 1))
+ready_of Reading disk at entries read broken settled = absurd (read refl)
+ready_of Ready disk at entries read broken settled = settled
+ready_of Broken disk at entries read broken settled = absurd (broken refl)
 
 -- and what such a one is settled by
-pub settled_of : (state : State) (images : List ℕ → Type 0) (at entries : ℕ) (bytes : Option (List ℕ)) → state ≢ Reading → IfSome bytes (λ b. IsDurable images at entries b × (get_or b at 1 ≢ 1)) → IsSettled state images at entries bytes
-settled_of Reading images at entries bytes read ready = absurd (read refl)
-settled_of Ready images at entries bytes read ready = ready
-settled_of Broken images at entries bytes read ready = tt
+pub settled_of : (state : State) (disk : DiskTells) (at entries : ℕ) → state ≢ Reading → IfSome disk.bytes (λ b. IsDurable disk at entries b × (get_or b at 1 ≢ 1)) → IsSettled state disk at entries
+settled_of Reading disk at entries read ready = absurd (read refl)
+settled_of Ready disk at entries read ready = ready
+settled_of Broken disk at entries read ready = tt

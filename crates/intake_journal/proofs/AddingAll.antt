@@ -4,7 +4,7 @@ use Rattle.std.specs.Prelude.{is_some}
 use Rattle.std.specs.List.{All}
 use Rattle.std.proofs.lemmas.Bool.{cases_eq}
 use Rattle.std.proofs.lemmas.List.{take_at, take_more, drop_more, get_or_at, length-take}
-use Rattle.outside.specs.Disk.{overwritten, Only, LeavesOnly}
+use Rattle.outside.specs.Disk.{DiskTells, overwritten, Only, LeavesOnly}
 use Rattle.zbx_types.specs.declared.entries.Entry.{Entry}
 use Rattle.intake_journal.specs.Around.{IsAround}
 use Rattle.intake_journal.specs.Kept.{longest_journal, kept, groups_of}
@@ -16,7 +16,7 @@ use Rattle.intake_journal.proofs.Moments.{if_some, told_of}
 use Rattle.intake_journal.proofs.Adding.{groups_closed, told_too}
 use Rattle.intake_journal.proofs.Blocks.{front_with, count_entries-placed}
 
-module _ (images : List ℕ → Type 0) (at entries : ℕ) (b : List ℕ) (is : IsDurable images at entries b) (shut : get_or b at 1 ≢ 1) (groups : List (List Entry))
+module _ (disk : DiskTells) (at entries : ℕ) (b : List ℕ) (is : IsDurable disk at entries b) (shut : get_or b at 1 ≢ 1) (groups : List (List Entry))
     (readable : All IsReadable groups) (within : at + length (opened_bytes groups) + 1 ≤ longest_journal) (block : List ℕ) (shape : 1 ∷ block ≡ opened_bytes groups ++ 0 ∷ []) where
   abbrev gs : List Group
   gs = is.groups
@@ -65,8 +65,8 @@ module _ (images : List ℕ → Type 0) (at entries : ℕ) (b : List ℕ) (is : 
   ]
 
   -- at each moment
-  pub moments_keep : {D : Type 0} (moment : D → ℕ) (since : D → ℕ → List ℕ → Type 0) (old new : D) → LeavesOnly moment since old new (IsAround b at block) → LeavesOnly moment since old new (KeepsNoneOrAll (groups_of (kept b)) at groups)
-  moments_keep moment since old new around = record {
+  pub moments_keep : (old new : DiskTells) → LeavesOnly old new (IsAround b at block) → LeavesOnly old new (KeepsNoneOrAll (groups_of (kept b)) at groups)
+  moments_keep old new around = record {
     later = around.later;
     each = λ c left. around_keeps c (around.each c left);
     before = λ t c le left. ⊎_elim (λ was. inl was) (λ now. inr (around_keeps c now)) (around.before t c le left);
@@ -83,7 +83,7 @@ module _ (images : List ℕ → Type 0) (at entries : ℕ) (b : List ℕ) (is : 
   finished_keeps = ap (λ (l : List ℕ). groups_of (kept l)) finished_is ∙ counts (behind b at block is.gate)
 
   -- the journal goes on behind the groups
-  pub finished_settled : (new : List ℕ → Type 0) → Only finished new → IsDurable new (at + length (opened_bytes groups)) (entries + count_all groups) finished × (get_or finished (at + length (opened_bytes groups)) 1 ≢ 1)
+  pub finished_settled : (new : DiskTells) → Only finished new → IsDurable new (at + length (opened_bytes groups)) (entries + count_all groups) finished × (get_or finished (at + length (opened_bytes groups)) 1 ≢ 1)
   finished_settled new only =
       let end = at + length (opened_bytes groups) in
       let rest = behind b at block is.gate in
@@ -101,38 +101,38 @@ module _ (images : List ℕ → Type 0) (at entries : ℕ) (b : List ℕ) (is : 
         omega (arith, gate),
       )
 
-module _ {D : Type 0} (bytes : D → Option (List ℕ)) (images : D → List ℕ → Type 0) (old new : D) (at entries : ℕ) (groups : List (List Entry))
+module _ (old new : DiskTells) (at entries : ℕ) (groups : List (List Entry))
     (readable : All IsReadable groups) (within : at + length (opened_bytes groups) + 1 ≤ longest_journal)
-    (ready : IfSome (bytes old) (λ b. IsDurable (images old) at entries b × (get_or b at 1 ≢ 1))) (block : List ℕ) (shape : 1 ∷ block ≡ opened_bytes groups ++ 0 ∷ []) where
-  known : (b : List ℕ) → bytes old ≡ Some b → IsDurable (images old) at entries b × (get_or b at 1 ≢ 1)
-  known b is = told_of (bytes old) b (λ f. IsDurable (images old) at entries f × (get_or f at 1 ≢ 1)) is ready
+    (ready : IfSome old.bytes (λ b. IsDurable old at entries b × (get_or b at 1 ≢ 1))) (block : List ℕ) (shape : 1 ∷ block ≡ opened_bytes groups ++ 0 ∷ []) where
+  known : (b : List ℕ) → old.bytes ≡ Some b → IsDurable old at entries b × (get_or b at 1 ≢ 1)
+  known b is = told_of old.bytes b (λ f. IsDurable old at entries f × (get_or f at 1 ≢ 1)) is ready
 
   abbrev Writes : Type 0
-  Writes = IfSome (bytes old) (λ b. bytes new ≡ Some (overwritten (overwritten b (at + 1) block) at (1 ∷ [])))
+  Writes = IfSome old.bytes (λ b. new.bytes ≡ Some (overwritten (overwritten b (at + 1) block) at (1 ∷ [])))
 
-  written : Writes → (b : List ℕ) → bytes old ≡ Some b → bytes new ≡ Some (overwritten (overwritten b (at + 1) block) at (1 ∷ []))
-  written writes b is = told_of (bytes old) b (λ f. bytes new ≡ Some (overwritten (overwritten f (at + 1) block) at (1 ∷ []))) is writes
+  written : Writes → (b : List ℕ) → old.bytes ≡ Some b → new.bytes ≡ Some (overwritten (overwritten b (at + 1) block) at (1 ∷ []))
+  written writes b is = told_of old.bytes b (λ f. new.bytes ≡ Some (overwritten (overwritten f (at + 1) block) at (1 ∷ []))) is writes
 
   -- the groups before, and the new ones
-  pub kept_after_all : Writes → IfSome (bytes old) (λ b. IfSome (bytes new) (λ c. groups_of (kept c) ≡ added_all at groups (groups_of (kept b))))
-  kept_after_all writes = if_some (bytes old) _ (λ b is.
+  pub kept_after_all : Writes → IfSome old.bytes (λ b. IfSome new.bytes (λ c. groups_of (kept c) ≡ added_all at groups (groups_of (kept b))))
+  kept_after_all writes = if_some old.bytes _ (λ b is.
       let k = known b is in
-      subst (λ (o : Option (List ℕ)). IfSome o (λ c. groups_of (kept c) ≡ added_all at groups (groups_of (kept b)))) (sym (written writes b is)) (finished_keeps (images old) at entries b k.0 k.1 groups readable within block shape))
+      subst (λ (o : Option (List ℕ)). IfSome o (λ c. groups_of (kept c) ≡ added_all at groups (groups_of (kept b)))) (sym (written writes b is)) (finished_keeps old at entries b k.0 k.1 groups readable within block shape))
 
   -- the journal goes on behind the groups
-  pub ready_after_all : Writes → is_some (bytes new) ≡ is_some (bytes old) → IfSome (bytes new) (λ b. Only b (images new))
-      → IfSome (bytes new) (λ b. IsDurable (images new) (at + length (opened_bytes groups)) (entries + count_all groups) b × (get_or b (at + length (opened_bytes groups)) 1 ≢ 1))
-  ready_after_all writes told durable = told_too (bytes old) (bytes new) _ told (λ b is after new_is.
+  pub ready_after_all : Writes → is_some new.bytes ≡ is_some old.bytes → IfSome new.bytes (λ b. Only b new)
+      → IfSome new.bytes (λ b. IsDurable new (at + length (opened_bytes groups)) (entries + count_all groups) b × (get_or b (at + length (opened_bytes groups)) 1 ≢ 1))
+  ready_after_all writes told durable = told_too old.bytes new.bytes _ told (λ b is after new_is.
       let k = known b is in
-      let file = finished (images old) at entries b k.0 k.1 groups readable within block shape in
-      let only : Only file (images new) = told_of (bytes new) file (λ f. Only f (images new)) (written writes b is) durable in
-      let done : IfSome (Some file) (λ f. IsDurable (images new) (at + length (opened_bytes groups)) (entries + count_all groups) f × (get_or f (at + length (opened_bytes groups)) 1 ≢ 1)) = finished_settled (images old) at entries b k.0 k.1 groups readable within block shape (images new) only in
-      subst (λ (o : Option (List ℕ)). IfSome o (λ f. IsDurable (images new) (at + length (opened_bytes groups)) (entries + count_all groups) f × (get_or f (at + length (opened_bytes groups)) 1 ≢ 1))) (sym (written writes b is) ∙ new_is) done)
+      let file = finished old at entries b k.0 k.1 groups readable within block shape in
+      let only : Only file new = told_of new.bytes file (λ f. Only f new) (written writes b is) durable in
+      let done : IfSome (Some file) (λ f. IsDurable new (at + length (opened_bytes groups)) (entries + count_all groups) f × (get_or f (at + length (opened_bytes groups)) 1 ≢ 1)) = finished_settled old at entries b k.0 k.1 groups readable within block shape new only in
+      subst (λ (o : Option (List ℕ)). IfSome o (λ f. IsDurable new (at + length (opened_bytes groups)) (entries + count_all groups) f × (get_or f (at + length (opened_bytes groups)) 1 ≢ 1))) (sym (written writes b is) ∙ new_is) done)
 
   -- at each moment of it
-  pub moments_after_all : (moment : D → ℕ) (since : D → ℕ → List ℕ → Type 0) → IfSome (bytes old) (λ b. at < length b → Only b (images old) → LeavesOnly moment since old new (IsAround b at block))
-      → IfSome (bytes old) (λ b. LeavesOnly moment since old new (KeepsNoneOrAll (groups_of (kept b)) at groups))
-  moments_after_all moment since around = if_some (bytes old) _ (λ b is.
+  pub moments_after_all : IfSome old.bytes (λ b. at < length b → Only b old → LeavesOnly old new (IsAround b at block))
+      → IfSome old.bytes (λ b. LeavesOnly old new (KeepsNoneOrAll (groups_of (kept b)) at groups))
+  moments_after_all around = if_some old.bytes _ (λ b is.
       let k = known b is in
-      let told = told_of (bytes old) b (λ f. at < length f → Only f (images old) → LeavesOnly moment since old new (IsAround f at block)) is around k.0.gate k.0.durable in
-      moments_keep (images old) at entries b k.0 k.1 groups readable within block shape moment since old new told)
+      let told = told_of old.bytes b (λ f. at < length f → Only f old → LeavesOnly old new (IsAround f at block)) is around k.0.gate k.0.durable in
+      moments_keep old at entries b k.0 k.1 groups readable within block shape old new told)

@@ -5,7 +5,7 @@ use Rattle.std.specs.List.{list_all, zip}
 use Rattle.std.proofs.lemmas.Bool.{eqb-true}
 use Rattle.std.proofs.lemmas.Bool.Decides.{nat_tests}
 use Rattle.std.proofs.lemmas.List.{drop_all}
-use Rattle.outside.specs.Disk.{overwritten, Torn, Follows, Only, LeavesOnly}
+use Rattle.outside.specs.Disk.{DiskTells, overwritten, Torn, Follows, Only, LeavesOnly}
 use Rattle.intake_journal.specs.Kept.{Kept, magic, group_behind, with_group, followed, kept_behind, kept_from, kept}
 use Rattle.intake_journal.specs.Kept.Kept.{Fresh, NotOurs, Damaged, Groups}
 use Rattle.intake_journal.specs.Opened.{left_of, IsOpened}
@@ -17,29 +17,29 @@ use Rattle.intake_journal.proofs.Fronts.{closed, kept_long}
 use Rattle.intake_journal.proofs.Torn.{overwritten_inside}
 
 -- one run of calls and then another
-pub and_then : {D : Type 0} (moment : D → ℕ) (since : D → ℕ → List ℕ → Type 0) (old mid new : D) (P Q : List ℕ → Type 0) → LeavesOnly moment since old mid P → LeavesOnly moment since mid new Q → ((c : List ℕ) → Q c → P c) → LeavesOnly moment since old new P
-and_then moment since old mid new P Q first second goes = record {
+pub and_then : (old mid new : DiskTells) (P Q : List ℕ → Type 0) → LeavesOnly old mid P → LeavesOnly mid new Q → ((c : List ℕ) → Q c → P c) → LeavesOnly old new P
+and_then old mid new P Q first second goes = record {
   later = omega (arith, first.later, second.later);
-  each = λ c left. ⊎_elim (first.each c) (goes c) (second.before (moment old) c first.later left);
+  each = λ c left. ⊎_elim (first.each c) (goes c) (second.before old.moment c first.later left);
   before = λ t c le left. ⊎_elim (first.before t c le) (λ now. inr (goes c now)) (second.before t c (omega (arith, le, first.later)) left);
 }
 
 -- a short file stays short in each outcome of a write of its first nine bytes
-pub stays_short : (b : List ℕ) (old new : List ℕ → Type 0) → length b ≤ 9 → Only b old → Follows (Torn 0 9) old new → (c : List ℕ) → new c → length c ≤ 9
+pub stays_short : (b : List ℕ) (old new : DiskTells) → length b ≤ 9 → Only b old → Follows (Torn 0 9) old new → (c : List ℕ) → new.images c → length c ≤ 9
 stays_short b old new short only follows c left =
     let from = follows c left in
     omega (arith, from.2.no_longer, ap length (only from.0 from.1), short)
 
 -- short files all keep the same
-pub short_keeps : (images : List ℕ → Type 0) (b : List ℕ) → images b → length b ≤ 9 → (c : List ℕ) → length c ≤ 9 → KeepsAsOneOf images c
-short_keeps images b image short c less = (b, image, fresh c less ∙ sym (fresh b short))
+pub short_keeps : (disk : DiskTells) (b : List ℕ) → disk.images b → length b ≤ 9 → (c : List ℕ) → length c ≤ 9 → KeepsAsOneOf disk c
+short_keeps disk b image short c less = (b, image, fresh c less ∙ sym (fresh b short))
 
 -- a short file made anew
 pub anew_is : (b : List ℕ) → length b ≤ 9 → overwritten b 0 (magic ++ 0 ∷ []) ≡ magic ++ 0 ∷ []
 anew_is b short = overwritten_inside b 0 (magic ++ 0 ∷ []) (omega arith) ∙ ap (λ (l : List ℕ). magic ++ 0 ∷ l) (drop_all 9 b short)
 
-pub anew_opened : (images : List ℕ → Type 0) (b : List ℕ) → length b ≤ 9 → Only (overwritten b 0 (magic ++ 0 ∷ [])) images → IsOpened images b (overwritten b 0 (magic ++ 0 ∷ []))
-anew_opened images b short only = subst (IsOpened images b) (sym (anew_is b short)) (record {
+pub anew_opened : (disk : DiskTells) (b : List ℕ) → length b ≤ 9 → Only (overwritten b 0 (magic ++ 0 ∷ [])) disk → IsOpened disk b (overwritten b 0 (magic ++ 0 ∷ []))
+anew_opened disk b short only = subst (IsOpened disk b) (sym (anew_is b short)) (record {
   ours = refl;
   gate = omega arith;
   durable = λ c now. only c now ∙ anew_is b short;
@@ -121,8 +121,8 @@ long_not_ours b long test =
     let more : nat_le (length b) 9 ≡ false = grind (arith, nat_tests) in
     rw (more, test) refl
 
-pub long_opened : (images : List ℕ → Type 0) (b : List ℕ) → 9 < length b → test_of b ≡ true → Only b images → IsOpened images b b
-long_opened images b long test only =
+pub long_opened : (disk : DiskTells) (b : List ℕ) → 9 < length b → test_of b ≡ true → Only b disk → IsOpened disk b b
+long_opened disk b long test only =
     let ours = front_same magic b (omega (arith, long)) test in
     record {
       ours = ours;

@@ -3,6 +3,7 @@ use Rattle.std.proofs.Common.{◌≡◌, ◌≢◌, ℕ, suc, ◌+◌, ◌<◌, 
 use Rattle.std.proofs.Math.Seq.{take-add}
 use Rattle.std.proofs.lemmas.List.{take_at, drop_more, drop-drop, length-take-le, take-append-drop, get_or_default}
 use Rattle.std.specs.Prelude.{⊤}
+use Rattle.outside.specs.Disk.{DiskTells, AddsNothing}
 use Rattle.zbx_types.specs.declared.entries.Entry.{Entry}
 use Rattle.intake_journal.specs.Kept.{Damaged, Groups, group_behind, with_group, followed, kept_behind, kept_from}
 use Rattle.intake_journal.specs.Found.{HasGroup, IsFound}
@@ -12,6 +13,7 @@ use Rattle.intake_journal.specs.declared.format.Group.{Group}
 use Rattle.intake_journal.specs.declared.reading.Found.TheVariants.{End, Damage, Next}
 use Rattle.intake_journal.specs.declared.state.State.{State}
 use Rattle.intake_journal.specs.declared.state.State.TheVariants.{Reading, Ready, Broken}
+use Rattle.intake_journal.proofs.Moments.{if_some, told_of}
 use Rattle.intake_journal.proofs.Behind.{group_there, group_same}
 use Rattle.intake_journal.proofs.Fronts.{closed, opened, front_goes_on, count_entries-push}
 
@@ -78,8 +80,8 @@ up_to_next at size file inside gate =
     let count : at + (size + 9) ≡ at + suc (size + 8) = omega arith in
     ap (λ (i : ℕ). take i file) count ∙ take-add at (suc (size + 8)) file ∙ ap (λ (x : List ℕ). take at file ++ take (suc (size + 8)) x) (gate_and at file 1 inside gate)
 
-pub next_durable : (images : List ℕ → Type 0) (at n size : ℕ) (entries : List Entry) (file : List ℕ) → IsDurable images at n file → IsFound (Next entries size) at file → IsDurable images (at + (size + 9)) (n + length entries) file
-next_durable images at n size entries file is found =
+pub next_durable : (disk : DiskTells) (at n size : ℕ) (entries : List Entry) (file : List ℕ) → IsDurable disk at n file → IsFound (Next entries size) at file → IsDurable disk (at + (size + 9)) (n + length entries) file
+next_durable disk at n size entries file is found =
     let g : Group = record { at = at; entries = entries } in
     let len : length (take at file) ≡ at = length-take-le at file (omega (arith, is.gate)) in
     record {
@@ -94,57 +96,57 @@ next_durable images at n size entries file is found =
 -- ---- what is known of the journal
 
 -- with fewer images
-fewer_durable : (images fewer : List ℕ → Type 0) (at n : ℕ) (file : List ℕ) → IsDurable images at n file → ((c : List ℕ) → fewer c → images c) → IsDurable fewer at n file
-fewer_durable images fewer at n file is less = record { groups = is.groups; front = is.front; count = is.count; gate = is.gate; durable = λ c now. is.durable c (less c now) }
+fewer_durable : (old new : DiskTells) (at n : ℕ) (file : List ℕ) → IsDurable old at n file → AddsNothing old new → IsDurable new at n file
+fewer_durable old new at n file is less = record { groups = is.groups; front = is.front; count = is.count; gate = is.gate; durable = λ c now. is.durable c (less c now) }
 
 -- what is known in a place of the file, with what was found there
-pub told_both : (state : State) (images : List ℕ → Type 0) (at n : ℕ) (bytes : Option (List ℕ)) (Q P : List ℕ → Type 0) → IsSettled state images at n bytes → state ≡ Reading → IfSome bytes Q
-    → ((b : List ℕ) → IsDurable images at n b → Q b → P b) → IfSome bytes P
-told_both Reading images at n None Q P settled reading q then = tt
-told_both Reading images at n (Some b) Q P settled reading q then = then b settled q
-told_both Ready images at n bytes Q P settled reading q then = absurd cc
-told_both Broken images at n bytes Q P settled reading q then = absurd cc
+pub told_both : (state : State) (disk : DiskTells) (at n : ℕ) (Q P : List ℕ → Type 0) → IsSettled state disk at n → state ≡ Reading → IfSome disk.bytes Q
+    → ((b : List ℕ) → IsDurable disk at n b → Q b → P b) → IfSome disk.bytes P
+told_both Reading disk at n Q P settled reading q then = if_some disk.bytes P (λ b is. then b (told_of disk.bytes b (IsDurable disk at n) is settled) (told_of disk.bytes b Q is q))
+told_both Ready disk at n Q P settled reading q then = absurd cc
+told_both Broken disk at n Q P settled reading q then = absurd cc
 
-settled_reading : (state : State) (images : List ℕ → Type 0) (at n : ℕ) (bytes : Option (List ℕ)) → state ≡ Reading → IfSome bytes (IsDurable images at n) → IsSettled state images at n bytes
-settled_reading Reading images at n bytes reading told = told
-settled_reading Ready images at n bytes reading told = absurd cc
-settled_reading Broken images at n bytes reading told = absurd cc
+settled_reading : (state : State) (disk : DiskTells) (at n : ℕ) → state ≡ Reading → IfSome disk.bytes (IsDurable disk at n) → IsSettled state disk at n
+settled_reading Reading disk at n reading told = told
+settled_reading Ready disk at n reading told = absurd cc
+settled_reading Broken disk at n reading told = absurd cc
 
-module _ {D : Type 0} (bytes : D → Option (List ℕ)) (images : D → List ℕ → Type 0) (moment : D → ℕ) (since : D → ℕ → List ℕ → Type 0) (old new : D) (before : IsAsBefore bytes images moment since old new) where
-  told_now : (P : List ℕ → Type 0) → IfSome (bytes old) P → IfSome (bytes new) P
+module _ (old new : DiskTells) (before : IsAsBefore old new) where
+  told_now : (P : List ℕ → Type 0) → IfSome old.bytes P → IfSome new.bytes P
   told_now P told = subst (λ (o : Option (List ℕ)). IfSome o P) (sym before.same) told
 
   -- it stands where it stood
-  pub settled_still : (state : State) (at n : ℕ) → IsSettled state (images old) at n (bytes old) → state ≡ Reading → IsSettled state (images new) at n (bytes new)
+  pub settled_still : (state : State) (at n : ℕ) → IsSettled state old at n → state ≡ Reading → IsSettled state new at n
   settled_still state at n settled reading =
-      settled_reading state (images new) at n (bytes new) reading (told_now (IsDurable (images new) at n)
-      (told_both state (images old) at n (bytes old) (λ _. ⊤) (IsDurable (images new) at n) settled reading (all (bytes old)) (λ b is _. fewer_durable (images old) (images new) at n b is before.no_others)))
+      settled_reading state new at n reading (told_now (IsDurable new at n)
+      (told_both state old at n (λ _. ⊤) (IsDurable new at n) settled reading (all old.bytes) (λ b is _. fewer_durable old new at n b is before.no_others)))
     where
       all : (o : Option (List ℕ)) → IfSome o (λ _. ⊤)
       all None = tt
       all (Some b) = tt
 
   -- behind one group more
-  pub settled_next : (state : State) (at n size : ℕ) (entries : List Entry) → IsSettled state (images old) at n (bytes old) → state ≡ Reading → IfSome (bytes old) (IsFound (Next entries size) at)
-      → IsSettled state (images new) (at + (size + 9)) (n + length entries) (bytes new)
+  pub settled_next : (state : State) (at n size : ℕ) (entries : List Entry) → IsSettled state old at n → state ≡ Reading → IfSome old.bytes (IsFound (Next entries size) at)
+      → IsSettled state new (at + (size + 9)) (n + length entries)
   settled_next state at n size entries settled reading found =
-      settled_reading state (images new) (at + (size + 9)) (n + length entries) (bytes new) reading (told_now (IsDurable (images new) (at + (size + 9)) (n + length entries))
-      (told_both state (images old) at n (bytes old) (IsFound (Next entries size) at) (IsDurable (images new) (at + (size + 9)) (n + length entries)) settled reading found
-      (λ b is f. fewer_durable (images old) (images new) (at + (size + 9)) (n + length entries) b (next_durable (images old) at n size entries b is f) before.no_others)))
+      settled_reading state new (at + (size + 9)) (n + length entries) reading (told_now (IsDurable new (at + (size + 9)) (n + length entries))
+      (told_both state old at n (IsFound (Next entries size) at) (IsDurable new (at + (size + 9)) (n + length entries)) settled reading found
+      (λ b is f. fewer_durable old new (at + (size + 9)) (n + length entries) b (next_durable old at n size entries b is f) before.no_others)))
 
   -- at the end
-  pub settled_end : (state : State) (at n : ℕ) → IsSettled state (images old) at n (bytes old) → state ≡ Reading → IfSome (bytes old) (IsFound End at) → IsSettled Ready (images new) at n (bytes new)
+  pub settled_end : (state : State) (at n : ℕ) → IsSettled state old at n → state ≡ Reading → IfSome old.bytes (IsFound End at) → IsSettled Ready new at n
   settled_end state at n settled reading found =
-      told_now (λ b. IsDurable (images new) at n b × (get_or b at 1 ≢ 1))
-      (told_both state (images old) at n (bytes old) (IsFound End at) (λ b. IsDurable (images new) at n b × (get_or b at 1 ≢ 1)) settled reading found
-      (λ b is shut. (fewer_durable (images old) (images new) at n b is before.no_others, λ open'. shut (get_or_default b at 0 1 is.gate ∙ open'))))
+      told_now (λ b. IsDurable new at n b × (get_or b at 1 ≢ 1))
+      (told_both state old at n (IsFound End at) (λ b. IsDurable new at n b × (get_or b at 1 ≢ 1)) settled reading found
+      (λ b is shut. (fewer_durable old new at n b is before.no_others, λ open'. shut (get_or_default b at 0 1 is.gate ∙ open'))))
 
 -- a ready journal has nothing left to read
-pub ready_kept : (state : State) (images : List ℕ → Type 0) (at n : ℕ) (bytes : Option (List ℕ)) → IsSettled state images at n bytes → state ≡ Ready → IfSome bytes (λ b. kept_from at b ≡ Groups [])
-ready_kept Ready images at n None settled ready = tt
-ready_kept Ready images at n (Some b) settled ready = end_kept at b settled.0.gate (λ open'. settled.1 (get_or_default b at 1 0 settled.0.gate ∙ open'))
-ready_kept Reading images at n bytes settled ready = absurd cc
-ready_kept Broken images at n bytes settled ready = absurd cc
+pub ready_kept : (state : State) (disk : DiskTells) (at n : ℕ) → IsSettled state disk at n → state ≡ Ready → IfSome disk.bytes (λ b. kept_from at b ≡ Groups [])
+ready_kept Ready disk at n settled ready = if_some disk.bytes _ (λ b is.
+    let known = told_of disk.bytes b (λ f. IsDurable disk at n f × (get_or f at 1 ≢ 1)) is settled in
+    end_kept at b known.0.gate (λ open'. known.1 (get_or_default b at 1 0 known.0.gate ∙ open')))
+ready_kept Reading disk at n settled ready = absurd cc
+ready_kept Broken disk at n settled ready = absurd cc
 
 -- ---- equal journals, changed alike
 

@@ -1,7 +1,7 @@
 -- What each of the two writes of a group leaves, whole or torn.
 use Rattle.std.proofs.Common.{◌≡◌, inl, inr, ℕ, ◌+◌, ◌-◌, ◌<◌, ◌≤◌, min, List, [], ◌∷◌, ◌++◌, length, get_or, take, drop, replicate, sym, ◌∙◌, ap, subst, arith, append_assoc, length-append, take-append-drop}
 use Rattle.std.proofs.lemmas.List.{take_at, drop_at, drop_more, take_more, take-append-le, length-take}
-use Rattle.outside.specs.Disk.{overwritten, Torn, Follows, Only}
+use Rattle.outside.specs.Disk.{DiskTells, overwritten, Torn, Follows, Only}
 use Rattle.intake_journal.specs.Around.{IsAround}
 
 -- a write within the bytes leaves what is before it and what is behind it
@@ -69,12 +69,12 @@ module _ (b : List ℕ) (gate : ℕ) (block : List ℕ) (inside : gate < length 
   pub around : IsAround b gate block b
   around = inl (drop (gate + 1) b, sym (take-append-drop (gate + 1) b))
 
-  pub block_crash : (old new : List ℕ → Type 0) → Only b old → Follows (Torn (gate + 1) (length block)) old new → (c : List ℕ) → new c → IsAround b gate block c
+  pub block_crash : (old new : DiskTells) → Only b old → Follows (Torn (gate + 1) (length block)) old new → (c : List ℕ) → new.images c → IsAround b gate block c
   block_crash old new only follows c left =
       let from = follows c left in
       torn_behind c (subst (λ (f : List ℕ). Torn (gate + 1) (length block) f c) (only from.0 from.1) from.2)
 
-  pub gate_crash : (old new : List ℕ → Type 0) → Only staged old → Follows (Torn gate 1) old new → (c : List ℕ) → new c → IsAround b gate block c
+  pub gate_crash : (old new : DiskTells) → Only staged old → Follows (Torn gate 1) old new → (c : List ℕ) → new.images c → IsAround b gate block c
   gate_crash old new only follows c left =
       let from = follows c left in
       torn_gate c (subst (λ (f : List ℕ). Torn gate 1 f c) (only from.0 from.1) from.2)

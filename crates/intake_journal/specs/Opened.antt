@@ -1,6 +1,6 @@
 -- What is known of a file that was opened as a journal.
 use Rattle.std.specs.Prelude.{◌≡◌, ℕ, ◌<◌, List, [], length, take, Result, Ok, Err}
-use Rattle.outside.specs.Disk.{Only}
+use Rattle.outside.specs.Disk.{DiskTells, Only}
 use Rattle.intake_journal.specs.Kept.{Kept, magic, first_gate, kept_from, kept}
 use Rattle.intake_journal.specs.Settled.{Journaled}
 use Rattle.intake_journal.specs.declared.state.JournalError.{JournalError}
@@ -14,10 +14,10 @@ left_of (Damaged at) = Damaged at
 left_of (Groups gs) = Groups gs
 
 -- a file that was opened: it begins as a journal with a gate, all of it is durable, and what it keeps is what the file kept before
-pub record IsOpened (images : List ℕ → Type 0) (before now : List ℕ) : Type 0 where
+pub record IsOpened (disk : DiskTells) (before now : List ℕ) : Type 0 where
   pub ours : take 8 now ≡ magic
   pub gate : first_gate < length now
-  pub durable : Only now images
+  pub durable : Only now disk
   pub left : kept_from first_gate now ≡ left_of (kept before)
 
 -- the disk that an opening gives back, in the journal or beside the error

@@ -1,6 +1,6 @@
 -- What is known of a journal and its disk between two calls.
-use Rattle.std.specs.Prelude.{◌≡◌, ◌≢◌, ℕ, ◌+◌, ◌*◌, ◌^◌, ◌<◌, ◌≤◌, ⊤, List, [], ◌∷◌, ◌++◌, length, take, get_or, Option, IfSome}
-use Rattle.outside.specs.Disk.{Only}
+use Rattle.std.specs.Prelude.{◌≡◌, ◌≢◌, ℕ, ◌+◌, ◌*◌, ◌^◌, ◌<◌, ◌≤◌, ⊤, List, [], ◌∷◌, ◌++◌, length, take, get_or, IfSome}
+use Rattle.outside.specs.Disk.{DiskTells, Only}
 use Rattle.intake_journal.specs.Kept.{Kept, magic, longest_journal, with_group, kept_behind, kept_from, kept}
 use Rattle.intake_journal.specs.declared.format.Group.{Group}
 use Rattle.intake_journal.specs.declared.state.State.{State}
@@ -32,23 +32,23 @@ count_entries [] = 0
 count_entries (g ∷ gs) = length g.entries + count_entries gs
 
 -- groups of so many entries stand before a gate at this place, and all of the bytes is durable
-pub record IsDurable (images : List ℕ → Type 0) (at entries : ℕ) (bytes : List ℕ) : Type 0 where
+pub record IsDurable (disk : DiskTells) (at entries : ℕ) (bytes : List ℕ) : Type 0 where
   pub groups : List Group
   pub front : IsFront groups (take at bytes)
   pub count : entries ≡ count_entries groups
   pub gate : at < length bytes
-  pub durable : Only bytes images
+  pub durable : Only bytes disk
 
 -- what a journal in this state knows of its disk, where the disk tells: the gate of a ready journal isn't open
-abbrev pub IsSettled : State → (List ℕ → Type 0) → ℕ → ℕ → Option (List ℕ) → Type 0
-IsSettled Reading images at entries bytes = IfSome bytes (IsDurable images at entries)
-IsSettled Ready images at entries bytes = IfSome bytes (λ b. IsDurable images at entries b × (get_or b at 1 ≢ 1))
-IsSettled Broken images at entries bytes = ⊤
+abbrev pub IsSettled : State → DiskTells → ℕ → ℕ → Type 0
+IsSettled Reading disk at entries = IfSome disk.bytes (IsDurable disk at entries)
+IsSettled Ready disk at entries = IfSome disk.bytes (λ b. IsDurable disk at entries b × (get_or b at 1 ≢ 1))
+IsSettled Broken disk at entries = ⊤
 
 -- the place, the count and the limit of a journal are small
 abbrev pub IsWithin : ℕ → ℕ → ℕ → Type 0
 IsWithin at entries max_bytes = (at < longest_journal) × (entries ≤ at * 2 ^ 32) × (max_bytes ≤ longest_journal)
 
--- the bytes keep what one of these keeps
-abbrev pub KeepsAsOneOf : (List ℕ → Type 0) → List ℕ → Type 0
-KeepsAsOneOf images c = (d : List ℕ) × images d × (kept c ≡ kept d)
+-- the bytes keep what one of the disk's images keeps
+abbrev pub KeepsAsOneOf : DiskTells → List ℕ → Type 0
+KeepsAsOneOf disk c = (d : List ℕ) × disk.images d × (kept c ≡ kept d)

@@ -31,10 +31,10 @@ fn zeros(alloc: Global, size: u32) -> Result<Vec<u8>, OutOfMemory>
 /// Bytes of a disk from a place on, as many as asked for or as there are.
 fn read_from<D: Disk>(alloc: Global, disk: &mut D, at: u64, size: u32) -> Result<Bytes, Trouble>
     requires { at < 2 ^ 32 }
-    ensures told { IfOk result (λ bytes. IfSome (D.bytes disk.old) (λ b. bytes ≡ take size (drop at b))) }
-    ensures before { IsAsBefore D.bytes D.images D.moment D.images_since disk.old disk.new }
-    ensures later { D.faults disk.old ≤ D.faults disk.new }
-    ensures failed { IsErrOf result trouble.Failed → Rose (D.faults disk.old) (D.faults disk.new) }
+    ensures told { IfOk result (λ bytes. IfSome (D.tells disk.old).bytes (λ b. bytes ≡ take size (drop at b))) }
+    ensures before { IsAsBefore (D.tells disk.old) (D.tells disk.new) }
+    ensures later { (D.tells disk.old).faults ≤ (D.tells disk.new).faults }
+    ensures failed { IsErrOf result trouble.Failed → Rose (D.tells disk.old).faults (D.tells disk.new).faults }
 {
     let mut bytes = zeros(alloc, size)?;
     let count = read_whole(disk, at, &mut bytes)?;
@@ -70,12 +70,12 @@ impl Ahead {
         size: u32,
     ) -> Result<(), Trouble>
         requires small { at < 2 ^ 32 }
-        requires ahead { IsAhead self.old (D.bytes disk.old) }
-        ensures told { OnOk result (IfSome (D.bytes disk.old) (λ b. part_of self.new at size ≡ take size (drop at b))) }
-        ensures ahead { IsAhead self.new (D.bytes disk.old) }
-        ensures before { IsAsBefore D.bytes D.images D.moment D.images_since disk.old disk.new }
-        ensures later { D.faults disk.old ≤ D.faults disk.new }
-        ensures failed { IsErrOf result trouble.Failed → Rose (D.faults disk.old) (D.faults disk.new) }
+        requires ahead { IsAhead self.old (D.tells disk.old).bytes }
+        ensures told { OnOk result (IfSome (D.tells disk.old).bytes (λ b. part_of self.new at size ≡ take size (drop at b))) }
+        ensures ahead { IsAhead self.new (D.tells disk.old).bytes }
+        ensures before { IsAsBefore (D.tells disk.old) (D.tells disk.new) }
+        ensures later { (D.tells disk.old).faults ≤ (D.tells disk.new).faults }
+        ensures failed { IsErrOf result trouble.Failed → Rose (D.tells disk.old).faults (D.tells disk.new).faults }
     {
         if !self.has(at, size) {
             self.bytes = read_from(alloc, disk, at, size.max(AT_ONCE))?;

@@ -45,7 +45,7 @@ impl<D: Disk> Model for Journal<D> {
 
     ghost view = { λ j. record { disk = j.disk; at = j.at; entries = j.entries; max_entries = j.max_entries; max_bytes = j.max_bytes; state = j.state } };
 
-    ghost invariant = { λ j. IsWithin j.at j.entries j.max_bytes × IsSettled j.state (D.images j.disk) j.at j.entries (D.bytes j.disk) × IsReadAhead j.state j.ahead (D.bytes j.disk) };
+    ghost invariant = { λ j. IsWithin j.at j.entries j.max_bytes × IsSettled j.state (D.tells j.disk) j.at j.entries × IsReadAhead j.state j.ahead (D.tells j.disk).bytes };
 }
 
 impl<D: Disk> Journal<D> {
@@ -65,17 +65,17 @@ impl<D: Disk> Journal<D> {
 
         // What is left to read is what the file kept, all of it durable.
         ensures begins { IfOk result (λ j. (j.at ≡ first_gate) × (j.entries ≡ 0) × (j.max_entries ≡ max_entries) × (j.max_bytes ≡ max_bytes) × (j.state ≡ Reading)) }
-        ensures opened { IfOk result (λ j. IfSome (D.bytes disk) (λ b. IfSome (D.bytes j.disk) (λ c. IsOpened (D.images j.disk) b c))) }
+        ensures opened { IfOk result (λ j. IfSome (D.tells disk).bytes (λ b. IfSome (D.tells j.disk).bytes (λ c. IsOpened (D.tells j.disk) b c))) }
 
-        ensures ours { IfOk result (λ _. IfSome (D.bytes disk) (λ b. kept b ≢ NotOurs)) }
-        ensures not_ours { IfErr result (λ e. e.1 ≡ cause.NotOurs → IfSome (D.bytes disk) (λ b. kept b ≡ NotOurs)) }
-        ensures fault { IfErr result (λ e. e.1 ≢ cause.NotOurs → (e.1 ≡ cause.DiskFault) × Rose (D.faults disk) (D.faults e.0)) }
+        ensures ours { IfOk result (λ _. IfSome (D.tells disk).bytes (λ b. kept b ≢ NotOurs)) }
+        ensures not_ours { IfErr result (λ e. e.1 ≡ cause.NotOurs → IfSome (D.tells disk).bytes (λ b. kept b ≡ NotOurs)) }
+        ensures fault { IfErr result (λ e. e.1 ≢ cause.NotOurs → (e.1 ≡ cause.DiskFault) × Rose (D.tells disk).faults (D.tells e.0).faults) }
 
-        ensures told { is_some (D.bytes (disk_of result)) ≡ is_some (D.bytes disk) }
-        ensures later { D.faults disk ≤ D.faults (disk_of result) }
+        ensures told { is_some (D.tells (disk_of result)).bytes ≡ is_some (D.tells disk).bytes }
+        ensures later { (D.tells disk).faults ≤ (D.tells (disk_of result)).faults }
 
         // A crash at any moment of the call leaves a file that keeps what one did that a crash before it might have left.
-        ensures any_moment { IfSome (D.bytes disk) (λ _. LeavesOnly D.moment D.images_since disk (disk_of result) (KeepsAsOneOf (D.images disk))) }
+        ensures any_moment { IfSome (D.tells disk).bytes (λ _. LeavesOnly (D.tells disk) (D.tells (disk_of result)) (KeepsAsOneOf (D.tells disk))) }
     {
         let mut disk = disk;
         match prepare(&mut disk) {
@@ -188,12 +188,12 @@ impl<D: Disk> Journal<D> {
         requires some { 0 < length block.now }
         requires room { passes_with_all self.old block.now ≡ false }
         ensures place { OnOk result ((self.new.at ≡ self.old.at + length (opened_bytes block.now)) × (self.new.entries ≡ entries_with_all self.old block.now)) }
-        ensures kept { OnOk result (IfSome (D.bytes self.old.disk) (λ b. IfSome (D.bytes self.new.disk) (λ c. groups_of (kept c) ≡ added_all self.old.at block.now (groups_of (kept b))))) }
-        ensures durable { OnOk result (IfSome (D.bytes self.new.disk) (λ c. Only c (D.images self.new.disk))) }
-        ensures told { is_some (D.bytes self.new.disk) ≡ is_some (D.bytes self.old.disk) }
-        ensures any_moment { IfSome (D.bytes self.old.disk) (λ b.
-            LeavesOnly D.moment D.images_since self.old.disk self.new.disk (KeepsNoneOrAll (groups_of (kept b)) self.old.at block.now)) }
-        ensures cause { HasCause (D.faults self.old.disk) (D.faults self.new.disk) result }
+        ensures kept { OnOk result (IfSome (D.tells self.old.disk).bytes (λ b. IfSome (D.tells self.new.disk).bytes (λ c. groups_of (kept c) ≡ added_all self.old.at block.now (groups_of (kept b))))) }
+        ensures durable { OnOk result (IfSome (D.tells self.new.disk).bytes (λ c. Only c (D.tells self.new.disk))) }
+        ensures told { is_some (D.tells self.new.disk).bytes ≡ is_some (D.tells self.old.disk).bytes }
+        ensures any_moment { IfSome (D.tells self.old.disk).bytes (λ b.
+            LeavesOnly (D.tells self.old.disk) (D.tells self.new.disk) (KeepsNoneOrAll (groups_of (kept b)) self.old.at block.now)) }
+        ensures cause { HasCause (D.tells self.old.disk).faults (D.tells self.new.disk).faults result }
         ensures state { OnOk result (self.new.state ≡ Ready) }
         ensures state_broken { OnErr result (self.new.state ≡ Broken) }
         ensures limits { (self.new.max_entries ≡ self.old.max_entries) × (self.new.max_bytes ≡ self.old.max_bytes) }
@@ -223,20 +223,20 @@ impl<D: Disk> Journal<D> {
         requires some { 0 < length block.now }
 
         ensures place { OnOk result ((self.new.at ≡ self.old.at + length (opened_bytes block.now)) × (self.new.entries ≡ entries_with_all self.old block.now)) }
-        ensures kept { OnOk result (IfSome (D.bytes self.old.disk) (λ b. IfSome (D.bytes self.new.disk) (λ c. groups_of (kept c) ≡ added_all self.old.at block.now (groups_of (kept b))))) }
-        ensures durable { OnOk result (IfSome (D.bytes self.new.disk) (λ c. Only c (D.images self.new.disk))) }
+        ensures kept { OnOk result (IfSome (D.tells self.old.disk).bytes (λ b. IfSome (D.tells self.new.disk).bytes (λ c. groups_of (kept c) ≡ added_all self.old.at block.now (groups_of (kept b))))) }
+        ensures durable { OnOk result (IfSome (D.tells self.new.disk).bytes (λ c. Only c (D.tells self.new.disk))) }
 
-        ensures told { is_some (D.bytes self.new.disk) ≡ is_some (D.bytes self.old.disk) }
+        ensures told { is_some (D.tells self.new.disk).bytes ≡ is_some (D.tells self.old.disk).bytes }
 
         // A crash at any moment of the call leaves the groups from before it, with all of the new ones or none.
-        ensures any_moment { self.old.state ≡ Ready → IfSome (D.bytes self.old.disk) (λ b.
-            LeavesOnly D.moment D.images_since self.old.disk self.new.disk (KeepsNoneOrAll (groups_of (kept b)) self.old.at block.now)) }
+        ensures any_moment { self.old.state ≡ Ready → IfSome (D.tells self.old.disk).bytes (λ b.
+            LeavesOnly (D.tells self.old.disk) (D.tells self.new.disk) (KeepsNoneOrAll (groups_of (kept b)) self.old.at block.now)) }
 
         ensures full { self.old.state ≡ Ready → IsTrue (passes_with_all self.old block.now) → result ≡ Err (error.Full (entries_with_all self.old block.now) (bytes_with_all self.old block.now)) }
         ensures only_full { (entries bytes : ℕ) → result ≡ Err (error.Full entries bytes) → IsTrue (passes_with_all self.old block.now) × (entries ≡ entries_with_all self.old block.now) × (bytes ≡ bytes_with_all self.old block.now) }
         ensures same { (OnOk result ⊥) → result ≢ Err error.DiskFault → self.new ≡ self.old }
-        ensures fault { result ≡ Err error.DiskFault → (self.old.state ≡ Broken) ⊎ Rose (D.faults self.old.disk) (D.faults self.new.disk) }
-        ensures later { D.faults self.old.disk ≤ D.faults self.new.disk }
+        ensures fault { result ≡ Err error.DiskFault → (self.old.state ≡ Broken) ⊎ Rose (D.tells self.old.disk).faults (D.tells self.new.disk).faults }
+        ensures later { (D.tells self.old.disk).faults ≤ (D.tells self.new.disk).faults }
         ensures broken { self.old.state ≡ Broken → (result ≡ Err error.DiskFault) × (self.new ≡ self.old) }
         ensures state { result ≢ Err error.DiskFault → self.new.state ≡ Ready }
         ensures state_broken { result ≡ Err error.DiskFault → self.new.state ≡ Broken }
@@ -266,20 +266,20 @@ impl<D: Disk> Journal<D> {
         requires short { All HasShortValue group.now }
 
         ensures place { OnOk result ((self.new.at ≡ self.old.at + length (entries_bytes group.now) + 9) × (self.new.entries ≡ self.old.entries + length group.now)) }
-        ensures kept { OnOk result (IfSome (D.bytes self.old.disk) (λ b. IfSome (D.bytes self.new.disk) (λ c. groups_of (kept c) ≡ added_all self.old.at (group.now ∷ []) (groups_of (kept b))))) }
-        ensures durable { OnOk result (IfSome (D.bytes self.new.disk) (λ c. Only c (D.images self.new.disk))) }
+        ensures kept { OnOk result (IfSome (D.tells self.old.disk).bytes (λ b. IfSome (D.tells self.new.disk).bytes (λ c. groups_of (kept c) ≡ added_all self.old.at (group.now ∷ []) (groups_of (kept b))))) }
+        ensures durable { OnOk result (IfSome (D.tells self.new.disk).bytes (λ c. Only c (D.tells self.new.disk))) }
 
-        ensures told { is_some (D.bytes self.new.disk) ≡ is_some (D.bytes self.old.disk) }
+        ensures told { is_some (D.tells self.new.disk).bytes ≡ is_some (D.tells self.old.disk).bytes }
 
         // A crash at any moment of the call leaves the groups from before it, with the new one or without.
-        ensures any_moment { self.old.state ≡ Ready → IfSome (D.bytes self.old.disk) (λ b.
-            LeavesOnly D.moment D.images_since self.old.disk self.new.disk (KeepsNoneOrAll (groups_of (kept b)) self.old.at (group.now ∷ []))) }
+        ensures any_moment { self.old.state ≡ Ready → IfSome (D.tells self.old.disk).bytes (λ b.
+            LeavesOnly (D.tells self.old.disk) (D.tells self.new.disk) (KeepsNoneOrAll (groups_of (kept b)) self.old.at (group.now ∷ []))) }
 
         ensures full { self.old.state ≡ Ready → IsTrue (passes_with_all self.old (group.now ∷ [])) → result ≡ Err (error.Full (entries_with_all self.old (group.now ∷ [])) (bytes_with_all self.old (group.now ∷ []))) }
         ensures only_full { (entries bytes : ℕ) → result ≡ Err (error.Full entries bytes) → IsTrue (passes_with_all self.old (group.now ∷ [])) × (entries ≡ entries_with_all self.old (group.now ∷ [])) × (bytes ≡ bytes_with_all self.old (group.now ∷ [])) }
         ensures same { (OnOk result ⊥) → result ≢ Err error.DiskFault → self.new ≡ self.old }
-        ensures fault { result ≡ Err error.DiskFault → (self.old.state ≡ Broken) ⊎ Rose (D.faults self.old.disk) (D.faults self.new.disk) }
-        ensures later { D.faults self.old.disk ≤ D.faults self.new.disk }
+        ensures fault { result ≡ Err error.DiskFault → (self.old.state ≡ Broken) ⊎ Rose (D.tells self.old.disk).faults (D.tells self.new.disk).faults }
+        ensures later { (D.tells self.old.disk).faults ≤ (D.tells self.new.disk).faults }
         ensures broken { self.old.state ≡ Broken → (result ≡ Err error.DiskFault) × (self.new ≡ self.old) }
         ensures state { result ≢ Err error.DiskFault → self.new.state ≡ Ready }
         ensures state_broken { result ≡ Err error.DiskFault → self.new.state ≡ Broken }

@@ -24,11 +24,11 @@ const FRESH: [u8; 9] = *b"ZTSJRN01\0";
 
 /// Makes a journal of no group of a file that is no longer than one.
 fn make_anew<D: Disk>(disk: &mut D) -> Result<(), Failed>
-    ensures made { OnOk result (IfSome (D.bytes disk.old) (λ b. D.bytes disk.new ≡ Some (overwritten b 0 (magic ++ 0 ∷ [])))) }
-    ensures durable { OnOk result (IfSome (D.bytes disk.new) (λ b. Only b (D.images disk.new))) }
-    ensures told { is_some (D.bytes disk.new) ≡ is_some (D.bytes disk.old) }
-    ensures any_moment { IfSome (D.bytes disk.old) (λ b. length b ≤ 9 → Only b (D.images disk.old) → LeavesOnly D.moment D.images_since disk.old disk.new (λ c. length c ≤ 9)) }
-    ensures cause { HasCause (D.faults disk.old) (D.faults disk.new) result }
+    ensures made { OnOk result (IfSome (D.tells disk.old).bytes (λ b. (D.tells disk.new).bytes ≡ Some (overwritten b 0 (magic ++ 0 ∷ [])))) }
+    ensures durable { OnOk result (IfSome (D.tells disk.new).bytes (λ b. Only b (D.tells disk.new))) }
+    ensures told { is_some (D.tells disk.new).bytes ≡ is_some (D.tells disk.old).bytes }
+    ensures any_moment { IfSome (D.tells disk.old).bytes (λ b. length b ≤ 9 → Only b (D.tells disk.old) → LeavesOnly (D.tells disk.old) (D.tells disk.new) (λ c. length c ≤ 9)) }
+    ensures cause { HasCause (D.tells disk.old).faults (D.tells disk.new).faults result }
 {
     disk.write_at(0, &FRESH)?;
     disk.sync()
@@ -43,9 +43,9 @@ fn begins_as_journal(bytes: &[u8]) -> bool
 
 /// Whether a file begins as a journal does.
 fn is_journal<D: Disk>(disk: &mut D) -> Result<bool, Failed>
-    ensures ours { IfOk result (λ ours. IfSome (D.bytes disk.old) (λ b. ours ≡ list_all (λ p. p.0 == p.1) (zip magic b))) }
-    ensures before { IsAsBefore D.bytes D.images D.moment D.images_since disk.old disk.new }
-    ensures cause { HasCause (D.faults disk.old) (D.faults disk.new) result }
+    ensures ours { IfOk result (λ ours. IfSome (D.tells disk.old).bytes (λ b. ours ≡ list_all (λ p. p.0 == p.1) (zip magic b))) }
+    ensures before { IsAsBefore (D.tells disk.old) (D.tells disk.new) }
+    ensures cause { HasCause (D.tells disk.old).faults (D.tells disk.new).faults result }
 {
     let mut first = [0; 8];
     let count = read_whole(disk, 0, &mut first)?;
@@ -54,12 +54,12 @@ fn is_journal<D: Disk>(disk: &mut D) -> Result<bool, Failed>
 
 /// Makes a file durable, makes a journal of it where it is short, and says whether it is one.
 pub(crate) fn prepare<D: Disk>(disk: &mut D) -> Result<bool, Failed>
-    ensures opened { IfOk result (λ ours. IfSome (D.bytes disk.old) (λ b. IfSome (D.bytes disk.new) (λ c. ours ≡ true → IsOpened (D.images disk.new) b c))) }
-    ensures ours { IfOk result (λ ours. IfSome (D.bytes disk.old) (λ b. ours ≡ true → kept b ≢ NotOurs)) }
-    ensures not_ours { IfOk result (λ ours. IfSome (D.bytes disk.old) (λ b. ours ≡ false → kept b ≡ NotOurs)) }
-    ensures told { is_some (D.bytes disk.new) ≡ is_some (D.bytes disk.old) }
-    ensures any_moment { IfSome (D.bytes disk.old) (λ b. LeavesOnly D.moment D.images_since disk.old disk.new (KeepsAsOneOf (D.images disk.old))) }
-    ensures cause { HasCause (D.faults disk.old) (D.faults disk.new) result }
+    ensures opened { IfOk result (λ ours. IfSome (D.tells disk.old).bytes (λ b. IfSome (D.tells disk.new).bytes (λ c. ours ≡ true → IsOpened (D.tells disk.new) b c))) }
+    ensures ours { IfOk result (λ ours. IfSome (D.tells disk.old).bytes (λ b. ours ≡ true → kept b ≢ NotOurs)) }
+    ensures not_ours { IfOk result (λ ours. IfSome (D.tells disk.old).bytes (λ b. ours ≡ false → kept b ≡ NotOurs)) }
+    ensures told { is_some (D.tells disk.new).bytes ≡ is_some (D.tells disk.old).bytes }
+    ensures any_moment { IfSome (D.tells disk.old).bytes (λ b. LeavesOnly (D.tells disk.old) (D.tells disk.new) (KeepsAsOneOf (D.tells disk.old))) }
+    ensures cause { HasCause (D.tells disk.old).faults (D.tells disk.new).faults result }
 {
     disk.sync()?;
     if disk.len()? <= 9 {

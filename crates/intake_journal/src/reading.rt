@@ -73,12 +73,12 @@ fn read_head<D: Disk>(
     at: u64,
 ) -> Result<Head, Trouble>
     requires small { at < 2 ^ 32 }
-    requires ahead { IsAhead ahead.old (D.bytes disk.old) }
-    ensures told { IfOk result (λ head. IfSome (D.bytes disk.old) (λ b. IsHead head (take 9 (drop at b)))) }
-    ensures ahead { IsAhead ahead.new (D.bytes disk.old) }
-    ensures before { IsAsBefore D.bytes D.images D.moment D.images_since disk.old disk.new }
-    ensures later { D.faults disk.old ≤ D.faults disk.new }
-    ensures failed { IsErrOf result trouble.Failed → Rose (D.faults disk.old) (D.faults disk.new) }
+    requires ahead { IsAhead ahead.old (D.tells disk.old).bytes }
+    ensures told { IfOk result (λ head. IfSome (D.tells disk.old).bytes (λ b. IsHead head (take 9 (drop at b)))) }
+    ensures ahead { IsAhead ahead.new (D.tells disk.old).bytes }
+    ensures before { IsAsBefore (D.tells disk.old) (D.tells disk.new) }
+    ensures later { (D.tells disk.old).faults ≤ (D.tells disk.new).faults }
+    ensures failed { IsErrOf result trouble.Failed → Rose (D.tells disk.old).faults (D.tells disk.new).faults }
 {
     ahead.reach(alloc, disk, at, 9)?;
     Ok(head_of(ahead.part(at, 9)))
@@ -95,14 +95,14 @@ fn read_entries<D: Disk>(
     count: u32,
 ) -> Result<Option<Many<Entry>>, Trouble>
     requires small { at < 2 ^ 32 }
-    requires ahead { IsAhead ahead.old (D.bytes disk.old) }
-    ensures ahead { IsAhead ahead.new (D.bytes disk.old) }
-    ensures told { IfOk result (λ read. IfSome (D.bytes disk.old) (λ b. at + size ≤ length b → read ≡ entries_of count (take size (drop at b)))) }
+    requires ahead { IsAhead ahead.old (D.tells disk.old).bytes }
+    ensures ahead { IsAhead ahead.new (D.tells disk.old).bytes }
+    ensures told { IfOk result (λ read. IfSome (D.tells disk.old).bytes (λ b. at + size ≤ length b → read ≡ entries_of count (take size (drop at b)))) }
     ensures few { IfOk result (λ read. IfSome read (λ entries. length entries ≡ count)) }
     ensures sized { IfOk result (λ read. IfSome read (λ entries. length (entries_bytes entries) ≡ size)) }
-    ensures before { IsAsBefore D.bytes D.images D.moment D.images_since disk.old disk.new }
-    ensures later { D.faults disk.old ≤ D.faults disk.new }
-    ensures failed { IsErrOf result trouble.Failed → Rose (D.faults disk.old) (D.faults disk.new) }
+    ensures before { IsAsBefore (D.tells disk.old) (D.tells disk.new) }
+    ensures later { (D.tells disk.old).faults ≤ (D.tells disk.new).faults }
+    ensures failed { IsErrOf result trouble.Failed → Rose (D.tells disk.old).faults (D.tells disk.new).faults }
 {
     ahead.reach(alloc, disk, at, size)?;
     let bytes = ahead.part(at, size);
@@ -132,13 +132,13 @@ fn group_at<D: Disk>(
     count: u32,
 ) -> Result<Found, Trouble>
     requires small { at < 2 ^ 31 }
-    requires ahead { IsAhead ahead.old (D.bytes disk.old) }
-    ensures ahead { IsAhead ahead.new (D.bytes disk.old) }
-    ensures told { IfOk result (λ found. IfSome (D.bytes disk.old) (λ b. IsHead (Open size count) (take 9 (drop at b)) → IsFound found at b)) }
+    requires ahead { IsAhead ahead.old (D.tells disk.old).bytes }
+    ensures ahead { IsAhead ahead.new (D.tells disk.old).bytes }
+    ensures told { IfOk result (λ found. IfSome (D.tells disk.old).bytes (λ b. IsHead (Open size count) (take 9 (drop at b)) → IsFound found at b)) }
     ensures within { IfOk result (λ found. IsSmall found at) }
-    ensures before { IsAsBefore D.bytes D.images D.moment D.images_since disk.old disk.new }
-    ensures later { D.faults disk.old ≤ D.faults disk.new }
-    ensures failed { IsErrOf result trouble.Failed → Rose (D.faults disk.old) (D.faults disk.new) }
+    ensures before { IsAsBefore (D.tells disk.old) (D.tells disk.new) }
+    ensures later { (D.tells disk.old).faults ≤ (D.tells disk.new).faults }
+    ensures failed { IsErrOf result trouble.Failed → Rose (D.tells disk.old).faults (D.tells disk.new).faults }
 {
     let length = disk.len()?;
     if !fits(at, size, count, length.saturating_sub(at + 9)) {
@@ -158,13 +158,13 @@ pub(crate) fn look<D: Disk>(
     at: u64,
 ) -> Result<Found, Trouble>
     requires small { at < 2 ^ 31 }
-    requires ahead { IsAhead ahead.old (D.bytes disk.old) }
-    ensures ahead { IsAhead ahead.new (D.bytes disk.old) }
-    ensures told { IfOk result (λ found. IfSome (D.bytes disk.old) (IsFound found at)) }
+    requires ahead { IsAhead ahead.old (D.tells disk.old).bytes }
+    ensures ahead { IsAhead ahead.new (D.tells disk.old).bytes }
+    ensures told { IfOk result (λ found. IfSome (D.tells disk.old).bytes (IsFound found at)) }
     ensures within { IfOk result (λ found. IsSmall found at) }
-    ensures before { IsAsBefore D.bytes D.images D.moment D.images_since disk.old disk.new }
-    ensures later { D.faults disk.old ≤ D.faults disk.new }
-    ensures failed { IsErrOf result trouble.Failed → Rose (D.faults disk.old) (D.faults disk.new) }
+    ensures before { IsAsBefore (D.tells disk.old) (D.tells disk.new) }
+    ensures later { (D.tells disk.old).faults ≤ (D.tells disk.new).faults }
+    ensures failed { IsErrOf result trouble.Failed → Rose (D.tells disk.old).faults (D.tells disk.new).faults }
 {
     match read_head(alloc, disk, ahead, at)? {
         Head::Closed => Ok(Found::End),
@@ -182,14 +182,14 @@ impl<D: Disk> Journal<D> {
     /// [`Journal::append`]. It takes memory for the group
     /// and for what is read ahead, which is 64 KiB or the group's bytes, and reads once for so many bytes.
     pub fn read_next(&mut self, alloc: Global) -> Result<Option<Group>, JournalError>
-        ensures next { ReadsNext (D.bytes self.old.disk) self.old self.new result }
+        ensures next { ReadsNext (D.tells self.old.disk).bytes self.old self.new result }
         ensures some { IfOk result (λ read. IfSome read (λ group. 0 < length group.entries)) }
         ensures place { IfOk result (λ read. IfSome read (λ group. self.new.at ≡ self.old.at + length (entries_bytes group.entries) + 9)) }
-        ensures before { IsAsBefore D.bytes D.images D.moment D.images_since self.old.disk self.new.disk }
+        ensures before { IsAsBefore (D.tells self.old.disk) (D.tells self.new.disk) }
         ensures ready { self.old.state ≡ Ready → (result ≡ Ok None) × (self.new ≡ self.old) }
         ensures broken { self.old.state ≡ Broken → (result ≡ Err error.DiskFault) × (self.new ≡ self.old) }
-        ensures later { D.faults self.old.disk ≤ D.faults self.new.disk }
-        ensures fault { result ≡ Err error.DiskFault → (self.old.state ≡ Broken) ⊎ Rose (D.faults self.old.disk) (D.faults self.new.disk) }
+        ensures later { (D.tells self.old.disk).faults ≤ (D.tells self.new.disk).faults }
+        ensures fault { result ≡ Err error.DiskFault → (self.old.state ≡ Broken) ⊎ Rose (D.tells self.old.disk).faults (D.tells self.new.disk).faults }
     {
         if self.state == State::Broken {
             return Err(JournalError::DiskFault);

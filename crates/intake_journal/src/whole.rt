@@ -12,10 +12,10 @@ fn read_on<D: Disk>(disk: &mut D, at: u64, into: &mut [u8], count: usize) -> Res
     requires places { at + length into.old < 2 ^ 64 }
     ensures bound { IfOk result (λ more. count + more ≤ length into.new) }
     ensures length { length into.new ≡ length into.old }
-    ensures content { IfOk result (λ more. IfSome (D.bytes disk.old) (λ b. take count into.old ≡ take count (drop at b) → take (count + more) into.new ≡ take (count + more) (drop at b))) }
-    ensures end { IfOk result (λ more. more ≡ 0 → IfSome (D.bytes disk.old) (λ b. length b ≤ at + count)) }
-    ensures before { IsAsBefore D.bytes D.images D.moment D.images_since disk.old disk.new }
-    ensures cause { HasCause (D.faults disk.old) (D.faults disk.new) result }
+    ensures content { IfOk result (λ more. IfSome (D.tells disk.old).bytes (λ b. take count into.old ≡ take count (drop at b) → take (count + more) into.new ≡ take (count + more) (drop at b))) }
+    ensures end { IfOk result (λ more. more ≡ 0 → IfSome (D.tells disk.old).bytes (λ b. length b ≤ at + count)) }
+    ensures before { IsAsBefore (D.tells disk.old) (D.tells disk.new) }
+    ensures cause { HasCause (D.tells disk.old).faults (D.tells disk.new).faults result }
 {
     let more = disk.read(at + count as u64, &mut into[count..])?;
     Ok(more)
@@ -26,9 +26,9 @@ pub(crate) fn read_whole<D: Disk>(disk: &mut D, at: u64, into: &mut [u8]) -> Res
     requires { at + length into.old < 2 ^ 64 }
     ensures bound { IfOk result (λ count. count ≤ length into.new) }
     ensures length { length into.new ≡ length into.old }
-    ensures content { IfOk result (λ count. IfSome (D.bytes disk.old) (λ b. take count into.new ≡ take (length into.new) (drop at b))) }
-    ensures before { IsAsBefore D.bytes D.images D.moment D.images_since disk.old disk.new }
-    ensures cause { HasCause (D.faults disk.old) (D.faults disk.new) result }
+    ensures content { IfOk result (λ count. IfSome (D.tells disk.old).bytes (λ b. take count into.new ≡ take (length into.new) (drop at b))) }
+    ensures before { IsAsBefore (D.tells disk.old) (D.tells disk.new) }
+    ensures cause { HasCause (D.tells disk.old).faults (D.tells disk.new).faults result }
 {
     let mut count = 0;
     while count < into.len() {

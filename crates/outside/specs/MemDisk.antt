@@ -1,7 +1,7 @@
 -- What contracts see of the disks in memory.
-use Rattle.std.specs.Prelude.{◌≡◌, ℕ, ◌-◌, ◌≤◌, List, [], ◌∷◌, length, drop}
+use Rattle.std.specs.Prelude.{◌≡◌, ℕ, ◌-◌, ◌≤◌, List, [], ◌∷◌, length, drop, Some}
 use Rattle.outside.specs.Calls.{Calls}
-use Rattle.outside.specs.Disk.{overwritten, Torn}
+use Rattle.outside.specs.Disk.{DiskTells, overwritten, Torn}
 use Rattle.outside.specs.declared.mem_disk.Call.{Call}
 use Rattle.outside.specs.declared.mem_disk.Call.TheVariants.{Wrote, Synced}
 
@@ -41,3 +41,7 @@ IsImage first (Synced ∷ earlier) c = c ≡ seen first earlier
 -- what a crash may leave after the oldest calls, at least so many of them
 abbrev pub IsImageSince : List ℕ → List Call → ℕ → List ℕ → Type 0
 IsImageSince first past t c = (k : ℕ) × (t ≤ k) × (k ≤ length past) × IsImage first (drop (length past - k) past) c
+
+-- it tells all of that
+abbrev pub told : Recorded → DiskTells
+told m = record { bytes = Some (seen m.first m.past); images = IsImage m.first m.past; moment = length m.past; images_since = IsImageSince m.first m.past; faults = m.faults }

@@ -1,9 +1,9 @@
 -- A disk in memory keeps the laws of a disk.
-use Rattle.std.specs.Prelude.{◌≡◌, ℕ, ◌+◌, ◌-◌, ◌≤◌, min, List, [], ◌∷◌, ◌++◌, length, take, drop, replicate}
+use Rattle.std.specs.Prelude.{◌≡◌, ℕ, ◌+◌, ◌-◌, min, List, [], ◌∷◌, ◌++◌, length, take, drop, replicate}
 use Rattle.std.proofs.Common.{refl, sym, ◌∙◌, ap, subst, arith, append_assoc, length-append}
 use Rattle.std.proofs.lemmas.List.{take-append-le, drop_at, length-take, length-drop, length-replicate, take-take}
-use Rattle.outside.specs.Disk.{overwritten, Torn}
-use Rattle.outside.specs.MemDisk.{seen, IsImage, IsImageSince}
+use Rattle.outside.specs.Disk.{IsLawful, overwritten, Torn}
+use Rattle.outside.specs.MemDisk.{Recorded, seen, IsImage, told}
 use Rattle.outside.specs.declared.mem_disk.Call.{Call}
 use Rattle.outside.specs.declared.mem_disk.Call.TheVariants.{Wrote, Synced}
 
@@ -49,14 +49,13 @@ seen_image first [] = refl
 seen_image first (Wrote at bytes ∷ earlier) = (seen first earlier, seen_image first earlier, overwritten-torn (seen first earlier) at bytes)
 seen_image first (Synced ∷ earlier) = refl
 
--- an image now is one since any earlier moment
-pub image_now : (first : List ℕ) (past : List Call) (t : ℕ) (c : List ℕ) → t ≤ length past → IsImage first past c → IsImageSince first past t c
-image_now first past t c le image =
-    let all : length past - length past ≡ 0 = omega arith in
-    (length past, le, omega arith, subst (λ (n : ℕ). IsImage first (drop n past) c) (sym all) image)
-
--- since this moment there is no other
-pub image_only : (first : List ℕ) (past : List Call) (c : List ℕ) → IsImageSince first past (length past) c → IsImage first past c
-image_only first past c since =
-    let all : length past - since.0 ≡ 0 = omega (arith, since.1) in
-    subst (λ (n : ℕ). IsImage first (drop n past) c) all since.3
+pub told_lawful : (m : Recorded) → IsLawful (told m)
+told_lawful m = record {
+  reads_as = seen_image m.first m.past;
+  counts_now = λ t c le image.
+      let all : length m.past - length m.past ≡ 0 = omega arith in
+      (length m.past, le, omega arith, subst (λ (n : ℕ). IsImage m.first (drop n m.past) c) (sym all) image);
+  only_now = λ c since.
+      let all : length m.past - since.0 ≡ 0 = omega (arith, since.1) in
+      subst (λ (n : ℕ). IsImage m.first (drop n m.past) c) all since.3;
+}

@@ -1,11 +1,11 @@
 //! A disk in memory, whose images are told for every moment.
 
-ghost use Rattle.std.specs.Prelude.{◌≡◌, ◌-◌, ◌++◌, ◌∷◌, [], Some, length, take, drop, min, is_err, IfOk, OnOk, OnErr};
+ghost use Rattle.std.specs.Prelude.{◌≡◌, ◌-◌, ◌++◌, ◌∷◌, [], length, take, drop, min, is_err, IfOk, OnOk, OnErr};
 ghost use Rattle.outside.specs.Calls.{no_calls, one_more, is_listed, FailsWhereListed};
 ghost use Rattle.outside.specs.Causes.{HasCause};
 ghost use Rattle.outside.specs.Disk.{overwritten};
-ghost use Rattle.outside.specs.MemDisk.{seen, IsImage, IsImageSince, KeepsPast};
-ghost use Rattle.outside.specs.MemDiskLaws.{seen_image, image_now, image_only};
+ghost use Rattle.outside.specs.MemDisk.{seen, KeepsPast, told};
+ghost use Rattle.outside.specs.MemDiskLaws.{told_lawful};
 ghost use Rattle.outside.specs.declared.mem_disk.Call.TheVariants.{Wrote, Synced};
 
 use crate::calls::CallCount;
@@ -126,21 +126,9 @@ fn put_and_keep(
 }
 
 impl Disk for MemDisk {
-    ghost bytes = { λ m. Some (seen m.first m.past) };
+    ghost tells = { told };
 
-    ghost images = { λ m. IsImage m.first m.past };
-
-    ghost moment = { λ m. length m.past };
-
-    ghost images_since = { λ m. IsImageSince m.first m.past };
-
-    ghost faults = { λ m. m.faults };
-
-    ghost reads_as = { λ m. seen_image m.first m.past };
-
-    ghost counts_now = { λ m. image_now m.first m.past };
-
-    ghost only_now = { λ m. image_only m.first m.past };
+    ghost lawful = { told_lawful };
 
     fn faults(&self) -> u64 {
         self.faults

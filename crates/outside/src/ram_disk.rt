@@ -1,8 +1,8 @@
 //! A disk in memory that keeps its bytes alone.
 
-ghost use Rattle.std.specs.Prelude.{◌≡◌, ◌+◌, ◌-◌, [], None, length, take, drop, min, IsOk, IfOk, OnOk, OnErr};
+ghost use Rattle.std.specs.Prelude.{◌≡◌, ◌+◌, ◌-◌, [], length, take, drop, min, IsOk, IfOk, OnOk, OnErr};
 ghost use Rattle.outside.specs.Causes.{HasCause};
-ghost use Rattle.outside.specs.Disk.{overwritten};
+ghost use Rattle.outside.specs.Disk.{overwritten, silent, silent_lawful};
 
 use crate::disk::Disk;
 use crate::event::Failed;
@@ -69,21 +69,9 @@ fn put(alloc: Global, bytes: &mut Bytes, at: u64, piece: &[u8]) -> Result<(), Ou
 }
 
 impl Disk for RamDisk {
-    ghost bytes = { λ _. None };
+    ghost tells = { λ m. silent m.faults };
 
-    ghost images = { λ _ _. ⊥ };
-
-    ghost moment = { λ _. 0 };
-
-    ghost images_since = { λ _ _ _. ⊥ };
-
-    ghost faults = { λ m. m.faults };
-
-    ghost reads_as = { λ _. tt };
-
-    ghost counts_now = { λ _ _ _ _ image. image };
-
-    ghost only_now = { λ _ _ image. image };
+    ghost lawful = { λ m. silent_lawful m.faults };
 
     fn faults(&self) -> u64 {
         self.faults

@@ -1,4 +1,5 @@
-ghost use Rattle.std.specs.Prelude.{◌≡◌, None};
+ghost use Rattle.std.specs.Prelude.{◌≡◌};
+ghost use Rattle.outside.specs.Disk.{silent, silent_lawful};
 
 use crate::runs::{Found, Over, none_fails, only, plain_config, run_behind, run_beside, sink};
 use outside::{Disk, Failed, MemDisk, OpenGate};
@@ -86,21 +87,9 @@ impl CrashDisk {
 }
 
 impl Disk for CrashDisk {
-    ghost bytes = { λ _. None };
+    ghost tells = { λ d. silent d.faults };
 
-    ghost images = { λ _ _. ⊥ };
-
-    ghost moment = { λ _. 0 };
-
-    ghost images_since = { λ _ _ _. ⊥ };
-
-    ghost faults = { λ d. d.faults };
-
-    ghost reads_as = { λ _. tt };
-
-    ghost counts_now = { λ _ _ _ _ image. image };
-
-    ghost only_now = { λ _ _ image. image };
+    ghost lawful = { λ d. silent_lawful d.faults };
 
     fn faults(&self) -> u64 {
         self.faults

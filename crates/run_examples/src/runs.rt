@@ -624,3 +624,49 @@ fn events_are_answered_alike_one_by_one_and_committed_together(
     assert!(rt; refused(alloc, false)? == (20, 4));
     Ok(())
 }
+
+fn value_frame() -> &'static str {
+    " {\"request\":\"sender data\",\"data\":[{\"host\":\"h\",\"key\":\"k\",\"value\":\"1\"}]}\n"
+}
+
+/// So many connections that open and bring a value, one after another.
+fn many_values(alloc: Global, count: u64) -> Result<Text, OutOfMemory> {
+    let mut script = Text::new(alloc);
+    for conn in 0..count {
+        script.push_str("100.000000000 open ")?;
+        script.push_decimal(conn)?;
+        script.push_str("\n100.000000000 frame ")?;
+        script.push_decimal(conn)?;
+        script.push_str(value_frame())?;
+    }
+    script.push_str("100.000000000 closed\n")?;
+    Ok(script)
+}
+
+/// How many calls of the disk end a run that has begun where they fail, and whose events all stand ready.
+fn calls_of(alloc: Global, script: &str) -> Result<u32, Fail> {
+    let mut all = 0u32;
+    for disk in 1..41u64 {
+        let fails = Fails {
+            disk,
+            ..none_fails()
+        };
+        let report = told_ready(alloc, script, fails, true)?;
+        if report.as_slice().starts_with(b"DiskFault begun") {
+            all = all.saturating_add(1);
+        }
+    }
+    Ok(all)
+}
+
+#[test]
+fn at_most_128_events_are_committed_together(rt: HostRuntime) -> Result<(), Fail> {
+    let alloc = rt.alloc();
+    // The first event brings the Tick, which ends its commit. Behind it stand 127 events in one commit, or 128 and one
+    // more; the event that closes the wire journals nothing. One append has four calls.
+    let one = many_values(alloc, 64)?;
+    assert!(rt; calls_of(alloc, one.as_str())? == 8);
+    let two = many_values(alloc, 65)?;
+    assert!(rt; calls_of(alloc, two.as_str())? == 12);
+    Ok(())
+}

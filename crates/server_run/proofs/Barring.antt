@@ -19,7 +19,8 @@ use Rattle.intake_front.specs.Fronted.{numbered_of}
 use Rattle.intake_front.specs.Misfit.{GroupsFit, IsFirstMisfit}
 use Rattle.server_words.specs.declared.status.Status.{Status}
 use Rattle.server_words.specs.declared.status.Status.TheVariants as status
-use Rattle.server_run.specs.Opening.{differ_at, kept_text, IsRejectedFor, IsRejected, IsAccepted, IsAhead, IsFullAtFirst, Bars, opening_lines}
+use Rattle.server_run.specs.Opening.{differ_at, kept_text, IsRejectedFor, IsRejected, IsAccepted, IsAhead, IsFullAtFirst, opening_lines}
+use Rattle.server_run.specs.Reasons.{Bars}
 use Rattle.server_run.proofs.Logs.{log_of-append, fits_front}
 
 -- ---- the first misfit

@@ -5,7 +5,7 @@ use Rattle.std.specs.Option.{option_to_list}
 use Rattle.zbx_types.specs.declared.conf.Conf.{Conf}
 use Rattle.zbx_types.specs.declared.entries.Numbered.{Numbered}
 use Rattle.outside.specs.Causes.{Rose}
-use Rattle.outside.specs.Disk.{LeavesOnly}
+use Rattle.outside.specs.Disk.{DiskTells, LeavesOnly}
 use Rattle.outside.specs.Tells.{WireTells}
 use Rattle.outside.specs.declared.event.WireEvent.{WireEvent}
 use Rattle.outside.specs.declared.event.Trouble.{Trouble}
@@ -24,7 +24,7 @@ use Rattle.server_run.specs.Sending.{Outgoing, nothing_out, with_answer, outgoin
 use Rattle.server_run.specs.Statuses.{Ending, at_wire_fault, anywhere, at_refusal, LeftIs}
 use Rattle.server_run.specs.Stops.{refusing, IsEither, IsReached, Journals}
 use Rattle.server_run.proofs.Handling.{served_stop}
-use Rattle.server_run.proofs.Joining.{given_none, given_both}
+use Rattle.server_run.proofs.Joining.{no_last, same_front_of, given_none, given_both}
 use Rattle.server_run.proofs.Sending.{shows_since}
 use Rattle.server_run.proofs.Stopping.{journals_more, journals_event}
 
@@ -104,6 +104,7 @@ gathered_start conf front w idle = record {
     some = λ more. absurd (omega (arith, more, ap length idle.no_block));
   };
   journal_stays = refl;
+  runs_on = λ front last is. absurd (no_last front last is);
   stop_is = refl;
   intake_is = λ none. refl;
   sound = λ sound. sound;
@@ -138,6 +139,7 @@ module _ {D : Type 0} (conf : Conf) (front0 front1 front2 : Fronted D) (w0 w1 w2
         gives = given_both w0 w1 w2 g.events (e ∷ []) None anywhere g.gives gives;
         taken = takes front0.intake g.events (here ∙ sym (ap (λ (l : Limits). (answered l conf front0.intake g.events).intake) same_limits)) (ap (λ (l : Limits). (answered l conf front0.intake g.events).stop) same_limits ∙ running) g.taken;
         journal_stays = journal ∙ g.journal_stays;
+        runs_on = λ front last is. ap (λ (es : List WireEvent). (answered l0 conf front0.intake es).stop) (sym (same_front_of g.events front e last is)) ∙ running;
         stop_is = stops ∙ ap (λ (h : Handled). h.answer.stop) at ∙ sym (ap (λ (a : Answered). a.stop) one);
         intake_is = λ none. intake;
         sound = λ sound. subst (IsSound conf) intake (keeps (subst (IsSound conf) (sym here) (g.sound sound)));
@@ -151,6 +153,7 @@ module _ {D : Type 0} (conf : Conf) (front0 front1 front2 : Fronted D) (w0 w1 w2
     gives = subst (λ es. HasGiven w0 w2 es None ending) (append-nil g.events) (given_both w0 w1 w2 g.events [] None ending g.gives gives);
     taken = g.taken;
     journal_stays = g.journal_stays;
+    runs_on = g.runs_on;
     stop_is = g.stop_is;
     intake_is = g.intake_is;
     sound = g.sound;
@@ -189,6 +192,7 @@ module _ {D : Type 0} (conf : Conf) (front0 front1 front2 : Fronted D) (w0 w1 w2
         gives = subst (λ es. HasGiven w0 w2 es (Some e) at_refusal) (append-nil g.events) (given_both w0 w1 w2 g.events [] (Some e) at_refusal g.gives gives);
         taken = has_same conf front0.intake g.events front1 front2 journal kept same.0 same.1 same.2 same.3 g.taken;
         journal_stays = journal ∙ g.journal_stays;
+        runs_on = g.runs_on;
         stop_is = g.stop_is;
         intake_is = λ none. absurd (cc);
         sound = g.sound;
@@ -218,14 +222,14 @@ at_most_one : (lost : Option WireEvent) → length (option_to_list lost) ≤ 1
 at_most_one None = omega arith
 at_most_one (Some e) = omega arith
 
-module _ {D : Type 0} (bytes : D → Option (List ℕ)) (images : D → List ℕ → Type 0) (moment : D → ℕ) (since : D → ℕ → List ℕ → Type 0) (faults : D → ℕ)
+module _ {D : Type 0} (tells : D → DiskTells)
     (conf : Conf) (front0 front1 front2 : Fronted D) (w0 w1 w2 : WireTells) (answers : List Answer) (s : Option Stop)
     (is_ready : (front2.journal.state ≡ state.Ready) ⊎ (front2.journal.state ≡ state.Broken))
     (done : front2.journal.state ≡ state.Ready → (answers ≡ front1.answers) × (front2.intake ≡ front1.intake) × IsReady front1.journal front2.journal)
-    (failed : front2.journal.state ≡ state.Broken → (answers ≡ front1.failing) × (front2.intake.entries ≡ front1.kept) × (0 < length front1.block) × Rose (faults front1.journal.disk) (faults front2.journal.disk))
-    (durable : front2.journal.state ≡ state.Ready → IsKept bytes images front2.journal.disk front2.intake.entries)
-    (any_moment : IfSome (bytes front1.journal.disk) (λ _. LeavesOnly moment since front1.journal.disk front2.journal.disk (KeepsEither front1.kept front1.intake.entries)))
-    (later : faults front1.journal.disk ≤ faults front2.journal.disk) (told : is_some (bytes front2.journal.disk) ≡ is_some (bytes front1.journal.disk))
+    (failed : front2.journal.state ≡ state.Broken → (answers ≡ front1.failing) × (front2.intake.entries ≡ front1.kept) × (0 < length front1.block) × Rose (tells front1.journal.disk).faults (tells front2.journal.disk).faults)
+    (durable : front2.journal.state ≡ state.Ready → IsKept (tells front2.journal.disk) front2.intake.entries)
+    (any_moment : IfSome (tells front1.journal.disk).bytes (λ _. LeavesOnly (tells front1.journal.disk) (tells front2.journal.disk) (KeepsEither front1.kept front1.intake.entries)))
+    (later : (tells front1.journal.disk).faults ≤ (tells front2.journal.disk).faults) (told : is_some (tells front2.journal.disk).bytes ≡ is_some (tells front1.journal.disk).bytes)
     (stop_is : s ≡ (outgoing answers).stop) (shows : Shows w1 w2 (outgoing answers).replies (outgoing answers).shut) (left : w2.left ≡ w1.left) (given : w2.given ≡ w1.given) (unsent : w1.unsent ≤ w2.unsent) where
   abbrev i0 : Intake
   i0 = front0.intake
@@ -234,7 +238,7 @@ module _ {D : Type 0} (bytes : D → Option (List ℕ)) (images : D → List ℕ
   l = limits_of front0.journal 0
 
   abbrev did : Doing
-  did = Journals bytes images moment since faults (λ c. ⊥) front0.journal.disk front2.journal.disk
+  did = Journals (λ c. ⊥) (tells front0.journal.disk) (tells front2.journal.disk)
 
   -- how a commit went
   record Committed (s0 : Option Stop) (count : ℕ) (lost : Option WireEvent) (ending : Ending) : Type 0 where
@@ -263,11 +267,11 @@ module _ {D : Type 0} (bytes : D → Option (List ℕ)) (images : D → List ℕ
     reached n es (inr is) =
         inr (inr (is ∙ g.taken.entries_are ∙ ap (λ (x : Limits). (answered x conf i0 g.events).intake.entries) (limits_at 0) ∙ ap (λ (i : Intake). i.entries) (ties 0).intake))
 
-    journals : (n : ℕ) → (s ≡ Some stop.DiskFault → Rose (faults front1.journal.disk) (faults front2.journal.disk)) → ((s ≡ Some stop.DiskFault → ⊥) → IsKept bytes images front2.journal.disk front2.intake.entries)
+    journals : (n : ℕ) → (s ≡ Some stop.DiskFault → Rose (tells front1.journal.disk).faults (tells front2.journal.disk).faults) → ((s ≡ Some stop.DiskFault → ⊥) → IsKept (tells front2.journal.disk) front2.intake.entries)
         → did (IsReached (refusing l n) conf i0.entries i0 g.events) s front2.intake.entries
-    journals n fault kept = subst (λ (j : Journaled D). Journals bytes images moment since faults (λ c. ⊥) j.disk front2.journal.disk (IsReached (refusing l n) conf i0.entries i0 g.events) s front2.intake.entries) g.journal_stays
-        (journals_more bytes images moment since faults (λ c. ⊥) front1.journal.disk front2.journal.disk (IsEither front1.kept front1.intake.entries) (IsReached (refusing l n) conf i0.entries i0 g.events) s front2.intake.entries (reached n)
-        (journals_event bytes images moment since faults front1.journal.disk front2.journal.disk front1.kept front1.intake.entries front2.intake.entries s any_moment fault kept later told))
+    journals n fault kept = subst (λ (j : Journaled D). Journals (λ c. ⊥) (tells j.disk) (tells front2.journal.disk) (IsReached (refusing l n) conf i0.entries i0 g.events) s front2.intake.entries) g.journal_stays
+        (journals_more (λ c. ⊥) (tells front1.journal.disk) (tells front2.journal.disk) (IsEither front1.kept front1.intake.entries) (IsReached (refusing l n) conf i0.entries i0 g.events) s front2.intake.entries (reached n)
+        (journals_event (tells front1.journal.disk) (tells front2.journal.disk) front1.kept front1.intake.entries front2.intake.entries s any_moment fault kept later told))
 
     -- what was answered is what the events make, where the disk refuses the group with this number
     ran_as : (n : ℕ) → answers ≡ (made n).answers → front2.intake.entries ≡ (made n).intake.entries → (s ≡ None → lost ≡ None → front2.intake ≡ (made n).intake)
@@ -281,6 +285,7 @@ module _ {D : Type 0} (bytes : D → Option (List ℕ)) (images : D → List ℕ
           told = subst (λ o. IfSome w0.left (λ all. (rest : List WireEvent) × (all ≡ g.events ++ (option_to_list lost ++ rest)) × LeftIs ending lost o rest)) (sym left) g.gives.told;
           entries_are = entries ∙ ap (λ (i : Intake). i.entries) (ties n).intake;
           intake_is = λ none kept. intake none kept ∙ (ties n).intake;
+          runs_on = λ front last is. sym (tied (limits_of front0.journal 0) conf i0 front).stop_is ∙ g.runs_on front last is;
           stop_is = stop_is ∙ ap (λ (o : Outgoing). o.stop) out;
           shows = subst (λ (o : Outgoing). Shows w0 w2 o.replies o.shut) out
               (shows_since w0 w1 w2 (outgoing answers).replies (outgoing answers).shut g.gives.sent_stays g.gives.sends_stay g.gives.closed_stays g.gives.unsent_stays shows);

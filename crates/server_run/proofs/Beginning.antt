@@ -1,6 +1,6 @@
 -- Laws of what a run goes on with behind its journal's groups.
-use Rattle.std.proofs.Common.{◌≡◌, ◌⊎◌, ⊎_elim, ℕ, ◌+◌, ◌-◌, ◌^◌, ◌<◌, ◌≤◌, min, List, [], ◌∷◌, ◌++◌, length, drop, reverse, Option, Some, None, refl, sym, ap, ap₂, ◌∙◌, subst, arith, inl, inr, append_assoc, append-nil, length-append}
-use Rattle.std.specs.Prelude.{IfSome, is_some, IsTrue, nat_lt, ◌||◌}
+use Rattle.std.proofs.Common.{◌≡◌, ◌⊎◌, ℕ, ◌+◌, ◌-◌, ◌^◌, ◌≤◌, min, List, [], ◌∷◌, ◌++◌, length, reverse, Option, Some, None, refl, sym, ap, ap₂, ◌∙◌, subst, arith, inl, inr, append-nil, length-append}
+use Rattle.std.specs.Prelude.{◌≢◌, IfSome, is_some, IsTrue, nat_lt, ◌||◌, unwrap_or}
 use Rattle.std.specs.List.{flat_map}
 use Rattle.std.specs.Option.{option_map}
 use Rattle.std.proofs.lemmas.List.Concat.{flat_map-cons}
@@ -8,17 +8,18 @@ use Rattle.zbx_types.specs.declared.conf.Conf.{Conf}
 use Rattle.zbx_types.specs.declared.entries.Entry.{Entry}
 use Rattle.zbx_types.specs.declared.entries.Numbered.{Numbered}
 use Rattle.outside.specs.Causes.{Rose}
-use Rattle.outside.specs.Disk.{LeavesOnly}
+use Rattle.outside.specs.Disk.{DiskTells, LeavesOnly}
 use Rattle.intake_journal.specs.Block.{entries_with_all, bytes_with_all, passes_with_all, opened_bytes}
 use Rattle.intake_journal.specs.Bytes.{entries_bytes}
-use Rattle.intake_journal.specs.Kept.{longest_journal, kept, groups_of}
+use Rattle.intake_journal.specs.Kept.{longest_journal, Kept, kept, groups_of}
+use Rattle.intake_journal.specs.Kept.Kept.{NotOurs, Damaged}
 use Rattle.intake_journal.specs.Settled.{Journaled, KeepsAsOneOf, count_entries}
 use Rattle.intake_journal.specs.declared.format.Group.{Group}
 use Rattle.intake_journal.proofs.Blocks.{opened_length}
 use Rattle.intake_journal.proofs.Openings.{and_then}
 use Rattle.entry_step.specs.Log.{log_of, IsFull, Fits}
-use Rattle.intake_front.specs.Intake.{Intake, numbered_from, with_group, first_group, start, IsSound}
-use Rattle.intake_front.specs.Fronted.{Fronted, numbered_of, Keeps, KeepsEither, HasJournaled, IsKept, IsReady}
+use Rattle.intake_front.specs.Intake.{Intake, numbered_from, first_group, start, IsSound}
+use Rattle.intake_front.specs.Fronted.{Fronted, numbered_of, kept_entries, Keeps, KeepsEither, HasJournaled, IsKept, IsReady}
 use Rattle.intake_front.specs.Batch.{IsIdle}
 use Rattle.intake_front.specs.declared.answer.FrontError.{FrontError}
 use Rattle.intake_front.specs.declared.answer.FrontError.TheVariants as front
@@ -26,8 +27,9 @@ use Rattle.server_words.specs.declared.status.Status.{Status}
 use Rattle.server_words.specs.declared.status.Status.TheVariants as status
 use Rattle.server_run.specs.Recovered.{journal_bytes, IsNumbered, HasGroups, IsRecovered, IsUnread, GoesOn}
 use Rattle.server_run.specs.declared.numbering.Numbering.{Numbering}
-use Rattle.book.specs.Outgoing.{log_lines}
-use Rattle.server_run.specs.Opening.{FoundGroups, first_text, kept_text, IsRejectedFor, IsRejected, IsAccepted, IsFullAtFirst, Unopened, status_for, FoundEntries, TurnedAway, IsTakenUp, HasBegun, opening_entries}
+use Rattle.server_run.specs.Opening.{FoundGroups, first_text, kept_text, IsRejectedFor, IsRejected, IsAccepted, IsFullAtFirst, BeginningEntries, FoundEntries, opening_entries}
+use Rattle.server_run.specs.Reasons.{reason_of, Unopened, has_for, enters_for}
+use Rattle.server_run.specs.Resumed.{status_for, TurnedAway, IsTakenUp, HasBegun}
 use Rattle.server_run.specs.Stops.{KeepsSome, IsEither}
 use Rattle.server_run.proofs.Logs.{onto, onto_reverse}
 use Rattle.server_run.proofs.Stopping.{leaves_more, rose_since}
@@ -78,24 +80,44 @@ keeps_numbered b groups is = ap (option_map numbered_of) is
 
 -- ---- a journal of groups that are accepted
 
-module _ {D : Type 0} (bytes : D → Option (List ℕ)) (images : D → List ℕ → Type 0) where
+module _ {D : Type 0} (tells : D → DiskTells) where
   keeps_some : (o : Option (List ℕ)) (groups : List Group) → IfSome o (λ c. groups_of (kept c) ≡ Some groups) → IfSome o (Keeps (numbered_of groups))
   keeps_some None groups is = tt
   keeps_some (Some b) groups is = keeps_numbered b groups is
 
   -- a journal of groups has their entries
-  pub has_journaled : (journal : Journaled D) (groups : List Group) (entries : List Numbered) → entries ≡ numbered_of groups → HasGroups bytes images journal groups → HasJournaled bytes images journal entries (journal.at + 1)
-  has_journaled journal groups entries is has = subst (λ es. HasJournaled bytes images journal es (journal.at + 1)) (sym is) (record {
+  pub has_journaled : (journal : Journaled D) (groups : List Group) (entries : List Numbered) → entries ≡ numbered_of groups → HasGroups tells journal groups → HasJournaled tells journal entries (journal.at + 1)
+  has_journaled journal groups entries is has = subst (λ es. HasJournaled tells journal es (journal.at + 1)) (sym is) (record {
     count = has.count ∙ count_numbered groups;
     size_is = refl;
-    keeps = keeps_some (bytes journal.disk) groups has.keeps;
+    keeps = keeps_some (tells journal.disk).bytes groups has.keeps;
     durable = has.durable;
   })
 
+-- ---- what a run has of a journal
+
+-- all that a file keeps, where these are its groups
+has_kept : (file : Option (List ℕ)) (groups : List Group) (entries : List Numbered) → FoundGroups file groups → entries ≡ numbered_of groups → IfSome file (λ b. entries ≡ unwrap_or (kept_entries b) [])
+has_kept None groups entries found is = tt
+has_kept (Some b) groups entries found is = is ∙ sym (ap (λ (o : Option (List Group)). unwrap_or (option_map numbered_of o) []) found)
+
+-- and nothing of one that has none
+none_kept : (file : Option (List ℕ)) (k : Kept) → groups_of k ≡ None → IfSome file (λ b. kept b ≡ k) → IfSome file (λ b. [] ≡ unwrap_or (kept_entries b) [])
+none_kept None k none is = tt
+none_kept (Some b) k none is = sym (ap (λ (o : Option (List Group)). unwrap_or (option_map numbered_of o) []) (ap groups_of is ∙ none))
+
+-- a disk that was gone on with has no more entries, whatever else it might have
+none_more : (old new : DiskTells) (A : List Numbered → Type 0) → GoesOn old new → IfSome old.bytes (λ _. LeavesOnly old new (λ c. KeepsAsOneOf old c ⊎ KeepsSome A c))
+none_more old new A on = more old.bytes on.moments
+  where
+    more : (o : Option (List ℕ)) → IfSome o (λ _. LeavesOnly old new (KeepsAsOneOf old)) → IfSome o (λ _. LeavesOnly old new (λ c. KeepsAsOneOf old c ⊎ KeepsSome A c))
+    more None l = tt
+    more (Some b) l = leaves_more old new _ _ (λ c k. inl k) l
+
 -- ---- what is begun behind it
 
-module _ {D : Type 0} (bytes : D → Option (List ℕ)) (images : D → List ℕ → Type 0) (moment : D → ℕ) (since : D → ℕ → List ℕ → Type 0) (faults : D → ℕ)
-    (conf : Conf) (most : ℕ) (old : D) (journal : Journaled D) (kept : List Numbered) (t : IsTakenUp bytes images moment since faults conf most old journal kept) where
+module _ {D : Type 0} (tells : D → DiskTells)
+    (conf : Conf) (most : ℕ) (old : D) (journal : Journaled D) (kept : List Numbered) (t : IsTakenUp tells conf most old journal kept) where
   abbrev begins : List Numbered
   begins = (start conf.text kept (journal.at + 1)).entries
 
@@ -104,24 +126,24 @@ module _ {D : Type 0} (bytes : D → Option (List ℕ)) (images : D → List ℕ
 
   -- a crash up to there
   left_so_far : (new : D) (A : List Numbered → Type 0) → A (numbered_of t.groups) → A (opening_entries conf t.groups)
-      → IfSome (bytes journal.disk) (λ _. LeavesOnly moment since journal.disk new (KeepsEither kept begins))
-      → IfSome (bytes old) (λ _. LeavesOnly moment since old new (λ c. KeepsAsOneOf (images old) c ⊎ KeepsSome A c))
-  left_so_far new A of_kept of_begun left = joined (bytes old) (bytes journal.disk) t.goes_on.told t.goes_on.moments left
+      → IfSome (tells journal.disk).bytes (λ _. LeavesOnly (tells journal.disk) (tells new) (KeepsEither kept begins))
+      → IfSome (tells old).bytes (λ _. LeavesOnly (tells old) (tells new) (λ c. KeepsAsOneOf (tells old) c ⊎ KeepsSome A c))
+  left_so_far new A of_kept of_begun left = joined (tells old).bytes (tells journal.disk).bytes t.goes_on.told t.goes_on.moments left
     where
-      among : (c : List ℕ) → KeepsEither kept begins c → KeepsAsOneOf (images old) c ⊎ KeepsSome A c
+      among : (c : List ℕ) → KeepsEither kept begins c → KeepsAsOneOf (tells old) c ⊎ KeepsSome A c
       among c (inl keeps) = inr (numbered_of t.groups, of_kept, subst (λ es. Keeps es c) t.kept_are keeps)
       among c (inr keeps) = inr (opening_entries conf t.groups, of_begun, subst (λ es. Keeps es c) (ap (λ (i : Intake). i.entries) same_intake) keeps)
 
-      joined : (o o' : Option (List ℕ)) → is_some o' ≡ is_some o → IfSome o (λ _. LeavesOnly moment since old journal.disk (KeepsAsOneOf (images old)))
-          → IfSome o' (λ _. LeavesOnly moment since journal.disk new (KeepsEither kept begins)) → IfSome o (λ _. LeavesOnly moment since old new (λ c. KeepsAsOneOf (images old) c ⊎ KeepsSome A c))
+      joined : (o o' : Option (List ℕ)) → is_some o' ≡ is_some o → IfSome o (λ _. LeavesOnly (tells old) (tells journal.disk) (KeepsAsOneOf (tells old)))
+          → IfSome o' (λ _. LeavesOnly (tells journal.disk) (tells new) (KeepsEither kept begins)) → IfSome o (λ _. LeavesOnly (tells old) (tells new) (λ c. KeepsAsOneOf (tells old) c ⊎ KeepsSome A c))
       joined None o' told l l' = tt
       joined (Some b) None told l l' = absurd (cc)
-      joined (Some b) (Some b') told l l' = and_then moment since old journal.disk new (λ c. KeepsAsOneOf (images old) c ⊎ KeepsSome A c) (KeepsEither kept begins) (leaves_more bytes images moment since faults old journal.disk _ _ (λ c k. inl k) l) l' among
+      joined (Some b) (Some b') told l l' = and_then (tells old) (tells journal.disk) (tells new) (λ c. KeepsAsOneOf (tells old) c ⊎ KeepsSome A c) (KeepsEither kept begins) (leaves_more (tells old) (tells journal.disk) _ _ (λ c k. inl k) l) l' among
 
-  pub has_begun : (made : Fronted D) → made.intake ≡ start conf.text kept (journal.at + 1) → (IsFull (log_of kept) → Fits conf (log_of kept) → IsSound conf made.intake) → IsIdle made → IsKept bytes images made.journal.disk made.intake.entries
-      → IsReady journal made.journal → faults journal.disk ≤ faults made.journal.disk → is_some (bytes made.journal.disk) ≡ is_some (bytes journal.disk)
-      → IfSome (bytes journal.disk) (λ _. LeavesOnly moment since journal.disk made.journal.disk (KeepsEither kept begins))
-      → HasBegun bytes images moment since faults conf most old made
+  pub has_begun : (made : Fronted D) → made.intake ≡ start conf.text kept (journal.at + 1) → (IsFull (log_of kept) → Fits conf (log_of kept) → IsSound conf made.intake) → IsIdle made → IsKept (tells made.journal.disk) made.intake.entries
+      → IsReady journal made.journal → (tells journal.disk).faults ≤ (tells made.journal.disk).faults → is_some (tells made.journal.disk).bytes ≡ is_some (tells journal.disk).bytes
+      → IfSome (tells journal.disk).bytes (λ _. LeavesOnly (tells journal.disk) (tells made.journal.disk) (KeepsEither kept begins))
+      → HasBegun tells conf most old made
   has_begun made is sound idle durable ready later told left =
       let intake_is = is ∙ same_intake in
       let entries_are : made.intake.entries ≡ opening_entries conf t.groups = ap (λ (i : Intake). i.entries) intake_is in
@@ -145,7 +167,7 @@ module _ {D : Type 0} (bytes : D → Option (List ℕ)) (images : D → List ℕ
 
   -- with no groups the journal has 9 bytes and no entry
   full_at_first : (entries count : ℕ) → kept ≡ [] → IsTrue (passes_with_all journal (first_group conf.text ∷ [])) → entries ≡ entries_with_all journal (first_group conf.text ∷ [])
-      → count ≡ bytes_with_all journal (first_group conf.text ∷ []) → FoundGroups (bytes old) [] × IsFullAtFirst most conf entries count
+      → count ≡ bytes_with_all journal (first_group conf.text ∷ []) → FoundGroups (tells old).bytes [] × IsFullAtFirst most conf entries count
   full_at_first entries count none passes is_entries is_bytes =
       let no_groups : t.groups ≡ [] = none_accepted conf t.groups t.accepted (sym t.kept_are ∙ none) in
       let no_entries : journal.entries ≡ 0 = t.has.count ∙ ap count_entries no_groups in
@@ -153,7 +175,7 @@ module _ {D : Type 0} (bytes : D → Option (List ℕ)) (images : D → List ℕ
       let long = opened_length (first_group conf.text) [] in
       let one : entries ≡ 1 = omega (arith, is_entries, no_entries) in
       let all : journal.at + length (opened_bytes (first_group conf.text ∷ [])) + 1 ≡ 9 + length (entries_bytes (first_group conf.text)) + 9 = omega (arith, nine, long) in (
-        subst (FoundGroups (bytes old)) no_groups t.found,
+        subst (FoundGroups (tells old).bytes) no_groups t.found,
         (
           one,
           is_bytes ∙ ap (λ n. min n (2 ^ 64 - 1)) all,
@@ -167,79 +189,106 @@ module _ {D : Type 0} (bytes : D → Option (List ℕ)) (images : D → List ℕ
   pub turned_at_front : (held : ℕ) (new : D) (entries : List Numbered) (e : FrontError) → entries ≡ kept
       → ((a b : ℕ) → e ≡ front.Full a b → (kept ≡ []) × IsTrue (passes_with_all journal (first_group conf.text ∷ []))
       × (a ≡ entries_with_all journal (first_group conf.text ∷ [])) × (b ≡ bytes_with_all journal (first_group conf.text ∷ [])))
-      → (e ≡ front.DiskFault → (kept ≡ []) × Rose (faults journal.disk) (faults new)) → faults journal.disk ≤ faults new → is_some (bytes new) ≡ is_some (bytes journal.disk)
-      → IfSome (bytes journal.disk) (λ _. LeavesOnly moment since journal.disk new (KeepsEither kept begins))
-      → TurnedAway bytes images moment since faults conf most held old new entries (status_for e)
-  turned_at_front held new entries e back full fault later told left = record {
+      → (e ≡ front.DiskFault → (kept ≡ []) × Rose (tells journal.disk).faults (tells new).faults) → (e ≢ front.DiskFault → new ≡ journal.disk) → (tells journal.disk).faults ≤ (tells new).faults
+      → is_some (tells new).bytes ≡ is_some (tells journal.disk).bytes → IfSome (tells journal.disk).bytes (λ _. LeavesOnly (tells journal.disk) (tells new) (KeepsEither kept begins))
+      → TurnedAway conf most held (tells old) (tells new) entries (status_for e)
+  turned_at_front held new entries e back full fault same later told left = record {
     told = told ∙ t.goes_on.told;
     later = omega (arith, t.goes_on.later, later);
     why = why e full fault;
-    has = inr (t.groups, t.found, inl (back ∙ t.kept_are));
-    left = left_so_far new (FoundEntries (bytes old) conf) (t.groups, t.found, inl refl) (t.groups, t.found, inr refl) left;
+    found = found;
+    has = has e;
+    left = leaves e same;
   }
     where
       why : (e : FrontError)
           → ((a b : ℕ) → e ≡ front.Full a b → (kept ≡ []) × IsTrue (passes_with_all journal (first_group conf.text ∷ []))
           × (a ≡ entries_with_all journal (first_group conf.text ∷ [])) × (b ≡ bytes_with_all journal (first_group conf.text ∷ [])))
-          → (e ≡ front.DiskFault → (kept ≡ []) × Rose (faults journal.disk) (faults new)) → Unopened conf most (bytes old) (faults old) (faults new) held (status_for e)
+          → (e ≡ front.DiskFault → (kept ≡ []) × Rose (tells journal.disk).faults (tells new).faults) → Unopened conf most (tells old) (tells new) held (status_for e)
       why (front.Full a b) full fault = let f = full a b refl in full_at_first a b f.0 f.1 f.2 f.3
-      why front.DiskFault full fault = rose_since (faults old) (faults journal.disk) (faults new) t.goes_on.later (fault refl).1
+      why front.DiskFault full fault = rose_since (tells old).faults (tells journal.disk).faults (tells new).faults t.goes_on.later (fault refl).1
       why front.OutOfMemory full fault = tt
 
--- ---- what the outbox lacks
+      found : (entries ≡ []) ⊎ FoundEntries (tells old).bytes conf entries
+      found = inr (t.groups, t.found, inl (back ∙ t.kept_are))
+
+      has : (e : FrontError) → has_for (reason_of (status_for e)) (tells old).bytes (BeginningEntries (tells old).bytes conf) (FoundEntries (tells old).bytes conf) entries
+      has (front.Full a b) = has_kept (tells old).bytes t.groups entries t.found (back ∙ t.kept_are)
+      has front.DiskFault = found
+      has front.OutOfMemory = found
+
+      -- a crash left some that it found, or, where nothing was written, none but those before
+      some : IfSome (tells old).bytes (λ _. LeavesOnly (tells old) (tells new) (λ c. KeepsAsOneOf (tells old) c ⊎ KeepsSome (FoundEntries (tells old).bytes conf) c))
+      some = left_so_far new (FoundEntries (tells old).bytes conf) (t.groups, t.found, inl refl) (t.groups, t.found, inr refl) left
+
+      leaves : (e : FrontError) → (e ≢ front.DiskFault → new ≡ journal.disk)
+          → IfSome (tells old).bytes (λ _. LeavesOnly (tells old) (tells new) (λ c. KeepsAsOneOf (tells old) c ⊎ KeepsSome (enters_for (reason_of (status_for e)) (FoundEntries (tells old).bytes conf)) c))
+      leaves (front.Full a b) same =
+          subst (λ d. IfSome (tells old).bytes (λ _. LeavesOnly (tells old) (tells d) (λ c. KeepsAsOneOf (tells old) c ⊎ KeepsSome (enters_for (reason_of (status.Full a b)) (FoundEntries (tells old).bytes conf)) c)))
+          (sym (same (λ e. cc))) (none_more (tells old) (tells journal.disk) (enters_for (reason_of (status.Full a b)) (FoundEntries (tells old).bytes conf)) t.goes_on)
+      leaves front.DiskFault same = some
+      leaves front.OutOfMemory same = some
 
 -- ---- a journal that isn't taken up
 
 -- one that couldn't be read
-unread_unopened : (conf : Conf) (most : ℕ) (file : Option (List ℕ)) (f f' held : ℕ) (s : Status) → IsUnread file f f' s → Unopened conf most file f f' held s
-unread_unopened conf most file f f' held status.NotOurs why = why
-unread_unopened conf most file f f' held (status.Damaged at) why = inl why
-unread_unopened conf most file f f' held status.DiskFault why = why
-unread_unopened conf most file f f' held status.OutOfMemory why = tt
-unread_unopened conf most file f f' held _ none = absurd none
+unread_unopened : (conf : Conf) (most held : ℕ) (old new : DiskTells) (s : Status) → IsUnread old.bytes old.faults new.faults s → Unopened conf most old new held s
+unread_unopened conf most held old new status.NotOurs why = why
+unread_unopened conf most held old new (status.Damaged at) why = inl why
+unread_unopened conf most held old new status.DiskFault why = why
+unread_unopened conf most held old new status.OutOfMemory why = tt
+unread_unopened conf most held old new _ none = absurd none
 
--- or whose groups are rejected
-rejected_for_some : (conf : Conf) (most : ℕ) (file : Option (List ℕ)) (f f' held : ℕ) (groups : List Group) (o : Option (List ℕ)) (s : Status) → FoundGroups file groups → IsRejected conf groups s → IsRejectedFor conf groups o s → Unopened conf most file f f' held s
-rejected_for_some conf most file f f' held groups None (status.Damaged at) found whole part = inr (groups, found, whole)
-rejected_for_some conf most file f f' held groups None _ found whole none = absurd none
-rejected_for_some conf most file f f' held groups (Some x) (status.Damaged at) found whole part = inr (groups, found, whole)
-rejected_for_some conf most file f f' held groups (Some x) (status.ConfigDiffers at) found whole part = (groups, found, whole)
-rejected_for_some conf most file f f' held groups (Some x) _ found whole none = absurd none
+-- of which no entries are had
+unread_has : (Begins Found : List Numbered → Type 0) (old new : DiskTells) (s : Status) → IsUnread old.bytes old.faults new.faults s → has_for (reason_of s) old.bytes Begins Found []
+unread_has Begins Found old new status.NotOurs why = none_kept old.bytes NotOurs refl why
+unread_has Begins Found old new (status.Damaged at) why = none_kept old.bytes (Damaged at) refl why
+unread_has Begins Found old new status.DiskFault why = inl refl
+unread_has Begins Found old new status.OutOfMemory why = inl refl
+unread_has Begins Found old new _ none = absurd none
 
-rejected_unopened : (conf : Conf) (most : ℕ) (file : Option (List ℕ)) (f f' held : ℕ) (groups : List Group) (s : Status) → FoundGroups file groups → IsRejected conf groups s → Unopened conf most file f f' held s
-rejected_unopened conf most file f f' held [] s found none = absurd none
-rejected_unopened conf most file f f' held (g ∷ gs) s found why = rejected_for_some conf most file f f' held (g ∷ gs) (kept_text (g ∷ gs)) s found why why
+-- or whose groups are rejected: such a status names the journal
+rejected_as : (conf : Conf) (groups : List Group) (o : Option (List ℕ)) (s : Status) (P : Status → Type 0) → ((at : ℕ) → IsRejected conf groups (status.Damaged at) → P (status.Damaged at))
+    → ((at : ℕ) → IsRejected conf groups (status.ConfigDiffers at) → P (status.ConfigDiffers at)) → IsRejected conf groups s → IsRejectedFor conf groups o s → P s
+rejected_as conf groups None (status.Damaged at) P damaged differs whole part = damaged at whole
+rejected_as conf groups None _ P damaged differs whole none = absurd none
+rejected_as conf groups (Some x) (status.Damaged at) P damaged differs whole part = damaged at whole
+rejected_as conf groups (Some x) (status.ConfigDiffers at) P damaged differs whole part = differs at whole
+rejected_as conf groups (Some x) _ P damaged differs whole none = absurd none
 
-module _ {D : Type 0} (bytes : D → Option (List ℕ)) (images : D → List ℕ → Type 0) (moment : D → ℕ) (since : D → ℕ → List ℕ → Type 0) (faults : D → ℕ) (conf : Conf) (most held : ℕ) (old new : D) (on : GoesOn bytes images moment since faults old new) where
-  turned_back : (entries : List Numbered) (s : Status) → (entries ≡ []) ⊎ FoundEntries (bytes old) conf entries → Unopened conf most (bytes old) (faults old) (faults new) held s
-      → TurnedAway bytes images moment since faults conf most held old new entries s
-  turned_back entries s has why = record { told = on.told; later = on.later; why = why; has = has; left = more (bytes old) on.moments }
+rejected_by : (conf : Conf) (groups : List Group) (s : Status) (P : Status → Type 0) → ((at : ℕ) → IsRejected conf groups (status.Damaged at) → P (status.Damaged at))
+    → ((at : ℕ) → IsRejected conf groups (status.ConfigDiffers at) → P (status.ConfigDiffers at)) → IsRejected conf groups s → P s
+rejected_by conf [] s P damaged differs none = absurd none
+rejected_by conf (g ∷ gs) s P damaged differs why = rejected_as conf (g ∷ gs) (kept_text (g ∷ gs)) s P damaged differs why why
+
+module _ (conf : Conf) (most held : ℕ) (old new : DiskTells) (on : GoesOn old new) where
+  turned_back : (entries : List Numbered) (s : Status) → (entries ≡ []) ⊎ FoundEntries old.bytes conf entries
+      → has_for (reason_of s) old.bytes (BeginningEntries old.bytes conf) (FoundEntries old.bytes conf) entries → Unopened conf most old new held s → TurnedAway conf most held old new entries s
+  turned_back entries s found has why =
+      record { told = on.told; later = on.later; why = why; found = found; has = has; left = none_more old new (enters_for (reason_of s) (FoundEntries old.bytes conf)) on }
+
+  pub turned_unread : (s : Status) → IsUnread old.bytes old.faults new.faults s → TurnedAway conf most held old new [] s
+  turned_unread s why = turned_back [] s (inl refl) (unread_has _ _ old new s why) (unread_unopened conf most held old new s why)
+
+  pub turned_rejected : (groups : List Group) (entries : List Numbered) (s : Status) → FoundGroups old.bytes groups → IsRejected conf groups s → entries ≡ numbered_of groups → TurnedAway conf most held old new entries s
+  turned_rejected groups entries s found why is = turned_back entries s (inr (groups, found, inl is))
+      (rejected_by conf groups s (λ t. has_for (reason_of t) old.bytes (BeginningEntries old.bytes conf) (FoundEntries old.bytes conf) entries) (λ at w. kept) (λ at w. kept) why)
+      (rejected_by conf groups s (λ t. Unopened conf most old new held t) (λ at w. inr (groups, found, w)) (λ at w. (groups, found, w)) why)
     where
-      more : (o : Option (List ℕ)) → IfSome o (λ _. LeavesOnly moment since old new (KeepsAsOneOf (images old)))
-          → IfSome o (λ _. LeavesOnly moment since old new (λ c. KeepsAsOneOf (images old) c ⊎ KeepsSome (FoundEntries (bytes old) conf) c))
-      more None l = tt
-      more (Some b) l = leaves_more bytes images moment since faults old new _ _ (λ c k. inl k) l
+      kept : IfSome old.bytes (λ b. entries ≡ unwrap_or (kept_entries b) [])
+      kept = has_kept old.bytes groups entries found is
 
-  pub turned_unread : (s : Status) → IsUnread (bytes old) (faults old) (faults new) s → TurnedAway bytes images moment since faults conf most held old new [] s
-  turned_unread s why = turned_back [] s (inl refl) (unread_unopened conf most (bytes old) (faults old) (faults new) held s why)
-
-  pub turned_spent : TurnedAway bytes images moment since faults conf most held old new [] status.OutOfMemory
-  turned_spent = turned_back [] status.OutOfMemory (inl refl) tt
-
-  pub turned_rejected : (groups : List Group) (entries : List Numbered) (s : Status) → FoundGroups (bytes old) groups → IsRejected conf groups s → entries ≡ numbered_of groups
-      → TurnedAway bytes images moment since faults conf most held old new entries s
-  turned_rejected groups entries s found why is = turned_back entries s (inr (groups, found, inl is)) (rejected_unopened conf most (bytes old) (faults old) (faults new) held groups s found why)
-
-  -- a journal that was recovered, of which this is said
-  pub turned_judged : (journal : Journaled D) (numbering : Numbering) (s : Status) → new ≡ journal.disk → IsRecovered bytes images conf old journal numbering
-      → ((groups : List Group) → IsNumbered conf groups numbering → IsRejected conf groups s) → TurnedAway bytes images moment since faults conf most held old new numbering.entries s
-  turned_judged journal numbering s same r why = turned_rejected r.groups numbering.entries s r.found (why r.groups r.numbered) r.numbered.entries_are
+-- a journal that was recovered, of which this is said
+pub turned_judged : {D : Type 0} (tells : D → DiskTells) (conf : Conf) (most held : ℕ) (old new : D) → GoesOn (tells old) (tells new) → (journal : Journaled D) (numbering : Numbering) (s : Status) → new ≡ journal.disk
+    → IsRecovered tells conf old journal numbering → ((groups : List Group) → IsNumbered conf groups numbering → IsRejected conf groups s) → TurnedAway conf most held (tells old) (tells new) numbering.entries s
+turned_judged tells conf most held old new on journal numbering s same r why =
+    turned_rejected conf most held (tells old) (tells new) on r.groups numbering.entries s r.found (why r.groups r.numbered) r.numbered.entries_are
 
 -- one that is taken up
-pub taken_up : {D : Type 0} (bytes : D → Option (List ℕ)) (images : D → List ℕ → Type 0) (moment : D → ℕ) (since : D → ℕ → List ℕ → Type 0) (faults : D → ℕ) (conf : Conf) (most : ℕ) (old : D) (journal : Journaled D) (numbering : Numbering)
-    → IsRecovered bytes images conf old journal numbering → (journal.max_entries ≡ most) × (journal.max_bytes ≡ longest_journal) → GoesOn bytes images moment since faults old journal.disk
-    → ((groups : List Group) → IsNumbered conf groups numbering → IsAccepted conf groups) → IsTakenUp bytes images moment since faults conf most old journal numbering.entries
-taken_up bytes images moment since faults conf most old journal numbering r limits on accepted = record {
+pub taken_up : {D : Type 0} (tells : D → DiskTells) (conf : Conf) (most : ℕ) (old : D) (journal : Journaled D) (numbering : Numbering)
+    → IsRecovered tells conf old journal numbering → (journal.max_entries ≡ most) × (journal.max_bytes ≡ longest_journal) → GoesOn (tells old) (tells journal.disk)
+    → ((groups : List Group) → IsNumbered conf groups numbering → IsAccepted conf groups) → IsTakenUp tells conf most old journal numbering.entries
+taken_up tells conf most old journal numbering r limits on accepted = record {
   groups = r.groups;
   found = r.found;
   accepted = accepted r.groups r.numbered;

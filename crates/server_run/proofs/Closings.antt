@@ -4,6 +4,7 @@ use Rattle.std.specs.Prelude.{Ok, IfSome, IsSomeAnd, is_some, chars}
 use Rattle.zbx_types.specs.declared.causes.Cause.{Cause}
 use Rattle.zbx_types.specs.declared.conf.Conf.{Conf}
 use Rattle.zbx_types.specs.declared.entries.Numbered.{Numbered}
+use Rattle.outside.specs.Disk.{DiskTells}
 use Rattle.outside.specs.Causes.{Rose}
 use Rattle.outside.specs.Tells.{WireTells}
 use Rattle.config_templates.specs.Flat.{flat_of}
@@ -24,7 +25,8 @@ use Rattle.regex.specs.Patterns.{default_config}
 use Rattle.zbx_types.specs.Ids.{at_id}
 use Rattle.pattern_set.specs.Patterns.{IsPattern, IsNoPattern}
 use Rattle.server_run.specs.Patterns.{HasFlawAt, HoldsBrace}
-use Rattle.server_run.specs.Opening.{IsAccepted, Bars, opening_lines}
+use Rattle.server_run.specs.Opening.{IsAccepted, opening_lines}
+use Rattle.server_run.specs.Reasons.{Bars}
 use Rattle.server_run.specs.Statuses.{Ending, at_limit, at_full, YieldsTo, EndsPrinted}
 use Rattle.server_run.specs.Stops.{refusing, Journals}
 use Rattle.server_run.specs.Events.{Doing}
@@ -76,65 +78,70 @@ found_same (Some f) b groups is found = subst (λ x. groups_of (kept x) ≡ Some
     some_same : (x y : List ℕ) → Some x ≡ Some y → x ≡ y
     some_same x y e = cc
 
-module _ (words : List (List ℕ)) (source file : Option (List ℕ)) (faults faults' disk_faults disk_faults' held : ℕ) (plan : Plan) (text : List ℕ) (conf : Conf) (b : List ℕ) (t : Status)
-    (plan_is : plan_of words ≡ Some plan) (some : 0 < plan.max_entries) (source_is : source ≡ Some text) (conf_is : flat_of text ≡ Ok conf) (file_is : file ≡ Some b)
-    (bars : Bars conf plan.max_entries (Some b) held t) where
-  -- two things that bar a run are one
-  same_bar : (s : Status) → IsBarred words source file held s → s ≡ t
-  same_bar s (plan', conf', c, why) =
+-- what is said of the text that a source told is said of that text
+of_source : (source : Option (List ℕ)) (text : List ℕ) (P : List ℕ → Type 0) → source ≡ Some text → IfSome source P → P text
+of_source None text P is p = absurd (cc)
+of_source (Some x) text P is p = subst P (some_text x text is) p
+
+-- a text that is refused isn't flat
+flat_not : (text : List ℕ) (conf : Conf) (path : List ℕ) (cause : Cause) → flat_of text ≡ Ok conf → flat_of text ≡ refuse path cause → ⊥
+flat_not text conf path cause found refused = cc
+
+module _ (words : List (List ℕ)) (source : Option (List ℕ)) (faults faults' held : ℕ) (old new : DiskTells) (plan : Plan) (text : List ℕ) (conf : Conf) (b : List ℕ)
+    (plan_is : plan_of words ≡ Some plan) (some : 0 < plan.max_entries) (source_is : source ≡ Some text) (conf_is : flat_of text ≡ Ok conf) (file_is : old.bytes ≡ Some b) where
+  -- what bars a run is said of this plan, this configuration and this file
+  bar_here : (s : Status) → IsBarred words source old.bytes held s → Bars conf plan.max_entries (Some b) held s × (length conf.text ≤ 16777216)
+  bar_here s (plan', conf', c, why) =
       let same = config_same words source plan' conf' conf text c source_is conf_is in
-      let plans : plan' ≡ plan = plan_same words plan' plan c.plan_is plan_is in
-      let why' : Bars conf plan.max_entries (Some b) held s =
-      subst (λ o. Bars conf plan.max_entries o held s) file_is (subst (λ (p : Plan). Bars conf p.max_entries file held s) plans (subst (λ (k : Conf). Bars k plan'.max_entries file held s) same why)) in
-      bars_one conf plan.max_entries held b some (subst (λ (k : Conf). length k.text ≤ 16777216) same (short_text words source plan' conf' c)) s t why' bars
+      let plans : plan' ≡ plan = plan_same words plan' plan c.plan_is plan_is in (
+        subst (λ o. Bars conf plan.max_entries o held s) file_is (subst (λ (p : Plan). Bars conf p.max_entries old.bytes held s) plans (subst (λ (k : Conf). Bars k plan'.max_entries old.bytes held s) same why)),
+        subst (λ (k : Conf). length k.text ≤ 16777216) same (short_text words source plan' conf' c),
+      )
+
+  -- two things that bar a run are one
+  same_bar : (t : Status) → Bars conf plan.max_entries (Some b) held t → (s : Status) → IsBarred words source old.bytes held s → s ≡ t
+  same_bar t bars s barred = let here = bar_here s barred in bars_one conf plan.max_entries held b some here.1 s t here.0 bars
 
   -- what bars a run that didn't begin is its status, or another fault stood before it
-  pub bars_unbegun : (s : Status) → Refuses words source faults faults' file disk_faults disk_faults' held s → (s ≡ t) ⊎ YieldsTo s
-  bars_unbegun status.Usage none = absurd (cc)
-  bars_unbegun status.SourceFault why = inr (inl refl)
-  bars_unbegun status.OutOfMemory why = inr (inr (inr (inl refl)))
-  bars_unbegun (status.PatternRefused path) why = inr (inr (inr (inr tt)))
-  bars_unbegun (status.PatternTooLarge path) why = inr (inr (inr (inr tt)))
-  bars_unbegun status.DiskFault why = inr (inr (inl refl))
-  bars_unbegun (status.ConfigRefused path cause) why = absurd (not_refused source source_is why.1)
-    where
-      here : flat_of text ≡ refuse path cause → ⊥
-      here refused = let found = conf_is in cc
-
-      not_refused : (o : Option (List ℕ)) → o ≡ Some text → IfSome o (λ x. flat_of x ≡ refuse path cause) → ⊥
-      not_refused None is u = absurd (cc)
-      not_refused (Some x) is u = here (subst (λ y. flat_of y ≡ refuse path cause) (some_text x text is) u)
-  bars_unbegun status.NotOurs why = inl (same_bar status.NotOurs why)
-  bars_unbegun (status.Damaged at) why = inl (same_bar (status.Damaged at) why)
-  bars_unbegun (status.ConfigDiffers at) why = inl (same_bar (status.ConfigDiffers at) why)
-  bars_unbegun (status.OutboxAhead told lines) why = inl (same_bar (status.OutboxAhead told lines) why)
-  bars_unbegun (status.Full entries bytes) why = inl (same_bar (status.Full entries bytes) why)
-  bars_unbegun _ why = absurd why.3
+  pub bars_unbegun : (t : Status) → Bars conf plan.max_entries (Some b) held t → (s : Status) → Refuses words source faults faults' old new held s → (s ≡ t) ⊎ YieldsTo s
+  bars_unbegun t bars status.Usage (inl none) = absurd (cc)
+  bars_unbegun t bars status.SourceFault (inl why) = inr (inl refl)
+  bars_unbegun t bars status.OutOfMemory why = inr (inr (inr (inl refl)))
+  bars_unbegun t bars (status.PatternRefused path) (inl why) = inr (inr (inr (inr tt)))
+  bars_unbegun t bars (status.PatternTooLarge path) (inl why) = inr (inr (inr (inr tt)))
+  bars_unbegun t bars (status.ConfigRefused path cause) (inl why) = absurd (flat_not text conf path cause conf_is (of_source source text (λ x. flat_of x ≡ refuse path cause) source_is why.1))
+  bars_unbegun t bars status.DiskFault (inr why) = inr (inr (inl refl))
+  bars_unbegun t bars status.NotOurs (inr why) = inl (same_bar t bars status.NotOurs why)
+  bars_unbegun t bars (status.Damaged at) (inr why) = inl (same_bar t bars (status.Damaged at) why)
+  bars_unbegun t bars (status.ConfigDiffers at) (inr why) = inl (same_bar t bars (status.ConfigDiffers at) why)
+  bars_unbegun t bars (status.OutboxAhead told lines) (inr why) = inl (same_bar t bars (status.OutboxAhead told lines) why)
+  bars_unbegun t bars (status.Full entries bytes) (inr why) = inl (same_bar t bars (status.Full entries bytes) why)
+  bars_unbegun t bars _ (inl none) = absurd none
+  bars_unbegun t bars _ (inr why) = absurd why.3
 
   -- a run that began isn't barred
-  pub bars_begun : (did : Doing) (wire wire' : WireTells) (s : Status) (entries : List Numbered) → Followed words source file held did wire wire' s entries → ⊥
-  bars_begun did wire wire' s entries f =
+  pub bars_begun : (t : Status) → Bars conf plan.max_entries (Some b) held t → (did : Doing) (wire wire' : WireTells) (s : Status) (entries : List Numbered) → Followed words source old.bytes held did wire wire' s entries → ⊥
+  bars_begun t bars did wire wire' s entries f =
       let same = config_same words source f.plan f.conf conf text f.configured source_is conf_is in
-      let plans : f.plan ≡ plan = plan_same words f.plan plan f.configured.plan_is plan_is in
       let bars' : Bars f.conf plan.max_entries (Some b) held t = subst (λ (c : Conf). Bars c plan.max_entries (Some b) held t) (sym same) bars in
-      not_barred f.conf plan.max_entries held b some (short_text words source f.plan f.conf f.configured) f.groups t (found_same file b f.groups file_is f.found) f.accepted f.enough bars'
+      not_barred f.conf plan.max_entries held b some (short_text words source f.plan f.conf f.configured) f.groups t (found_same old.bytes b f.groups file_is f.found) f.accepted f.enough bars'
 
-module _ {D : Type 0} (bytes : D → Option (List ℕ)) (images : D → List ℕ → Type 0) (moment : D → ℕ) (since : D → ℕ → List ℕ → Type 0) (faults : D → ℕ) (also : List ℕ → Type 0) (old new : D)
+module _ (also : List ℕ → Type 0) (old new : DiskTells)
     (words : List (List ℕ)) (source file : Option (List ℕ)) (held : ℕ) (wire wire' : WireTells) (entries : List Numbered) where
   abbrev doing : Doing
-  doing = Journals bytes images moment since faults also old new
+  doing = Journals also old new
 
   -- a run that ended by a fault of its disk
-  pub disk_fault : (s : Status) → s ≡ status.DiskFault → Followed words source file held doing wire wire' s entries → Rose (faults old) (faults new)
+  pub disk_fault : (s : Status) → s ≡ status.DiskFault → Followed words source file held doing wire wire' s entries → Rose old.faults new.faults
   disk_fault s is f =
       let g : Followed words source file held doing wire wire' status.DiskFault entries = subst (λ t. Followed words source file held doing wire wire' t entries) is f in
       g.finished.journaled.fault g.finished.ends.0
 
   -- a run whose disk didn't fail leaves its entries
-  pub keeps_at_end : (s : Status) → Followed words source file held doing wire wire' s entries → (Rose (faults old) (faults new) → ⊥) → IfSome (bytes new) (Keeps entries)
-  keeps_at_end s f none = first (bytes new) (f.finished.journaled.kept (λ is. none (f.finished.journaled.fault is)))
+  pub keeps_at_end : (s : Status) → Followed words source file held doing wire wire' s entries → (Rose old.faults new.faults → ⊥) → IfSome new.bytes (Keeps entries)
+  keeps_at_end s f none = first new.bytes (f.finished.journaled.kept (λ is. none (f.finished.journaled.fault is)))
     where
-      first : (o : Option (List ℕ)) → IfSome o (λ b. Keeps entries b × ((c : List ℕ) → images new c → Keeps entries c)) → IfSome o (Keeps entries)
+      first : (o : Option (List ℕ)) → IfSome o (λ b. Keeps entries b × ((c : List ℕ) → new.images c → Keeps entries c)) → IfSome o (Keeps entries)
       first None k = tt
       first (Some b) k = k.0
 
@@ -161,50 +168,37 @@ deep_or_not (Some a) depth limit within (inr above) = omega (arith, within, abov
 no_pattern : (pattern : List ℕ) → IsPattern pattern → IsNoPattern pattern → ⊥
 no_pattern pattern is flaw = deep_or_not (read default_config (chars pattern)) (λ p. p.0.depth) default_config.nest_limit is flaw
 
-module _ (words : List (List ℕ)) (source file : Option (List ℕ)) (faults faults' disk_faults disk_faults' held : ℕ) (plan : Plan) (text : List ℕ) (conf : Conf) (b : List ℕ) (groups : List Group)
-    (plan_is : plan_of words ≡ Some plan) (some : 0 < plan.max_entries) (source_is : source ≡ Some text) (conf_is : flat_of text ≡ Ok conf) (file_is : file ≡ Some b)
+module _ (words : List (List ℕ)) (source : Option (List ℕ)) (faults faults' held : ℕ) (old new : DiskTells) (plan : Plan) (text : List ℕ) (conf : Conf) (b : List ℕ) (groups : List Group)
+    (plan_is : plan_of words ≡ Some plan) (some : 0 < plan.max_entries) (source_is : source ≡ Some text) (conf_is : flat_of text ≡ Ok conf) (file_is : old.bytes ≡ Some b)
     (found : groups_of (kept b) ≡ Some groups) (accepted : IsAccepted conf groups) (enough : held ≤ length (opening_lines conf groups))
-    (source_well : Rose faults faults' → ⊥) (disk_well : Rose disk_faults disk_faults' → ⊥) (patterns : All IsPattern conf.patterns) where
+    (source_well : Rose faults faults' → ⊥) (disk_well : Rose old.faults new.faults → ⊥) (patterns : All IsPattern conf.patterns) where
   -- what is accepted isn't barred
-  isnt_barred : (s : Status) → IsBarred words source file held s → ⊥
-  isnt_barred s (plan', conf', c, why) =
-      let same = config_same words source plan' conf' conf text c source_is conf_is in
-      let plans : plan' ≡ plan = plan_same words plan' plan c.plan_is plan_is in
-      let why' : Bars conf plan.max_entries (Some b) held s =
-      subst (λ o. Bars conf plan.max_entries o held s) file_is (subst (λ (p : Plan). Bars conf p.max_entries file held s) plans (subst (λ (k : Conf). Bars k plan'.max_entries file held s) same why)) in
-      not_barred conf plan.max_entries held b some (subst (λ (k : Conf). length k.text ≤ 16777216) same (short_text words source plan' conf' c)) groups s found accepted enough why'
+  isnt_barred : (s : Status) → IsBarred words source old.bytes held s → ⊥
+  isnt_barred s barred =
+      let here = bar_here words source faults faults' held old new plan text conf b plan_is some source_is conf_is file_is s barred in
+      not_barred conf plan.max_entries held b some here.1 groups s found accepted enough here.0
 
   -- so its run begins, unless memory is refused or a pattern is too large
-  pub begins_well : (s : Status) → Refuses words source faults faults' file disk_faults disk_faults' held s → (s ≡ status.OutOfMemory) ⊎ ((path : List ℕ) × (s ≡ status.PatternTooLarge path))
-  begins_well status.Usage none = absurd (cc)
-  begins_well status.SourceFault why = absurd (source_well why.1)
+  pub begins_well : (s : Status) → Refuses words source faults faults' old new held s → (s ≡ status.OutOfMemory) ⊎ ((path : List ℕ) × (s ≡ status.PatternTooLarge path))
+  begins_well status.Usage (inl none) = absurd (cc)
+  begins_well status.SourceFault (inl why) = absurd (source_well why.1)
   begins_well status.OutOfMemory why = inl refl
-  begins_well (status.PatternTooLarge path) why = inr (path, refl)
-  begins_well (status.PatternRefused path) why = absurd (not_flawed source source_is why.1)
+  begins_well (status.PatternTooLarge path) (inl why) = inr (path, refl)
+  begins_well (status.PatternRefused path) (inl why) = absurd (flawed (of_source source text (HasFlawAt IsNoPattern path) source_is why.1))
     where
-      here : HasFlawAt IsNoPattern path text → ⊥
-      here u =
+      flawed : HasFlawAt IsNoPattern path text → ⊥
+      flawed u =
           let same = conf_same text conf u.conf conf_is u.conf_is in
           no_pattern u.flawed.pattern (all_with_id IsPattern u.conf.patterns u.flawed.place u.flawed.pattern (subst (λ (k : Conf). All IsPattern k.patterns) same patterns) u.flawed.pattern_is) u.flawed.flaw
-
-      not_flawed : (o : Option (List ℕ)) → o ≡ Some text → IfSome o (HasFlawAt IsNoPattern path) → ⊥
-      not_flawed None is u = absurd (cc)
-      not_flawed (Some x) is u = here (subst (HasFlawAt IsNoPattern path) (some_text x text is) u)
-  begins_well status.DiskFault why = absurd (disk_well why.3)
-  begins_well (status.ConfigRefused path cause) why = absurd (not_refused source source_is why.1)
-    where
-      here : flat_of text ≡ refuse path cause → ⊥
-      here refused = let found = conf_is in cc
-
-      not_refused : (o : Option (List ℕ)) → o ≡ Some text → IfSome o (λ x. flat_of x ≡ refuse path cause) → ⊥
-      not_refused None is u = absurd (cc)
-      not_refused (Some x) is u = here (subst (λ y. flat_of y ≡ refuse path cause) (some_text x text is) u)
-  begins_well status.NotOurs why = absurd (isnt_barred status.NotOurs why)
-  begins_well (status.Damaged at) why = absurd (isnt_barred (status.Damaged at) why)
-  begins_well (status.ConfigDiffers at) why = absurd (isnt_barred (status.ConfigDiffers at) why)
-  begins_well (status.OutboxAhead told lines) why = absurd (isnt_barred (status.OutboxAhead told lines) why)
-  begins_well (status.Full entries bytes) why = absurd (isnt_barred (status.Full entries bytes) why)
-  begins_well _ why = absurd why.3
+  begins_well (status.ConfigRefused path cause) (inl why) = absurd (flat_not text conf path cause conf_is (of_source source text (λ x. flat_of x ≡ refuse path cause) source_is why.1))
+  begins_well status.DiskFault (inr why) = absurd (disk_well why.3)
+  begins_well status.NotOurs (inr why) = absurd (isnt_barred status.NotOurs why)
+  begins_well (status.Damaged at) (inr why) = absurd (isnt_barred (status.Damaged at) why)
+  begins_well (status.ConfigDiffers at) (inr why) = absurd (isnt_barred (status.ConfigDiffers at) why)
+  begins_well (status.OutboxAhead told lines) (inr why) = absurd (isnt_barred (status.OutboxAhead told lines) why)
+  begins_well (status.Full entries bytes) (inr why) = absurd (isnt_barred (status.Full entries bytes) why)
+  begins_well _ (inl none) = absurd none
+  begins_well _ (inr why) = absurd why.3
 
 -- ---- a run that began and was to be closed
 
@@ -303,61 +297,47 @@ module _ (words : List (List ℕ)) (source file : Option (List ℕ)) (held : ℕ
 
 -- ---- refusals that hang on the words and the configuration alone
 
-module _ (words : List (List ℕ)) (source file : Option (List ℕ)) (faults faults' disk_faults disk_faults' held : ℕ) where
+unplanned : (words : List (List ℕ)) (source : Option (List ℕ)) (plan : Plan) (conf : Conf) → plan_of words ≡ None → Configured words source plan conf → ⊥
+unplanned words source plan conf none c = let is = c.plan_is in cc
+
+not_flat : (words : List (List ℕ)) (source : Option (List ℕ)) (text : List ℕ) → source ≡ Some text → (path : List ℕ) (cause : Cause) → flat_of text ≡ refuse path cause → (plan : Plan) (conf : Conf) → Configured words source plan conf → ⊥
+not_flat words source text is path cause refused plan conf c =
+    let same = told_text source text conf.text is c.text_is in
+    flat_not text conf path cause (ap flat_of (sym same) ∙ c.conf_is) refused
+
+module _ (words : List (List ℕ)) (source : Option (List ℕ)) (faults faults' held : ℕ) (old new : DiskTells) where
   abbrev Refused_as : Status → Type 0
-  Refused_as s = Refuses words source faults faults' file disk_faults disk_faults' held s
+  Refused_as s = Refuses words source faults faults' old new held s
 
   -- where the words have no plan
   pub no_plan : plan_of words ≡ None → (s : Status) → Refused_as s → (s ≡ status.Usage) ⊎ (s ≡ status.OutOfMemory)
   no_plan none status.Usage why = inl refl
   no_plan none status.OutOfMemory why = inr refl
-  no_plan none status.SourceFault why = absurd (true≢false (sym why.0 ∙ ap is_some none))
-  no_plan none (status.PatternRefused path) why = absurd (true≢false (sym why.0 ∙ ap is_some none))
-  no_plan none (status.PatternTooLarge path) why = absurd (true≢false (sym why.0 ∙ ap is_some none))
-  no_plan none (status.ConfigRefused path cause) why = absurd (true≢false (sym why.0 ∙ ap is_some none))
-  no_plan none status.DiskFault why = let is = why.2.plan_is in absurd (cc)
-  no_plan none status.NotOurs why = let is = why.2.plan_is in absurd (cc)
-  no_plan none (status.Damaged at) why = let is = why.2.plan_is in absurd (cc)
-  no_plan none (status.ConfigDiffers at) why = let is = why.2.plan_is in absurd (cc)
-  no_plan none (status.OutboxAhead told lines) why = let is = why.2.plan_is in absurd (cc)
-  no_plan none (status.Full entries bytes) why = let is = why.2.plan_is in absurd (cc)
-  no_plan none _ why = absurd why.3
+  no_plan none s (inr why) = absurd (unplanned words source why.0 why.1 none why.2)
+  no_plan none status.SourceFault (inl why) = absurd (true≢false (sym why.0 ∙ ap is_some none))
+  no_plan none (status.PatternRefused path) (inl why) = absurd (true≢false (sym why.0 ∙ ap is_some none))
+  no_plan none (status.PatternTooLarge path) (inl why) = absurd (true≢false (sym why.0 ∙ ap is_some none))
+  no_plan none (status.ConfigRefused path cause) (inl why) = absurd (true≢false (sym why.0 ∙ ap is_some none))
+  no_plan none _ (inl why) = absurd why
 
-  module _ (text : List ℕ) (source_is : source ≡ Some text) where
-    of_source : (P : List ℕ → Type 0) → IfSome source P → P text
-    of_source P has = by source source_is has
-      where
-        by : (o : Option (List ℕ)) → o ≡ Some text → IfSome o P → P text
-        by None is p = absurd (cc)
-        by (Some x) is p = subst P (some_text x text is) p
+  -- where the text is refused
+  pub refused_text : (text : List ℕ) → source ≡ Some text → (path : List ℕ) (cause : Cause) → flat_of text ≡ refuse path cause → (s : Status) → Refused_as s
+      → (s ≡ status.ConfigRefused path cause) ⊎ ((s ≡ status.SourceFault) ⊎ ((s ≡ status.Usage) ⊎ (s ≡ status.OutOfMemory)))
+  refused_text text is path cause refused status.Usage why = inr (inr (inl refl))
+  refused_text text is path cause refused status.OutOfMemory why = inr (inr (inr refl))
+  refused_text text is path cause refused status.SourceFault why = inr (inl refl)
+  refused_text text is path cause refused s (inr why) = absurd (not_flat words source text is path cause refused why.0 why.1 why.2)
+  refused_text text is path cause refused (status.PatternRefused path') (inl why) = let u = of_source source text (HasFlawAt IsNoPattern path') is why.1 in absurd (flat_not text u.conf path cause u.conf_is refused)
+  refused_text text is path cause refused (status.PatternTooLarge path') (inl why) = let u = of_source source text (HasFlawAt HoldsBrace path') is why.1 in absurd (flat_not text u.conf path cause u.conf_is refused)
+  refused_text text is path cause refused (status.ConfigRefused path' cause') (inl why) =
+      let other = of_source source text (λ x. flat_of x ≡ refuse path' cause') is why.1 in
+      inl (same_flaw path' path cause' cause (sym other ∙ refused))
+  refused_text text is path cause refused _ (inl why) = absurd why
 
-    -- where it is refused
-    not_flat : (path : List ℕ) (cause : Cause) → flat_of text ≡ refuse path cause → (plan' : Plan) (conf' : Conf) → Configured words source plan' conf' → ⊥
-    not_flat path cause refused plan' conf' c =
-        let same = told_text source text conf'.text source_is c.text_is in
-        let found : flat_of text ≡ Ok conf' = ap flat_of (sym same) ∙ c.conf_is in
-        cc
+-- a run that began was configured
+pub begun_planned : (words : List (List ℕ)) (source file : Option (List ℕ)) (held : ℕ) (did : Doing) (wire wire' : WireTells) (s : Status) (entries : List Numbered) → plan_of words ≡ None → Followed words source file held did wire wire' s entries → ⊥
+begun_planned words source file held did wire wire' s entries none f = unplanned words source f.plan f.conf none f.configured
 
-    pub refused_text : (path : List ℕ) (cause : Cause) → flat_of text ≡ refuse path cause → (s : Status) → Refused_as s
-        → (s ≡ status.ConfigRefused path cause) ⊎ ((s ≡ status.SourceFault) ⊎ ((s ≡ status.Usage) ⊎ (s ≡ status.OutOfMemory)))
-    refused_text path cause refused status.Usage why = inr (inr (inl refl))
-    refused_text path cause refused status.OutOfMemory why = inr (inr (inr refl))
-    refused_text path cause refused status.SourceFault why = inr (inl refl)
-    refused_text path cause refused (status.PatternRefused path') why = let u = of_source (HasFlawAt IsNoPattern path') why.1 in let found = u.conf_is in absurd (cc)
-    refused_text path cause refused (status.PatternTooLarge path') why = let u = of_source (HasFlawAt HoldsBrace path') why.1 in let found = u.conf_is in absurd (cc)
-    refused_text path cause refused (status.ConfigRefused path' cause') why =
-        let other = of_source (λ x. flat_of x ≡ refuse path' cause') why.1 in
-        inl (same_flaw path' path cause' cause (sym other ∙ refused))
-    refused_text path cause refused status.DiskFault why = absurd (not_flat path cause refused why.0 why.1 why.2)
-    refused_text path cause refused status.NotOurs why = absurd (not_flat path cause refused why.0 why.1 why.2)
-    refused_text path cause refused (status.Damaged at) why = absurd (not_flat path cause refused why.0 why.1 why.2)
-    refused_text path cause refused (status.ConfigDiffers at) why = absurd (not_flat path cause refused why.0 why.1 why.2)
-    refused_text path cause refused (status.OutboxAhead told lines) why = absurd (not_flat path cause refused why.0 why.1 why.2)
-    refused_text path cause refused (status.Full entries bytes) why = absurd (not_flat path cause refused why.0 why.1 why.2)
-    refused_text path cause refused _ why = absurd why.3
-
-    pub not_begun_refused : (path : List ℕ) (cause : Cause) → flat_of text ≡ refuse path cause → (did : Doing) (wire wire' : WireTells) (s : Status) (entries : List Numbered) → Followed words source file held did wire wire' s entries → ⊥
-    not_begun_refused path cause refused did wire wire' s entries f = not_flat path cause refused f.plan f.conf f.configured
-
-  pub not_begun_unplanned : plan_of words ≡ None → (did : Doing) (wire wire' : WireTells) (s : Status) (entries : List Numbered) → Followed words source file held did wire wire' s entries → ⊥
-  not_begun_unplanned none did wire wire' s entries f = let is = f.configured.plan_is in cc
+pub begun_flat : (words : List (List ℕ)) (source file : Option (List ℕ)) (held : ℕ) (did : Doing) (wire wire' : WireTells) (s : Status) (entries : List Numbered) (text : List ℕ) → source ≡ Some text → (path : List ℕ) (cause : Cause)
+    → flat_of text ≡ refuse path cause → Followed words source file held did wire wire' s entries → ⊥
+begun_flat words source file held did wire wire' s entries text is path cause refused f = not_flat words source text is path cause refused f.plan f.conf f.configured

@@ -1,8 +1,10 @@
 -- Laws of the taking of events behind what a run had done.
+use Rattle.trigger_state.specs.Stages.{first_stage}
 use Rattle.std.proofs.Common.{◌≡◌, ◌⊎◌, ⊎_elim, ℕ, ◌+◌, ◌-◌, ◌≤◌, ◌<◌, List, [], ◌++◌, append-nil, refl, sym, ap, ◌∙◌, subst, arith, inl, inr, length, drop, true≢false}
-use Rattle.std.specs.Prelude.{◌≢◌, Option, Some, None, IfSome, Result, Ok, Err, OnOk, Bool, true, false}
+use Rattle.std.specs.Prelude.{◌≢◌, Option, Some, None, IfSome, Result, Ok, Err, OnOk, true, false}
 use Rattle.std.specs.Option.{option_to_list}
 use mathlib.Core.List.{IsPrefix}
+use Rattle.outside.specs.Disk.{DiskTells, IsLawful}
 use Rattle.zbx_types.specs.declared.conf.Conf.{Conf}
 use Rattle.zbx_types.specs.declared.entries.Numbered.{Numbered}
 use Rattle.zbx_types.specs.declared.memory.OutOfMemory.{OutOfMemory}
@@ -25,14 +27,15 @@ use Rattle.intake_front.specs.Fronted.{Fronted, IsKept, IsReady, limits_of, refu
 use Rattle.intake_front.specs.declared.answer.Stop.{Stop}
 use Rattle.server_words.specs.declared.status.Status.{Status}
 use Rattle.server_words.specs.declared.status.Status.TheVariants as status
+use Rattle.server_run.specs.declared.course.Course.{Course}
 use Rattle.server_run.specs.declared.serving.Taken.{Taken}
 use Rattle.server_run.specs.declared.serving.Taken.TheVariants as taken
 use Rattle.server_run.specs.Events.{Doing, Ran, Took, Ends, ending_of}
-use Rattle.server_run.specs.Going.{Reaches, TakesOn, IsServing, IsServedAt, HasServed, IsEndedAt, IsSentAt, IsCause, IsJoined, IsWorse, IsOpened, IsAheadOf, HasGone, book_status}
+use Rattle.server_run.specs.Going.{Reaches, TakesOn, IsServing, HasServed, IsEndedAt, IsSentAt, IsCause, IsJoined, IsWorse, IsOpened, IsAheadOf, HasGone, book_status}
 use Rattle.server_run.specs.Outbox.{LinesAre}
 use Rattle.server_run.specs.Tally.{counts_with}
 use Rattle.server_run.specs.Runs.{Finished}
-use Rattle.server_run.specs.Statuses.{Ending, never, at_closed, at_limit, at_wire_fault, at_disk_fault, at_full, anywhere, at_refusal, course_of, ended_with, EndsAs, LeftIs, IsCourse, IsUnprinted}
+use Rattle.server_run.specs.Statuses.{at_limit, anywhere, at_refusal, course_of, ended_with, EndsAs, LeftIs, IsCourse, IsUnprinted}
 use Rattle.server_run.specs.Stops.{refusing, Journals}
 use Rattle.server_run.proofs.Events.{ran_grows, ran_none, ran_on, finish_on, finish_with, goes_on_is, no_trouble, ended_sent, limits_kept}
 use Rattle.server_run.proofs.Logs.{behind_sent, sent_front}
@@ -154,6 +157,7 @@ finished_fault limits conf recovered begun entries turns did w w' s other wire f
   handled = f.handled;
   lost = f.lost;
   refused = f.refused;
+  runs_on = f.runs_on;
   few = f.few;
   given = f.given;
   told = told w.left f.told;
@@ -183,49 +187,49 @@ course_taken limits conf recovered begun entries turns did w w' s f = is_ending 
 
 -- ---- a run, part by part
 
-module _ {D : Type 0} (bytes : D → Option (List ℕ)) (images : D → List ℕ → Type 0) (moment : D → ℕ) (since : D → ℕ → List ℕ → Type 0) (faults : D → ℕ) where
+module _ {D : Type 0} (tells : D → DiskTells) where
   abbrev doing : D → D → Doing
-  doing old new = Journals bytes images moment since faults (λ c. ⊥) old new
+  doing old new = Journals (λ c. ⊥) (tells old) (tells new)
 
   abbrev At : Limits → Conf → List Numbered → Intake → Intake → D → D → WireTells → WireTells → ℕ → Type 0
-  At limits conf recovered start now d0 d w0 w count = Reaches bytes images moment since faults limits conf recovered start now d0 d w0 w count
+  At limits conf recovered start now d0 d w0 w count = Reaches tells limits conf recovered start now d0 d w0 w count
 
   -- at the start no event was taken
-  pub at_start : (limits : Limits) (conf : Conf) (i : Intake) (disk : D) (w : WireTells) → ((c : List ℕ) → since disk (moment disk) c → images disk c) → IsKept bytes images disk i.entries → At limits conf i.entries i i disk disk w w 0
-  at_start limits conf i disk w only_now kept = record { ran = ran_none bytes images moment since faults limits conf i disk w only_now kept; later = omega arith }
+  pub at_start : (limits : Limits) (conf : Conf) (i : Intake) (disk : D) (w : WireTells) → IsLawful (tells disk) → IsKept (tells disk) i.entries → At limits conf i.entries i i disk disk w w 0
+  at_start limits conf i disk w lawful kept = record { ran = ran_none limits conf i (tells disk) w lawful kept; later = omega arith }
 
   module _ (limits : Limits) (conf : Conf) (recovered : List Numbered) (start now : Intake) (d0 d1 : D) (w0 w1 : WireTells) (count n : ℕ) (r : At limits conf recovered start now d0 d1 w0 w1 (count + n)) where
     -- more events, behind which the run goes on
     pub at_more : (new : Intake) (d2 : D) (w2 : WireTells) (more : ℕ) (l : Limits) → l ≡ limits → Ran (refusing l 0) conf now.entries now new (doing d1 d2) w1 w2 more None None anywhere → w1.faults ≤ w2.faults
         → At limits conf recovered start new d0 d2 w0 w2 (count + (n + more))
     at_more new d2 w2 more l same t later =
-        let all = ran_on bytes images moment since faults limits conf recovered start now new d0 d1 d2 w0 w1 w2 (count + n) more r.ran l same conf refl t in
+        let all = ran_on limits conf recovered start now new (tells d0) (tells d1) (tells d2) w0 w1 w2 (count + n) more r.ran l same conf refl t in
         let sum : (count + n) + more ≡ count + (n + more) = omega arith in
         record { ran = subst (λ k. Ran (refusing limits 0) conf recovered start new (doing d0 d2) w0 w2 k None None anywhere) sum all; later = omega (arith, r.later, later) }
 
     -- as many as are allowed were taken
     pub at_limit_of : (turns : ℕ) → n ≡ turns → Finished limits conf recovered start now.entries (count + turns) (doing d0 d1) w0 w1 at_limit
-    at_limit_of turns is = finish_on bytes images moment since faults limits conf recovered start now d0 d1 w0 w1 (count + n) (count + turns) at_limit r.ran (omega (arith, is)) (omega (arith, is), refl, refl)
+    at_limit_of turns is = finish_on limits conf recovered start now (tells d0) (tells d1) w0 w1 (count + n) (count + turns) at_limit r.ran (omega (arith, is)) (omega (arith, is), refl, refl)
 
     -- or memory was refused
     pub at_refusal_of : (turns : ℕ) → n ≤ turns → Finished limits conf recovered start now.entries (count + turns) (doing d0 d1) w0 w1 at_refusal
-    at_refusal_of turns few = finish_on bytes images moment since faults limits conf recovered start now d0 d1 w0 w1 (count + n) (count + turns) at_refusal r.ran (omega (arith, few)) (inl refl)
+    at_refusal_of turns few = finish_on limits conf recovered start now (tells d0) (tells d1) w0 w1 (count + n) (count + turns) at_refusal r.ran (omega (arith, few)) (inl refl)
 
     -- or the outbox failed
     pub at_fault_of : (turns : ℕ) → n ≤ turns → Finished limits conf recovered start now.entries (count + turns) (doing d0 d1) w0 w1 anywhere
-    at_fault_of turns few = finish_on bytes images moment since faults limits conf recovered start now d0 d1 w0 w1 (count + n) (count + turns) anywhere r.ran (omega (arith, few)) refl
+    at_fault_of turns few = finish_on limits conf recovered start now (tells d0) (tells d1) w0 w1 (count + n) (count + turns) anywhere r.ran (omega (arith, few)) refl
 
     -- or the last events ended it
     pub at_end : (new : Intake) (d2 : D) (w2 : WireTells) (most turns : ℕ) (e : Status) (l : Limits) → l ≡ limits → Ends l conf now new (doing d1 d2) w1 w2 most e → n + most ≤ turns
         → Finished limits conf recovered start new.entries (count + turns) (doing d0 d2) w0 w2 (course_of e).ending
     at_end new d2 w2 most turns e l same t few =
-        finish_with bytes images moment since faults limits conf recovered start now new d0 d1 d2 w0 w1 w2 (count + n) most (count + turns) e r.ran l same conf refl t (omega (arith, few)) r.later
+        finish_with limits conf recovered start now new (tells d0) (tells d1) (tells d2) w0 w1 w2 (count + n) most (count + turns) e r.ran l same conf refl t (omega (arith, few)) r.later
 
   -- ---- what somebody else made of it
 
   module _ (conf : Conf) (kept : List Numbered) (old mid : Fronted D) (w0 w1 : WireTells) (head : HeadView) (turns : ℕ) where
     abbrev Served : Taken → Type 0
-    Served t = HasServed bytes images moment since faults conf kept old mid w0 w1 head turns t
+    Served t = HasServed tells conf kept old mid w0 w1 head turns t
 
     -- want of memory beside it ends the taking of events
     spent : (t : Taken) → Served t → Served (taken.Ended status.OutOfMemory)
@@ -262,7 +266,7 @@ module _ {D : Type 0} (bytes : D → Option (List ℕ)) (images : D → List ℕ
 
   module _ (conf : Conf) (kept : List Numbered) (old mid : Fronted D) (w0 w1 : WireTells) (head : HeadView) (turns : ℕ) where
     abbrev Ends_as : Status → Type 0
-    Ends_as s = TakesOn bytes images moment since faults (limits_of old.journal 0) conf old.intake mid.intake old.journal.disk mid.journal.disk w0 w1 turns (taken.Ended s)
+    Ends_as s = TakesOn tells conf old mid w0 w1 turns (taken.Ended s)
 
     -- a fault of the outbox stands before what ended them
     pub takes_worse : (s t : Status) → IsWorse s t → (s ≡ status.WireFault → Rose w0.faults w1.faults) → Ends_as s → Ends_as t
@@ -270,7 +274,7 @@ module _ {D : Type 0} (bytes : D → Option (List ℕ)) (images : D → List ℕ
         finished_worse (limits_of old.journal 0) conf recovered start mid.intake.entries (count + turns) (doing d0 mid.journal.disk) w w1 s t worse (λ is. omega (arith, r.later, wire is)) (takes recovered start d0 w count r)
 
     -- or ends them
-    pub takes_fault : (n : ℕ) → HasServed bytes images moment since faults conf kept old mid w0 w1 head turns (taken.Going n) → Ends_as status.OutboxFault
+    pub takes_fault : (n : ℕ) → HasServed tells conf kept old mid w0 w1 head turns (taken.Going n) → Ends_as status.OutboxFault
     takes_fault n h = λ recovered start d0 w count r.
         at_fault_of (limits_of old.journal 0) conf recovered start mid.intake d0 mid.journal.disk w w1 count n (h.takes.1 recovered start d0 w count r) turns h.takes.0
 
@@ -278,15 +282,15 @@ module _ {D : Type 0} (bytes : D → Option (List ℕ)) (images : D → List ℕ
     fault_ended s = record { idle = s.idle; sent = s.sent; unprinted = tt; wire = λ e. cc }
 
     -- more are taken on one thread, behind those that the syncers had
-    module _ (new : Fronted D) (w2 : WireTells) (head' : HeadView) (n : ℕ) (h : HasServed bytes images moment since faults conf kept old mid w0 w1 head turns (taken.Going n)) (s : Status) where
-      pub takes_then : TakesOn bytes images moment since faults (limits_of mid.journal 0) conf mid.intake new.intake mid.journal.disk new.journal.disk w1 w2 (turns - n) (taken.Ended s)
-          → TakesOn bytes images moment since faults (limits_of old.journal 0) conf old.intake new.intake old.journal.disk new.journal.disk w0 w2 turns (taken.Ended s)
+    module _ (new : Fronted D) (w2 : WireTells) (head' : HeadView) (n : ℕ) (h : HasServed tells conf kept old mid w0 w1 head turns (taken.Going n)) (s : Status) where
+      pub takes_then : TakesOn tells conf mid new w1 w2 (turns - n) (taken.Ended s) → TakesOn tells conf old new w0 w2 turns (taken.Ended s)
       takes_then then = λ recovered start d0 w count r.
           let before = h.takes.1 recovered start d0 w count r in
           let same : limits_of mid.journal 0 ≡ limits_of old.journal 0 = limits_kept old.journal mid.journal h.served.1 in
           let sum : (count + n) + (turns - n) ≡ count + turns = omega (arith, h.takes.0) in
-          let as_taken = subst (λ (l : Limits). TakesOn bytes images moment since faults l conf mid.intake new.intake mid.journal.disk new.journal.disk w1 w2 (turns - n) (taken.Ended s)) same then in
-          subst (λ m. Finished (limits_of old.journal 0) conf recovered start new.intake.entries m (doing d0 new.journal.disk) w w2 (course_of s).ending) sum (as_taken recovered start d0 w (count + n) before)
+          let there = subst (λ (l : Limits). At l conf recovered start mid.intake d0 mid.journal.disk w w1 (count + n)) (sym same) before in
+          subst (λ m. Finished (limits_of old.journal 0) conf recovered start new.intake.entries m (doing d0 new.journal.disk) w w2 (course_of s).ending) sum
+          (subst (λ (l : Limits). Finished l conf recovered start new.intake.entries ((count + n) + (turns - n)) (doing d0 new.journal.disk) w w2 (course_of s).ending) same (then recovered start d0 w (count + n) there))
 
       pub ended_then : IsEndedAt kept new w1 w2 head' s → IsEndedAt kept new w0 w2 head' s
       ended_then e = record { idle = e.idle; sent = e.sent; unprinted = e.unprinted; wire = λ is. omega (arith, h.later, e.wire is) }
@@ -297,7 +301,7 @@ module _ {D : Type 0} (bytes : D → Option (List ℕ)) (images : D → List ℕ
 
   -- where nobody takes events, none is taken
   pub served_none : (conf : Conf) (kept : List Numbered) (front : Fronted D) (w : WireTells) (head : HeadView) (turns : ℕ) → IsServing conf kept front head
-      → HasServed bytes images moment since faults conf kept front front w w head turns (taken.Going 0)
+      → HasServed tells conf kept front front w w head turns (taken.Going 0)
   served_none conf kept front w head turns s = record {
     later = omega arith;
     takes = (omega arith, λ recovered start d0 w0 count r. at_none (limits_of front.journal 0) conf recovered start front.intake d0 front.journal.disk w0 w count r);
@@ -313,7 +317,7 @@ module _ {D : Type 0} (bytes : D → Option (List ℕ)) (images : D → List ℕ
 
   module _ (conf : Conf) (kept : List Numbered) (old now : Fronted D) (w w1 : WireTells) (turns n : ℕ) (ran : Since conf old now w w1 n) (later : w.faults ≤ w1.faults) (ready : IsReady old.journal now.journal) (within : n ≤ turns) where
     -- by want of memory
-    pub served_refused : (head : HeadView) → IsIdle now → kept ++ head.sent ≡ now.intake.entries → HasServed bytes images moment since faults conf kept old now w w1 head turns (taken.Ended status.OutOfMemory)
+    pub served_refused : (head : HeadView) → IsIdle now → kept ++ head.sent ≡ now.intake.entries → HasServed tells conf kept old now w w1 head turns (taken.Ended status.OutOfMemory)
     served_refused head idle sent = record {
       later = later;
       takes = λ recovered start d0 w0 count r. at_refusal_of (limits_of old.journal 0) conf recovered start now.intake d0 now.journal.disk w0 w1 count n (ran recovered start d0 w0 count r) turns within;
@@ -321,7 +325,7 @@ module _ {D : Type 0} (bytes : D → Option (List ℕ)) (images : D → List ℕ
     }
 
     -- by their number
-    pub served_limit : (head : HeadView) → IsIdle now → kept ++ head.sent ≡ now.intake.entries → n ≡ turns → HasServed bytes images moment since faults conf kept old now w w1 head turns (taken.Ended status.TurnLimit)
+    pub served_limit : (head : HeadView) → IsIdle now → kept ++ head.sent ≡ now.intake.entries → n ≡ turns → HasServed tells conf kept old now w w1 head turns (taken.Ended status.TurnLimit)
     served_limit head idle sent all = record {
       later = later;
       takes = λ recovered start d0 w0 count r. at_limit_of (limits_of old.journal 0) conf recovered start now.intake d0 now.journal.disk w0 w1 count n (ran recovered start d0 w0 count r) turns all;
@@ -331,7 +335,7 @@ module _ {D : Type 0} (bytes : D → Option (List ℕ)) (images : D → List ℕ
     -- by the last of them
     pub served_end : (new : Fronted D) (w2 : WireTells) (head : HeadView) (most : ℕ) (e : Status) → Ends (limits_of now.journal 0) conf now.intake new.intake (doing now.journal.disk new.journal.disk) w1 w2 most e → n + most ≤ turns
         → IsIdle new → IsSentAt kept head.sent new.intake.entries e → IsCause e → (e ≡ status.WireFault → Rose w1.faults w2.faults) → w1.faults ≤ w2.faults
-        → HasServed bytes images moment since faults conf kept old new w w2 head turns (taken.Ended e)
+        → HasServed tells conf kept old new w w2 head turns (taken.Ended e)
     served_end new w2 head most e ends few idle sent cause wire more = record {
       later = omega (arith, later, more);
       takes = λ recovered start d0 w0 count r. at_end (limits_of old.journal 0) conf recovered start now.intake d0 now.journal.disk w0 w1 count n (ran recovered start d0 w0 count r) new.intake new.journal.disk w2 most turns e
@@ -342,21 +346,24 @@ module _ {D : Type 0} (bytes : D → Option (List ℕ)) (images : D → List ℕ
   -- ---- a whole run
 
   -- what events made that were taken from the beginning on
-  pub finished_taken : (conf : Conf) (kept : List Numbered) (old new : Fronted D) (w w' : WireTells) (turns : ℕ) (s : Status) → IsOpened bytes images conf kept old → ((c : List ℕ) → since old.journal.disk (moment old.journal.disk) c → images old.journal.disk c)
-      → TakesOn bytes images moment since faults (limits_of old.journal 0) conf old.intake new.intake old.journal.disk new.journal.disk w w' turns (taken.Ended s)
+  pub finished_taken : (conf : Conf) (kept : List Numbered) (old new : Fronted D) (w w' : WireTells) (turns : ℕ) (s : Status) → IsOpened tells conf kept old → IsLawful (tells old.journal.disk)
+      → TakesOn tells conf old new w w' turns (taken.Ended s)
       → Finished (limits_of old.journal 0) conf kept old.intake new.intake.entries turns (doing old.journal.disk new.journal.disk) w w' (course_of s).ending
-  finished_taken conf kept old new w w' turns s o only_now takes =
-      let all = takes old.intake.entries old.intake old.journal.disk w 0 (at_start (limits_of old.journal 0) conf old.intake old.journal.disk w only_now o.durable) in
+  finished_taken conf kept old new w w' turns s o lawful takes =
+      let all = takes old.intake.entries old.intake old.journal.disk w 0 (at_start (limits_of old.journal 0) conf old.intake old.journal.disk w lawful o.durable) in
       let sum : 0 + turns ≡ turns = omega arith in
       subst (λ es. Finished (limits_of old.journal 0) conf es old.intake new.intake.entries turns (doing old.journal.disk new.journal.disk) w w' (course_of s).ending) o.entries_are
       (subst (λ n. Finished (limits_of old.journal 0) conf old.intake.entries old.intake new.intake.entries n (doing old.journal.disk new.journal.disk) w w' (course_of s).ending) sum all)
 
-  module _ (conf : Conf) (kept : List Numbered) (outbox : SinkTells) (front : Fronted D) (turns : ℕ) (w w' : WireTells) (began : Bool) (s : Status) (counts : Counts) (disk : D) (entries : List Numbered) (outbox' : SinkTells) where
+  module _ {O : Type 0} (shows : O → SinkTells) (conf : Conf) (kept : List Numbered) (outbox : SinkTells) (front : Fronted D) (turns : ℕ) (w w' : WireTells) (course : Course D O) where
     abbrev Gone : Type 0
-    Gone = HasGone bytes images moment since faults conf kept outbox front turns w w' began s counts disk entries outbox'
+    Gone = HasGone tells shows conf kept outbox front turns w w' course
+
+    abbrev s : Status
+    s = course.status
 
     -- one that got no book
-    pub gone_held : began ≡ false → disk ≡ front.journal.disk → entries ≡ front.intake.entries → (error : BookError) → s ≡ book_status error
+    pub gone_held : course.began ≡ false → course.disk ≡ front.journal.disk → course.entries ≡ front.intake.entries → (error : BookError) → s ≡ book_status error
         → ((h l : ℕ) → error ≡ refusal.OutboxAhead h l → (h ≡ outbox.held) × (l ≡ length (log_lines conf (log_of kept))) × (l < h)) → Gone
     gone_held isnt disk_is entries_are error is ahead = record {
       wire = λ e. absurd (not_wire error (sym is ∙ e));
@@ -369,7 +376,7 @@ module _ {D : Type 0} (bytes : D → Option (List ℕ)) (images : D → List ℕ
       counts_are = λ e. absurd (not_well error (sym is ∙ e));
     }
       where
-        clash : began ≡ true → ⊥
+        clash : course.began ≡ true → ⊥
         clash so = true≢false (sym so ∙ isnt)
 
         not_wire : (e : BookError) → book_status e ≡ status.WireFault → ⊥
@@ -393,21 +400,21 @@ module _ {D : Type 0} (bytes : D → Option (List ℕ)) (images : D → List ℕ
         why refusal.OutOfMemory f = tt
 
     -- one that took events
-    pub gone_course : (new : Fronted D) (t : Status) → began ≡ true → disk ≡ new.journal.disk → entries ≡ new.intake.entries → IsWorse t s → IsUnprinted t → (t ≡ status.WireFault → Rose w.faults w'.faults)
+    pub gone_course : (new : Fronted D) (t : Status) → course.began ≡ true → course.disk ≡ new.journal.disk → course.entries ≡ new.intake.entries → IsWorse t s → IsUnprinted t → (t ≡ status.WireFault → Rose w.faults w'.faults)
         → outbox.held ≤ length (log_lines conf (log_of kept)) → Finished (limits_of front.journal 0) conf kept front.intake new.intake.entries turns (doing front.journal.disk new.journal.disk) w w' (course_of t).ending
-        → (s ≡ status.OutboxFault → Rose outbox.faults outbox'.faults) → LinesAre (course_of s).out outbox outbox' (drop outbox.held (log_lines conf (log_of new.intake.entries)))
-        → (s ≡ status.Ok → counts ≡ counts_with (length new.intake.entries) (tally_of (replay conf (log_of new.intake.entries)))) → Gone
+        → (s ≡ status.OutboxFault → Rose outbox.faults (shows course.outbox).faults) → LinesAre (course_of s).out outbox (shows course.outbox) (drop outbox.held (log_lines conf (log_of new.intake.entries)))
+        → (s ≡ status.Ok → course.counts ≡ counts_with (length new.intake.entries) (tally_of (replay (first_stage conf) (log_of new.intake.entries)))) → Gone
     gone_course new t is_so disk_is entries_are worse own wire enough f fault lines counts_are = record {
       wire = wire_worse worse;
       fault = fault;
       unprinted = own_worse worse;
       held_back = λ isnt. absurd (true≢false (sym is_so ∙ isnt));
       enough = λ y. enough;
-      finished = λ y. subst (λ d. Finished (limits_of front.journal 0) conf kept front.intake entries turns (doing front.journal.disk d) w w' (course_of s).ending) (sym disk_is)
+      finished = λ y. subst (λ d. Finished (limits_of front.journal 0) conf kept front.intake course.entries turns (doing front.journal.disk d) w w' (course_of s).ending) (sym disk_is)
           (subst (λ es. Finished (limits_of front.journal 0) conf kept front.intake es turns (doing front.journal.disk new.journal.disk) w w' (course_of s).ending) (sym entries_are)
           (finished_worse (limits_of front.journal 0) conf kept front.intake new.intake.entries turns (doing front.journal.disk new.journal.disk) w w' t s worse wire f));
-      lines = λ y. subst (λ es. LinesAre (course_of s).out outbox outbox' (drop outbox.held (log_lines conf (log_of es)))) (sym entries_are) lines;
-      counts_are = λ is. subst (λ es. counts ≡ counts_with (length es) (tally_of (replay conf (log_of es)))) (sym entries_are) (counts_are is);
+      lines = λ y. subst (λ es. LinesAre (course_of s).out outbox (shows course.outbox) (drop outbox.held (log_lines conf (log_of es)))) (sym entries_are) lines;
+      counts_are = λ is. subst (λ es. course.counts ≡ counts_with (length es) (tally_of (replay (first_stage conf) (log_of es)))) (sym entries_are) (counts_are is);
     }
       where
         wire_worse : IsWorse t s → s ≡ status.WireFault → Rose w.faults w'.faults

@@ -9,7 +9,8 @@ use Rattle.outside.specs.declared.event.WireEvent.{WireEvent}
 use Rattle.outside.specs.declared.event.WireEvent.TheVariants as event
 use Rattle.intake_front.specs.declared.answer.Stop.{Stop}
 use Rattle.intake_front.specs.declared.answer.Stop.TheVariants as stop
-use Rattle.intake_front.specs.Intake.{Limits, Intake, numbered_behind, refused_at, refused, kept_with, ticked, stop_of, values_offered, behind_tick, tick_offered, offered, handled}
+use Rattle.intake_front.proofs.Sound.{sound_handled}
+use Rattle.intake_front.specs.Intake.{Limits, Intake, IsSound, numbered_behind, refused_at, refused, kept_with, ticked, stop_of, values_offered, behind_tick, tick_offered, offered, handled}
 use Rattle.intake_front.specs.Served.{Served, grown, served_on, served_from, served}
 use Rattle.server_run.specs.Stops.{refusing}
 
@@ -178,6 +179,20 @@ from_grow limits conf s (e ∷ es) =
 -- and so do those of a list of events
 pub served_grow : (limits : Limits) (conf : Conf) (i : Intake) (es : List WireEvent) → (more : List Numbered) × ((served limits conf i es).intake.entries ≡ i.entries ++ more)
 served_grow limits conf i es = from_grow limits conf (record { intake = i; replies = []; shut = []; stop = None }) es
+
+-- ---- entries stay whole and fit
+
+on_sound : (o : Option Stop) (limits : Limits) (conf : Conf) (s : Served) (e : WireEvent) → IsSound conf s.intake → IsSound conf (served_on o limits conf s e).intake
+on_sound (Some x) limits conf s e sound = sound
+on_sound None limits conf s e sound = sound_handled limits conf s.intake e sound
+
+from_sound : (limits : Limits) (conf : Conf) (s : Served) (es : List WireEvent) → IsSound conf s.intake → IsSound conf (served_from limits conf s es).intake
+from_sound limits conf s [] sound = sound
+from_sound limits conf s (e ∷ es) sound = from_sound limits conf (served_on s.stop limits conf s e) es (on_sound s.stop limits conf s e sound)
+
+-- what events make of a sound intake is one
+pub served_sound : (limits : Limits) (conf : Conf) (i : Intake) (es : List WireEvent) → IsSound conf i → IsSound conf (served limits conf i es).intake
+served_sound limits conf i es sound = from_sound limits conf (record { intake = i; replies = []; shut = []; stop = None }) es sound
 
 -- ---- a disk that refuses no group stops nothing
 

@@ -1,5 +1,5 @@
 -- Laws of events that follow others: what both make, from what each makes.
-use Rattle.std.proofs.Common.{◌≡◌, ◌⊎◌, ℕ, ◌+◌, ◌<◌, List, [], ◌∷◌, ◌++◌, length, refl, sym, ap, ap₂, ◌∙◌, subst, append_assoc, append-nil, length-append, arith, inl, inr}
+use Rattle.std.proofs.Common.{◌≡◌, ◌⊎◌, ⊎_elim, ◌≤◌, ℕ, ◌+◌, ◌<◌, List, [], ◌∷◌, ◌++◌, length, refl, sym, ap, ap₂, ◌∙◌, subst, append_assoc, append-nil, length-append, arith, inl, inr}
 use Rattle.std.specs.Prelude.{Option, Some, None}
 use Rattle.std.specs.Option.{option_to_list}
 use Rattle.std.proofs.lemmas.List.{map-append}
@@ -16,7 +16,7 @@ use Rattle.intake_front.specs.declared.answer.Stop.TheVariants as stop
 use Rattle.server_run.specs.Events.{Gave, HasGiven}
 use Rattle.server_run.specs.Sending.{counted_from}
 use Rattle.server_run.specs.Statuses.{Ending, anywhere, LeftIs}
-use Rattle.server_run.specs.Stops.{refusing, IsReached}
+use Rattle.server_run.specs.Stops.{refusing, RunsOn, IsReached}
 use Rattle.server_run.proofs.Sending.{counted_closing}
 use Rattle.server_run.proofs.Handling.{served_from-append, served_same, front_groups}
 
@@ -46,6 +46,37 @@ given_both w0 w1 w2 a b lost ending p q = record {
   closed_stays = q.closed_stays ∙ p.closed_stays;
   unsent_stays = q.unsent_stays ∙ p.unsent_stays;
 }
+
+-- ---- the last of some events
+
+pub no_last : {A : Type 0} (front : List A) (last : A) → [] ≡ front ++ last ∷ [] → ⊥
+no_last front last is = omega (arith, ap length is, length-append front (last ∷ []))
+
+-- before the last stand the same
+pub same_front_of : {A : Type 0} (a b : List A) (x y : A) → a ++ x ∷ [] ≡ b ++ y ∷ [] → a ≡ b
+same_front_of [] [] x y is = refl
+same_front_of [] (z ∷ b) x y is = absurd (omega (arith, ap length is, length-append b (y ∷ [])))
+same_front_of (z ∷ a) [] x y is = absurd (omega (arith, ap length is, length-append a (x ∷ [])))
+same_front_of (z ∷ a) (w ∷ b) x y is =
+    let heads : z ≡ w = cc in
+    let tails : a ++ x ∷ [] ≡ b ++ y ∷ [] = cc in
+    ap₂ (λ h t. h ∷ t) heads (same_front_of a b x y tails)
+
+empty_of : {A : Type 0} (l : List A) → length l ≤ 0 → l ≡ []
+empty_of [] few = refl
+empty_of (x ∷ l) few = absurd (omega (arith, few))
+
+-- the last of two lists behind one another is that of the second, or that of the first where the second is empty
+pub last_of_both : {A : Type 0} (xs ys front : List A) (last : A) → xs ++ ys ≡ front ++ last ∷ [] → (xs ≡ front ++ last ∷ []) ⊎ ((more : List A) × (ys ≡ more ++ last ∷ []) × (front ≡ xs ++ more))
+last_of_both [] ys front last is = inr (front, is, refl)
+last_of_both (x ∷ xs) ys [] last is =
+    let none : xs ≡ [] = empty_of xs (omega (arith, ap length is, length-append xs ys)) in
+    let same : x ≡ last = cc in
+    inl (ap₂ (λ h t. h ∷ t) same none)
+last_of_both (x ∷ xs) ys (z ∷ front) last is =
+    let heads : x ≡ z = cc in
+    let tails : xs ++ ys ≡ front ++ last ∷ [] = cc in
+    ⊎_elim (λ first. inl (ap₂ (λ h t. h ∷ t) heads first)) (λ more. inr (more.0, more.1, ap₂ (λ h t. h ∷ t) (sym heads) more.2)) (last_of_both xs ys front last tails)
 
 -- ---- what the events make
 
@@ -141,3 +172,11 @@ same_front limits conf begun now taken (Some stop.DiskFault) is es more all =
     omega (arith, front_groups (refusing limits 0) conf begun es more, ap (λ (l : List WireEvent). (served (refusing limits 0) conf begun l).intake.groups) all, ap (λ (i : Intake). i.groups) is) in
     served_same limits conf begun es (now.groups + 1) bound
 same_front limits conf begun now taken (Some (stop.Full entries bytes)) is es more all = refl
+
+-- events that stop only at their last, behind others that do: the same holds of all
+pub runs_on_both : (limits : Limits) (conf : Conf) (begun now : Intake) (a b : List WireEvent) → (served (refusing limits 0) conf begun a).stop ≡ None → now ≡ (served (refusing limits 0) conf begun a).intake
+    → RunsOn limits conf begun a → RunsOn limits conf now b → RunsOn limits conf begun (a ++ b)
+runs_on_both limits conf begun now a b running is first then = λ front last all.
+    ⊎_elim (λ there. first front last there)
+    (λ more. ap (λ (es : List WireEvent). (served (refusing limits 0) conf begun es).stop) more.2 ∙ ap (λ (s : Served). s.stop) (served_then (refusing limits 0) conf begun now a more.0 running is) ∙ then more.0 last more.1)
+    (last_of_both a b front last all)

@@ -5,7 +5,7 @@ use Rattle.std.proofs.lemmas.List.{length-drop}
 use Rattle.std.proofs.lemmas.Bool.Decides.{nat_tests}
 use Rattle.zbx_types.specs.declared.conf.Conf.{Conf}
 use Rattle.outside.specs.Causes.{Rose}
-use Rattle.outside.specs.Disk.{Only}
+use Rattle.outside.specs.Disk.{DiskTells, Only}
 use Rattle.intake_journal.specs.Bytes.{entries_bytes}
 use Rattle.intake_journal.specs.Kept.{magic, first_gate, group_behind, with_group, followed, kept_behind, kept_from, kept, groups_of}
 use Rattle.intake_journal.specs.Kept.{Kept}
@@ -113,22 +113,22 @@ left_groups (Damaged at) gs is = absurd (cc)
 left_groups (Groups hs) gs is = ap groups_of is
 
 -- what was read of a file that was opened is what it kept before
-found_opened : (o o' : Option (List ℕ)) (images : List ℕ → Type 0) (groups : List Group) → is_some o' ≡ is_some o → IfSome o (λ b. IfSome o' (λ c. IsOpened images b c))
+found_opened : (o o' : Option (List ℕ)) (disk : DiskTells) (groups : List Group) → is_some o' ≡ is_some o → IfSome o (λ b. IfSome o' (λ c. IsOpened disk b c))
     → IfSome o' (λ c. kept_from first_gate c ≡ Groups groups) → IfSome o (λ b. groups_of (kept b) ≡ Some groups)
-found_opened None o' images groups told opened found = tt
-found_opened (Some b) None images groups told opened found = absurd (true≢false (sym told))
-found_opened (Some b) (Some c) images groups told opened found = left_groups (kept b) groups (sym opened.left ∙ found)
+found_opened None o' disk groups told opened found = tt
+found_opened (Some b) None disk groups told opened found = absurd (true≢false (sym told))
+found_opened (Some b) (Some c) disk groups told opened found = left_groups (kept b) groups (sym opened.left ∙ found)
 
 -- nothing is read yet
-pub begins_reading : {D : Type 0} (bytes : D → Option (List ℕ)) (conf : Conf) (journal : Journaled D) (numbering : Numbering) → journal.at ≡ first_gate → journal.entries ≡ 0
-    → ((c : Conf) → IsNumbered c [] numbering) → IsReadSoFar bytes conf journal journal numbering
-begins_reading bytes conf journal numbering first none numbered = record {
+pub begins_reading : {D : Type 0} (tells : D → DiskTells) (conf : Conf) (journal : Journaled D) (numbering : Numbering) → journal.at ≡ first_gate → journal.entries ≡ 0
+    → ((c : Conf) → IsNumbered c [] numbering) → IsReadSoFar tells conf journal journal numbering
+begins_reading tells conf journal numbering first none numbered = record {
   groups = [];
   numbered = numbered conf;
   count = none;
   size = omega (arith, first);
   limits = (refl, refl);
-  found = here (bytes journal.disk);
+  found = here (tells journal.disk).bytes;
 }
   where
     here : (o : Option (List ℕ)) → IfSome o (λ b. kept_from first_gate b ≡ kept_from journal.at b)
@@ -136,54 +136,54 @@ begins_reading bytes conf journal numbering first none numbered = record {
     here (Some b) = ap (λ at. kept_from at b) (sym first)
 
 -- one group more
-pub reads_more : {D : Type 0} (bytes : D → Option (List ℕ)) (conf : Conf) (first old new : Journaled D) (read more : Numbering) (group : Group) → bytes old.disk ≡ bytes first.disk
-    → IsReadSoFar bytes conf first old read → ReadsNext (bytes old.disk) old new (Ok (Some group)) → new.at ≡ old.at + length (entries_bytes group.entries) + 9
-    → ((groups : List Group) → IsNumbered conf groups read → IsNumbered conf (groups ++ group ∷ []) more) → IsReadSoFar bytes conf first new more
-reads_more bytes conf first old new read more group same r next place adds = record {
+pub reads_more : {D : Type 0} (tells : D → DiskTells) (conf : Conf) (first old new : Journaled D) (read more : Numbering) (group : Group) → (tells old.disk).bytes ≡ (tells first.disk).bytes
+    → IsReadSoFar tells conf first old read → ReadsNext (tells old.disk).bytes old new (Ok (Some group)) → new.at ≡ old.at + length (entries_bytes group.entries) + 9
+    → ((groups : List Group) → IsNumbered conf groups read → IsNumbered conf (groups ++ group ∷ []) more) → IsReadSoFar tells conf first new more
+reads_more tells conf first old new read more group same r next place adds = record {
   groups = r.groups ++ group ∷ [];
   numbered = adds r.groups r.numbered;
   count = ap (λ (j : Journaled _). j.entries) next.0 ∙ ap (λ n. n + length group.entries) r.count ∙ sym (count_entries-push r.groups group);
   size = omega (arith, place, r.size, bytes-push r.groups group);
   limits = (ap (λ (j : Journaled _). j.max_entries) next.0 ∙ r.limits.0, ap (λ (j : Journaled _). j.max_bytes) next.0 ∙ r.limits.1);
-  found = found_more (bytes first.disk) (bytes old.disk) r.groups (r.groups ++ group ∷ []) group old.at new.at same refl r.found next.2;
+  found = found_more (tells first.disk).bytes (tells old.disk).bytes r.groups (r.groups ++ group ∷ []) group old.at new.at same refl r.found next.2;
 }
 
 -- and none more
-pub reads_all : {D : Type 0} (bytes : D → Option (List ℕ)) (conf : Conf) (first old new : Journaled D) (read : Numbering) → bytes old.disk ≡ bytes first.disk
-    → IsReadSoFar bytes conf first old read → ReadsNext (bytes old.disk) old new (Ok None) → IsReadThrough bytes conf first new read
-reads_all bytes conf first old new read same r next = record {
+pub reads_all : {D : Type 0} (tells : D → DiskTells) (conf : Conf) (first old new : Journaled D) (read : Numbering) → (tells old.disk).bytes ≡ (tells first.disk).bytes
+    → IsReadSoFar tells conf first old read → ReadsNext (tells old.disk).bytes old new (Ok None) → IsReadThrough tells conf first new read
+reads_all tells conf first old new read same r next = record {
   groups = r.groups;
   numbered = r.numbered;
   ready = ap (λ (j : Journaled _). j.state) next.0;
   count = ap (λ (j : Journaled _). j.entries) next.0 ∙ r.count;
   size = ap (λ (j : Journaled _). j.at + 1) next.0 ∙ r.size;
   limits = (ap (λ (j : Journaled _). j.max_entries) next.0 ∙ r.limits.0, ap (λ (j : Journaled _). j.max_bytes) next.0 ∙ r.limits.1);
-  found = found_end (bytes first.disk) (bytes old.disk) r.groups old.at same r.found next.1;
+  found = found_end (tells first.disk).bytes (tells old.disk).bytes r.groups old.at same r.found next.1;
 }
 
-module _ {D : Type 0} (bytes : D → Option (List ℕ)) (images : D → List ℕ → Type 0) (moment : D → ℕ) (since : D → ℕ → List ℕ → Type 0) where
+module _ {D : Type 0} (tells : D → DiskTells) where
   -- a journal that was opened and read through
-  pub is_recovered : (conf : Conf) (disk : D) (old new : Journaled D) (numbering : Numbering) → is_some (bytes old.disk) ≡ is_some (bytes disk)
-      → IfSome (bytes disk) (λ b. IfSome (bytes old.disk) (λ c. IsOpened (images old.disk) b c)) → IsAsBefore bytes images moment since old.disk new.disk
-      → IsReadThrough bytes conf old new numbering → IsRecovered bytes images conf disk new numbering
+  pub is_recovered : (conf : Conf) (disk : D) (old new : Journaled D) (numbering : Numbering) → is_some (tells old.disk).bytes ≡ is_some (tells disk).bytes
+      → IfSome (tells disk).bytes (λ b. IfSome (tells old.disk).bytes (λ c. IsOpened (tells old.disk) b c)) → IsAsBefore (tells old.disk) (tells new.disk)
+      → IsReadThrough tells conf old new numbering → IsRecovered tells conf disk new numbering
   is_recovered conf disk old new numbering told opened before read = record {
     groups = read.groups;
     numbered = read.numbered;
-    found = found_opened (bytes disk) (bytes old.disk) (images old.disk) read.groups told opened read.found;
+    found = found_opened (tells disk).bytes (tells old.disk).bytes (tells old.disk) read.groups told opened read.found;
     has = record {
       ready = read.ready;
       count = read.count;
       size = read.size;
-      keeps = if_some (bytes new.disk) (λ c. groups_of (kept c) ≡ Some read.groups) (λ c is.
-          let is_old : bytes old.disk ≡ Some c = sym before.same ∙ is in
-          let opening = (opened_of (bytes disk) c is_old told opened).1 in
-          keeps_read c read.groups opening.ours opening.gate (told_of (bytes old.disk) c (λ b. kept_from first_gate b ≡ Groups read.groups) is_old read.found));
-      durable = if_some (bytes new.disk) (λ c. Only c (images new.disk)) (λ c is d now.
-          (opened_of (bytes disk) c (sym before.same ∙ is) told opened).1.durable d (before.no_others d now));
+      keeps = if_some (tells new.disk).bytes (λ c. groups_of (kept c) ≡ Some read.groups) (λ c is.
+          let is_old : (tells old.disk).bytes ≡ Some c = sym before.same ∙ is in
+          let opening = (opened_of (tells disk).bytes c is_old told opened).1 in
+          keeps_read c read.groups opening.ours opening.gate (told_of (tells old.disk).bytes c (λ b. kept_from first_gate b ≡ Groups read.groups) is_old read.found));
+      durable = if_some (tells new.disk).bytes (λ c. Only c (tells new.disk)) (λ c is d now.
+          (opened_of (tells disk).bytes c (sym before.same ∙ is) told opened).1.durable d (before.no_others d now));
     };
   }
     where
-      opened_of : (o : Option (List ℕ)) (c : List ℕ) → bytes old.disk ≡ Some c → is_some (bytes old.disk) ≡ is_some o
-          → IfSome o (λ b. IfSome (bytes old.disk) (λ c. IsOpened (images old.disk) b c)) → (b : List ℕ) × IsOpened (images old.disk) b c
+      opened_of : (o : Option (List ℕ)) (c : List ℕ) → (tells old.disk).bytes ≡ Some c → is_some (tells old.disk).bytes ≡ is_some o
+          → IfSome o (λ b. IfSome (tells old.disk).bytes (λ c. IsOpened (tells old.disk) b c)) → (b : List ℕ) × IsOpened (tells old.disk) b c
       opened_of None c is same opened = absurd (true≢false (ap is_some (sym is) ∙ same))
-      opened_of (Some b) c is same opened = (b, told_of (bytes old.disk) c (IsOpened (images old.disk) b) is opened)
+      opened_of (Some b) c is same opened = (b, told_of (tells old.disk).bytes c (IsOpened (tells old.disk) b) is opened)

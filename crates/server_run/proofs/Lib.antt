@@ -17,3 +17,4 @@ pub mod Runs
 pub mod Going
 pub mod Closings
 pub mod Sharing
+pub mod Whole

@@ -1,5 +1,5 @@
 -- Laws of how runs begin and end.
-use Rattle.std.proofs.Common.{◌≡◌, ◌⊎◌, ⊎_elim, true, ℕ, List, [], ◌∷◌, ◌++◌, ◌≤◌, length, drop, refl, sym, ap, ap₂, ◌∙◌, subst, arith, inl, inr}
+use Rattle.std.proofs.Common.{◌≡◌, ◌⊎◌, ⊎_elim, ℕ, List, [], ◌∷◌, ◌++◌, ◌≤◌, length, refl, sym, ap, ap₂, ◌∙◌, subst, arith, inl, inr}
 use Rattle.std.specs.Prelude.{Option, Some, None, Result, Ok, Err, IfSome, IsSome, is_some}
 use Rattle.std.specs.Option.{option_to_list}
 use Rattle.std.specs.List.{flat_map}
@@ -12,17 +12,18 @@ use Rattle.zbx_types.specs.declared.entries.Entry.{Entry}
 use Rattle.zbx_types.specs.declared.entries.Entry.TheVariants.{Config, Value, Tick}
 use Rattle.zbx_types.specs.declared.entries.Numbered.{Numbered}
 use Rattle.outside.specs.Causes.{Rose}
-use Rattle.outside.specs.Disk.{LeavesOnly}
+use Rattle.outside.specs.Disk.{DiskTells, IsLawful, LeavesOnly}
 use Rattle.outside.specs.Tells.{SinkTells, WireTells}
 use Rattle.outside.specs.declared.event.WireEvent.{WireEvent}
 use Rattle.config_templates.specs.Flat.{flat_of}
 use Rattle.config_templates.specs.Places.{Flaw, refuse}
 use Rattle.config_templates.specs.Places.Flaw.{refused}
 use Rattle.zbx_types.specs.declared.causes.Cause.{Cause}
-use Rattle.entry_step.specs.Log.{log_of}
+use Rattle.entry_step.specs.Log.{log_of, IsFull, Fits}
 use Rattle.intake_journal.specs.Settled.{KeepsAsOneOf}
 use Rattle.intake_journal.specs.declared.format.Group.{Group}
-use Rattle.intake_front.specs.Intake.{Limits, Intake, numbered_from, start}
+use Rattle.intake_front.specs.Intake.{Limits, Intake, IsSound, numbered_from, start}
+use Rattle.intake_front.specs.Served.{served}
 use Rattle.intake_front.specs.Fronted.{Fronted, numbered_of, limits_of}
 use Rattle.intake_front.specs.declared.answer.Stop.{Stop}
 use Rattle.server_words.specs.declared.words.Plan.{Plan}
@@ -37,14 +38,16 @@ use Rattle.pattern_set.specs.Patterns.{IsNoPattern}
 use Rattle.server_run.specs.Patterns.{HasFlawAt, HoldsBrace}
 use Rattle.book.specs.Outgoing.{log_lines}
 use Rattle.server_run.specs.Replayed.{conf_in, conf_of_run}
-use Rattle.server_run.specs.Opening.{config_text, first_text, IsAccepted, Unopened, FoundEntries, TurnedAway, HasBegun, opening_lines, opening_entries}
-use Rattle.server_run.specs.Statuses.{Ending, never, at_closed, at_limit, at_wire_fault, at_disk_fault, at_full, anywhere, at_refusal, course_of, cut_short, IsRefusal, IsBarring, IsEnding, IsCourse, IsUnprinted, EndsPrinted, EndsAs, LeftIs}
+use Rattle.server_run.specs.Opening.{config_text, first_text, IsAccepted, FoundEntries, opening_lines, opening_entries}
+use Rattle.server_run.specs.Reasons.{Reason, no_reason, in_words, by_memory, by_source, in_text, by_disk, in_journal, in_outbox, reason_of, ends_opening, IsRefusal, names_object, IsBarring, IsUntaken, unconfigured_for, Unconfigured, bars_for, unopened_for, Unopened, has_for, enters_for}
+use Rattle.server_run.specs.Resumed.{TurnedAway, HasBegun}
+use Rattle.server_run.specs.Statuses.{Ending, never, at_closed, at_limit, at_wire_fault, at_disk_fault, at_full, anywhere, at_refusal, course_of, cut_short, IsEnding, IsCourse, IsUnprinted, EndsPrinted, EndsAs, LeftIs}
 use Rattle.server_run.specs.Stops.{refusing, KeepsSome, IsEither, IsReached, Journals}
 use Rattle.server_run.specs.Events.{Doing}
 use Rattle.server_run.specs.Going.{IsOpened, IsHeldBack, IsAheadOf}
-use Rattle.server_run.specs.Runs.{IsUntaken, Configured, IsConfigured, Unconfigured, Refuses, IsBarred, FoundBy, Unbegun, Opened, Finished, Followed, Prints, limits_by, opening_intake}
+use Rattle.server_run.specs.Runs.{IsConfigured, Refuses, IsBarred, FoundBy, BeginsBy, HasBy, EntersBy, Unbegun, Opened, Finished, Followed, Prints, limits_by, opening_intake}
 use Rattle.book.proofs.Growing.{all_front, none_front}
-use Rattle.server_run.proofs.Handling.{served_grow}
+use Rattle.server_run.proofs.Handling.{served_grow, served_sound}
 use Rattle.server_run.proofs.Logs.{conf_front}
 use Rattle.server_run.proofs.Stopping.{journals_on, leaves_more}
 use Rattle.server_run.proofs.Texts.{text_told, text_kept, flaw_told, at_end_of}
@@ -85,77 +88,93 @@ is_configured words plan source source' bytes conf is read end found =
       at_end = end (at_end_of bytes conf found);
     }
 
--- a run that wasn't configured didn't begin
-pub not_configured : (words : List (List ℕ)) (source : Option (List ℕ)) (faults faults' : ℕ) (file : Option (List ℕ)) (disk_faults disk_faults' held : ℕ) (s : Status)
-    → Unconfigured words source faults faults' s → Refuses words source faults faults' file disk_faults disk_faults' held s
-not_configured words source faults faults' file disk_faults disk_faults' held status.Usage why = why
-not_configured words source faults faults' file disk_faults disk_faults' held status.SourceFault why = why
-not_configured words source faults faults' file disk_faults disk_faults' held status.OutOfMemory why = why
-not_configured words source faults faults' file disk_faults disk_faults' held (status.ConfigRefused path cause) why = why
-not_configured words source faults faults' file disk_faults disk_faults' held (status.PatternRefused path) why = why
-not_configured words source faults faults' file disk_faults disk_faults' held (status.PatternTooLarge path) why = why
-not_configured words source faults faults' file disk_faults disk_faults' held _ none = absurd none
+-- a disk that was left alone
+pub left_alone : (A : List Numbered → Type 0) (disk : DiskTells) → IsLawful disk
+    → IfSome disk.bytes (λ _. LeavesOnly disk disk (λ c. KeepsAsOneOf disk c ⊎ KeepsSome A c))
+left_alone A disk lawful = here disk.bytes
+  where
+    here : (o : Option (List ℕ)) → IfSome o (λ _. LeavesOnly disk disk (λ c. KeepsAsOneOf disk c ⊎ KeepsSome A c))
+    here None = tt
+    here (Some b) = record { later = omega arith; each = λ c left. inl (c, lawful.only_now c left, refl); before = λ t c le left. inl left }
 
--- nor did one that was turned away
-turned : (words : List (List ℕ)) (source : Option (List ℕ)) (faults faults' : ℕ) (file : Option (List ℕ)) (disk_faults disk_faults' held : ℕ) (plan : Plan) (conf : Conf) (s : Status)
-    → Configured words source plan conf → Unopened conf plan.max_entries file disk_faults disk_faults' held s → Refuses words source faults faults' file disk_faults disk_faults' held s
-turned words source faults faults' file disk_faults disk_faults' held plan conf status.OutOfMemory c why = tt
-turned words source faults faults' file disk_faults disk_faults' held plan conf status.DiskFault c why = (plan, conf, c, why)
-turned words source faults faults' file disk_faults disk_faults' held plan conf status.NotOurs c why = (plan, conf, c, why)
-turned words source faults faults' file disk_faults disk_faults' held plan conf (status.Damaged at) c why = (plan, conf, c, why)
-turned words source faults faults' file disk_faults disk_faults' held plan conf (status.ConfigDiffers at) c why = (plan, conf, c, why)
-turned words source faults faults' file disk_faults disk_faults' held plan conf (status.OutboxAhead told lines) c why = (plan, conf, c, why)
-turned words source faults faults' file disk_faults disk_faults' held plan conf (status.Full entries bytes) c why = (plan, conf, c, why)
-turned words source faults faults' file disk_faults disk_faults' held plan conf _ c none = absurd none
+-- a run that wasn't configured has no entries
+none_had : (r : Reason) (words : List (List ℕ)) (source : Option (List ℕ)) (faults faults' : ℕ) (file : Option (List ℕ)) (Begins Found : List Numbered → Type 0) → unconfigured_for r words source faults faults' → has_for r file Begins Found []
+none_had no_reason words source faults faults' file Begins Found none = absurd none
+none_had in_words words source faults faults' file Begins Found why = refl
+none_had by_memory words source faults faults' file Begins Found why = inl refl
+none_had by_source words source faults faults' file Begins Found why = refl
+none_had (in_text Is) words source faults faults' file Begins Found why = refl
+none_had by_disk words source faults faults' file Begins Found none = absurd none
+none_had (in_journal Is) words source faults faults' file Begins Found none = absurd none
+none_had (in_outbox Is) words source faults faults' file Begins Found none = absurd none
 
-module _ {D : Type 0} (bytes : D → Option (List ℕ)) (images : D → List ℕ → Type 0) (moment : D → ℕ) (since : D → ℕ → List ℕ → Type 0) (faults : D → ℕ) where
-  -- a disk that was left alone
-  pub left_alone : (A : List Numbered → Type 0) (disk : D) → ((c : List ℕ) → since disk (moment disk) c → images disk c)
-      → IfSome (bytes disk) (λ _. LeavesOnly moment since disk disk (λ c. KeepsAsOneOf (images disk) c ⊎ KeepsSome A c))
-  left_alone A disk only_now = here (bytes disk)
-    where
-      here : (o : Option (List ℕ)) → IfSome o (λ _. LeavesOnly moment since disk disk (λ c. KeepsAsOneOf (images disk) c ⊎ KeepsSome A c))
-      here None = tt
-      here (Some b) = record { later = omega arith; each = λ c left. inl (c, only_now c left, refl); before = λ t c le left. inl left }
+pub unbegun_alone : (words : List (List ℕ)) (source : Option (List ℕ)) (source_faults source_faults' held : ℕ) (disk : DiskTells) (s : Status) → IsLawful disk
+    → Unconfigured words source source_faults source_faults' s → Unbegun words source source_faults source_faults' held disk disk [] s
+unbegun_alone words source source_faults source_faults' held disk s lawful why = record {
+  why = inl why;
+  told = refl;
+  later = omega arith;
+  found = inl refl;
+  has = none_had (reason_of s) words source source_faults source_faults' disk.bytes (BeginsBy words source disk.bytes) (FoundBy words source disk.bytes) why;
+  left = left_alone (EntersBy words source disk.bytes s) disk lawful;
+}
 
-  pub unbegun_alone : (words : List (List ℕ)) (source : Option (List ℕ)) (source_faults source_faults' held : ℕ) (disk : D) (s : Status) → ((c : List ℕ) → since disk (moment disk) c → images disk c)
-      → Unconfigured words source source_faults source_faults' s → Unbegun bytes images moment since faults words source source_faults source_faults' held disk disk [] s
-  unbegun_alone words source source_faults source_faults' held disk s only_now why = record {
-    why = not_configured words source source_faults source_faults' (bytes disk) (faults disk) (faults disk) held s why;
-    told = refl;
-    later = omega arith;
-    has = inl refl;
-    left = left_alone (FoundBy words source (bytes disk)) disk only_now;
-  }
+-- what a run has of its journal's entries, it has of entries of any kind that they are of
+has_more : (r : Reason) (file : Option (List ℕ)) (B C F G : List Numbered → Type 0) (es : List Numbered) → (B es → C es) → (F es → G es) → has_for r file B F es → has_for r file C G es
+has_more no_reason file B C F G es b f has = has
+has_more in_words file B C F G es b f has = has
+has_more by_memory file B C F G es b f has = ⊎_elim (λ none. inl none) (λ some. inr (f some)) has
+has_more by_source file B C F G es b f has = has
+has_more (in_text Is) file B C F G es b f has = has
+has_more by_disk file B C F G es b f has = ⊎_elim (λ none. inl none) (λ some. inr (f some)) has
+has_more (in_journal Is) file B C F G es b f has = has
+has_more (in_outbox Is) file B C F G es b f has = b has
 
-  pub unbegun_turned : (words : List (List ℕ)) (source source' : Option (List ℕ)) (source_faults source_faults' held turns most : ℕ) (conf : Conf) (old new : D) (entries : List Numbered) (s : Status)
-      → IsConfigured words source source' turns most conf → TurnedAway bytes images moment since faults conf most held old new entries s
-      → Unbegun bytes images moment since faults words source source_faults source_faults' held old new entries s
-  unbegun_turned words source source' source_faults source_faults' held turns most conf old new entries s c t = record {
-    why = turned words source source_faults source_faults' (bytes old) (faults old) (faults new) held c.plan conf s c.configured (subst (λ n. Unopened conf n (bytes old) (faults old) (faults new) held s) c.most_is t.why);
-    told = t.told;
-    later = t.later;
-    has = ⊎_elim (λ none. inl none) (λ found. inr (by found)) t.has;
-    left = more (bytes old) t.left;
-  }
-    where
-      by : {es : List Numbered} → FoundEntries (bytes old) conf es → FoundBy words source (bytes old) es
-      by found = (c.plan, conf, c.configured, found)
+enters_more : (r : Reason) (F G : List Numbered → Type 0) (es : List Numbered) → (F es → G es) → enters_for r F es → enters_for r G es
+enters_more (in_outbox Is) F G es f enters = f enters
+enters_more by_memory F G es f enters = f enters
+enters_more by_disk F G es f enters = f enters
+enters_more _ F G es f none = absurd none
 
-      more : (o : Option (List ℕ)) → IfSome o (λ _. LeavesOnly moment since old new (λ f. KeepsAsOneOf (images old) f ⊎ KeepsSome (FoundEntries (bytes old) conf) f))
-          → IfSome o (λ _. LeavesOnly moment since old new (λ f. KeepsAsOneOf (images old) f ⊎ KeepsSome (FoundBy words source (bytes old)) f))
-      more None l = tt
-      more (Some b) l = leaves_more bytes images moment since faults old new _ _ (λ f. ⊎_elim (λ k. inl k) (λ k. inr (k.0, by k.1, k.2))) l
+enters_found : (r : Reason) (F : List Numbered → Type 0) (es : List Numbered) → enters_for r F es → F es
+enters_found (in_outbox Is) F es enters = enters
+enters_found by_memory F es enters = enters
+enters_found by_disk F es enters = enters
+enters_found _ F es none = absurd none
 
-  pub opened : (words : List (List ℕ)) (source source' : Option (List ℕ)) (turns most : ℕ) (conf : Conf) (old : D) (made : Fronted D)
-      → IsConfigured words source source' turns most conf → HasBegun bytes images moment since faults conf most old made → Opened bytes images moment since faults words source source' old turns conf made
-  opened words source source' turns most conf old made c b = record {
-    plan = c.plan;
-    configured = c.configured;
-    turns_are = c.turns_are;
-    at_end = c.at_end;
-    begun = subst (λ n. HasBegun bytes images moment since faults conf n old made) c.most_is b;
-  }
+-- where a crash leaves some entries more
+left_more : (old new : DiskTells) (A B : List Numbered → Type 0) → ((es : List Numbered) → A es → B es) → IfSome old.bytes (λ _. LeavesOnly old new (λ c. KeepsAsOneOf old c ⊎ KeepsSome A c))
+    → IfSome old.bytes (λ _. LeavesOnly old new (λ c. KeepsAsOneOf old c ⊎ KeepsSome B c))
+left_more old new A B goes = more old.bytes
+  where
+    more : (o : Option (List ℕ)) → IfSome o (λ _. LeavesOnly old new (λ c. KeepsAsOneOf old c ⊎ KeepsSome A c)) → IfSome o (λ _. LeavesOnly old new (λ c. KeepsAsOneOf old c ⊎ KeepsSome B c))
+    more None l = tt
+    more (Some b) l = leaves_more old new _ _ (λ c. ⊎_elim (λ k. inl k) (λ k. inr (k.0, goes k.0 k.1, k.2))) l
+
+pub unbegun_turned : (words : List (List ℕ)) (source source' : Option (List ℕ)) (source_faults source_faults' held turns most : ℕ) (conf : Conf) (old new : DiskTells) (entries : List Numbered) (s : Status)
+    → IsConfigured words source source' turns most conf → TurnedAway conf most held old new entries s
+    → Unbegun words source source_faults source_faults' held old new entries s
+unbegun_turned words source source' source_faults source_faults' held turns most conf old new entries s c t = record {
+  why = inr (c.plan, conf, c.configured, subst (λ n. Unopened conf n old new held s) c.most_is t.why);
+  told = t.told;
+  later = t.later;
+  found = ⊎_elim (λ none. inl none) (λ found. inr (by entries found)) t.found;
+  has = has_more (reason_of s) old.bytes _ _ _ _ entries (λ begins. (c.plan, conf, c.configured, begins)) (by entries) t.has;
+  left = left_more old new _ _ (λ es. enters_more (reason_of s) _ _ es (by es)) t.left;
+}
+  where
+    by : (es : List Numbered) → FoundEntries old.bytes conf es → FoundBy words source old.bytes es
+    by es found = (c.plan, conf, c.configured, found)
+
+pub opened : {D : Type 0} (tells : D → DiskTells) (words : List (List ℕ)) (source source' : Option (List ℕ)) (turns most : ℕ) (conf : Conf) (old : D) (made : Fronted D)
+    → IsConfigured words source source' turns most conf → HasBegun tells conf most old made → Opened tells words source source' old turns conf made
+opened tells words source source' turns most conf old made c b = record {
+  plan = c.plan;
+  configured = c.configured;
+  turns_are = c.turns_are;
+  at_end = c.at_end;
+  begun = subst (λ n. HasBegun tells conf n old made) c.most_is b;
+}
 
 abbrev limits_at : ℕ → ℕ → Limits
 limits_at a b = record { max_entries = a; max_bytes = b; stop = 0 }
@@ -183,13 +202,13 @@ conf_of_groups conf (g ∷ gs) is accepted =
     let parts : numbered_of (g ∷ gs) ≡ numbered_from 1 (g.entries ++ flat_map (λ (h : Group). h.entries) gs) = ap (numbered_from 1) (flat_map-cons (λ (h : Group). h.entries) g gs) in
     ap conf_of_run (entries_any conf.text (numbered_of (g ∷ gs)) _ 0 ∙ ap (λ k. (start conf.text k 0).entries) parts) ∙ conf_in_entries conf g.entries _ is accepted.0
 
-module _ {D : Type 0} (bytes : D → Option (List ℕ)) (images : D → List ℕ → Type 0) (moment : D → ℕ) (since : D → ℕ → List ℕ → Type 0) (faults : D → ℕ) (words : List (List ℕ)) (source source' : Option (List ℕ)) where
-  module _ (turns : ℕ) (old : D) (conf : Conf) (made : Fronted D) (o : Opened bytes images moment since faults words source source' old turns conf made) where
+module _ {D : Type 0} (tells : D → DiskTells) (words : List (List ℕ)) (source source' : Option (List ℕ)) where
+  module _ (turns : ℕ) (old : D) (conf : Conf) (made : Fronted D) (o : Opened tells words source source' old turns conf made) where
     are : made.intake.entries ≡ opening_entries conf o.begun.groups
     are = ap (λ (i : Intake). i.entries) o.begun.intake_is
 
     -- the front with which a run begins that was opened
-    pub is_opened : (kept : List Numbered) → kept ≡ made.intake.entries → IsOpened bytes images conf kept made
+    pub is_opened : (kept : List Numbered) → kept ≡ made.intake.entries → IsOpened tells conf kept made
     is_opened kept same = record {
       going = o.begun.ready;
       idle = o.begun.idle;
@@ -204,39 +223,54 @@ module _ {D : Type 0} (bytes : D → Option (List ℕ)) (images : D → List ℕ
 
     -- a run that got no book didn't begin
     pub unbegun_held : (source_faults source_faults' held : ℕ) (kept : List Numbered) → kept ≡ made.intake.entries → (new : D) (entries : List Numbered) (s : Status) → IsHeldBack conf kept held made new entries s
-        → Unbegun bytes images moment since faults words source source_faults source_faults' held old new entries s
+        → Unbegun words source source_faults source_faults' held (tells old) (tells new) entries s
     unbegun_held source_faults source_faults' held kept same new entries s h =
-        let begun = o.begun in
-        record {
-          why = subst (λ d. Refuses words source source_faults source_faults' (bytes old) (faults old) (faults d) held s) (sym h.disk_is) (why s h.why);
-          told = subst (λ d. is_some (bytes d) ≡ is_some (bytes old)) (sym h.disk_is) begun.journaled.told;
-          later = subst (λ d. faults old ≤ faults d) (sym h.disk_is) begun.journaled.later;
-          has = inr (o.plan, conf, o.configured, subst (FoundEntries (bytes old) conf) (sym h.entries_are) (begun.groups, begun.found, inr are));
-          left = subst (λ d. IfSome (bytes old) (λ _. LeavesOnly moment since old d (λ c. KeepsAsOneOf (images old) c ⊎ KeepsSome (FoundBy words source (bytes old)) c))) (sym h.disk_is) (more (bytes old) begun.journaled.left);
-        }
+        subst (λ d. Unbegun words source source_faults source_faults' held (tells old) (tells d) entries s) (sym h.disk_is) (record {
+          why = inr (o.plan, conf, o.configured, why s h.why);
+          told = begun.journaled.told;
+          later = begun.journaled.later;
+          found = inr found;
+          has = has s h.why;
+          left = left_more (tells old) (tells made.journal.disk) _ _ (λ es is. enter s h.why es (among es is)) begun.journaled.left;
+        })
       where
-        why : (s : Status) → IsAheadOf conf kept held s → Refuses words source source_faults source_faults' (bytes old) (faults old) (faults made.journal.disk) held s
+        begun : HasBegun tells conf o.plan.max_entries old made
+        begun = o.begun
+
+        entries_are : entries ≡ opening_entries conf o.begun.groups
+        entries_are = h.entries_are ∙ are
+
+        found : FoundBy words source (tells old).bytes entries
+        found = (o.plan, conf, o.configured, (o.begun.groups, o.begun.found, inr entries_are))
+
+        why : (s : Status) → IsAheadOf conf kept held s → Unopened conf o.plan.max_entries (tells old) (tells made.journal.disk) held s
         why status.OutOfMemory ahead = tt
         why (status.OutboxAhead told lines) ahead =
             let size : lines ≡ length (opening_lines conf o.begun.groups) = ahead.1 ∙ ap (λ (l : List ℕ). length l) (kept_lines kept same) in
-            (o.plan, conf, o.configured, (o.begun.groups, o.begun.found, (o.begun.accepted, ahead.0, size, omega (arith, ahead.2, ahead.0))))
+            (o.begun.groups, o.begun.found, (o.begun.accepted, ahead.0, size, omega (arith, ahead.2, ahead.0)))
         why _ none = absurd none
 
-        among : (es : List Numbered) → IsEither (numbered_of o.begun.groups) made.intake.entries es → FoundBy words source (bytes old) es
-        among es is = (o.plan, conf, o.configured, (o.begun.groups, o.begun.found, ⊎_elim (λ kept. inl kept) (λ here. inr (here ∙ are)) is))
+        has : (s : Status) → IsAheadOf conf kept held s → HasBy words source (tells old).bytes s entries
+        has status.OutOfMemory ahead = inr found
+        has (status.OutboxAhead told lines) ahead = (o.plan, conf, o.configured, (o.begun.groups, o.begun.found, entries_are))
+        has _ none = absurd none
 
-        more : (b : Option (List ℕ)) → IfSome b (λ _. LeavesOnly moment since old made.journal.disk (λ c. KeepsAsOneOf (images old) c ⊎ KeepsSome (IsEither (numbered_of o.begun.groups) made.intake.entries) c))
-            → IfSome b (λ _. LeavesOnly moment since old made.journal.disk (λ c. KeepsAsOneOf (images old) c ⊎ KeepsSome (FoundBy words source (bytes old)) c))
-        more None l = tt
-        more (Some b) l = leaves_more bytes images moment since faults old made.journal.disk _ _ (λ c. ⊎_elim (λ p. inl p) (λ k. inr (k.0, among k.0 k.1, k.2))) l
+        enter : (s : Status) → IsAheadOf conf kept held s → (es : List Numbered) → FoundBy words source (tells old).bytes es → EntersBy words source (tells old).bytes s es
+        enter status.OutOfMemory ahead es is = is
+        enter (status.OutboxAhead told lines) ahead es is = is
+        enter _ none es is = absurd none
+
+        among : (es : List Numbered) → IsEither (numbered_of o.begun.groups) made.intake.entries es → FoundBy words source (tells old).bytes es
+        among es is = (o.plan, conf, o.configured, (o.begun.groups, o.begun.found, ⊎_elim (λ kept. inl kept) (λ here. inr (here ∙ are)) is))
 
     -- one that got its book took events
     pub followed : (held : ℕ) (kept : List Numbered) → kept ≡ made.intake.entries → held ≤ length (log_lines conf (log_of kept)) → (new : D) (entries : List Numbered) (wire wire' : WireTells) (s : Status)
-        → Finished (limits_of made.journal 0) conf kept made.intake entries turns (Journals bytes images moment since faults (λ c. ⊥) made.journal.disk new) wire wire' (course_of s).ending
-        → Followed words source (bytes old) held (Journals bytes images moment since faults (KeepsAsOneOf (images old)) old new) wire wire' s entries
+        → Finished (limits_of made.journal 0) conf kept made.intake entries turns (Journals (λ c. ⊥) (tells made.journal.disk) (tells new)) wire wire' (course_of s).ending
+        → Followed words source (tells old).bytes held (Journals (KeepsAsOneOf (tells old)) (tells old) (tells new)) wire wire' s entries
     followed held kept same enough new entries wire wire' s f =
         let begun = o.begun in
         let limits : limits_of made.journal 0 ≡ limits_by o.plan = ap₂ (λ a b. limits_at a b) begun.limits.0 begun.limits.1 in
+        let sound : IsSound conf (served (refusing (limits_of made.journal 0) f.refused) conf made.intake f.handled).intake = served_sound (refusing (limits_of made.journal 0) f.refused) conf made.intake f.handled begun.sound in
         record {
           plan = o.plan;
           conf = conf;
@@ -245,20 +279,23 @@ module _ {D : Type 0} (bytes : D → Option (List ℕ)) (images : D → List ℕ
           found = begun.found;
           accepted = begun.accepted;
           enough = omega (arith, enough, ap (λ (l : List ℕ). length l) (kept_lines kept same));
+          whole = subst (λ es. IsFull (log_of es)) (sym f.entries_are) sound.full;
+          fits = subst (λ es. Fits conf (log_of es)) (sym f.entries_are) sound.fits;
           finished =
-              subst (λ (i : Intake). Finished (limits_by o.plan) conf (numbered_of begun.groups) i entries o.plan.turns (Journals bytes images moment since faults (KeepsAsOneOf (images old)) old new) wire wire' (course_of s).ending) begun.intake_is
-              (subst (λ n. Finished (limits_by o.plan) conf (numbered_of begun.groups) made.intake entries n (Journals bytes images moment since faults (KeepsAsOneOf (images old)) old new) wire wire' (course_of s).ending) o.turns_are
-              (subst (λ (l : Limits). Finished l conf (numbered_of begun.groups) made.intake entries turns (Journals bytes images moment since faults (KeepsAsOneOf (images old)) old new) wire wire' (course_of s).ending) limits
-              (over (limits_of made.journal 0) begun.groups begun.journaled (subst (λ es. Finished (limits_of made.journal 0) conf es made.intake entries turns (Journals bytes images moment since faults (λ c. ⊥) made.journal.disk new) wire wire' (course_of s).ending) same f))));
+              subst (λ (i : Intake). Finished (limits_by o.plan) conf (numbered_of begun.groups) i entries o.plan.turns (Journals (KeepsAsOneOf (tells old)) (tells old) (tells new)) wire wire' (course_of s).ending) begun.intake_is
+              (subst (λ n. Finished (limits_by o.plan) conf (numbered_of begun.groups) made.intake entries n (Journals (KeepsAsOneOf (tells old)) (tells old) (tells new)) wire wire' (course_of s).ending) o.turns_are
+              (subst (λ (l : Limits). Finished l conf (numbered_of begun.groups) made.intake entries turns (Journals (KeepsAsOneOf (tells old)) (tells old) (tells new)) wire wire' (course_of s).ending) limits
+              (over (limits_of made.journal 0) begun.groups begun.journaled (subst (λ es. Finished (limits_of made.journal 0) conf es made.intake entries turns (Journals (λ c. ⊥) (tells made.journal.disk) (tells new)) wire wire' (course_of s).ending) same f))));
         }
       where
-        over : (l : Limits) (groups : List Group) → Journals bytes images moment since faults (KeepsAsOneOf (images old)) old made.journal.disk (IsEither (numbered_of groups) made.intake.entries) None made.intake.entries
-            → Finished l conf made.intake.entries made.intake entries turns (Journals bytes images moment since faults (λ c. ⊥) made.journal.disk new) wire wire' (course_of s).ending
-            → Finished l conf (numbered_of groups) made.intake entries turns (Journals bytes images moment since faults (KeepsAsOneOf (images old)) old new) wire wire' (course_of s).ending
+        over : (l : Limits) (groups : List Group) → Journals (KeepsAsOneOf (tells old)) (tells old) (tells made.journal.disk) (IsEither (numbered_of groups) made.intake.entries) None made.intake.entries
+            → Finished l conf made.intake.entries made.intake entries turns (Journals (λ c. ⊥) (tells made.journal.disk) (tells new)) wire wire' (course_of s).ending
+            → Finished l conf (numbered_of groups) made.intake entries turns (Journals (KeepsAsOneOf (tells old)) (tells old) (tells new)) wire wire' (course_of s).ending
         over l groups j f = record {
           handled = f.handled;
           lost = f.lost;
           refused = f.refused;
+          runs_on = f.runs_on;
           few = f.few;
           given = f.given;
           told = f.told;
@@ -266,7 +303,7 @@ module _ {D : Type 0} (bytes : D → Option (List ℕ)) (images : D → List ℕ
           ends = f.ends;
           refused_is = f.refused_is;
           shows = f.shows;
-          journaled = journals_on bytes images moment since faults (KeepsAsOneOf (images old)) old made.journal.disk new (IsEither (numbered_of groups) made.intake.entries)
+          journaled = journals_on (KeepsAsOneOf (tells old)) (tells old) (tells made.journal.disk) (tells new) (IsEither (numbered_of groups) made.intake.entries)
               (IsReached (refusing l f.refused) conf made.intake.entries made.intake f.handled) (IsReached (refusing l f.refused) conf (numbered_of groups) made.intake f.handled)
               None _ made.intake.entries entries (λ es is. ⊎_elim (λ kept. inl kept) (λ here. inr (inl ([], f.handled, refl, here))) is)
               (λ es is. ⊎_elim (λ here. inr (inl ([], f.handled, refl, here))) (λ later. inr later) is) j f.journaled;
@@ -342,6 +379,7 @@ finished_refused limits conf recovered begun entries turns did wire wire' e f = 
   handled = f.handled;
   lost = f.lost;
   refused = f.refused;
+  runs_on = f.runs_on;
   few = f.few;
   given = f.given;
   told = told wire.left f.told;
@@ -365,7 +403,7 @@ module _ (words : List (List ℕ)) (source file : Option (List ℕ)) (held : ℕ
   followed_printed s ended (own, inl same) f = subst Follows_at (sym same) f
   followed_printed s ended (own, inr (inr (cut, well))) f =
       let g : Follows_at status.Ok = subst Follows_at well f in
-      subst Follows_at (sym cut) (record { plan = g.plan; conf = g.conf; configured = g.configured; groups = g.groups; found = g.found; accepted = g.accepted; enough = g.enough; finished = g.finished })
+      subst Follows_at (sym cut) (record { plan = g.plan; conf = g.conf; configured = g.configured; groups = g.groups; found = g.found; accepted = g.accepted; enough = g.enough; whole = g.whole; fits = g.fits; finished = g.finished })
   followed_printed s ended (own, inr (inl spent)) f =
       subst Follows_at (sym spent) (record {
         plan = f.plan;
@@ -375,6 +413,8 @@ module _ (words : List (List ℕ)) (source file : Option (List ℕ)) (held : ℕ
         found = f.found;
         accepted = f.accepted;
         enough = f.enough;
+        whole = f.whole;
+        fits = f.fits;
         finished = finished_refused (limits_by f.plan) f.conf (numbered_of f.groups) (opening_intake f.conf f.groups) entries f.plan.turns did wire wire' (course_of s).ending f.finished;
       })
 
@@ -382,59 +422,64 @@ module _ (words : List (List ℕ)) (source file : Option (List ℕ)) (held : ℕ
   pub is_course : (s : Status) → Follows_at s → IsCourse s
   is_course s f = is_ending (course_of s).ending _ _ _ _ f.finished.ends
 
-module _ (words : List (List ℕ)) (source : Option (List ℕ)) (faults faults' : ℕ) (file : Option (List ℕ)) (disk_faults disk_faults' held : ℕ) where
+-- a status that ends the opening comes before anything is printed
+own_line_of : (s : Status) → IsRefusal s → IsUnprinted s
+own_line_of status.PrintFault none = absurd none
+own_line_of _ is = tt
+
+module _ (words : List (List ℕ)) (source : Option (List ℕ)) (faults faults' held : ℕ) (old new : DiskTells) where
   abbrev Refused_at : Status → Type 0
-  Refused_at s = Refuses words source faults faults' file disk_faults disk_faults' held s
+  Refused_at s = Refuses words source faults faults' old new held s
+
+  at_words : (r : Reason) → unconfigured_for r words source faults faults' → ends_opening r
+  at_words no_reason none = none
+  at_words _ why = tt
+
+  at_objects : (r : Reason) (conf : Conf) (most : ℕ) → unopened_for r conf most old new held → ends_opening r
+  at_objects no_reason conf most none = none
+  at_objects _ conf most why = tt
 
   -- a run that was refused has a status of one that hasn't begun
-  is_refusal : (s : Status) → Refused_at s → IsRefusal s
-  is_refusal status.Usage why = refl
-  is_refusal status.SourceFault why = refl
-  is_refusal (status.ConfigRefused path cause) why = refl
-  is_refusal (status.PatternRefused path) why = refl
-  is_refusal (status.PatternTooLarge path) why = refl
-  is_refusal status.OutOfMemory why = refl
-  is_refusal status.DiskFault why = refl
-  is_refusal status.NotOurs why = refl
-  is_refusal (status.Damaged at) why = refl
-  is_refusal (status.ConfigDiffers at) why = refl
-  is_refusal (status.OutboxAhead told lines) why = refl
-  is_refusal (status.Full entries bytes) why = refl
-  is_refusal _ why = absurd why.3
+  pub is_refusal : (s : Status) → Refused_at s → IsRefusal s
+  is_refusal s (inl why) = at_words (reason_of s) why
+  is_refusal s (inr (plan, conf, c, why)) = at_objects (reason_of s) conf plan.max_entries why
 
   -- which comes before anything is printed, and isn't that of one that takes events
   pub never_begun : (s : Status) → Refused_at s → IsUnprinted s × ((s ≡ status.WireFault → ⊥) × ((s ≡ status.OutboxFault → ⊥) × (s ≡ status.Ok → ⊥)))
-  never_begun status.Usage why = (tt, (λ e. cc, (λ e. cc, λ e. cc)))
-  never_begun status.SourceFault why = (tt, (λ e. cc, (λ e. cc, λ e. cc)))
-  never_begun (status.ConfigRefused path cause) why = (tt, (λ e. cc, (λ e. cc, λ e. cc)))
-  never_begun (status.PatternRefused path) why = (tt, (λ e. cc, (λ e. cc, λ e. cc)))
-  never_begun (status.PatternTooLarge path) why = (tt, (λ e. cc, (λ e. cc, λ e. cc)))
-  never_begun status.OutOfMemory why = (tt, (λ e. cc, (λ e. cc, λ e. cc)))
-  never_begun status.DiskFault why = (tt, (λ e. cc, (λ e. cc, λ e. cc)))
-  never_begun status.NotOurs why = (tt, (λ e. cc, (λ e. cc, λ e. cc)))
-  never_begun (status.Damaged at) why = (tt, (λ e. cc, (λ e. cc, λ e. cc)))
-  never_begun (status.ConfigDiffers at) why = (tt, (λ e. cc, (λ e. cc, λ e. cc)))
-  never_begun (status.OutboxAhead told lines) why = (tt, (λ e. cc, (λ e. cc, λ e. cc)))
-  never_begun (status.Full entries bytes) why = (tt, (λ e. cc, (λ e. cc, λ e. cc)))
-  never_begun _ why = absurd why.3
+  never_begun s why =
+      let is = is_refusal s why in
+      (own_line_of s is, ((λ e. subst IsRefusal e is), ((λ e. subst IsRefusal e is), (λ e. subst IsRefusal e is))))
 
-  -- printing changes no reason
-  pub refuses_printed : (s ended : Status) → EndsPrinted s ended → Refused_at s → Refused_at ended
-  refuses_printed s ended (own, inl same) why = subst Refused_at (sym same) why
-  refuses_printed s ended (own, inr (inl spent)) why = subst Refused_at (sym spent) tt
-  refuses_printed s ended (own, inr (inr (cut, well))) why = let none : Refused_at status.Ok = subst Refused_at well why in absurd none.3
+  not_well : Refused_at status.Ok → ⊥
+  not_well why = is_refusal status.Ok why
 
-  pub refused_printed : (s ended : Status) → EndsPrinted s ended → Refused_at s → IsRefusal ended
-  refused_printed s ended ends why = is_refusal ended (refuses_printed s ended ends why)
+  no_bar : (r : Reason) → names_object r → unconfigured_for r words source faults faults' → ⊥
+  no_bar (in_journal Is) names none = none
+  no_bar (in_outbox Is) names none = none
+  no_bar _ none why = none
+
+  bar_of : (r : Reason) (conf : Conf) (most : ℕ) → names_object r → unopened_for r conf most old new held → bars_for r conf most old.bytes held
+  bar_of (in_journal Is) conf most names why = why
+  bar_of (in_outbox Is) conf most names why = why
+  bar_of _ conf most none why = absurd none
 
   -- a status that names what barred a run comes where that did
-  pub barred_of : (s : Status) → IsBarring s → Refused_at s → IsBarred words source file held s
-  barred_of status.NotOurs barring why = why
-  barred_of (status.Damaged at) barring why = why
-  barred_of (status.ConfigDiffers at) barring why = why
-  barred_of (status.OutboxAhead told lines) barring why = why
-  barred_of (status.Full entries bytes) barring why = why
-  barred_of _ none why = absurd none
+  pub barred_of : (s : Status) → IsBarring s → Refused_at s → IsBarred words source old.bytes held s
+  barred_of s names (inl why) = absurd (no_bar (reason_of s) names why)
+  barred_of s names (inr (plan, conf, c, why)) = (plan, conf, c, bar_of (reason_of s) conf plan.max_entries names why)
+
+  -- printing makes of a run that didn't begin one to which memory was refused, or nothing else
+  pub unbegun_printed : (s ended : Status) (entries : List Numbered) → EndsPrinted s ended → Unbegun words source faults faults' held old new entries s → Unbegun words source faults faults' held old new entries ended
+  unbegun_printed s ended entries (own, inl same) u = subst (λ t. Unbegun words source faults faults' held old new entries t) (sym same) u
+  unbegun_printed s ended entries (own, inr (inl spent)) u = subst (λ t. Unbegun words source faults faults' held old new entries t) (sym spent) (record {
+    why = inl tt;
+    told = u.told;
+    later = u.later;
+    found = u.found;
+    has = u.found;
+    left = left_more old new _ _ (λ es. enters_found (reason_of s) _ es) u.left;
+  })
+  unbegun_printed s ended entries (own, inr (inr (cut, well))) u = absurd (not_well (subst Refused_at well u.why))
 
 -- ---- what is printed
 

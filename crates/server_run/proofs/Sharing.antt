@@ -86,6 +86,8 @@ use Rattle.zbx_types.specs.contracts.conf.Conf as conf
 use Rattle.book.specs.declared.names.StartName
 use Rattle.server_run.specs.contracts.shared.Prepared
 use denote.RattleType.{RattleType}
+use Rattle.trigger_state.specs.contracts.stage.InForce as force
+use Rattle.trigger_state.specs.contracts.stage.InForce.TheInside as force_inside
 use Rattle.entry_step.specs.contracts.index.Ready as ready
 use Rattle.entry_step.specs.contracts.index.Ready.TheInside as inside
 use Rattle.entry_step.specs.contracts.indexes.ItemIndex as item_index
@@ -239,8 +241,17 @@ s_indexes = declared_sync indexes.the_type (f_item_index, (f_trigger_index, tt))
 f_indexes : IsSync (as_row indexes.the_field)
 f_indexes = search (s_indexes, sendable) depth 60 fits 20000
 
+force_inside_sync : IsSync force_inside.the_row
+force_inside_sync = declared_sync force_inside.the_type (f_conf, tt)
+
+s_force : IsSync force.the_row
+s_force = view_sync _ _ _ _ _ force_inside_sync
+
+f_force : IsSync (as_row force.the_field)
+f_force = search (s_force, sendable) depth 60 fits 20000
+
 inside_sync : IsSync inside.the_row
-inside_sync = declared_sync inside.the_type (f_conf, (f_patterns, (f_indexes, tt)))
+inside_sync = declared_sync inside.the_type (f_force, (f_patterns, (f_indexes, tt)))
 
 pub ready_sync : IsSync ready.the_row
 ready_sync = view_sync _ _ _ _ _ inside_sync

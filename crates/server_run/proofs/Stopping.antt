@@ -3,7 +3,7 @@ use Rattle.std.proofs.Common.{◌≡◌, ◌⊎◌, ⊎_elim, ℕ, ◌≤◌, Li
 use Rattle.std.specs.Prelude.{Option, Some, None, IfSome, is_some}
 use Rattle.zbx_types.specs.declared.entries.Numbered.{Numbered}
 use Rattle.outside.specs.Causes.{Rose}
-use Rattle.outside.specs.Disk.{LeavesOnly}
+use Rattle.outside.specs.Disk.{DiskTells, IsLawful, LeavesOnly}
 use Rattle.intake_journal.proofs.Openings.{and_then}
 use Rattle.intake_front.specs.Fronted.{Keeps, KeepsEither, IsKept}
 use Rattle.intake_front.specs.declared.answer.Stop.{Stop}
@@ -23,84 +23,83 @@ rose_since a b c later rose = omega (arith, later, rose)
 some_more : (A B : List Numbered → Type 0) (c : List ℕ) → ((es : List Numbered) → A es → B es) → KeepsSome A c → KeepsSome B c
 some_more A B c goes (es, among, keeps) = (es, goes es among, keeps)
 
-module _ {D : Type 0} (bytes : D → Option (List ℕ)) (images : D → List ℕ → Type 0) (moment : D → ℕ) (since : D → ℕ → List ℕ → Type 0) (faults : D → ℕ) where
-  -- what a crash leaves may be more
-  pub leaves_more : (old new : D) (P Q : List ℕ → Type 0) → ((c : List ℕ) → P c → Q c) → LeavesOnly moment since old new P → LeavesOnly moment since old new Q
-  leaves_more old new P Q goes l = record {
-    later = l.later;
-    each = λ c left. goes c (l.each c left);
-    before = λ t c le left. ⊎_elim (λ past. inl past) (λ p. inr (goes c p)) (l.before t c le left);
-  }
+-- what a crash leaves may be more
+pub leaves_more : (old new : DiskTells) (P Q : List ℕ → Type 0) → ((c : List ℕ) → P c → Q c) → LeavesOnly old new P → LeavesOnly old new Q
+leaves_more old new P Q goes l = record {
+  later = l.later;
+  each = λ c left. goes c (l.each c left);
+  before = λ t c le left. ⊎_elim (λ past. inl past) (λ p. inr (goes c p)) (l.before t c le left);
+}
 
-  -- and so may be the entries
-  pub journals_more : (also : List ℕ → Type 0) (old new : D) (A B : List Numbered → Type 0) (s : Option Stop) (entries : List Numbered) → ((es : List Numbered) → A es → B es)
-      → Journals bytes images moment since faults also old new A s entries → Journals bytes images moment since faults also old new B s entries
-  journals_more also old new A B s entries goes j = record {
-    left = more (bytes old) j.left;
-    fault = j.fault;
-    kept = j.kept;
-    later = j.later;
-    told = j.told;
-  }
-    where
-      more : (o : Option (List ℕ)) → IfSome o (λ _. LeavesOnly moment since old new (λ c. also c ⊎ KeepsSome A c)) → IfSome o (λ _. LeavesOnly moment since old new (λ c. also c ⊎ KeepsSome B c))
-      more None l = tt
-      more (Some b) l = leaves_more old new _ _ (λ c. ⊎_elim (λ p. inl p) (λ k. inr (some_more A B c goes k))) l
+-- and so may be the entries
+pub journals_more : (also : List ℕ → Type 0) (old new : DiskTells) (A B : List Numbered → Type 0) (s : Option Stop) (entries : List Numbered) → ((es : List Numbered) → A es → B es)
+    → Journals also old new A s entries → Journals also old new B s entries
+journals_more also old new A B s entries goes j = record {
+  left = more old.bytes j.left;
+  fault = j.fault;
+  kept = j.kept;
+  later = j.later;
+  told = j.told;
+}
+  where
+    more : (o : Option (List ℕ)) → IfSome o (λ _. LeavesOnly old new (λ c. also c ⊎ KeepsSome A c)) → IfSome o (λ _. LeavesOnly old new (λ c. also c ⊎ KeepsSome B c))
+    more None l = tt
+    more (Some b) l = leaves_more old new _ _ (λ c. ⊎_elim (λ p. inl p) (λ k. inr (some_more A B c goes k))) l
 
-  -- before anything is journaled
-  pub journals_none : (disk : D) (A : List Numbered → Type 0) (entries : List Numbered) → ((c : List ℕ) → since disk (moment disk) c → images disk c) → A entries → IsKept bytes images disk entries
-      → Journals bytes images moment since faults (λ c. ⊥) disk disk A None entries
-  journals_none disk A entries only_now among kept = record {
-    left = here (bytes disk) kept;
-    fault = λ none. absurd (cc);
-    kept = λ other. kept;
-    later = omega arith;
-    told = refl;
-  }
-    where
-      here : (o : Option (List ℕ)) → IfSome o (λ b. Keeps entries b × ((c : List ℕ) → images disk c → Keeps entries c)) → IfSome o (λ _. LeavesOnly moment since disk disk (λ c. ⊥ ⊎ KeepsSome A c))
-      here None k = tt
-      here (Some b) k = record { later = omega arith; each = λ c left. inr (entries, among, k.1 c (only_now c left)); before = λ t c le left. inl left }
+-- before anything is journaled
+pub journals_none : (disk : DiskTells) (A : List Numbered → Type 0) (entries : List Numbered) → IsLawful disk → A entries → IsKept disk entries
+    → Journals (λ c. ⊥) disk disk A None entries
+journals_none disk A entries lawful among kept = record {
+  left = here disk.bytes kept;
+  fault = λ none. absurd (cc);
+  kept = λ other. kept;
+  later = omega arith;
+  told = refl;
+}
+  where
+    here : (o : Option (List ℕ)) → IfSome o (λ b. Keeps entries b × ((c : List ℕ) → disk.images c → Keeps entries c)) → IfSome o (λ _. LeavesOnly disk disk (λ c. ⊥ ⊎ KeepsSome A c))
+    here None k = tt
+    here (Some b) k = record { later = omega arith; each = λ c left. inr (entries, among, k.1 c (lawful.only_now c left)); before = λ t c le left. inl left }
 
-  -- and then more is
-  pub journals_on : (also : List ℕ → Type 0) (old mid new : D) (A B C : List Numbered → Type 0) (s t : Option Stop) (entries entries' : List Numbered)
-      → ((es : List Numbered) → A es → C es) → ((es : List Numbered) → B es → C es)
-      → Journals bytes images moment since faults also old mid A s entries → Journals bytes images moment since faults (λ c. ⊥) mid new B t entries'
-      → Journals bytes images moment since faults also old new C t entries'
-  journals_on also old mid new A B C s t entries entries' first_goes then_goes first then = record {
-    left = joined (bytes old) (bytes mid) first.told first.left then.left;
-    fault = λ is. rose_since (faults old) (faults mid) (faults new) first.later (then.fault is);
-    kept = then.kept;
-    later = omega (arith, first.later, then.later);
-    told = then.told ∙ first.told;
-  }
-    where
-      joined : (o o' : Option (List ℕ)) → is_some o' ≡ is_some o → IfSome o (λ _. LeavesOnly moment since old mid (λ c. also c ⊎ KeepsSome A c)) → IfSome o' (λ _. LeavesOnly moment since mid new (λ c. ⊥ ⊎ KeepsSome B c))
-          → IfSome o (λ _. LeavesOnly moment since old new (λ c. also c ⊎ KeepsSome C c))
-      joined None o' told l l' = tt
-      joined (Some b) None told l l' = absurd (true≢false (sym told))
-      joined (Some b) (Some b') told l l' =
-          and_then moment since old mid new (λ c. also c ⊎ KeepsSome C c) (λ c. ⊥ ⊎ KeepsSome B c)
-          (leaves_more old mid _ _ (λ c. ⊎_elim (λ p. inl p) (λ k. inr (some_more A C c first_goes k))) l) l'
-          (λ c. ⊎_elim (λ none. absurd none) (λ k. inr (some_more B C c then_goes k)))
+-- and then more is
+pub journals_on : (also : List ℕ → Type 0) (old mid new : DiskTells) (A B C : List Numbered → Type 0) (s t : Option Stop) (entries entries' : List Numbered)
+    → ((es : List Numbered) → A es → C es) → ((es : List Numbered) → B es → C es)
+    → Journals also old mid A s entries → Journals (λ c. ⊥) mid new B t entries'
+    → Journals also old new C t entries'
+journals_on also old mid new A B C s t entries entries' first_goes then_goes first then = record {
+  left = joined old.bytes mid.bytes first.told first.left then.left;
+  fault = λ is. rose_since old.faults mid.faults new.faults first.later (then.fault is);
+  kept = then.kept;
+  later = omega (arith, first.later, then.later);
+  told = then.told ∙ first.told;
+}
+  where
+    joined : (o o' : Option (List ℕ)) → is_some o' ≡ is_some o → IfSome o (λ _. LeavesOnly old mid (λ c. also c ⊎ KeepsSome A c)) → IfSome o' (λ _. LeavesOnly mid new (λ c. ⊥ ⊎ KeepsSome B c))
+        → IfSome o (λ _. LeavesOnly old new (λ c. also c ⊎ KeepsSome C c))
+    joined None o' told l l' = tt
+    joined (Some b) None told l l' = absurd (true≢false (sym told))
+    joined (Some b) (Some b') told l l' =
+        and_then old mid new (λ c. also c ⊎ KeepsSome C c) (λ c. ⊥ ⊎ KeepsSome B c)
+        (leaves_more old mid _ _ (λ c. ⊎_elim (λ p. inl p) (λ k. inr (some_more A C c first_goes k))) l) l'
+        (λ c. ⊎_elim (λ none. absurd none) (λ k. inr (some_more B C c then_goes k)))
 
-  -- an event's append
-  pub journals_event : (old new : D) (before after entries : List Numbered) (s : Option Stop)
-      → IfSome (bytes old) (λ _. LeavesOnly moment since old new (KeepsEither before after)) → (s ≡ Some stop.DiskFault → Rose (faults old) (faults new))
-      → ((s ≡ Some stop.DiskFault → ⊥) → IsKept bytes images new entries) → faults old ≤ faults new → is_some (bytes new) ≡ is_some (bytes old)
-      → Journals bytes images moment since faults (λ c. ⊥) old new (IsEither before after) s entries
-  journals_event old new before after entries s left fault kept later told = record {
-    left = either (bytes old) left;
-    fault = fault;
-    kept = kept;
-    later = later;
-    told = told;
-  }
-    where
-      among : (c : List ℕ) → KeepsEither before after c → ⊥ ⊎ KeepsSome (IsEither before after) c
-      among c (inl keeps) = inr (before, inl refl, keeps)
-      among c (inr keeps) = inr (after, inr refl, keeps)
+-- an event's append
+pub journals_event : (old new : DiskTells) (before after entries : List Numbered) (s : Option Stop)
+    → IfSome old.bytes (λ _. LeavesOnly old new (KeepsEither before after)) → (s ≡ Some stop.DiskFault → Rose old.faults new.faults)
+    → ((s ≡ Some stop.DiskFault → ⊥) → IsKept new entries) → old.faults ≤ new.faults → is_some new.bytes ≡ is_some old.bytes
+    → Journals (λ c. ⊥) old new (IsEither before after) s entries
+journals_event old new before after entries s left fault kept later told = record {
+  left = either old.bytes left;
+  fault = fault;
+  kept = kept;
+  later = later;
+  told = told;
+}
+  where
+    among : (c : List ℕ) → KeepsEither before after c → ⊥ ⊎ KeepsSome (IsEither before after) c
+    among c (inl keeps) = inr (before, inl refl, keeps)
+    among c (inr keeps) = inr (after, inr refl, keeps)
 
-      either : (o : Option (List ℕ)) → IfSome o (λ _. LeavesOnly moment since old new (KeepsEither before after)) → IfSome o (λ _. LeavesOnly moment since old new (λ c. ⊥ ⊎ KeepsSome (IsEither before after) c))
-      either None l = tt
-      either (Some b) l = leaves_more old new _ _ among l
+    either : (o : Option (List ℕ)) → IfSome o (λ _. LeavesOnly old new (KeepsEither before after)) → IfSome o (λ _. LeavesOnly old new (λ c. ⊥ ⊎ KeepsSome (IsEither before after) c))
+    either None l = tt
+    either (Some b) l = leaves_more old new _ _ among l

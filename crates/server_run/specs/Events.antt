@@ -1,5 +1,5 @@
 -- The events that a run takes from its wire.
-use Rattle.std.specs.Prelude.{◌≡◌, ◌⊎◌, ◌≤◌, ◌<◌, ◌+◌, ℕ, List, ◌++◌, length, Option, Some, None, IfSome, Result, Ok, Err, IfOk, OnErr}
+use Rattle.std.specs.Prelude.{◌≡◌, ◌⊎◌, ◌≤◌, ◌<◌, ◌+◌, ℕ, List, [], ◌∷◌, ◌++◌, length, Option, Some, None, IfSome, Result, Ok, Err, IfOk, OnErr}
 use Rattle.std.specs.Option.{option_to_list}
 use Rattle.zbx_types.specs.declared.conf.Conf.{Conf}
 use Rattle.zbx_types.specs.declared.entries.Numbered.{Numbered}
@@ -17,7 +17,7 @@ use Rattle.intake_front.specs.declared.answer.Stop.TheVariants as stop
 use Rattle.server_words.specs.declared.status.Status.{Status}
 use Rattle.server_run.specs.Sending.{Shows}
 use Rattle.server_run.specs.Statuses.{Ending, at_wire_fault, anywhere, at_refusal, course_of, EndsAs, LeftIs}
-use Rattle.server_run.specs.Stops.{refusing, IsReached}
+use Rattle.server_run.specs.Stops.{refusing, RunsOn, IsReached}
 
 -- what the disk of the journal did, by what a crash meanwhile left, why the run stopped, if it did, and its entries
 abbrev pub Doing : Type 1
@@ -57,6 +57,8 @@ pub record Gathered {D : Type 0} (conf : Conf) (old new : Fronted D) (wire wire'
   pub gives : HasGiven wire wire' events lost ending
   pub taken : HasTaken conf old.intake events new
   pub journal_stays : new.journal ≡ old.journal
+  pub runs_on : (front : List WireEvent) (last : WireEvent) → events ≡ front ++ last ∷ []
+      → (answered (limits_of old.journal 0) conf old.intake front).stop ≡ None
   pub stop_is : stop ≡ (answered (limits_of old.journal 0) conf old.intake events).stop
   pub intake_is : lost ≡ None → new.intake ≡ (answered (limits_of old.journal 0) conf old.intake events).intake
   pub sound : IsSound conf old.intake → IsSound conf (answered (limits_of old.journal 0) conf old.intake events).intake
@@ -91,6 +93,7 @@ pub record Ran (limits : Limits) (conf : Conf) (recovered : List Numbered) (star
   pub told : Gave wire.left wire'.left taken lost ending
   pub entries_are : now.entries ≡ (served limits conf start taken).intake.entries
   pub intake_is : stop ≡ None → lost ≡ None → now ≡ (served limits conf start taken).intake
+  pub runs_on : RunsOn limits conf start taken
   pub stop_is : stop ≡ (served limits conf start taken).stop
   pub shows : Shows wire wire' (served limits conf start taken).replies (served limits conf start taken).shut
   pub journaled : did (IsReached limits conf recovered start taken) stop now.entries

@@ -1,9 +1,11 @@
 -- How far the taking of events has come, and what of their entries was sent.
-use Rattle.std.specs.Prelude.{◌≡◌, ◌≢◌, ◌⊎◌, ◌≤◌, ◌<◌, ◌+◌, ℕ, List, ◌++◌, length, drop, Bool, true, false, Option, None, Result, Ok, Err, ⊤}
+use Rattle.trigger_state.specs.Stages.{first_stage}
+use Rattle.std.specs.Prelude.{◌≡◌, ◌≢◌, ◌⊎◌, ◌≤◌, ◌<◌, ◌+◌, ℕ, List, ◌++◌, length, drop, true, false, None, Result, Ok, Err, ⊤}
 use mathlib.Core.List.{IsPrefix}
 use Rattle.zbx_types.specs.declared.conf.Conf.{Conf}
 use Rattle.zbx_types.specs.declared.entries.Numbered.{Numbered}
 use Rattle.outside.specs.Causes.{Rose}
+use Rattle.outside.specs.Disk.{DiskTells}
 use Rattle.outside.specs.Tells.{SinkTells, WireTells}
 use Rattle.entry_step.specs.Log.{log_of}
 use Rattle.book.specs.Ends.{HeadView}
@@ -21,6 +23,7 @@ use Rattle.intake_front.specs.Fronted.{Fronted, IsKept, IsReady, limits_of}
 use Rattle.intake_front.specs.Batch.{IsIdle}
 use Rattle.server_words.specs.declared.status.Status.{Status}
 use Rattle.server_words.specs.declared.status.Status.TheVariants as status
+use Rattle.server_run.specs.declared.course.Course.{Course}
 use Rattle.server_run.specs.declared.serving.Taken.{Taken}
 use Rattle.server_run.specs.declared.serving.Taken.TheVariants as taken
 use Rattle.server_run.specs.Events.{Ran}
@@ -60,27 +63,25 @@ pub record IsServing {D : Type 0} (conf : Conf) (kept : List Numbered) (front : 
 
 -- a run that began with some entries, an intake, a disk and a wire took so many events, none of which stopped it, and
 -- came to this intake
-pub record Reaches {D : Type 0} (bytes : D → Option (List ℕ)) (images : D → List ℕ → Type 0) (moment : D → ℕ)
-    (since : D → ℕ → List ℕ → Type 0) (faults : D → ℕ) (limits : Limits) (conf : Conf)
+pub record Reaches {D : Type 0} (tells : D → DiskTells) (limits : Limits) (conf : Conf)
     (recovered : List Numbered) (start now : Intake) (d0 d : D) (w0 w : WireTells) (count : ℕ) : Type 0 where
   pub ran : Ran (refusing limits 0) conf recovered start now
-      (Journals bytes images moment since faults (λ c. ⊥) d0 d) w0 w count None None anywhere
+      (Journals (λ c. ⊥) (tells d0) (tells d)) w0 w count None None anywhere
   pub later : w0.faults ≤ w.faults
 
 -- What taking events did, behind whatever the run had done before: it took so many more and goes on; or it ended with
 -- a status.
-abbrev pub TakesOn : {D : Type 0} → (D → Option (List ℕ)) → (D → List ℕ → Type 0) → (D → ℕ)
-    → (D → ℕ → List ℕ → Type 0) → (D → ℕ) → Limits → Conf → Intake → Intake → D → D → WireTells → WireTells → ℕ
-    → Taken → Type 0
-TakesOn {D = D} bytes images moment since faults limits conf old new d d' w w' turns (taken.Going n) =
+abbrev pub TakesOn : {D : Type 0} → (D → DiskTells) → Conf → Fronted D → Fronted D → WireTells → WireTells → ℕ → Taken
+    → Type 0
+TakesOn {D = D} tells conf old new w w' turns (taken.Going n) =
     (n ≤ turns) × ((recovered : List Numbered) (start : Intake) (d0 : D) (w0 : WireTells) (count : ℕ)
-    → Reaches bytes images moment since faults limits conf recovered start old d0 d w0 w count
-    → Reaches bytes images moment since faults limits conf recovered start new d0 d' w0 w' (count + n))
-TakesOn {D = D} bytes images moment since faults limits conf old new d d' w w' turns (taken.Ended s) =
+    → Reaches tells (limits_of old.journal 0) conf recovered start old.intake d0 old.journal.disk w0 w count
+    → Reaches tells (limits_of old.journal 0) conf recovered start new.intake d0 new.journal.disk w0 w' (count + n))
+TakesOn {D = D} tells conf old new w w' turns (taken.Ended s) =
     (recovered : List Numbered) (start : Intake) (d0 : D) (w0 : WireTells) (count : ℕ)
-    → Reaches bytes images moment since faults limits conf recovered start old d0 d w0 w count
-    → Finished limits conf recovered start new.entries (count + turns)
-    (Journals bytes images moment since faults (λ c. ⊥) d0 d') w0 w' (course_of s).ending
+    → Reaches tells (limits_of old.journal 0) conf recovered start old.intake d0 old.journal.disk w0 w count
+    → Finished (limits_of old.journal 0) conf recovered start new.intake.entries (count + turns)
+    (Journals (λ c. ⊥) (tells d0) (tells new.journal.disk)) w0 w' (course_of s).ending
 
 -- what holds of a run at the end of the taking of events: nothing waits for a commit, and its entries are sent; a
 -- fault of its wire shows in the count
@@ -98,12 +99,10 @@ IsServedAt conf kept old new w w' head (taken.Going n) = IsServing conf kept new
 IsServedAt conf kept old new w w' head (taken.Ended s) = IsEndedAt kept new w w' head s × IsCause s
 
 -- Events were taken by a run that served, at most so many, and answered; and their entries were sent.
-pub record HasServed {D : Type 0} (bytes : D → Option (List ℕ)) (images : D → List ℕ → Type 0) (moment : D → ℕ)
-    (since : D → ℕ → List ℕ → Type 0) (faults : D → ℕ) (conf : Conf) (kept : List Numbered)
-    (old new : Fronted D) (w w' : WireTells) (head : HeadView) (turns : ℕ) (t : Taken) : Type 0 where
+pub record HasServed {D : Type 0} (tells : D → DiskTells) (conf : Conf) (kept : List Numbered) (old new : Fronted D)
+    (w w' : WireTells) (head : HeadView) (turns : ℕ) (t : Taken) : Type 0 where
   pub later : w.faults ≤ w'.faults
-  pub takes : TakesOn bytes images moment since faults (limits_of old.journal 0) conf old.intake new.intake
-      old.journal.disk new.journal.disk w w' turns t
+  pub takes : TakesOn tells conf old new w w' turns t
   pub served : IsServedAt conf kept old new w w' head t
 
 -- what taking events came to, or want of memory of somebody beside it
@@ -112,13 +111,13 @@ IsJoined t joined = (joined ≡ t) ⊎ (joined ≡ taken.Ended status.OutOfMemor
 
 -- A front with which a run begins: its journal is ready and keeps these entries, nothing waits for a commit, and the
 -- intake is sound.
-pub record IsOpened {D : Type 0} (bytes : D → Option (List ℕ)) (images : D → List ℕ → Type 0) (conf : Conf)
-    (kept : List Numbered) (front : Fronted D) : Type 0 where
+pub record IsOpened {D : Type 0} (tells : D → DiskTells) (conf : Conf) (kept : List Numbered)
+    (front : Fronted D) : Type 0 where
   pub going : front.journal.state ≡ Ready
   pub idle : IsIdle front
   pub sound : IsSound conf front.intake
   pub entries_are : front.intake.entries ≡ kept
-  pub durable : IsKept bytes images front.journal.disk front.intake.entries
+  pub durable : IsKept (tells front.journal.disk) front.intake.entries
 
 -- a run that got no book: memory was refused, or its outbox holds more bytes than the lines of the kept entries have
 abbrev pub IsAheadOf : Conf → List Numbered → ℕ → Status → Type 0
@@ -147,17 +146,17 @@ IsWorse s worse =
 
 -- A run that was opened went up to its printed line: it got no book, or it took events up to some ending; and so many
 -- lines and counts are those of its entries.
-pub record HasGone {D : Type 0} (bytes : D → Option (List ℕ)) (images : D → List ℕ → Type 0) (moment : D → ℕ)
-    (since : D → ℕ → List ℕ → Type 0) (faults : D → ℕ) (conf : Conf) (kept : List Numbered) (outbox : SinkTells)
-    (front : Fronted D) (turns : ℕ) (w w' : WireTells) (began : Bool) (s : Status) (counts : Counts) (disk : D)
-    (entries : List Numbered) (outbox' : SinkTells) : Type 0 where
-  pub wire : s ≡ status.WireFault → Rose w.faults w'.faults
-  pub fault : s ≡ status.OutboxFault → Rose outbox.faults outbox'.faults
-  pub unprinted : IsUnprinted s
-  pub held_back : began ≡ false → IsHeldBack conf kept outbox.held front disk entries s
-  pub enough : began ≡ true → outbox.held ≤ length (log_lines conf (log_of kept))
-  pub finished : began ≡ true → Finished (limits_of front.journal 0) conf kept front.intake entries turns
-      (Journals bytes images moment since faults (λ c. ⊥) front.journal.disk disk) w w' (course_of s).ending
-  pub lines : began ≡ true → LinesAre (course_of s).out outbox outbox'
-      (drop outbox.held (log_lines conf (log_of entries)))
-  pub counts_are : s ≡ status.Ok → counts ≡ counts_with (length entries) (tally_of (replay conf (log_of entries)))
+pub record HasGone {D O : Type 0} (tells : D → DiskTells) (shows : O → SinkTells) (conf : Conf) (kept : List Numbered)
+    (outbox : SinkTells) (front : Fronted D) (turns : ℕ) (w w' : WireTells) (course : Course D O) : Type 0 where
+  pub wire : course.status ≡ status.WireFault → Rose w.faults w'.faults
+  pub fault : course.status ≡ status.OutboxFault → Rose outbox.faults (shows course.outbox).faults
+  pub unprinted : IsUnprinted course.status
+  pub held_back : course.began ≡ false
+      → IsHeldBack conf kept outbox.held front course.disk course.entries course.status
+  pub enough : course.began ≡ true → outbox.held ≤ length (log_lines conf (log_of kept))
+  pub finished : course.began ≡ true → Finished (limits_of front.journal 0) conf kept front.intake course.entries turns
+      (Journals (λ c. ⊥) (tells front.journal.disk) (tells course.disk)) w w' (course_of course.status).ending
+  pub lines : course.began ≡ true → LinesAre (course_of course.status).out outbox (shows course.outbox)
+      (drop outbox.held (log_lines conf (log_of course.entries)))
+  pub counts_are : course.status ≡ status.Ok → course.counts ≡ counts_with (length course.entries)
+      (tally_of (replay (first_stage conf) (log_of course.entries)))

@@ -1,29 +1,24 @@
 -- What the opening of a run finds of its journal and of its outbox, and why it ends there.
-use Rattle.std.specs.Prelude.{◌≡◌, ◌⊎◌, ◌≤◌, ◌<◌, ◌+◌, ◌-◌, ◌==◌, ◌^◌, min, ℕ, nat_lt, ◌||◌, List, [], ◌∷◌, length, drop, Option, Some, None, is_some, IfSome, IsTrue, ⊤, if◌then◌else◌}
+use Rattle.std.specs.Prelude.{◌≡◌, ◌⊎◌, ◌<◌, ◌+◌, ◌-◌, ◌==◌, ◌^◌, min, ℕ, nat_lt, ◌||◌, List, [], ◌∷◌, length, Option, Some, None, IfSome, IsTrue, ⊤, if◌then◌else◌}
 use Rattle.std.specs.Option.{option_map}
 use Rattle.zbx_types.specs.declared.conf.Conf.{Conf}
 use Rattle.zbx_types.specs.declared.entries.Entry.{Entry}
 use Rattle.zbx_types.specs.declared.entries.Entry.TheVariants.{Config, Value, Tick}
 use Rattle.zbx_types.specs.declared.entries.Numbered.{Numbered}
 use Rattle.intake_journal.specs.Kept.{first_gate, longest_journal, kept, groups_of}
-use Rattle.intake_journal.specs.Kept.Kept.{NotOurs, Damaged}
+use Rattle.intake_journal.specs.Kept.Kept.{Damaged}
 use Rattle.intake_journal.specs.declared.format.Group.{Group}
-use Rattle.intake_journal.specs.Settled.{Journaled, KeepsAsOneOf}
 use Rattle.intake_journal.specs.declared.state.State.TheVariants.{Ready}
-use Rattle.outside.specs.Causes.{Rose}
-use Rattle.outside.specs.Disk.{LeavesOnly}
 use Rattle.entry_step.specs.Log.{log_of}
-use Rattle.intake_front.specs.Intake.{start, IsSound}
-use Rattle.intake_front.specs.Fronted.{Fronted, numbered_of}
-use Rattle.intake_front.specs.Batch.{IsIdle}
+use Rattle.intake_front.specs.Intake.{start}
+use Rattle.intake_front.specs.Fronted.{numbered_of}
 use Rattle.intake_front.specs.Misfit.{IsFirstMisfit}
 use Rattle.intake_front.specs.declared.answer.FrontError.{FrontError}
 use Rattle.intake_front.specs.declared.answer.FrontError.TheVariants as front
 use Rattle.server_words.specs.declared.status.Status.{Status}
 use Rattle.server_words.specs.declared.status.Status.TheVariants as status
-use Rattle.server_run.specs.Recovered.{journal_bytes, HasGroups, GoesOn}
+use Rattle.server_run.specs.Recovered.{journal_bytes}
 use Rattle.book.specs.Outgoing.{log_lines}
-use Rattle.server_run.specs.Stops.{KeepsSome, IsEither, Journals}
 
 -- a file keeps these groups, where it is told
 abbrev pub FoundGroups : Option (List ℕ) → List Group → Type 0
@@ -103,31 +98,10 @@ IsFullAtFirst most conf entries bytes =
     (entries ≡ length (start conf.text [] 9).entries) × (bytes ≡ min (start conf.text [] 9).bytes (2 ^ 64 - 1))
     × IsTrue (nat_lt most entries || nat_lt longest_journal bytes)
 
--- why a run with this configuration doesn't begin, which allows so many entries: what its file keeps, or how many
--- bytes its outbox holds
-abbrev pub Bars : Conf → ℕ → Option (List ℕ) → ℕ → Status → Type 0
-Bars conf most file held status.NotOurs = IfSome file (λ b. kept b ≡ NotOurs)
-Bars conf most file held (status.Damaged at) =
-    IfSome file (λ b. kept b ≡ Damaged at) ⊎ ((groups : List Group) × FoundGroups file groups
-    × IsRejected conf groups (status.Damaged at))
-Bars conf most file held (status.ConfigDiffers at) =
-    (groups : List Group) × FoundGroups file groups × IsRejected conf groups (status.ConfigDiffers at)
-Bars conf most file held (status.OutboxAhead told lines) =
-    (groups : List Group) × FoundGroups file groups × IsAhead conf groups held told lines
-Bars conf most file held (status.Full entries bytes) = FoundGroups file [] × IsFullAtFirst most conf entries bytes
-Bars conf most file held _ = ⊥
-
--- the status of a run for which no intake was made
-abbrev pub status_for : FrontError → Status
-status_for (front.Full entries bytes) = status.Full entries bytes
-status_for front.DiskFault = status.DiskFault
-status_for front.OutOfMemory = status.OutOfMemory
-
--- why a run that was configured doesn't begin: memory was refused, or its disk failed, or it was barred
-abbrev pub Unopened : Conf → ℕ → Option (List ℕ) → ℕ → ℕ → ℕ → Status → Type 0
-Unopened conf most file faults faults' held status.OutOfMemory = ⊤
-Unopened conf most file faults faults' held status.DiskFault = Rose faults faults'
-Unopened conf most file faults faults' held s = Bars conf most file held s
+-- entries with which a run is to begin behind its file's groups
+abbrev pub BeginningEntries : Option (List ℕ) → Conf → List Numbered → Type 0
+BeginningEntries file conf entries =
+    (groups : List Group) × FoundGroups file groups × (entries ≡ opening_entries conf groups)
 
 -- entries that a run finds at its opening: those of its file's groups, or that of the configuration where there are
 -- none
@@ -135,45 +109,3 @@ abbrev pub FoundEntries : Option (List ℕ) → Conf → List Numbered → Type 
 FoundEntries file conf entries =
     (groups : List Group) × FoundGroups file groups × ((entries ≡ numbered_of groups)
     ⊎ (entries ≡ opening_entries conf groups))
-
--- A run that was configured, with an outbox of so many bytes, and didn't begin: why, and the entries that it has,
--- none or those that it found. A crash meanwhile left what one before it might have, or entries that it found.
-pub record TurnedAway {D : Type 0} (bytes : D → Option (List ℕ)) (images : D → List ℕ → Type 0) (moment : D → ℕ)
-    (since : D → ℕ → List ℕ → Type 0) (faults : D → ℕ) (conf : Conf) (most held : ℕ) (old new : D)
-    (entries : List Numbered) (s : Status) : Type 0 where
-  pub told : is_some (bytes new) ≡ is_some (bytes old)
-  pub later : faults old ≤ faults new
-  pub why : Unopened conf most (bytes old) (faults old) (faults new) held s
-  pub has : (entries ≡ []) ⊎ FoundEntries (bytes old) conf entries
-  pub left : IfSome (bytes old) (λ _. LeavesOnly moment since old new
-      (λ c. KeepsAsOneOf (images old) c ⊎ KeepsSome (FoundEntries (bytes old) conf) c))
-
--- A journal that was opened for a run with this configuration and is ready: its groups are accepted, these are their
--- entries, and it was gone on with as far as that.
-pub record IsTakenUp {D : Type 0} (bytes : D → Option (List ℕ)) (images : D → List ℕ → Type 0) (moment : D → ℕ)
-    (since : D → ℕ → List ℕ → Type 0) (faults : D → ℕ) (conf : Conf) (most : ℕ) (old : D)
-    (journal : Journaled D) (kept : List Numbered) : Type 0 where
-  pub groups : List Group
-  pub found : FoundGroups (bytes old) groups
-  pub accepted : IsAccepted conf groups
-  pub kept_are : kept ≡ numbered_of groups
-  pub has : HasGroups bytes images journal groups
-  pub limits : (journal.max_entries ≡ most) × (journal.max_bytes ≡ longest_journal)
-  pub goes_on : GoesOn bytes images moment since faults old journal.disk
-
--- A run that was configured: the intake behind its journal's groups. A crash meanwhile left what one before it might
--- have, or the entries of the groups, or those with which the run goes on, which are kept now; nothing waits for a
--- commit.
-pub record HasBegun {D : Type 0} (bytes : D → Option (List ℕ)) (images : D → List ℕ → Type 0) (moment : D → ℕ)
-    (since : D → ℕ → List ℕ → Type 0) (faults : D → ℕ) (conf : Conf) (most : ℕ) (old : D)
-    (made : Fronted D) : Type 0 where
-  pub groups : List Group
-  pub found : FoundGroups (bytes old) groups
-  pub accepted : IsAccepted conf groups
-  pub ready : made.journal.state ≡ Ready
-  pub limits : (made.journal.max_entries ≡ most) × (made.journal.max_bytes ≡ longest_journal)
-  pub intake_is : made.intake ≡ start conf.text (numbered_of groups) (journal_bytes groups)
-  pub sound : IsSound conf made.intake
-  pub idle : IsIdle made
-  pub journaled : Journals bytes images moment since faults (KeepsAsOneOf (images old)) old made.journal.disk
-      (IsEither (numbered_of groups) made.intake.entries) None made.intake.entries

@@ -2,7 +2,7 @@
 use Rattle.std.specs.Prelude.{◌≡◌, ◌≤◌, ◌<◌, ◌+◌, is_some, ℕ, List, [], ◌∷◌, length, Option, Some, All, IfSome, ⊤}
 use Rattle.zbx_types.specs.declared.conf.Conf.{Conf}
 use Rattle.outside.specs.Causes.{Rose}
-use Rattle.outside.specs.Disk.{Only, LeavesOnly}
+use Rattle.outside.specs.Disk.{DiskTells, Only, LeavesOnly}
 use Rattle.intake_journal.specs.Bytes.{entries_bytes}
 use Rattle.intake_journal.specs.Kept.{first_gate, kept_from, kept, groups_of}
 use Rattle.intake_journal.specs.Kept.Kept.{NotOurs, Damaged, Groups}
@@ -23,13 +23,12 @@ journal_bytes [] = 9
 journal_bytes (g ∷ gs) = length (entries_bytes g.entries) + 9 + journal_bytes gs
 
 -- a journal with these groups, ready for more, all of it durable where its disk tells
-pub record HasGroups {D : Type 0} (bytes : D → Option (List ℕ)) (images : D → List ℕ → Type 0)
-    (journal : Journaled D) (groups : List Group) : Type 0 where
+pub record HasGroups {D : Type 0} (tells : D → DiskTells) (journal : Journaled D) (groups : List Group) : Type 0 where
   pub ready : journal.state ≡ Ready
   pub count : journal.entries ≡ count_entries groups
   pub size : journal.at + 1 ≡ journal_bytes groups
-  pub keeps : IfSome (bytes journal.disk) (λ c. groups_of (kept c) ≡ Some groups)
-  pub durable : IfSome (bytes journal.disk) (λ c. Only c (images journal.disk))
+  pub keeps : IfSome (tells journal.disk).bytes (λ c. groups_of (kept c) ≡ Some groups)
+  pub durable : IfSome (tells journal.disk).bytes (λ c. Only c (tells journal.disk))
 
 -- what groups come to that were read, each of which has an entry: their entries are numbered from 1, and the place is
 -- that of the first one that doesn't fit a configuration
@@ -39,17 +38,17 @@ pub record IsNumbered (conf : Conf) (groups : List Group) (numbering : Numbering
   pub misfit_is : IsFirstMisfit conf groups numbering.misfit
 
 -- a journal of which groups were read, where nothing was read before: these, in front of what is left
-pub record IsReadSoFar {D : Type 0} (bytes : D → Option (List ℕ)) (conf : Conf) (old new : Journaled D)
+pub record IsReadSoFar {D : Type 0} (tells : D → DiskTells) (conf : Conf) (old new : Journaled D)
     (numbering : Numbering) : Type 0 where
   pub groups : List Group
   pub numbered : IsNumbered conf groups numbering
   pub count : new.entries ≡ count_entries groups
   pub size : new.at + 1 ≡ journal_bytes groups
   pub limits : (new.max_entries ≡ old.max_entries) × (new.max_bytes ≡ old.max_bytes)
-  pub found : IfSome (bytes old.disk) (λ b. kept_from first_gate b ≡ onto groups (kept_from new.at b))
+  pub found : IfSome (tells old.disk).bytes (λ b. kept_from first_gate b ≡ onto groups (kept_from new.at b))
 
 -- a journal of which all groups were read that its file keeps, where nothing was read before
-pub record IsReadThrough {D : Type 0} (bytes : D → Option (List ℕ)) (conf : Conf) (old new : Journaled D)
+pub record IsReadThrough {D : Type 0} (tells : D → DiskTells) (conf : Conf) (old new : Journaled D)
     (numbering : Numbering) : Type 0 where
   pub groups : List Group
   pub numbered : IsNumbered conf groups numbering
@@ -57,7 +56,7 @@ pub record IsReadThrough {D : Type 0} (bytes : D → Option (List ℕ)) (conf : 
   pub count : new.entries ≡ count_entries groups
   pub size : new.at + 1 ≡ journal_bytes groups
   pub limits : (new.max_entries ≡ old.max_entries) × (new.max_bytes ≡ old.max_bytes)
-  pub found : IfSome (bytes old.disk) (λ b. kept_from first_gate b ≡ Groups groups)
+  pub found : IfSome (tells old.disk).bytes (λ b. kept_from first_gate b ≡ Groups groups)
 
 -- the status of a run whose journal answers this
 abbrev pub status_for : JournalError → Status
@@ -83,17 +82,16 @@ IsUnread file faults faults' _ = ⊥
 
 -- a disk that was gone on with: a crash at any moment since then leaves a file that keeps what one did that a crash
 -- then might have left, where it tells
-pub record GoesOn {D : Type 0} (bytes : D → Option (List ℕ)) (images : D → List ℕ → Type 0) (moment : D → ℕ)
-    (since : D → ℕ → List ℕ → Type 0) (faults : D → ℕ) (old new : D) : Type 0 where
-  pub told : is_some (bytes new) ≡ is_some (bytes old)
-  pub later : faults old ≤ faults new
-  pub moments : IfSome (bytes old) (λ _. LeavesOnly moment since old new (KeepsAsOneOf (images old)))
+pub record GoesOn (old new : DiskTells) : Type 0 where
+  pub told : is_some new.bytes ≡ is_some old.bytes
+  pub later : old.faults ≤ new.faults
+  pub moments : IfSome old.bytes (λ _. LeavesOnly old new (KeepsAsOneOf old))
 
 -- a journal that was opened on a disk and is ready: its groups, which the disk's file kept, and what they come to
 -- beside a configuration
-pub record IsRecovered {D : Type 0} (bytes : D → Option (List ℕ)) (images : D → List ℕ → Type 0) (conf : Conf)
-    (old : D) (journal : Journaled D) (numbering : Numbering) : Type 0 where
+pub record IsRecovered {D : Type 0} (tells : D → DiskTells) (conf : Conf) (old : D) (journal : Journaled D)
+    (numbering : Numbering) : Type 0 where
   pub groups : List Group
   pub numbered : IsNumbered conf groups numbering
-  pub found : IfSome (bytes old) (λ b. groups_of (kept b) ≡ Some groups)
-  pub has : HasGroups bytes images journal groups
+  pub found : IfSome (tells old).bytes (λ b. groups_of (kept b) ≡ Some groups)
+  pub has : HasGroups tells journal groups

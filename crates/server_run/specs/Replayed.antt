@@ -10,6 +10,7 @@ use Rattle.config_templates.specs.Flat.{flat_of}
 use Rattle.entry_step.specs.Log.{log_of}
 use Rattle.entry_step.specs.Records.{replay}
 use Rattle.event_text.specs.Lines.{lines_of}
+use Rattle.trigger_state.specs.Stages.{first_stage}
 
 -- the configuration that an entry holds
 abbrev pub conf_in : Entry → Option Conf
@@ -25,7 +26,7 @@ conf_of_run (e ∷ rest) = conf_in e.entry
 -- the records of one thread that replays the entries in the order of their numbers
 abbrev pub replay_under : Option Conf → List Numbered → List Rec
 replay_under None entries = []
-replay_under (Some conf) entries = replay conf (log_of entries)
+replay_under (Some conf) entries = replay (first_stage conf) (log_of entries)
 
 -- the records of entries, under the configuration that the first one brings
 unfoldable pub replayed : List Numbered → List Rec

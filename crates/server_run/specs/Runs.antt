@@ -1,13 +1,14 @@
 -- What a run answers for: how it opened, what it took, and what it printed.
-use Rattle.std.specs.Prelude.{◌≡◌, ◌⊎◌, ◌≤◌, ◌+◌, ℕ, List, ◌++◌, length, Option, Some, None, Ok, is_some, IfSome, IsSome, true, ⊤, []}
+use Rattle.std.specs.Prelude.{◌≡◌, ◌⊎◌, ◌≤◌, ◌+◌, ℕ, List, ◌++◌, length, Option, Some, Ok, is_some, IfSome, []}
 use Rattle.std.specs.Option.{option_to_list}
 use Rattle.std.specs.Io.KnownBytes.{IsAtEnd}
 use Rattle.zbx_types.specs.declared.conf.Conf.{Conf}
 use Rattle.zbx_types.specs.declared.entries.Numbered.{Numbered}
 use Rattle.outside.specs.Causes.{Rose}
-use Rattle.outside.specs.Disk.{LeavesOnly}
+use Rattle.outside.specs.Disk.{DiskTells, LeavesOnly}
 use Rattle.outside.specs.Tells.{SinkTells, WireTells}
 use Rattle.outside.specs.declared.event.WireEvent.{WireEvent}
+use Rattle.entry_step.specs.Log.{log_of, IsFull, Fits}
 use Rattle.intake_front.specs.Intake.{Limits, Intake, start}
 use Rattle.intake_front.specs.Served.{served}
 use Rattle.intake_front.specs.Fronted.{Fronted, numbered_of}
@@ -22,25 +23,15 @@ use Rattle.server_words.specs.declared.words.Plan.{Plan}
 use Rattle.server_words.specs.Words.{plan_of}
 use Rattle.server_words.specs.Printed.{ok_text, printed_text}
 use Rattle.config_templates.specs.Flat.{flat_of}
-use Rattle.config_templates.specs.Places.{refuse}
-use Rattle.pattern_set.specs.Patterns.{IsNoPattern}
-use Rattle.server_run.specs.Patterns.{HasFlawAt, HoldsBrace}
 use Rattle.server_run.specs.Recovered.{journal_bytes}
-use Rattle.server_run.specs.Opening.{FoundGroups, IsAccepted, Bars, FoundEntries, HasBegun, opening_lines}
-use Rattle.server_run.specs.Stops.{refusing, IsReached, KeepsSome}
+use Rattle.server_run.specs.Opening.{FoundGroups, IsAccepted, BeginningEntries, FoundEntries, opening_lines}
+use Rattle.server_run.specs.Reasons.{reason_of, Unconfigured, Bars, Unopened, has_for, enters_for}
+use Rattle.server_run.specs.Resumed.{HasBegun}
+use Rattle.server_run.specs.Stops.{refusing, RunsOn, IsReached, KeepsSome}
 use Rattle.server_run.specs.Events.{Doing}
 use Rattle.book.specs.Outgoing.{Grew, GrewByFront}
 use Rattle.server_run.specs.Sending.{Shows}
 use Rattle.server_run.specs.Statuses.{Ending, Printing, whole_line, own_line, front_of_line, front_of_ok, course_of, EndsAs, LeftIs}
-
--- why a configuration couldn't be taken: memory was refused, it is refused for its first fault, or a pattern of it
--- isn't one, or holds a brace and is too large
-abbrev pub IsUntaken : List ℕ → Status → Type 0
-IsUntaken text status.OutOfMemory = ⊤
-IsUntaken text (status.ConfigRefused path cause) = flat_of text ≡ refuse path cause
-IsUntaken text (status.PatternRefused path) = HasFlawAt IsNoPattern path text
-IsUntaken text (status.PatternTooLarge path) = HasFlawAt HoldsBrace path text
-IsUntaken text _ = ⊥
 
 -- a run whose words had a plan and whose configuration is flat
 pub record Configured (words : List (List ℕ)) (source : Option (List ℕ)) (plan : Plan) (conf : Conf) : Type 0 where
@@ -57,45 +48,36 @@ pub record IsConfigured (words : List (List ℕ)) (source source' : Option (List
   pub most_is : most ≡ plan.max_entries
   pub at_end : IsAtEnd source'
 
--- why a run wasn't configured: its words have no plan; memory was refused; or they have one, and its source failed,
--- or the source's text couldn't be taken
-abbrev pub Unconfigured : List (List ℕ) → Option (List ℕ) → ℕ → ℕ → Status → Type 0
-Unconfigured words source faults faults' status.Usage = plan_of words ≡ None
-Unconfigured words source faults faults' status.SourceFault = IsSome (plan_of words) × Rose faults faults'
-Unconfigured words source faults faults' status.OutOfMemory = ⊤
-Unconfigured words source faults faults' (status.ConfigRefused path cause) =
-    IsSome (plan_of words) × IfSome source (λ text. flat_of text ≡ refuse path cause)
-Unconfigured words source faults faults' (status.PatternRefused path) =
-    IsSome (plan_of words) × IfSome source (HasFlawAt IsNoPattern path)
-Unconfigured words source faults faults' (status.PatternTooLarge path) =
-    IsSome (plan_of words) × IfSome source (HasFlawAt HoldsBrace path)
-Unconfigured words source faults faults' _ = ⊥
-
 -- a run that was configured, and is barred by what its file keeps or its outbox holds
 abbrev pub IsBarred : List (List ℕ) → Option (List ℕ) → Option (List ℕ) → ℕ → Status → Type 0
 IsBarred words source file held s =
     (plan : Plan) × (conf : Conf) × Configured words source plan conf × Bars conf plan.max_entries file held s
 
--- why a run didn't begin: it wasn't configured, or its disk failed, or it was barred
-abbrev pub Refuses : List (List ℕ) → Option (List ℕ) → ℕ → ℕ → Option (List ℕ) → ℕ → ℕ → ℕ → Status → Type 0
-Refuses words source faults faults' file disk_faults disk_faults' held status.Usage = plan_of words ≡ None
-Refuses words source faults faults' file disk_faults disk_faults' held status.SourceFault =
-    IsSome (plan_of words) × Rose faults faults'
-Refuses words source faults faults' file disk_faults disk_faults' held status.OutOfMemory = ⊤
-Refuses words source faults faults' file disk_faults disk_faults' held (status.ConfigRefused path cause) =
-    IsSome (plan_of words) × IfSome source (λ text. flat_of text ≡ refuse path cause)
-Refuses words source faults faults' file disk_faults disk_faults' held (status.PatternRefused path) =
-    IsSome (plan_of words) × IfSome source (HasFlawAt IsNoPattern path)
-Refuses words source faults faults' file disk_faults disk_faults' held (status.PatternTooLarge path) =
-    IsSome (plan_of words) × IfSome source (HasFlawAt HoldsBrace path)
-Refuses words source faults faults' file disk_faults disk_faults' held status.DiskFault =
-    (plan : Plan) × (conf : Conf) × Configured words source plan conf × Rose disk_faults disk_faults'
-Refuses words source faults faults' file disk_faults disk_faults' held s = IsBarred words source file held s
+-- why a run didn't begin: it wasn't configured, or it was, and its journal wasn't opened, or it was barred
+abbrev pub Refuses : List (List ℕ) → Option (List ℕ) → ℕ → ℕ → DiskTells → DiskTells → ℕ → Status → Type 0
+Refuses words source faults faults' old new held s =
+    Unconfigured words source faults faults' s
+    ⊎ ((plan : Plan) × (conf : Conf) × Configured words source plan conf
+    × Unopened conf plan.max_entries old new held s)
 
 -- entries that a run found at its opening, which was configured
 abbrev pub FoundBy : List (List ℕ) → Option (List ℕ) → Option (List ℕ) → List Numbered → Type 0
 FoundBy words source file entries =
     (plan : Plan) × (conf : Conf) × Configured words source plan conf × FoundEntries file conf entries
+
+-- entries with which a run was to begin, which was configured
+abbrev pub BeginsBy : List (List ℕ) → Option (List ℕ) → Option (List ℕ) → List Numbered → Type 0
+BeginsBy words source file entries =
+    (plan : Plan) × (conf : Conf) × Configured words source plan conf × BeginningEntries file conf entries
+
+-- which entries a run has that ended its opening with this status
+abbrev pub HasBy : List (List ℕ) → Option (List ℕ) → Option (List ℕ) → Status → List Numbered → Type 0
+HasBy words source file s entries =
+    has_for (reason_of s) file (BeginsBy words source file) (FoundBy words source file) entries
+
+-- entries that weren't in the journal before, and may have been in it since
+abbrev pub EntersBy : List (List ℕ) → Option (List ℕ) → Option (List ℕ) → Status → List Numbered → Type 0
+EntersBy words source file s = enters_for (reason_of s) (FoundBy words source file)
 
 -- the limits of a run with this plan, whose disk refuses no group
 abbrev pub limits_by : Plan → Limits
@@ -105,15 +87,17 @@ limits_by plan = record { max_entries = plan.max_entries; max_bytes = longest_jo
 abbrev pub opening_intake : Conf → List Group → Intake
 opening_intake conf groups = start conf.text (numbered_of groups) (journal_bytes groups)
 
--- A run that began with an intake handled some events, and memory may have been refused for one more. The wire gave
--- these and no other, and where it tells its events they were its first; what it tells is left stood behind them,
--- unless a call of next failed. The run's entries, replies and closings are those that the handled events make, of
--- which the disk may have refused a group. A crash meanwhile left entries that they reached.
+-- A run that began with an intake handled some events, of which only the last may have stopped it, and memory may have
+-- been refused for one more. The wire gave these and no other, and where it tells its events they were its first; what
+-- it tells is left stood behind them, unless a call of next failed. The run's entries, replies and closings are those
+-- that the handled events make, of which the disk may have refused a group. A crash meanwhile left entries that they
+-- reached.
 pub record Finished (limits : Limits) (conf : Conf) (recovered : List Numbered) (begun : Intake)
     (entries : List Numbered) (turns : ℕ) (did : Doing) (wire wire' : WireTells) (ending : Ending) : Type 0 where
   pub handled : List WireEvent
   pub lost : Option WireEvent
   pub refused : ℕ
+  pub runs_on : RunsOn limits conf begun handled
   pub few : length handled + length (option_to_list lost) ≤ turns
   pub given : wire'.given ≡ wire.given + length handled + length (option_to_list lost)
   pub told : IfSome wire.left (λ all. (rest : List WireEvent) × (all ≡ handled ++ (option_to_list lost ++ rest))
@@ -127,7 +111,7 @@ pub record Finished (limits : Limits) (conf : Conf) (recovered : List Numbered) 
       (served (refusing limits refused) conf begun handled).stop entries
 
 -- A run that began: its words had a plan, its configuration is flat, its journal kept groups of it, its outbox held
--- no more than their lines, and it took events.
+-- no more than their lines, and it took events. Its entries are numbered 1, 2, 3 and so on, and fit its configuration.
 pub record Followed (words : List (List ℕ)) (source file : Option (List ℕ)) (held : ℕ) (did : Doing)
     (wire wire' : WireTells) (s : Status) (entries : List Numbered) : Type 0 where
   pub plan : Plan
@@ -137,31 +121,32 @@ pub record Followed (words : List (List ℕ)) (source file : Option (List ℕ)) 
   pub found : FoundGroups file groups
   pub accepted : IsAccepted conf groups
   pub enough : held ≤ length (opening_lines conf groups)
+  pub whole : IsFull (log_of entries)
+  pub fits : Fits conf (log_of entries)
   pub finished : Finished (limits_by plan) conf (numbered_of groups) (opening_intake conf groups) entries plan.turns
       did wire wire' (course_of s).ending
 
 -- What a run has begun with: the plan's turns, the configuration of the text that the source told, all of which was
 -- read, and the intake behind its journal.
-pub record Opened {D : Type 0} (bytes : D → Option (List ℕ)) (images : D → List ℕ → Type 0) (moment : D → ℕ)
-    (since : D → ℕ → List ℕ → Type 0) (faults : D → ℕ) (words : List (List ℕ)) (source source' : Option (List ℕ))
+pub record Opened {D : Type 0} (tells : D → DiskTells) (words : List (List ℕ)) (source source' : Option (List ℕ))
     (old : D) (turns : ℕ) (conf : Conf) (front : Fronted D) : Type 0 where
   pub plan : Plan
   pub configured : Configured words source plan conf
   pub turns_are : turns ≡ plan.turns
   pub at_end : IsAtEnd source'
-  pub begun : HasBegun bytes images moment since faults conf plan.max_entries old front
+  pub begun : HasBegun tells conf plan.max_entries old front
 
--- What became of a run that didn't begin: why, and the entries that it has, none or those that it found. A crash
--- meanwhile left what one before it might have, or entries that it found.
-pub record Unbegun {D : Type 0} (bytes : D → Option (List ℕ)) (images : D → List ℕ → Type 0) (moment : D → ℕ)
-    (since : D → ℕ → List ℕ → Type 0) (faults : D → ℕ) (words : List (List ℕ)) (source : Option (List ℕ))
-    (source_faults source_faults' held : ℕ) (old new : D) (entries : List Numbered) (s : Status) : Type 0 where
-  pub why : Refuses words source source_faults source_faults' (bytes old) (faults old) (faults new) held s
-  pub told : is_some (bytes new) ≡ is_some (bytes old)
-  pub later : faults old ≤ faults new
-  pub has : (entries ≡ []) ⊎ FoundBy words source (bytes old) entries
-  pub left : IfSome (bytes old) (λ _. LeavesOnly moment since old new
-      (λ c. KeepsAsOneOf (images old) c ⊎ KeepsSome (FoundBy words source (bytes old)) c))
+-- What became of a run that didn't begin: why, and the entries that it has. A crash meanwhile left what one before it
+-- might have, or, where the run came so far, entries that it found.
+pub record Unbegun (words : List (List ℕ)) (source : Option (List ℕ)) (source_faults source_faults' held : ℕ)
+    (old new : DiskTells) (entries : List Numbered) (s : Status) : Type 0 where
+  pub why : Refuses words source source_faults source_faults' old new held s
+  pub told : is_some new.bytes ≡ is_some old.bytes
+  pub later : old.faults ≤ new.faults
+  pub found : (entries ≡ []) ⊎ FoundBy words source old.bytes entries
+  pub has : HasBy words source old.bytes s entries
+  pub left : IfSome old.bytes (λ _. LeavesOnly old new
+      (λ c. KeepsAsOneOf old c ⊎ KeepsSome (EntersBy words source old.bytes s) c))
 
 -- some of a text from the front was printed, since the printer failed
 abbrev pub CutShort : SinkTells → SinkTells → List ℕ → Type 0

@@ -1,5 +1,5 @@
 -- What each status is to a run: one row a status. All that depends on the status is said over these rows.
-use Rattle.std.specs.Prelude.{◌≡◌, ◌⊎◌, ℕ, List, Bool, true, false, Option, Some, None, Result, Ok, Err, ⊤}
+use Rattle.std.specs.Prelude.{◌≡◌, ◌⊎◌, ℕ, List, Option, Some, None, Result, Ok, Err, ⊤}
 use Rattle.std.specs.Option.{option_map}
 use Rattle.zbx_types.specs.declared.memory.OutOfMemory.{OutOfMemory}
 use Rattle.outside.specs.declared.event.WireEvent.{WireEvent}
@@ -37,25 +37,20 @@ pub data Printing : Type 0 where
   front_of_line : Printing
   front_of_ok : Printing
 
--- what a status is to a run: whether it can end its opening, and, where the run began, how the taking of events ended
--- and which lines are out; and what was printed
+-- what a status is to a run: where the run began, how the taking of events ended and which lines are out; and what was
+-- printed
 pub record Course : Type 0 where
-  pub opening : Bool
   pub ending : Ending
   pub out : Extent
   pub line : Printing
 
 -- a status that ends the opening alone
 abbrev pub refusal : Course
-refusal = record { opening = true; ending = never; out = no_lines; line = own_line }
+refusal = record { ending = never; out = no_lines; line = own_line }
 
--- a status that ends a run which has begun, and none before
-abbrev pub begun : Ending → Extent → Printing → Course
-begun ending out line = record { opening = false; ending = ending; out = out; line = line }
-
--- a status that ends the opening, or a run which has begun
-abbrev pub either : Ending → Extent → Printing → Course
-either ending out line = record { opening = true; ending = ending; out = out; line = line }
+-- a status that ends a run which has begun
+abbrev pub ends : Ending → Extent → Printing → Course
+ends ending out line = record { ending = ending; out = out; line = line }
 
 -- the status of a run whose last event stopped it so
 abbrev pub status_of : Stop → Status
@@ -82,12 +77,12 @@ ended_with s (Ok enough) (Ok done) = option_map status_of s
 
 -- what each status is to a run
 abbrev pub course_of : Status → Course
-course_of status.Ok = begun at_closed all_lines whole_line
-course_of status.PrintFault = begun at_closed all_lines front_of_ok
-course_of status.TurnLimit = begun at_limit all_lines own_line
-course_of status.WireFault = begun at_wire_fault all_lines own_line
-course_of status.OutboxFault = begun anywhere front_lines own_line
-course_of status.OutOfMemory = either at_refusal front_lines front_of_line
+course_of status.Ok = ends at_closed all_lines whole_line
+course_of status.PrintFault = ends at_closed all_lines front_of_ok
+course_of status.TurnLimit = ends at_limit all_lines own_line
+course_of status.WireFault = ends at_wire_fault all_lines own_line
+course_of status.OutboxFault = ends anywhere front_lines own_line
+course_of status.OutOfMemory = ends at_refusal front_lines front_of_line
 course_of status.Usage = refusal
 course_of status.SourceFault = refusal
 course_of (status.ConfigRefused path cause) = refusal
@@ -97,21 +92,8 @@ course_of status.NotOurs = refusal
 course_of (status.Damaged at) = refusal
 course_of (status.ConfigDiffers at) = refusal
 course_of (status.OutboxAhead held lines) = refusal
-course_of status.DiskFault = either at_disk_fault all_lines own_line
-course_of (status.Full entries bytes) = either (at_full entries bytes) all_lines own_line
-
--- a status of a run that hasn't begun
-abbrev pub IsRefusal : Status → Type 0
-IsRefusal s = (course_of s).opening ≡ true
-
--- a status that names what the journal or the outbox of a run was at its opening
-abbrev pub IsBarring : Status → Type 0
-IsBarring status.NotOurs = ⊤
-IsBarring (status.Damaged at) = ⊤
-IsBarring (status.ConfigDiffers at) = ⊤
-IsBarring (status.OutboxAhead held lines) = ⊤
-IsBarring (status.Full entries bytes) = ⊤
-IsBarring _ = ⊥
+course_of status.DiskFault = ends at_disk_fault all_lines own_line
+course_of (status.Full entries bytes) = ends (at_full entries bytes) all_lines own_line
 
 -- a status that names a pattern
 abbrev pub NamesPattern : Status → Type 0

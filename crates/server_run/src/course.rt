@@ -1,5 +1,6 @@
 //! The course of a run over its book, from its opening to its last line.
 
+ghost use Rattle.trigger_state.specs.Stages.{first_stage};
 ghost use Rattle.std.specs.Prelude.{◌≡◌, ◌⊎◌, ◌<◌, ◌++◌, List, IsTrue, IfOk, true, false, drop, length};
 ghost use Rattle.zbx_types.specs.declared.entries.Numbered.{Numbered};
 ghost use Rattle.outside.specs.Causes.{Rose};
@@ -7,7 +8,6 @@ ghost use Rattle.entry_step.specs.Log.{log_of};
 ghost use Rattle.entry_step.specs.Records.{replay};
 ghost use Rattle.book.specs.Outgoing.{log_lines};
 ghost use Rattle.book.specs.Tally.{tally_of};
-ghost use Rattle.intake_front.specs.Fronted.{limits_of};
 ghost use Rattle.intake_front.specs.Batch.{IsIdle};
 ghost use Rattle.server_run.specs.Going.{IsServing, TakesOn, IsEndedAt, IsSentAt, IsOpened, IsWorse, HasGone, book_status};
 ghost use Rattle.server_run.specs.declared.serving.Taken.TheVariants as Taken;
@@ -127,9 +127,8 @@ fn serve_alone<S: StartName, N: RunName, W: Wire, D: Disk, O: Sink>(
     alone: &mut Alone<S, N, O>,
 ) -> Status
     requires { IsServing S.conf S.kept front.old head.old }
-    ensures takes { TakesOn D.bytes D.images D.moment D.images_since D.faults (limits_of front.old.journal 0) S.conf
-        front.old.intake front.new.intake front.old.journal.disk front.new.journal.disk
-        (W.tells wire.old) (W.tells wire.new) turns (Taken.Ended result) }
+    ensures takes { TakesOn D.tells S.conf front.old front.new (W.tells wire.old) (W.tells wire.new) turns
+        (Taken.Ended result) }
     ensures ended { IsEndedAt S.kept front.new (W.tells wire.old) (W.tells wire.new) head.new result }
     ensures outbox { result ≡ Status.OutboxFault → Rose S.outbox.faults alone.new.book.sink.faults }
 {
@@ -171,9 +170,8 @@ where
     G: Gate + Sync,
     requires serving { IsServing S.conf S.kept front.old head.old }
     requires before { before ≡ S.outbox.faults }
-    ensures takes { TakesOn D.bytes D.images D.moment D.images_since D.faults (limits_of front.old.journal 0) S.conf
-        front.old.intake front.new.intake front.old.journal.disk front.new.journal.disk
-        (W.tells wire.old) (W.tells wire.new) turns (Taken.Ended result.1) }
+    ensures takes { TakesOn D.tells S.conf front.old front.new (W.tells wire.old) (W.tells wire.new) turns
+        (Taken.Ended result.1) }
     ensures ended { IsEndedAt S.kept front.new (W.tells wire.old) (W.tells wire.new) head.new result.1 }
     ensures outbox { result.1 ≡ Status.OutboxFault → Rose S.outbox.faults result.0.sink.faults }
 {
@@ -235,7 +233,7 @@ fn finish<S: StartName, N: RunName, O: Sink>(
         (drop S.outbox.held (log_lines S.conf (log_of entries))) }
     ensures outbox { result.status ≡ Status.OutboxFault → Rose S.outbox.faults (O.tells result.outbox).faults }
     ensures counts { result.status ≡ Status.Ok → result.tally ≡ tally_of
-        (replay S.conf (log_of (S.kept ++ head.sent))) }
+        (replay (first_stage S.conf) (log_of (S.kept ++ head.sent))) }
 {
     let _since = book.faults();
     match book.finish(alloc, prepared.ready(), head) {
@@ -288,7 +286,7 @@ fn close<S: StartName, N: RunName, D: Disk, O: Sink>(
         (drop S.outbox.held (log_lines S.conf (log_of front.intake.entries))) }
     ensures outbox { result.status ≡ Status.OutboxFault → Rose S.outbox.faults (O.tells result.outbox).faults }
     ensures counts { result.status ≡ Status.Ok → result.counts ≡ counts_with (length front.intake.entries)
-        (tally_of (replay S.conf (log_of front.intake.entries))) }
+        (tally_of (replay (first_stage S.conf) (log_of front.intake.entries))) }
 {
     let Written {
         status,
@@ -323,12 +321,11 @@ fn named<S: StartName, N: RunName, W: Wire, D: Disk, O: Sink>(
 ) -> Course<D, O>
     requires ring { ring.id ≡ N.ring }
     requires room { 0 < ring.capacity }
-    requires opened { IsOpened D.bytes D.images S.conf S.kept front }
+    requires opened { IsOpened D.tells S.conf S.kept front }
     requires kept { kept ≡ S.kept }
     requires outbox { O.tells outbox ≡ S.outbox }
-    ensures gone { HasGone D.bytes D.images D.moment D.images_since D.faults S.conf S.kept S.outbox front turns
-        (W.tells wire.old) (W.tells wire.new) result.began result.status result.counts result.disk result.entries
-        (O.tells result.outbox) }
+    ensures gone { HasGone D.tells O.tells S.conf S.kept S.outbox front turns (W.tells wire.old) (W.tells wire.new)
+        result }
     ensures untouched { result.began ≡ false → (wire.new ≡ wire.old) × (result.outbox ≡ outbox) }
 {
     let (head, end) = ring.named::<N>();
@@ -362,13 +359,12 @@ pub(crate) fn started<S: StartName, W: Wire, D: Disk, O: Sink>(
     kept: Many<Numbered>,
     outbox: O,
 ) -> Course<D, O>
-    requires conf { ready ≡ S.conf }
-    requires opened { IsOpened D.bytes D.images S.conf S.kept front }
+    requires conf { ready ≡ first_stage S.conf }
+    requires opened { IsOpened D.tells S.conf S.kept front }
     requires kept { kept ≡ S.kept }
     requires outbox { O.tells outbox ≡ S.outbox }
-    ensures gone { HasGone D.bytes D.images D.moment D.images_since D.faults S.conf S.kept S.outbox front turns
-        (W.tells wire.old) (W.tells wire.new) result.began result.status result.counts result.disk result.entries
-        (O.tells result.outbox) }
+    ensures gone { HasGone D.tells O.tells S.conf S.kept S.outbox front turns (W.tells wire.old) (W.tells wire.new)
+        result }
     ensures untouched { result.began ≡ false → (wire.new ≡ wire.old) × (result.outbox ≡ outbox) }
 {
     let prepared = Prepared::<S>::new(ready);
@@ -407,12 +403,11 @@ where
     G: Gate + Sync,
     requires ring { ring.id ≡ N.ring }
     requires room { 0 < ring.capacity }
-    requires opened { IsOpened D.bytes D.images S.conf S.kept front }
+    requires opened { IsOpened D.tells S.conf S.kept front }
     requires kept { kept ≡ S.kept }
     requires outbox { O.tells outbox ≡ S.outbox }
-    ensures gone { HasGone D.bytes D.images D.moment D.images_since D.faults S.conf S.kept S.outbox front turns
-        (W.tells wire.old) (W.tells wire.new) result.began result.status result.counts result.disk result.entries
-        (O.tells result.outbox) }
+    ensures gone { HasGone D.tells O.tells S.conf S.kept S.outbox front turns (W.tells wire.old) (W.tells wire.new)
+        result }
     ensures untouched { result.began ≡ false → (wire.new ≡ wire.old) × (result.outbox ≡ outbox) }
 {
     let before = outbox.faults();
@@ -452,13 +447,12 @@ where
     O: Sink + Send,
     R: Threads + Wait + Sync,
     G: Gate + Sync,
-    requires conf { ready ≡ S.conf }
-    requires opened { IsOpened D.bytes D.images S.conf S.kept front }
+    requires conf { ready ≡ first_stage S.conf }
+    requires opened { IsOpened D.tells S.conf S.kept front }
     requires kept { kept ≡ S.kept }
     requires outbox { O.tells outbox ≡ S.outbox }
-    ensures gone { HasGone D.bytes D.images D.moment D.images_since D.faults S.conf S.kept S.outbox front turns
-        (W.tells wire.old) (W.tells wire.new) result.began result.status result.counts result.disk result.entries
-        (O.tells result.outbox) }
+    ensures gone { HasGone D.tells O.tells S.conf S.kept S.outbox front turns (W.tells wire.old) (W.tells wire.new)
+        result }
     ensures untouched { result.began ≡ false → (wire.new ≡ wire.old) × (result.outbox ≡ outbox) }
 {
     let prepared = Prepared::<S>::new(ready);

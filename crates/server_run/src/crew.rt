@@ -154,7 +154,7 @@ trait Taker<S: StartName, N: RunName> {
         shared: &Shared<S, N, O>,
     ) -> Taken
         requires { IsServing S.conf S.kept front.old (head self.old) }
-        ensures { HasServed D.bytes D.images D.moment D.images_since D.faults S.conf S.kept front.old front.new
+        ensures { HasServed D.tells S.conf S.kept front.old front.new
             (W.tells wire.old) (W.tells wire.new) (head self.new) turns result };
 }
 
@@ -201,7 +201,7 @@ where
     G: Gate + Sync,
     T: Taker<S, N>,
     requires { IsServing S.conf S.kept front.old (T.head taker.old) }
-    ensures { HasServed D.bytes D.images D.moment D.images_since D.faults S.conf S.kept front.old front.new
+    ensures { HasServed D.tells S.conf S.kept front.old front.new
         (W.tells wire.old) (W.tells wire.new) (T.head taker.new) turns result }
 {
     let (worked, taken) = join_mut(
@@ -209,7 +209,7 @@ where
         &mut || work_all(rt, alloc, prepared, shared, gate, syncers),
         &mut || -> Taken
             requires { IsServing S.conf S.kept front.now (T.head taker.now) }
-            ensures { HasServed D.bytes D.images D.moment D.images_since D.faults S.conf S.kept front.entry.now
+            ensures { HasServed D.tells S.conf S.kept front.entry.now
                 front.exit.now (W.tells wire.entry.now) (W.tells wire.exit.now) (T.head taker.exit.now) turns result }
         { taker.serve_shared(rt, alloc, turns, prepared, wire, front, shared) },
     );
@@ -239,7 +239,7 @@ where
     R: Threads + Wait + Sync,
     G: Gate + Sync,
     requires { IsServing S.conf S.kept front.old head.old }
-    ensures { HasServed D.bytes D.images D.moment D.images_since D.faults S.conf S.kept front.old front.new
+    ensures { HasServed D.tells S.conf S.kept front.old front.new
         (W.tells wire.old) (W.tells wire.new) head.new turns result.1 }
 {
     if syncers == 0 {

@@ -2,6 +2,7 @@
 
 ghost use Rattle.std.specs.Prelude.{◌≡◌, ◌<◌, ◌++◌, ◌∷◌, [], drop, OnOk, OnErr};
 ghost use mathlib.Core.List.{IsPrefix};
+ghost use Rattle.trigger_state.specs.Stages.{first_stage};
 ghost use Rattle.book.specs.Entries.{IsWholeLog};
 
 use book::{RingHead, RunName, StartName};
@@ -31,7 +32,7 @@ pub(crate) trait Worker<S: StartName, N: RunName> {
         ready: &Ready,
         head: &mut RingHead<S, N>,
     ) -> Result<bool, OutOfMemory>
-        requires conf { ready.now ≡ S.conf }
+        requires conf { ready.now ≡ first_stage S.conf }
         ensures sent { head.new.sent ≡ head.old.sent }
         ensures capacity { head.new.capacity ≡ head.old.capacity }
         ensures stops { IfOk result (λ on. on ≡ false → stops self.new) };

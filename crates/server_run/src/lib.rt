@@ -9,8 +9,10 @@
 //!
 //! The one contract, in a sentence: the replies and entries are those that the definition of what events make gives
 //! for the events taken, behind those that the journal kept; a stop at any moment leaves the entries behind some of
-//! the events, and all that were answered; the outbox has the lines of one thread replaying the entries, none missing
-//! and none twice; and a run ends early only for the cause that its status names.
+//! the events; the outbox has the lines of one thread replaying the entries, none missing and none twice; and a run
+//! ends early only for the cause that its status names. It is `IsRun`, field by field, in `specs/Ran.antt`. That no
+//! answered value is lost is a clause of each commit, which hands an answer out only once each crash leaves its
+//! entries.
 //!
 //! A run goes through its opening, in which each refusal ends it: the words; reading the configuration; flattening
 //! it; opening the journal and reading its groups, which must be those of a run with this configuration; journaling

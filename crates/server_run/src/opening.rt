@@ -6,9 +6,11 @@ ghost use Rattle.pattern_set.specs.Patterns.{IsPattern};
 ghost use Rattle.config_templates.specs.Flat.{flat_of};
 ghost use Rattle.server_words.specs.Words.{plan_of};
 ghost use Rattle.server_run.specs.Ports.{ReadsUpTo};
-ghost use Rattle.server_run.specs.Opening.{HasBegun, TurnedAway};
+ghost use Rattle.server_run.specs.Reasons.{IsUntaken, Unconfigured};
+ghost use Rattle.server_run.specs.Resumed.{HasBegun, TurnedAway};
+ghost use Rattle.trigger_state.specs.Stages.{first_stage};
 ghost use Rattle.server_run.specs.Patterns.{IsUnready};
-ghost use Rattle.server_run.specs.Runs.{IsUntaken, IsConfigured, Unconfigured, Opened, Unbegun};
+ghost use Rattle.server_run.specs.Runs.{IsConfigured, Opened, Unbegun};
 
 use crate::reading::{ReadError, read_all};
 use crate::resuming::{Refused, resume};
@@ -28,6 +30,7 @@ pub(crate) struct Begun<D: Disk> {
     pub syncers: u32,
     pub ready: Ready,
     pub front: Front<D>,
+    ghost first: { ready ≡ first_stage ready.conf },
 }
 
 /// What the words and the configuration of a run ask for.
@@ -37,6 +40,7 @@ struct Setup {
     syncers: u32,
     max_entries: u64,
     ready: Ready,
+    ghost first: { ready ≡ first_stage ready.conf },
 }
 
 /// The flat configuration of these bytes.
@@ -63,7 +67,7 @@ fn path_at(alloc: Global, paths: &Many<Text>, place: u32) -> Result<Text, OutOfM
 
 /// Makes a configuration ready. Where a pattern of it isn't taken, the status has the path where it is used first.
 fn ready_of(alloc: Global, conf: Conf) -> Result<Ready, Status>
-    ensures ok { IfOk result (λ ready. ready ≡ conf) }
+    ensures ok { IfOk result (λ ready. ready ≡ first_stage conf) }
     ensures patterns { IfOk result (λ _. All IsPattern conf.patterns) }
     ensures err { IfErr result (IsUnready conf) }
 {
@@ -86,7 +90,7 @@ fn ready_of(alloc: Global, conf: Conf) -> Result<Ready, Status>
 
 /// Makes the configuration of these bytes ready.
 fn prepare(alloc: Global, bytes: &[u8]) -> Result<Ready, Status>
-    ensures ok { IfOk result (λ ready. flat_of bytes.now ≡ Ok ready) }
+    ensures ok { IfOk result (λ ready. (flat_of bytes.now ≡ Ok ready.conf) × (ready ≡ first_stage ready.conf)) }
     ensures err { IfErr result (IsUntaken bytes.now) }
 {
     match configure(alloc, bytes) {
@@ -102,7 +106,7 @@ fn set_up<S: Source>(alloc: Global, words: &[Text], config: &mut S) -> Result<Se
     ensures unread { plan_of words.now ≡ None → config.new ≡ config.old }
     ensures taken { ReadsUpTo 16777216 (S.left config.old) (S.left config.new) }
     ensures ok { IfOk result (λ c. IsConfigured words.now (S.left config.old) (S.left config.new) c.turns
-        c.max_entries c.ready) }
+        c.max_entries c.ready.conf) }
     ensures err { IfErr result (Unconfigured words.now (S.left config.old) (S.faults config.old)
         (S.faults config.new)) }
 {
@@ -130,9 +134,9 @@ fn set_up<S: Source>(alloc: Global, words: &[Text], config: &mut S) -> Result<Se
 /// Goes on with a run that was configured, behind what its journal kept.
 fn resume_setup<D: Disk>(alloc: Global, setup: Setup, disk: D) -> Result<Begun<D>, Refused<D>>
     ensures ok { IfOk result (λ b. (b.turns ≡ setup.turns) × (b.ready ≡ setup.ready)
-        × HasBegun D.bytes D.images D.moment D.images_since D.faults setup.ready setup.max_entries disk b.front) }
-    ensures err { IfErr result (λ r. (held : ℕ) → TurnedAway D.bytes D.images D.moment D.images_since D.faults
-        setup.ready setup.max_entries held disk r.disk r.entries r.status) }
+        × HasBegun D.tells setup.ready.conf setup.max_entries disk b.front) }
+    ensures err { IfErr result (λ r. (held : ℕ) → TurnedAway setup.ready.conf setup.max_entries held
+        (D.tells disk) (D.tells r.disk) r.entries r.status) }
 {
     match resume(alloc, &setup.ready, disk, setup.max_entries) {
         Ok(front) => Ok(Begun {
@@ -158,10 +162,10 @@ pub(crate) fn open<S: Source, D: Disk>(
     ensures later { S.faults config.old ≤ S.faults config.new }
     ensures unread { plan_of words.now ≡ None → config.new ≡ config.old }
     ensures taken { ReadsUpTo 16777216 (S.left config.old) (S.left config.new) }
-    ensures ok { IfOk result (λ b. Opened D.bytes D.images D.moment D.images_since D.faults words.now
-        (S.left config.old) (S.left config.new) disk b.turns b.ready b.front) }
-    ensures err { IfErr result (λ r. (held : ℕ) → Unbegun D.bytes D.images D.moment D.images_since D.faults words.now
-        (S.left config.old) (S.faults config.old) (S.faults config.new) held disk r.disk r.entries r.status) }
+    ensures ok { IfOk result (λ b. Opened D.tells words.now
+        (S.left config.old) (S.left config.new) disk b.turns b.ready.conf b.front) }
+    ensures err { IfErr result (λ r. (held : ℕ) → Unbegun words.now (S.left config.old) (S.faults config.old)
+        (S.faults config.new) held (D.tells disk) (D.tells r.disk) r.entries r.status) }
 {
     match set_up(alloc, words, config) {
         Ok(setup) => resume_setup(alloc, setup, disk),

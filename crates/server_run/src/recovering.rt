@@ -35,11 +35,11 @@ fn read_all<D: Disk>(
     requires reading { journal.old.state ≡ Reading }
     requires first { journal.old.at ≡ first_gate }
     requires none { journal.old.entries ≡ 0 }
-    ensures read { IfOk result (IsReadThrough D.bytes conf.now journal.old journal.new) }
-    ensures before { IsAsBefore D.bytes D.images D.moment D.images_since journal.old.disk journal.new.disk }
-    ensures later { D.faults journal.old.disk ≤ D.faults journal.new.disk }
-    ensures why { IfErr result (StopsReading (D.bytes journal.old.disk) (D.faults journal.old.disk)
-        (D.faults journal.new.disk)) }
+    ensures read { IfOk result (IsReadThrough D.tells conf.now journal.old journal.new) }
+    ensures before { IsAsBefore (D.tells journal.old.disk) (D.tells journal.new.disk) }
+    ensures later { (D.tells journal.old.disk).faults ≤ (D.tells journal.new.disk).faults }
+    ensures why { IfErr result (StopsReading (D.tells journal.old.disk).bytes (D.tells journal.old.disk).faults
+        (D.tells journal.new.disk).faults) }
 {
     let mut numbering = Numbering::new(alloc);
     for _ in 0..u64::MAX {
@@ -64,11 +64,12 @@ pub(crate) fn recover<D: Disk>(
     disk: D,
     max_entries: u64,
 ) -> Result<(Journal<D>, Numbering), (D, Status)>
-    ensures recovered { IfOk result (λ made. IsRecovered D.bytes D.images conf.now disk made.0 made.1) }
+    ensures recovered { IfOk result (λ made. IsRecovered D.tells conf.now disk made.0 made.1) }
     ensures limits { IfOk result (λ made. (made.0.max_entries ≡ max_entries) × (made.0.max_bytes ≡ longest_journal)) }
-    ensures goes_on { IfOk result (λ made. GoesOn D.bytes D.images D.moment D.images_since D.faults disk made.0.disk) }
-    ensures gives_back { IfErr result (λ why. GoesOn D.bytes D.images D.moment D.images_since D.faults disk why.0) }
-    ensures why { IfErr result (λ why. IsUnread (D.bytes disk) (D.faults disk) (D.faults why.0) why.1) }
+    ensures goes_on { IfOk result (λ made. GoesOn (D.tells disk) (D.tells made.0.disk)) }
+    ensures gives_back { IfErr result (λ why. GoesOn (D.tells disk) (D.tells why.0)) }
+    ensures why { IfErr result (λ why. IsUnread (D.tells disk).bytes (D.tells disk).faults
+        (D.tells why.0).faults why.1) }
 {
     let mut journal = match Journal::recover(alloc, disk, max_entries, LONGEST_JOURNAL) {
         Ok(journal) => journal,

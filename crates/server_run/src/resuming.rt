@@ -5,7 +5,8 @@ ghost use Rattle.intake_journal.specs.declared.state.State.TheVariants as state;
 ghost use Rattle.intake_front.specs.Fronted.{HasJournaled};
 ghost use Rattle.intake_journal.specs.declared.format.Group.{Group};
 ghost use Rattle.server_run.specs.Recovered.{IsNumbered};
-ghost use Rattle.server_run.specs.Opening.{differ_at, config_text, status_for, IsTextJudged, IsJudged, IsTakenUp, HasBegun, TurnedAway};
+ghost use Rattle.server_run.specs.Opening.{differ_at, config_text, IsTextJudged, IsJudged};
+ghost use Rattle.server_run.specs.Resumed.{status_for, IsTakenUp, HasBegun, TurnedAway};
 
 use crate::numbering::Numbering;
 use crate::recovering::recover;
@@ -80,10 +81,10 @@ fn accepted<D: Disk>(
     disk: D,
     max_entries: u64,
 ) -> Result<(Journal<D>, Many<Numbered>), Refused<D>>
-    ensures ok { IfOk result (λ made. IsTakenUp D.bytes D.images D.moment D.images_since D.faults conf.now
+    ensures ok { IfOk result (λ made. IsTakenUp D.tells conf.now
         max_entries disk made.0 made.1) }
-    ensures err { IfErr result (λ r. (held : ℕ) → TurnedAway D.bytes D.images D.moment D.images_since D.faults
-        conf.now max_entries held disk r.disk r.entries r.status) }
+    ensures err { IfErr result (λ r. (held : ℕ) → TurnedAway conf.now max_entries held (D.tells disk)
+        (D.tells r.disk) r.entries r.status) }
 {
     let (journal, numbering) = match recover(alloc, conf, disk, max_entries) {
         Ok(recovered) => recovered,
@@ -124,13 +125,13 @@ fn begin<D: Disk>(
     kept: Many<Numbered>,
 ) -> Result<Front<D>, Refused<D>>
     requires read { journal.state ≡ state.Ready }
-    requires journaled { HasJournaled D.bytes D.images journal kept (journal.at + 1) }
+    requires journaled { HasJournaled D.tells journal kept (journal.at + 1) }
     ensures ok { IfOk result (λ f. (most : ℕ) (old : D)
-        → IsTakenUp D.bytes D.images D.moment D.images_since D.faults ready.now most old journal kept
-        → HasBegun D.bytes D.images D.moment D.images_since D.faults ready.now most old f) }
+        → IsTakenUp D.tells ready.now.conf most old journal kept
+        → HasBegun D.tells ready.now.conf most old f) }
     ensures err { IfErr result (λ r. (most held : ℕ) (old : D)
-        → IsTakenUp D.bytes D.images D.moment D.images_since D.faults ready.now most old journal kept
-        → TurnedAway D.bytes D.images D.moment D.images_since D.faults ready.now most held old r.disk r.entries
+        → IsTakenUp D.tells ready.now.conf most old journal kept
+        → TurnedAway ready.now.conf most held (D.tells old) (D.tells r.disk) r.entries
         r.status) }
 {
     match Front::new(alloc, ready, journal, kept) {
@@ -150,9 +151,9 @@ pub(crate) fn resume<D: Disk>(
     disk: D,
     max_entries: u64,
 ) -> Result<Front<D>, Refused<D>>
-    ensures ok { IfOk result (HasBegun D.bytes D.images D.moment D.images_since D.faults ready.now max_entries disk) }
-    ensures err { IfErr result (λ r. (held : ℕ) → TurnedAway D.bytes D.images D.moment D.images_since D.faults
-        ready.now max_entries held disk r.disk r.entries r.status) }
+    ensures ok { IfOk result (HasBegun D.tells ready.now.conf max_entries disk) }
+    ensures err { IfErr result (λ r. (held : ℕ) → TurnedAway ready.now.conf max_entries held (D.tells disk)
+        (D.tells r.disk) r.entries r.status) }
 {
     let (journal, kept) = match accepted(alloc, ready.conf(), disk, max_entries) {
         Ok(taken) => taken,

@@ -1,33 +1,11 @@
 //! The top call.
 
-ghost use Rattle.std.specs.Prelude.{◌≡◌, ◌⊎◌, ◌≤◌, ◌<◌, ℕ, List, [], take, length, All, drop, true, false, is_some, IfSome, Some, None, Ok};
-ghost use Rattle.std.specs.Io.KnownBytes.{IsAtEnd};
+ghost use Rattle.std.specs.Prelude.{◌≡◌, false, None};
 ghost use Rattle.outside.specs.Causes.{Rose};
-ghost use Rattle.outside.specs.Disk.{LeavesOnly};
-ghost use Rattle.outside.specs.declared.event.WireEvent.{WireEvent};
-ghost use Rattle.intake_journal.specs.Kept.{kept, groups_of};
-ghost use Rattle.intake_journal.specs.Settled.{KeepsAsOneOf};
-ghost use Rattle.intake_journal.specs.declared.format.Group.{Group};
-ghost use Rattle.intake_journal.specs.declared.state.State.TheVariants as state;
-ghost use Rattle.intake_front.specs.Fronted.{Keeps};
-ghost use Rattle.intake_front.specs.Served.{served};
-ghost use Rattle.intake_front.specs.declared.answer.Stop.TheVariants as stop;
-ghost use Rattle.server_words.specs.declared.words.Plan.{Plan};
 ghost use Rattle.server_words.specs.Words.{plan_of};
-ghost use Rattle.config_templates.specs.Flat.{flat_of};
-ghost use Rattle.config_templates.specs.Places.{refuse};
-ghost use Rattle.zbx_types.specs.declared.causes.Cause.{Cause};
-ghost use Rattle.zbx_types.specs.declared.conf.Conf.{Conf};
-ghost use Rattle.pattern_set.specs.Patterns.{IsPattern, IsNoPattern};
-ghost use Rattle.server_run.specs.Patterns.{HasFlawAt, HoldsBrace};
-ghost use Rattle.server_run.specs.Opening.{IsAccepted, Bars, opening_lines};
-ghost use Rattle.server_run.specs.Ports.{ReadsUpTo};
-ghost use Rattle.server_run.specs.Replayed.{run_lines};
-ghost use Rattle.server_run.specs.Tally.{run_counts};
-ghost use Rattle.server_run.specs.Outbox.{LinesAre, SizeIs};
-ghost use Rattle.server_run.specs.Runs.{IsBarred, Unbegun, FoundBy, Followed, Prints, limits_by, opening_intake};
-ghost use Rattle.server_run.specs.Statuses.{course_of, cut_short, IsRefusal, IsBarring, YieldsTo, IsCourse, IsUnprinted, EndsPrinted};
-ghost use Rattle.server_run.specs.Stops.{KeepsSome, Journals};
+ghost use Rattle.server_run.specs.Ran.{IsUpToLine, IsRun};
+ghost use Rattle.server_run.specs.Runs.{Prints};
+ghost use Rattle.server_run.specs.Statuses.{cut_short, IsUnprinted, EndsPrinted};
 
 use crate::course::{Course, NOTHING, copy_entries, held_back, started, started_beside};
 use crate::opening::{Begun, open};
@@ -68,25 +46,22 @@ fn go<S: Source, W: Wire, D: Disk, O: Sink>(
     disk: D,
     outbox: O,
 ) -> Course<D, O>
-    ensures source_later { S.faults config.old ≤ S.faults config.new }
+    ensures line { IsUpToLine words.now
+        (record {
+          source = S.left config.old;
+          source_faults = S.faults config.old;
+          wire = W.tells wire.old;
+          disk = D.tells disk;
+          outbox = O.tells outbox;
+        }) (record {
+          source = S.left config.new;
+          source_faults = S.faults config.new;
+          wire = W.tells wire.new;
+          disk = D.tells result.disk;
+          outbox = O.tells result.outbox;
+        }) result.began result.entries result.counts result.status }
     ensures unread { plan_of words.now ≡ None → config.new ≡ config.old }
-    ensures taken { ReadsUpTo 16777216 (S.left config.old) (S.left config.new) }
-    ensures to_the_end { result.began ≡ true → IsAtEnd (S.left config.new) }
-    ensures wire { result.status ≡ Status.WireFault → Rose (W.tells wire.old).faults (W.tells wire.new).faults }
-    ensures outbox { result.status ≡ Status.OutboxFault → Rose (O.tells outbox).faults (O.tells result.outbox).faults }
-    ensures unprinted { IsUnprinted result.status }
-    ensures not_begun { result.began ≡ false
-        → Unbegun D.bytes D.images D.moment D.images_since D.faults words.now (S.left config.old)
-        (S.faults config.old) (S.faults config.new) (O.tells outbox).held disk result.disk result.entries result.status
-        × (wire.new ≡ wire.old) × (result.outbox ≡ outbox) }
-    ensures followed { result.began ≡ true
-        → Followed words.now (S.left config.old) (D.bytes disk) (O.tells outbox).held
-        (Journals D.bytes D.images D.moment D.images_since D.faults (KeepsAsOneOf (D.images disk)) disk result.disk)
-        (W.tells wire.old) (W.tells wire.new) result.status result.entries }
-    ensures lines { result.began ≡ true
-        → LinesAre (course_of result.status).out (O.tells outbox) (O.tells result.outbox)
-        (drop (O.tells outbox).held (run_lines result.entries)) }
-    ensures counts { result.status ≡ Status.Ok → result.counts ≡ run_counts result.entries }
+    ensures untouched { result.began ≡ false → (wire.new ≡ wire.old) × (result.outbox ≡ outbox) }
 {
     let Begun {
         turns,
@@ -138,25 +113,22 @@ where
     O: Sink + Send,
     R: Threads + Wait + Sync,
     G: Gate + Sync,
-    ensures source_later { S.faults config.old ≤ S.faults config.new }
+    ensures line { IsUpToLine words.now
+        (record {
+          source = S.left config.old;
+          source_faults = S.faults config.old;
+          wire = W.tells wire.old;
+          disk = D.tells disk;
+          outbox = O.tells outbox;
+        }) (record {
+          source = S.left config.new;
+          source_faults = S.faults config.new;
+          wire = W.tells wire.new;
+          disk = D.tells result.disk;
+          outbox = O.tells result.outbox;
+        }) result.began result.entries result.counts result.status }
     ensures unread { plan_of words.now ≡ None → config.new ≡ config.old }
-    ensures taken { ReadsUpTo 16777216 (S.left config.old) (S.left config.new) }
-    ensures to_the_end { result.began ≡ true → IsAtEnd (S.left config.new) }
-    ensures wire { result.status ≡ Status.WireFault → Rose (W.tells wire.old).faults (W.tells wire.new).faults }
-    ensures outbox { result.status ≡ Status.OutboxFault → Rose (O.tells outbox).faults (O.tells result.outbox).faults }
-    ensures unprinted { IsUnprinted result.status }
-    ensures not_begun { result.began ≡ false
-        → Unbegun D.bytes D.images D.moment D.images_since D.faults words.now (S.left config.old)
-        (S.faults config.old) (S.faults config.new) (O.tells outbox).held disk result.disk result.entries result.status
-        × (wire.new ≡ wire.old) × (result.outbox ≡ outbox) }
-    ensures followed { result.began ≡ true
-        → Followed words.now (S.left config.old) (D.bytes disk) (O.tells outbox).held
-        (Journals D.bytes D.images D.moment D.images_since D.faults (KeepsAsOneOf (D.images disk)) disk result.disk)
-        (W.tells wire.old) (W.tells wire.new) result.status result.entries }
-    ensures lines { result.began ≡ true
-        → LinesAre (course_of result.status).out (O.tells outbox) (O.tells result.outbox)
-        (drop (O.tells outbox).held (run_lines result.entries)) }
-    ensures counts { result.status ≡ Status.Ok → result.counts ≡ run_counts result.entries }
+    ensures untouched { result.began ≡ false → (wire.new ≡ wire.old) × (result.outbox ≡ outbox) }
 {
     let Begun {
         turns,
@@ -244,97 +216,25 @@ pub fn run_single<S: Source, W: Wire, D: Disk, O: Sink, P: Sink>(
     outbox: O,
     print: &mut P,
 ) -> Ended<D, O>
-    // Usage comes exactly where the words have no plan, and then nothing was read.
-    ensures usage { result.status ≡ Status.Usage → plan_of words.now ≡ None }
-    ensures not_command { plan_of words.now ≡ None → (result.status ≡ Status.Usage)
-        ⊎ (result.status ≡ Status.OutOfMemory) }
+    // What holds of a whole run is `IsRun`, field by field.
+    ensures run { IsRun words.now
+        (record {
+          source = S.left config.old;
+          source_faults = S.faults config.old;
+          wire = W.tells wire.old;
+          disk = D.tells disk;
+          outbox = O.tells outbox;
+        }) (record {
+          source = S.left config.new;
+          source_faults = S.faults config.new;
+          wire = W.tells wire.new;
+          disk = D.tells result.disk;
+          outbox = O.tells result.outbox;
+        }) (P.tells print.old) (P.tells print.new) result.began result.entries result.status }
+
+    // Where the words have no plan nothing was read, and a run that hasn't begun left its wire and its outbox alone.
     ensures unread { plan_of words.now ≡ None → config.new ≡ config.old }
-
-    // At most 16,777,217 bytes of the configuration were read; all of them, where the run began.
-    ensures taken { ReadsUpTo 16777216 (S.left config.old) (S.left config.new) }
-    ensures to_the_end { result.began ≡ true → IsAtEnd (S.left config.new) }
-
-    // ConfigRefused comes exactly where the configuration is refused, with its path and cause.
-    ensures config_refused { (path : List ℕ) (cause : Cause) → result.status ≡ Status.ConfigRefused path cause
-        → IfSome (S.left config.old) (λ text. flat_of text ≡ refuse path cause) }
-    ensures refused_text { (text path : List ℕ) (cause : Cause) → S.left config.old ≡ Some text
-        → flat_of text ≡ refuse path cause
-        → (result.status ≡ Status.ConfigRefused path cause) ⊎ ((result.status ≡ Status.SourceFault)
-        ⊎ ((result.status ≡ Status.Usage) ⊎ (result.status ≡ Status.OutOfMemory))) }
-
-    // PatternRefused comes only where a pattern isn't one, and PatternTooLarge where one holds a brace; the path is
-    // where the first such pattern is used first.
-    ensures pattern_refused { (path : List ℕ) → result.status ≡ Status.PatternRefused path
-        → IfSome (S.left config.old) (HasFlawAt IsNoPattern path) }
-    ensures pattern_too_large { (path : List ℕ) → result.status ≡ Status.PatternTooLarge path
-        → IfSome (S.left config.old) (HasFlawAt HoldsBrace path) }
-
-    // NotOurs, Damaged, ConfigDiffers, OutboxAhead, and Full at the opening, come exactly where the journal or the
-    // outbox is so, with the place or the numbers.
-    ensures barred { result.began ≡ false → IsBarring result.status
-        → IsBarred words.now (S.left config.old) (D.bytes disk) (O.tells outbox).held result.status }
-    ensures bars { (plan : Plan) (text : List ℕ) (conf : Conf) (file : List ℕ) (status : Status)
-        → plan_of words.now ≡ Some plan → 0 < plan.max_entries → S.left config.old ≡ Some text → flat_of text ≡ Ok conf
-        → D.bytes disk ≡ Some file → Bars conf plan.max_entries (Some file) (O.tells outbox).held status
-        → (result.status ≡ status) ⊎ YieldsTo result.status }
-
-    // A fault comes only where the count of its object rose.
-    ensures source { result.status ≡ Status.SourceFault → Rose (S.faults config.old) (S.faults config.new) }
-    ensures wire { result.status ≡ Status.WireFault → Rose (W.tells wire.old).faults (W.tells wire.new).faults }
-    ensures disk { result.status ≡ Status.DiskFault → Rose (D.faults disk) (D.faults result.disk) }
-    ensures outbox { result.status ≡ Status.OutboxFault → Rose (O.tells outbox).faults (O.tells result.outbox).faults }
-    ensures print { result.status ≡ Status.PrintFault → Rose (P.tells print.old).faults (P.tells print.new).faults }
-
-    // A run that hasn't begun was refused at its opening, and left the wire and the outbox alone. It has no entries,
-    // or those that it found. A crash at any moment of it left what one before it might have, or entries that it
-    // found.
-    ensures not_begun { result.began ≡ false → IsRefusal result.status × (wire.new ≡ wire.old)
-        × (result.outbox ≡ outbox) }
-    ensures has_found { result.began ≡ false → (result.entries ≡ [])
-        ⊎ FoundBy words.now (S.left config.old) (D.bytes disk) result.entries }
-    ensures stopped { result.began ≡ false → IfSome (D.bytes disk)
-        (λ _. LeavesOnly D.moment D.images_since disk result.disk (λ c. KeepsAsOneOf (D.images disk) c
-        ⊎ KeepsSome (FoundBy words.now (S.left config.old) (D.bytes disk)) c)) }
-    ensures begun { result.began ≡ true → IsCourse result.status }
-
-    // Events taken, replies, closings and entries behind those that the journal kept; reading to the end; the limits
-    // of turns, entries and bytes. A crash at any moment left what one before the run might have, or the entries
-    // behind some of the events, those of the opening among them, or all that the events add whose groups the disk
-    // refused; and unless it did, the disk keeps the run's entries, and each crash leaves them.
-    ensures followed { result.began ≡ true
-        → Followed words.now (S.left config.old) (D.bytes disk) (O.tells outbox).held
-        (Journals D.bytes D.images D.moment D.images_since D.faults (KeepsAsOneOf (D.images disk)) disk result.disk)
-        (W.tells wire.old) (W.tells wire.new) result.status result.entries }
-    ensures keeps { result.began ≡ true → (Rose (D.faults disk) (D.faults result.disk) → ⊥)
-        → IfSome (D.bytes result.disk) (Keeps result.entries) }
-    ensures told { is_some (D.bytes result.disk) ≡ is_some (D.bytes disk) }
-
-    // The outbox has the lines of one thread that replays the entries, but for as many of their first bytes as it held.
-    ensures lines { result.began ≡ true
-        → LinesAre (course_of result.status).out (O.tells outbox) (O.tells result.outbox)
-        (drop (O.tells outbox).held (run_lines result.entries)) }
-    ensures size { result.began ≡ true
-        → SizeIs (course_of result.status).out (O.tells outbox) (O.tells result.outbox)
-        (drop (O.tells outbox).held (run_lines result.entries)) }
-
-    // The printed line is that of the status, over the counts of the entries.
-    ensures printed { Prints result.status (run_counts result.entries) (P.tells print.old) (P.tells print.new) }
-
-    // What is accepted and doesn't fail ends well, if memory is there.
-    ensures complete { (plan : Plan) (text : List ℕ) (conf : Conf) (file : List ℕ) (groups : List Group)
-        (all : List WireEvent)
-        → plan_of words.now ≡ Some plan → 0 < plan.max_entries → S.left config.old ≡ Some text → flat_of text ≡ Ok conf
-        → D.bytes disk ≡ Some file → groups_of (kept file) ≡ Some groups → IsAccepted conf groups
-        → (O.tells outbox).held ≤ length (opening_lines conf groups)
-        → (W.tells wire.old).left ≡ Some all → (served (limits_by plan) conf (opening_intake conf groups)
-        (take plan.turns all)).stop ≡ Some stop.Closed
-        → (Rose (S.faults config.old) (S.faults config.new) → ⊥)
-        → (Rose (W.tells wire.old).faults (W.tells wire.new).faults → ⊥)
-        → (Rose (D.faults disk) (D.faults result.disk) → ⊥)
-        → (Rose (O.tells outbox).faults (O.tells result.outbox).faults → ⊥)
-        → (Rose (P.tells print.old).faults (P.tells print.new).faults → ⊥) → All IsPattern conf.patterns
-        → (result.status ≡ Status.Ok) ⊎ ((result.status ≡ Status.OutOfMemory)
-        ⊎ ((path : List ℕ) × (result.status ≡ Status.PatternTooLarge path))) }
+    ensures untouched { result.began ≡ false → (wire.new ≡ wire.old) × (result.outbox ≡ outbox) }
 {
     let course = go(alloc, words, config, wire, disk, outbox);
     let status = report(alloc, course.status, &course.counts, print);
@@ -372,97 +272,25 @@ where
     P: Sink,
     R: Threads + Wait + Sync,
     G: Gate + Sync,
-    // Usage comes exactly where the words have no plan, and then nothing was read.
-    ensures usage { result.status ≡ Status.Usage → plan_of words.now ≡ None }
-    ensures not_command { plan_of words.now ≡ None → (result.status ≡ Status.Usage)
-        ⊎ (result.status ≡ Status.OutOfMemory) }
+    // What holds of a whole run is `IsRun`, field by field.
+    ensures run { IsRun words.now
+        (record {
+          source = S.left config.old;
+          source_faults = S.faults config.old;
+          wire = W.tells wire.old;
+          disk = D.tells disk;
+          outbox = O.tells outbox;
+        }) (record {
+          source = S.left config.new;
+          source_faults = S.faults config.new;
+          wire = W.tells wire.new;
+          disk = D.tells result.disk;
+          outbox = O.tells result.outbox;
+        }) (P.tells print.old) (P.tells print.new) result.began result.entries result.status }
+
+    // Where the words have no plan nothing was read, and a run that hasn't begun left its wire and its outbox alone.
     ensures unread { plan_of words.now ≡ None → config.new ≡ config.old }
-
-    // At most 16,777,217 bytes of the configuration were read; all of them, where the run began.
-    ensures taken { ReadsUpTo 16777216 (S.left config.old) (S.left config.new) }
-    ensures to_the_end { result.began ≡ true → IsAtEnd (S.left config.new) }
-
-    // ConfigRefused comes exactly where the configuration is refused, with its path and cause.
-    ensures config_refused { (path : List ℕ) (cause : Cause) → result.status ≡ Status.ConfigRefused path cause
-        → IfSome (S.left config.old) (λ text. flat_of text ≡ refuse path cause) }
-    ensures refused_text { (text path : List ℕ) (cause : Cause) → S.left config.old ≡ Some text
-        → flat_of text ≡ refuse path cause
-        → (result.status ≡ Status.ConfigRefused path cause) ⊎ ((result.status ≡ Status.SourceFault)
-        ⊎ ((result.status ≡ Status.Usage) ⊎ (result.status ≡ Status.OutOfMemory))) }
-
-    // PatternRefused comes only where a pattern isn't one, and PatternTooLarge where one holds a brace; the path is
-    // where the first such pattern is used first.
-    ensures pattern_refused { (path : List ℕ) → result.status ≡ Status.PatternRefused path
-        → IfSome (S.left config.old) (HasFlawAt IsNoPattern path) }
-    ensures pattern_too_large { (path : List ℕ) → result.status ≡ Status.PatternTooLarge path
-        → IfSome (S.left config.old) (HasFlawAt HoldsBrace path) }
-
-    // NotOurs, Damaged, ConfigDiffers, OutboxAhead, and Full at the opening, come exactly where the journal or the
-    // outbox is so, with the place or the numbers.
-    ensures barred { result.began ≡ false → IsBarring result.status
-        → IsBarred words.now (S.left config.old) (D.bytes disk) (O.tells outbox).held result.status }
-    ensures bars { (plan : Plan) (text : List ℕ) (conf : Conf) (file : List ℕ) (status : Status)
-        → plan_of words.now ≡ Some plan → 0 < plan.max_entries → S.left config.old ≡ Some text → flat_of text ≡ Ok conf
-        → D.bytes disk ≡ Some file → Bars conf plan.max_entries (Some file) (O.tells outbox).held status
-        → (result.status ≡ status) ⊎ YieldsTo result.status }
-
-    // A fault comes only where the count of its object rose.
-    ensures source { result.status ≡ Status.SourceFault → Rose (S.faults config.old) (S.faults config.new) }
-    ensures wire { result.status ≡ Status.WireFault → Rose (W.tells wire.old).faults (W.tells wire.new).faults }
-    ensures disk { result.status ≡ Status.DiskFault → Rose (D.faults disk) (D.faults result.disk) }
-    ensures outbox { result.status ≡ Status.OutboxFault → Rose (O.tells outbox).faults (O.tells result.outbox).faults }
-    ensures print { result.status ≡ Status.PrintFault → Rose (P.tells print.old).faults (P.tells print.new).faults }
-
-    // A run that hasn't begun was refused at its opening, and left the wire and the outbox alone. It has no entries,
-    // or those that it found. A crash at any moment of it left what one before it might have, or entries that it
-    // found.
-    ensures not_begun { result.began ≡ false → IsRefusal result.status × (wire.new ≡ wire.old)
-        × (result.outbox ≡ outbox) }
-    ensures has_found { result.began ≡ false → (result.entries ≡ [])
-        ⊎ FoundBy words.now (S.left config.old) (D.bytes disk) result.entries }
-    ensures stopped { result.began ≡ false → IfSome (D.bytes disk)
-        (λ _. LeavesOnly D.moment D.images_since disk result.disk (λ c. KeepsAsOneOf (D.images disk) c
-        ⊎ KeepsSome (FoundBy words.now (S.left config.old) (D.bytes disk)) c)) }
-    ensures begun { result.began ≡ true → IsCourse result.status }
-
-    // Events taken, replies, closings and entries behind those that the journal kept; reading to the end; the limits
-    // of turns, entries and bytes. A crash at any moment left what one before the run might have, or the entries
-    // behind some of the events, those of the opening among them, or all that the events add whose groups the disk
-    // refused; and unless it did, the disk keeps the run's entries, and each crash leaves them.
-    ensures followed { result.began ≡ true
-        → Followed words.now (S.left config.old) (D.bytes disk) (O.tells outbox).held
-        (Journals D.bytes D.images D.moment D.images_since D.faults (KeepsAsOneOf (D.images disk)) disk result.disk)
-        (W.tells wire.old) (W.tells wire.new) result.status result.entries }
-    ensures keeps { result.began ≡ true → (Rose (D.faults disk) (D.faults result.disk) → ⊥)
-        → IfSome (D.bytes result.disk) (Keeps result.entries) }
-    ensures told { is_some (D.bytes result.disk) ≡ is_some (D.bytes disk) }
-
-    // The outbox has the lines of one thread that replays the entries, but for as many of their first bytes as it held.
-    ensures lines { result.began ≡ true
-        → LinesAre (course_of result.status).out (O.tells outbox) (O.tells result.outbox)
-        (drop (O.tells outbox).held (run_lines result.entries)) }
-    ensures size { result.began ≡ true
-        → SizeIs (course_of result.status).out (O.tells outbox) (O.tells result.outbox)
-        (drop (O.tells outbox).held (run_lines result.entries)) }
-
-    // The printed line is that of the status, over the counts of the entries.
-    ensures printed { Prints result.status (run_counts result.entries) (P.tells print.old) (P.tells print.new) }
-
-    // What is accepted and doesn't fail ends well, if memory is there.
-    ensures complete { (plan : Plan) (text : List ℕ) (conf : Conf) (file : List ℕ) (groups : List Group)
-        (all : List WireEvent)
-        → plan_of words.now ≡ Some plan → 0 < plan.max_entries → S.left config.old ≡ Some text → flat_of text ≡ Ok conf
-        → D.bytes disk ≡ Some file → groups_of (kept file) ≡ Some groups → IsAccepted conf groups
-        → (O.tells outbox).held ≤ length (opening_lines conf groups)
-        → (W.tells wire.old).left ≡ Some all → (served (limits_by plan) conf (opening_intake conf groups)
-        (take plan.turns all)).stop ≡ Some stop.Closed
-        → (Rose (S.faults config.old) (S.faults config.new) → ⊥)
-        → (Rose (W.tells wire.old).faults (W.tells wire.new).faults → ⊥)
-        → (Rose (D.faults disk) (D.faults result.disk) → ⊥)
-        → (Rose (O.tells outbox).faults (O.tells result.outbox).faults → ⊥)
-        → (Rose (P.tells print.old).faults (P.tells print.new).faults → ⊥) → All IsPattern conf.patterns
-        → (result.status ≡ Status.Ok) ⊎ ((result.status ≡ Status.OutOfMemory)
-        ⊎ ((path : List ℕ) × (result.status ≡ Status.PatternTooLarge path))) }
+    ensures untouched { result.began ≡ false → (wire.new ≡ wire.old) × (result.outbox ≡ outbox) }
 {
     let course = go_beside(rt, alloc, words, config, wire, disk, outbox, gate);
     let status = report(alloc, course.status, &course.counts, print);

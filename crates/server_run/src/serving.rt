@@ -84,8 +84,7 @@ fn serve_batch<S: StartName, N: RunName, W: Wire, D: Disk, K: Worker<S, N>>(
     ensures wire { IsErrOf result Status.WireFault → Rose (W.tells wire.old).faults (W.tells wire.new).faults }
     ensures cause { IfErr result IsCause }
     ensures took { TookOrEnded (limits_of front.old.journal 0) S.conf front.old.intake front.new.intake
-        (Journals D.bytes D.images D.moment D.images_since D.faults (λ c. ⊥) front.old.journal.disk
-        front.new.journal.disk)
+        (Journals (λ c. ⊥) (D.tells front.old.journal.disk) (D.tells front.new.journal.disk))
         (W.tells wire.old) (W.tells wire.new) most result }
     ensures sent { IsSentBy S.kept head.new.sent front.new.intake.entries result }
     ensures serving { OnOk result (IsServing S.conf S.kept front.new head.new) }
@@ -121,7 +120,7 @@ pub(crate) fn serve<S: StartName, N: RunName, W: Wire, D: Disk, K: Worker<S, N>>
     worker: &mut K,
 ) -> Taken
     requires { IsServing S.conf S.kept front.old head.old }
-    ensures served { HasServed D.bytes D.images D.moment D.images_since D.faults S.conf S.kept front.old front.new
+    ensures served { HasServed D.tells S.conf S.kept front.old front.new
         (W.tells wire.old) (W.tells wire.new) head.new turns result }
     ensures stops { IsGoing result → K.stops worker.new }
 {

@@ -1,6 +1,7 @@
 //! What the threads of a run share: the configuration, a book under a lock, and whether the run ends.
 
 ghost use Rattle.std.specs.Prelude.{◌≡◌, OnOk};
+ghost use Rattle.trigger_state.specs.Stages.{first_stage};
 
 use book::{Book, Done, FlushError, Order, RingHead, RunName, StartName};
 use entry_step::{Ready, Steps};
@@ -16,12 +17,12 @@ use zbx_types::OutOfMemory;
 pub(crate) struct Prepared<S: StartName> {
     ready: Ready,
     of: PhantomData<S>,
-    ghost conf: { ready ≡ S.conf },
+    ghost conf: { ready ≡ first_stage S.conf },
 }
 
 impl<S: StartName> Prepared<S> {
     pub(crate) fn new(ready: Ready) -> Prepared<S>
-        requires { ready ≡ S.conf }
+        requires { ready ≡ first_stage S.conf }
     {
         Prepared {
             ready,
@@ -30,13 +31,13 @@ impl<S: StartName> Prepared<S> {
     }
 
     pub(crate) fn ready(&self) -> &Ready
-        ensures { result.now ≡ S.conf }
+        ensures { result.now ≡ first_stage S.conf }
     {
         &self.ready
     }
 
     pub(crate) fn into_ready(self) -> Ready
-        ensures { result ≡ S.conf }
+        ensures { result ≡ first_stage S.conf }
     {
         self.ready
     }

@@ -5,7 +5,7 @@ use Rattle.std.proofs.lemmas.Bool.{ne_eqb}
 use Rattle.std.specs.List.{list_all}
 use Rattle.std.specs.Char.{digit_value}
 use Rattle.std.specs.Str.Parse.{AllDigits, IsNumeral, ParsesUnsigned, digits_value, without_leading_plus}
-use Rattle.clap.specs.Words.{App, Row, HasKind, HasMatchesOf, first_value, first_of, one_text, rows_of, found_of, kind_of, fault_of, matches_of, is_simple, is_simple_and_free, ReadsOne}
+use Rattle.clap.specs.Words.{App, Row, HasKind, HasMatchesOf, first_value, first_of, one_of, one_text, rows_of, found_of, kind_of, fault_of, matches_of, is_simple, is_simple_and_free, ReadsOne}
 use Rattle.clap.specs.Kinds.{Kinds}
 use Rattle.clap.specs.Walk.{is_empty}
 use Rattle.clap.specs.declared.error.Error.{Error}
@@ -15,7 +15,7 @@ use Rattle.clap.proofs.OnLiterals.{clap_on_literals}
 use Rattle.clap.specs.ValueTests.{is_numeral}
 use Rattle.clap.specs.declared.parser.matches.Found.{Found}
 use Rattle.clap.proofs.WalkLemmas.{both, first_value-rows, one_text-rows}
-use Rattle.server_words.specs.Words.{number_of, number_in, server_app, is_taken, plan_in, plan_of}
+use Rattle.server_words.specs.Words.{number_of, server_app, is_taken, plan_in, plan_of}
 
 -- the text of an option
 pub text_of_rows : (f : Found) (name : List ℕ) → first_value f name ≡ first_of name (rows_of f)
@@ -60,10 +60,10 @@ reads E bits G (Some text) None parses none some =
     let failed = some text refl in
     sym (read_none bits text (parses text (Err failed.0) failed.1))
 
--- the number of an option
+-- the number that the text of an option writes
 pub number_of_rows : (E : Type 0) (bits : ℕ) (G : List ℕ → Result ℕ E → Type 0) (f : Found) (name : List ℕ) (r : Option ℕ)
     → ((text : List ℕ) (x : Result ℕ E) → G text x → ParsesUnsigned bits 10 text x)
-    → (one_text f name ≡ None → r ≡ None) → ((text : List ℕ) → one_text f name ≡ Some text → ReadsOne G text r) → r ≡ number_in bits name (rows_of f)
+    → (one_text f name ≡ None → r ≡ None) → ((text : List ℕ) → one_text f name ≡ Some text → ReadsOne G text r) → r ≡ option_and_then (number_of bits) (one_of name (rows_of f))
 number_of_rows E bits G f name r parses none some =
     reads E bits G (one_text f name) r parses none some ∙ ap (option_and_then (number_of bits)) (one_text-rows f name)
 

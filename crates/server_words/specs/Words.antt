@@ -1,5 +1,5 @@
 -- The words of the command line, as `clap` reads a simple command, and their plan.
-use Rattle.std.specs.Prelude.{ℕ, Bool, true, ◌&&◌, List, [], ◌∷◌, Option, Some, None, is_some, option_and_then, option_map, unwrap_or, if◌then◌else◌, codes, nat_lt, ◌^◌, ◌-◌}
+use Rattle.std.specs.Prelude.{ℕ, Bool, true, ◌&&◌, List, [], ◌∷◌, Option, Some, None, is_some, option_and_then, option_map, unwrap_or, if◌then◌else◌, codes, nat_lt, nat_le, ◌≤◌, ◌^◌, ◌-◌}
 use Rattle.std.specs.Str.{bytes_eq}
 use Rattle.std.specs.Str.Parse.{digits_value, without_leading_plus}
 use Rattle.clap.specs.Words.{App, Row, Rule, new_app, new_rule, with_rule, matches_of, fault_of, first_of, one_of}
@@ -10,6 +10,19 @@ use Rattle.server_words.specs.declared.words.Plan.{Plan}
 use Rattle.server_words.specs.declared.planning.Numbers.{Numbers}
 use Rattle.server_words.specs.declared.words.Mode.{Mode}
 use Rattle.server_words.specs.declared.words.Mode.TheVariants.{Feed, Serve, Workload}
+
+-- the most syncers, turns, entries and values of a workload that a plan may ask for
+abbrev pub most_syncers : ℕ
+most_syncers = 16
+
+abbrev pub most_turns : ℕ
+most_turns = 1000000000
+
+abbrev pub most_entries : ℕ
+most_entries = 4000000
+
+abbrev pub most_values : ℕ
+most_values = 1000000
 
 -- an option with a value, by its name
 abbrev pub option : List ℕ → Rule
@@ -40,9 +53,9 @@ text_app = with_rule (with_rule (with_rule (with_rule (with_rule (with_rule bare
 -- the command: its texts and its numbers
 abbrev pub server_app : App
 server_app = with_rule (with_rule (with_rule (with_rule (with_rule text_app
-    (number (codes "syncers") (codes "4") 0 16)) (number (codes "turns") (codes "1000000000") 1 1000000000))
-    (number (codes "max-entries") (codes "4000000") 1 4000000)) (number (codes "number") (codes "1") 0 (2 ^ 64 - 1)))
-    (number (codes "values") (codes "1000") 1 1000000)
+    (number (codes "syncers") (codes "4") 0 most_syncers)) (number (codes "turns") (codes "1000000000") 1 most_turns))
+    (number (codes "max-entries") (codes "4000000") 1 most_entries)) (number (codes "number") (codes "1") 0 (2 ^ 64 - 1)))
+    (number (codes "values") (codes "1000") 1 most_values)
 
 -- the mode of this name
 abbrev pub mode_of : List ℕ → Option Mode
@@ -56,9 +69,14 @@ number_of bits text =
     let digits = without_leading_plus text in
     if is_numeral digits && nat_lt (digits_value 10 digits) (2 ^ bits) then Some (digits_value 10 digits) else None
 
+-- a number from the least to the most
+abbrev pub within : ℕ → ℕ → ℕ → Option ℕ
+within least most n = if nat_le least n && nat_le n most then Some n else None
+
 -- the number of an option
-abbrev pub number_in : ℕ → List ℕ → List Row → Option ℕ
-number_in bits name rows = option_and_then (number_of bits) (one_of name rows)
+abbrev pub number_in : ℕ → ℕ → ℕ → List ℕ → List Row → Option ℕ
+number_in bits least most name rows =
+    option_and_then (within least most) (option_and_then (number_of bits) (one_of name rows))
 
 -- what a mode needs is there
 abbrev pub has_needed : Mode → List Row → Bool
@@ -74,11 +92,11 @@ numbers_in rows =
     option_and_then (λ max_entries.
     option_and_then (λ number.
     option_map (λ values. record { syncers = syncers; turns = turns; max_entries = max_entries; number = number; values = values })
-    (number_in 64 (codes "values") rows))
-    (number_in 64 (codes "number") rows))
-    (number_in 64 (codes "max-entries") rows))
-    (number_in 64 (codes "turns") rows))
-    (number_in 32 (codes "syncers") rows)
+    (number_in 64 1 most_values (codes "values") rows))
+    (number_in 64 0 (2 ^ 64 - 1) (codes "number") rows))
+    (number_in 64 1 most_entries (codes "max-entries") rows))
+    (number_in 64 1 most_turns (codes "turns") rows))
+    (number_in 32 0 most_syncers (codes "syncers") rows)
 
 -- the plan with this mode and these numbers, and with the texts of the options
 abbrev pub plan_with : List Row → Mode → Numbers → Plan
@@ -109,3 +127,10 @@ is_taken words = is_empty (fault_of server_app words)
 -- the plan of a list of words, or none where they aren't the command's
 unfoldable pub plan_of : List (List ℕ) → Option Plan
 plan_of words = if is_taken words then plan_in (matches_of server_app words) else None
+
+-- the numbers of a plan are those that may be asked for
+pub record IsWithin (plan : Plan) : Type 0 where
+  pub syncers : plan.syncers ≤ most_syncers
+  pub turns : (1 ≤ plan.turns) × (plan.turns ≤ most_turns)
+  pub entries : (1 ≤ plan.max_entries) × (plan.max_entries ≤ most_entries)
+  pub values : (1 ≤ plan.values) × (plan.values ≤ most_values)

@@ -8,6 +8,18 @@ use clap::builder::ValueParser;
 use clap::{Arg, Command};
 use std::alloc::{AllocError, Global};
 
+/// The most syncers that a plan may ask for.
+pub(crate) const MOST_SYNCERS: u32 = 16;
+
+/// The most turns that a plan may ask for.
+pub(crate) const MOST_TURNS: u64 = 1_000_000_000;
+
+/// The most entries that a plan may ask for.
+pub(crate) const MOST_ENTRIES: u64 = 4_000_000;
+
+/// The most values of a workload that a plan may ask for.
+pub(crate) const MOST_VALUES: u64 = 1_000_000;
+
 /// An option with a value.
 fn option<'a>(alloc: Global, name: &'a str) -> Arg<'a>
     ensures rule { rule_of result ≡ option name.entry.now }
@@ -62,9 +74,9 @@ pub(crate) fn command<'a>(alloc: Global) -> Result<Command<'a>, AllocError>
     ensures { IfOk result (λ command. app_of command ≡ server_app) }
 {
     text_command(alloc)?
-        .arg(number(alloc, "syncers", "4", 0, 16))?
-        .arg(number(alloc, "turns", "1000000000", 1, 1_000_000_000))?
-        .arg(number(alloc, "max-entries", "4000000", 1, 4_000_000))?
+        .arg(number(alloc, "syncers", "4", 0, MOST_SYNCERS as u64))?
+        .arg(number(alloc, "turns", "1000000000", 1, MOST_TURNS))?
+        .arg(number(alloc, "max-entries", "4000000", 1, MOST_ENTRIES))?
         .arg(number(alloc, "number", "1", 0, u64::MAX))?
-        .arg(number(alloc, "values", "1000", 1, 1_000_000))
+        .arg(number(alloc, "values", "1000", 1, MOST_VALUES))
 }

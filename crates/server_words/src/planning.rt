@@ -1,10 +1,10 @@
 //! From words to a plan.
 
 ghost use Rattle.std.specs.Prelude.{◌≡◌, [], IfOk, IsErrOf, Some, None, option_and_then, unwrap_or, codes};
-ghost use Rattle.clap.specs.Words.{found_of, first_of, rows_of};
-ghost use Rattle.server_words.specs.Words.{plan_of, plan_in, plan_with, mode_of, number_in, numbers_in, has_needed};
+ghost use Rattle.clap.specs.Words.{found_of, first_of, one_of, rows_of};
+ghost use Rattle.server_words.specs.Words.{IsWithin, most_syncers, plan_of, plan_in, plan_with, mode_of, number_of, within, number_in, numbers_in, has_needed};
 
-use crate::command::command;
+use crate::command::{MOST_ENTRIES, MOST_SYNCERS, MOST_TURNS, MOST_VALUES, command};
 use crate::words::{Mode, Plan, PlanError};
 use clap::ArgMatches;
 use clap::error::ErrorKind;
@@ -23,6 +23,7 @@ use zbx_types::{OutOfMemory, Text};
 /// or lacks what it needs. [`PlanError::OutOfMemory`] where there is no room for the command or for the plan.
 pub fn plan(alloc: Global, words: &[Text]) -> Result<Plan, PlanError>
     ensures ok { IfOk result (λ plan. plan_of words.now ≡ Some plan) }
+    ensures within { IfOk result IsWithin }
     ensures usage { IsErrOf result PlanError.Usage → plan_of words.now ≡ None }
 {
     let Ok(command) = command(alloc) else {
@@ -89,18 +90,48 @@ fn has_needed(mode: Mode, matches: &ArgMatches) -> bool
     }
 }
 
-/// The number of an option.
-fn number_in(matches: &ArgMatches, name: &str) -> Option<u64>
-    ensures { result ≡ number_in 64 name.now (rows_of (found_of matches.now)) }
+/// The number that the text of an option writes.
+fn read_number(matches: &ArgMatches, name: &str) -> Option<u64>
+    ensures { result ≡ option_and_then (number_of 64) (one_of name.now (rows_of (found_of matches.now))) }
 {
     matches.get_one::<u64>(name)
 }
 
-/// The number of an option, as 32 bits hold it.
-fn narrow_number_in(matches: &ArgMatches, name: &str) -> Option<u32>
-    ensures { result ≡ number_in 32 name.now (rows_of (found_of matches.now)) }
+/// The number that the text of an option writes, as 32 bits hold it.
+fn read_narrow_number(matches: &ArgMatches, name: &str) -> Option<u32>
+    ensures { result ≡ option_and_then (number_of 32) (one_of name.now (rows_of (found_of matches.now))) }
 {
     matches.get_one::<u32>(name)
+}
+
+/// A number from the least to the most.
+fn within(number: u64, least: u64, most: u64) -> Option<u64>
+    ensures { result ≡ within least most number }
+{
+    if least <= number && number <= most {
+        Some(number)
+    } else {
+        None
+    }
+}
+
+/// The number of an option, from the least to the most.
+fn number_in(matches: &ArgMatches, name: &str, least: u64, most: u64) -> Option<u64>
+    ensures { result ≡ number_in 64 least most name.now (rows_of (found_of matches.now)) }
+{
+    within(read_number(matches, name)?, least, most)
+}
+
+/// The number of syncers.
+fn syncers_in(matches: &ArgMatches) -> Option<u32>
+    ensures { result ≡ number_in 32 0 most_syncers (codes "syncers") (rows_of (found_of matches.now)) }
+{
+    let number = read_narrow_number(matches, "syncers")?;
+    if number <= MOST_SYNCERS {
+        Some(number)
+    } else {
+        None
+    }
 }
 
 /// The numbers of a plan.
@@ -118,11 +149,11 @@ fn numbers_in(matches: &ArgMatches) -> Option<Numbers>
     ensures { result ≡ numbers_in (rows_of (found_of matches.now)) }
 {
     Some(Numbers {
-        syncers: narrow_number_in(matches, "syncers")?,
-        turns: number_in(matches, "turns")?,
-        max_entries: number_in(matches, "max-entries")?,
-        number: number_in(matches, "number")?,
-        values: number_in(matches, "values")?,
+        syncers: syncers_in(matches)?,
+        turns: number_in(matches, "turns", 1, MOST_TURNS)?,
+        max_entries: number_in(matches, "max-entries", 1, MOST_ENTRIES)?,
+        number: number_in(matches, "number", 0, u64::MAX)?,
+        values: number_in(matches, "values", 1, MOST_VALUES)?,
     })
 }
 

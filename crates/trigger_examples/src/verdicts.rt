@@ -3,7 +3,7 @@
 use crate::parts::{configuration, trigger};
 use std::alloc::Global;
 use std::test::Fail;
-use trigger_state::{Open, Opens, TriggerCells, Verdict, verdict};
+use trigger_state::{InForce, Open, Opens, TriggerCells, Verdict, verdict};
 use zbx_types::{
     Cause2, Conf, EventId, Fix, Many, Moment, OutOfMemory, Rec, RecoveryMode, Tag, Text, Trigger,
     depths_fall, masters,
@@ -98,22 +98,22 @@ fn record(alloc: Global, made: Made) -> Result<Rec, OutOfMemory> {
 
 fn take(
     alloc: Global,
-    conf: &Conf,
+    stage: &InForce,
     cells: &mut TriggerCells,
     made: Made,
 ) -> Result<(), OutOfMemory> {
     let record = record(alloc, made)?;
-    cells.absorb(alloc, conf, &record)
+    cells.absorb(alloc, stage, &record)
 }
 
 fn take_all(
     alloc: Global,
-    conf: &Conf,
+    stage: &InForce,
     cells: &mut TriggerCells,
     made: &[Made],
 ) -> Result<(), OutOfMemory> {
     for one in made {
-        take(alloc, conf, cells, *one)?;
+        take(alloc, stage, cells, *one)?;
     }
     Ok(())
 }
@@ -165,14 +165,14 @@ fn answer(
 /// Whether the verdict behind these records is this one.
 fn says(
     alloc: Global,
-    conf: &Conf,
+    stage: &InForce,
     made: &[Made],
     asked: Asked,
     said: Said,
 ) -> Result<bool, OutOfMemory> {
-    let mut cells = TriggerCells::new(alloc, conf)?;
-    take_all(alloc, conf, &mut cells, made)?;
-    Ok(is_said(&answer(alloc, conf, &cells, asked)?, said))
+    let mut cells = TriggerCells::new(alloc, stage.conf())?;
+    take_all(alloc, stage, &mut cells, made)?;
+    Ok(is_said(&answer(alloc, stage.conf(), &cells, asked)?, said))
 }
 
 fn said_by(
@@ -184,7 +184,7 @@ fn said_by(
 ) -> Result<bool, OutOfMemory> {
     says(
         alloc,
-        &with_triggers(alloc, triggers(alloc, given)?),
+        &InForce::first(with_triggers(alloc, triggers(alloc, given)?)),
         made,
         asked,
         said,
@@ -359,17 +359,13 @@ fn step_numbers(alloc: Global, steps: &[Rec]) -> Result<Many<u32>, OutOfMemory> 
     Ok(numbers)
 }
 
-/// Whether the first open problem of a trigger has this number, these steps and this depth.
+/// Whether the first open problem of a trigger has this number, these steps and this rank.
 fn is_open(alloc: Global, open: &[Open], number: u64, steps: &[u32]) -> Result<bool, OutOfMemory> {
     match open.first() {
         None => Ok(false),
         Some(one) => {
             let numbers = step_numbers(alloc, one.steps.as_slice())?;
-            Ok(
-                one.problem.event().number == number
-                    && numbers.as_slice() == steps
-                    && one.depth == 1,
-            )
+            Ok(one.problem.event().number == number && numbers.as_slice() == steps && one.rank == 1)
         }
     }
 }
@@ -380,9 +376,9 @@ fn open_behind(
     number: u64,
     steps: &[u32],
 ) -> Result<bool, OutOfMemory> {
-    let conf = with_triggers(alloc, triggers(alloc, &net())?);
-    let mut cells = TriggerCells::new(alloc, &conf)?;
-    take_all(alloc, &conf, &mut cells, made)?;
+    let stage = InForce::first(with_triggers(alloc, triggers(alloc, &net())?));
+    let mut cells = TriggerCells::new(alloc, stage.conf())?;
+    take_all(alloc, &stage, &mut cells, made)?;
     is_open(alloc, cells.open(2), number, steps)
 }
 

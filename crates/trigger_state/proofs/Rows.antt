@@ -1,13 +1,12 @@
 -- Rows of open problems by their places.
 use Rattle.std.proofs.Common.{◌≡◌, ◌<◌, ◌≤◌, ◌∙◌, ℕ, zero, suc, ◌==◌, Bool, true, false, cond, List, [], ◌∷◌, ◌++◌, length, get_or, set, refl, sym, ap, arith, eqb-true, eq-eqb}
 use Rattle.std.specs.Prelude.{replicate}
-use Rattle.zbx_types.specs.Masters.{depth_of}
 use Rattle.zbx_types.specs.Records.{event_of}
-use Rattle.zbx_types.specs.declared.conf.Conf.{Conf}
 use Rattle.zbx_types.specs.declared.entries.EventId.{EventId}
 use Rattle.zbx_types.specs.declared.entries.Rec.{Rec}
 use Rattle.trigger_state.specs.Cells.{row_at}
 use Rattle.trigger_state.specs.Problems.{opened}
+use Rattle.trigger_state.specs.Stages.{Stage, rank_of}
 use Rattle.trigger_state.specs.declared.problems.Open.{Open}
 
 pub row_more : (rows : List (List Open)) (id : ℕ) → row_at (rows ++ [] ∷ []) id ≡ row_at rows id
@@ -96,9 +95,9 @@ pub row_over : (rows before : List (List Open)) (p : ℕ) (made : List (List Ope
     → (id : ℕ) → row_at made id ≡ cond (p == id) (f (row_at before id)) (row_at before id)
 row_over rows before p made f same h id = h id ∙ ap (λ os. cond (p == id) (f os) os) (same id)
 
-pub opened_is : (conf : Conf) (e : EventId) (r p : Rec) (steps : List Rec) (depth : ℕ) (os : List Open) → event_of r ≡ e → p ≡ r → steps ≡ [] → depth ≡ depth_of conf e.trigger
-    → os ++ record { problem = p; steps = steps; depth = depth } ∷ [] ≡ os ++ opened conf r [] ∷ []
-opened_is conf e r p steps depth os h a b d =
-    ap (λ (x : Rec). os ++ (let o : Open = record { problem = x; steps = steps; depth = depth } in o) ∷ []) a
-    ∙ ap (λ (x : List Rec). os ++ (let o : Open = record { problem = r; steps = x; depth = depth } in o) ∷ []) b
-    ∙ ap (λ (x : ℕ). os ++ (let o : Open = record { problem = r; steps = []; depth = x } in o) ∷ []) (d ∙ ap (λ (x : EventId). depth_of conf x.trigger) (sym h))
+pub opened_is : (stage : Stage) (e : EventId) (r p : Rec) (steps : List Rec) (rank : ℕ) (os : List Open) → event_of r ≡ e → p ≡ r → steps ≡ [] → rank ≡ rank_of stage e
+    → os ++ record { problem = p; steps = steps; rank = rank } ∷ [] ≡ os ++ opened stage r [] ∷ []
+opened_is stage e r p steps rank os h a b d =
+    ap (λ (x : Rec). os ++ (let o : Open = record { problem = x; steps = steps; rank = rank } in o) ∷ []) a
+    ∙ ap (λ (x : List Rec). os ++ (let o : Open = record { problem = r; steps = x; rank = rank } in o) ∷ []) b
+    ∙ ap (λ (x : ℕ). os ++ (let o : Open = record { problem = r; steps = []; rank = x } in o) ∷ []) (d ∙ ap (rank_of stage) (sym h))

@@ -96,9 +96,9 @@ map_seam s before o after e = map_append before ∙ ap (λ ys. ys ++ stepped s o
 
 -- the list with new steps at a place
 abbrev pub with_steps : List Open → ℕ → Open → List Rec → List Open
-with_steps ys k d steps = set ys k (record { problem = (get_or ys k d).problem; steps = steps; depth = (get_or ys k d).depth })
+with_steps ys k d steps = set ys k (record { problem = (get_or ys k d).problem; steps = steps; rank = (get_or ys k d).rank })
 
-hit_is : (s : Rec) (o : Open) → same_event (event_in o) (event_of s) ≡ true → stepped s o ≡ record { problem = o.problem; steps = with_step o.steps s; depth = o.depth }
+hit_is : (s : Rec) (o : Open) → same_event (event_in o) (event_of s) ≡ true → stepped s o ≡ record { problem = o.problem; steps = with_step o.steps s; rank = o.rank }
 hit_is s o e = rw e refl
 
 done_seam : (s : Rec) (before : List Open) (o d x : Open) (after rest : List Open) (steps : List Rec)
@@ -110,8 +110,8 @@ done_seam s before o d x after rest steps alone hit at made behind =
     let tail : rest ≡ map (stepped s) after = behind ∙ ap (map (stepped s)) (mid_seam before o after) in
     let same : x ≡ o = at ∙ get_seam before o x after in
     let got = get_seam before o d rest in
-    let value : record { problem = (get_or (before ++ o ∷ rest) (length before) d).problem; steps = steps; depth = (get_or (before ++ o ∷ rest) (length before) d).depth } ≡ stepped s o =
-    ap (λ (y : Open). (let v : Open = record { problem = y.problem; steps = steps; depth = y.depth } in v)) got ∙ ap (λ (ss : List Rec). (let v : Open = record { problem = o.problem; steps = ss; depth = o.depth } in v)) (made ∙ ap (λ (y : Open). with_step y.steps s) same) ∙ sym (hit_is s o hit) in
+    let value : record { problem = (get_or (before ++ o ∷ rest) (length before) d).problem; steps = steps; rank = (get_or (before ++ o ∷ rest) (length before) d).rank } ≡ stepped s o =
+    ap (λ (y : Open). (let v : Open = record { problem = y.problem; steps = steps; rank = y.rank } in v)) got ∙ ap (λ (ss : List Rec). (let v : Open = record { problem = o.problem; steps = ss; rank = o.rank } in v)) (made ∙ ap (λ (y : Open). with_step y.steps s) same) ∙ sym (hit_is s o hit) in
     ap (λ ys. with_steps ys (length before) d steps) (put_seam before o after rest)
     ∙ ap (λ (v : Open). set (before ++ o ∷ rest) (length before) v) value
     ∙ set_seam before o (stepped s o) rest

@@ -1,3 +1,4 @@
+pub mod Stages
 pub mod Problems
 pub mod Cells
 pub mod Verdicts

@@ -4,12 +4,14 @@ ghost use Rattle.std.specs.Prelude.{◌≡◌, ◌<◌, ◌==◌, ◌++◌, ◌�
 ghost use Rattle.zbx_types.specs.Records.{same_event, event_of};
 ghost use Rattle.trigger_state.specs.Cells.{row_at};
 ghost use Rattle.trigger_state.specs.Problems.{event_in, opened, stepped, absorbed};
+ghost use Rattle.trigger_state.specs.Stages.{home};
 
 use crate::problems::{Open, is_of};
+use crate::stage::InForce;
 use crate::steps::step_all;
 use std::alloc::Global;
 use std::mem::replace;
-use zbx_types::{Conf, EventId, Many, OutOfMemory, Rec, depth_of};
+use zbx_types::{EventId, Many, OutOfMemory, Rec};
 
 /// Adds rows with nothing open until there is one at an id.
 fn reach(alloc: Global, rows: &mut Vec<Many<Open>>, id: u32) -> Result<(), OutOfMemory>
@@ -25,21 +27,22 @@ fn reach(alloc: Global, rows: &mut Vec<Many<Open>>, id: u32) -> Result<(), OutOf
 /// Adds a problem to the row of its trigger. At [`OutOfMemory`] what is open is as before.
 pub(crate) fn add(
     alloc: Global,
-    conf: &Conf,
+    stage: &InForce,
     rows: &mut Vec<Many<Open>>,
     event: EventId,
     problem: &Rec,
 ) -> Result<(), OutOfMemory>
     requires { event_of problem.now ≡ event }
-    ensures ok { OnOk result ((id : ℕ) → row_at rows.new.items id ≡ (if event.trigger == id then row_at rows.old.items id ++ opened conf.now problem.now [] ∷ [] else row_at rows.old.items id)) }
+    ensures ok { OnOk result ((id : ℕ) → row_at rows.new.items id ≡ (if home stage.now event == id then row_at rows.old.items id ++ opened stage.now problem.now [] ∷ [] else row_at rows.old.items id)) }
     ensures err { OnErr result ((id : ℕ) → row_at rows.new.items id ≡ row_at rows.old.items id) }
 {
-    let place = event.trigger as usize;
-    reach(alloc, rows, event.trigger)?;
+    let home = stage.home(event);
+    let place = home as usize;
+    reach(alloc, rows, home)?;
     rows[place].push(Open {
         problem: problem.copy(alloc)?,
         steps: Many::new(alloc),
-        depth: depth_of(conf, event.trigger),
+        rank: stage.rank(event),
     })?;
     Ok(())
 }
@@ -53,11 +56,11 @@ fn without(row: Many<Open>, event: EventId) -> Many<Open>
     Many::from_vec(kept)
 }
 
-/// Closes a problem.
-pub(crate) fn close(alloc: Global, rows: &mut Vec<Many<Open>>, event: EventId)
-    ensures { (id : ℕ) → row_at rows.new.items id ≡ (if event.trigger == id then filter (λ o. not (same_event (event_in o) event)) (row_at rows.old.items id) else row_at rows.old.items id) }
+/// Closes a problem of the trigger with an id.
+pub(crate) fn close(alloc: Global, rows: &mut Vec<Many<Open>>, home: u32, event: EventId)
+    ensures { (id : ℕ) → row_at rows.new.items id ≡ (if home == id then filter (λ o. not (same_event (event_in o) event)) (row_at rows.old.items id) else row_at rows.old.items id) }
 {
-    let place = event.trigger as usize;
+    let place = home as usize;
     if place < rows.len() {
         let row = replace(&mut rows[place], Many::new(alloc));
         rows[place] = without(row, event);
@@ -75,17 +78,18 @@ fn step_row(alloc: Global, row: &mut Vec<Open>, step: &Rec) -> Result<(), OutOfM
     }
 }
 
-/// Gives a step to the open problem of its event. At [`OutOfMemory`] what is open is as before.
+/// Gives a step to the open problem of its event, which is of the trigger with an id. At [`OutOfMemory`] what is open
+/// is as before.
 pub(crate) fn run(
     alloc: Global,
     rows: &mut Vec<Many<Open>>,
-    event: EventId,
+    home: u32,
     step: &Rec,
 ) -> Result<(), OutOfMemory>
-    ensures ok { OnOk result ((id : ℕ) → row_at rows.new.items id ≡ (if event.trigger == id then map (stepped step.now) (row_at rows.old.items id) else row_at rows.old.items id)) }
+    ensures ok { OnOk result ((id : ℕ) → row_at rows.new.items id ≡ (if home == id then map (stepped step.now) (row_at rows.old.items id) else row_at rows.old.items id)) }
     ensures err { OnErr result ((id : ℕ) → row_at rows.new.items id ≡ row_at rows.old.items id) }
 {
-    let place = event.trigger as usize;
+    let place = home as usize;
     if place >= rows.len() {
         return Ok(());
     }
@@ -105,19 +109,19 @@ pub(crate) fn run(
 /// Adds a problem behind the open ones of its trigger. At [`OutOfMemory`] they are as before.
 fn push_opened(
     alloc: Global,
-    conf: &Conf,
+    stage: &InForce,
     opens: &mut Many<Open>,
     event: EventId,
     problem: &Rec,
 ) -> Result<(), OutOfMemory>
     requires { event_of problem.now ≡ event }
-    ensures ok { OnOk result (opens.new ≡ opens.old ++ opened conf.now problem.now [] ∷ []) }
+    ensures ok { OnOk result (opens.new ≡ opens.old ++ opened stage.now problem.now [] ∷ []) }
     ensures err { OnErr result (opens.new ≡ opens.old) }
 {
     opens.push(Open {
         problem: problem.copy(alloc)?,
         steps: Many::new(alloc),
-        depth: depth_of(conf, event.trigger),
+        rank: stage.rank(event),
     })?;
     Ok(())
 }
@@ -149,30 +153,30 @@ fn close_in(alloc: Global, opens: &mut Many<Open>, event: EventId)
 #[tactic(auto, unfolding(crate::specs::Problems::absorbed))]
 pub fn absorb_into(
     alloc: Global,
-    conf: &Conf,
+    stage: &InForce,
     id: u32,
     opens: &mut Many<Open>,
     rec: &Rec,
 ) -> Result<(), OutOfMemory>
-    ensures ok { OnOk result (opens.new ≡ absorbed conf.now id opens.old rec.now) }
+    ensures ok { OnOk result (opens.new ≡ absorbed stage.now id opens.old rec.now) }
     ensures err { OnErr result (opens.new ≡ opens.old) }
 {
     match rec {
         Rec::Problem { event, .. } => {
-            if event.trigger == id {
-                push_opened(alloc, conf, opens, *event, rec)
+            if stage.home(*event) == id {
+                push_opened(alloc, stage, opens, *event, rec)
             } else {
                 Ok(())
             }
         }
         Rec::Recovery { event, .. } => {
-            if event.trigger == id {
+            if stage.home(*event) == id {
                 close_in(alloc, opens, *event);
             }
             Ok(())
         }
         Rec::Step { event, .. } => {
-            if event.trigger == id {
+            if stage.home(*event) == id {
                 step_many(alloc, opens, rec)
             } else {
                 Ok(())

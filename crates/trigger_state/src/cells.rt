@@ -8,6 +8,7 @@ ghost use Rattle.trigger_state.specs.Problems.{grown};
 use crate::absorbing::{add, close, run};
 use crate::looking::Opens;
 use crate::problems::Open;
+use crate::stage::InForce;
 use std::alloc::Global;
 use std::marker::Model;
 use zbx_types::{Conf, Many, Moment, OutOfMemory, Rec};
@@ -76,18 +77,18 @@ impl TriggerCells {
     ///
     /// It looks at the open problems of the record's trigger alone.
     #[tactic(auto, unfolding(crate::specs::Problems::absorbed))]
-    pub fn absorb(&mut self, alloc: Global, conf: &Conf, rec: &Rec) -> Result<(), OutOfMemory>
-        ensures opens { OnOk result (HasOpen self.new (grown conf.now (opens_in self.old) (rec.now ∷ []))) }
+    pub fn absorb(&mut self, alloc: Global, stage: &InForce, rec: &Rec) -> Result<(), OutOfMemory>
+        ensures opens { OnOk result (HasOpen self.new (grown stage.now (opens_in self.old) (rec.now ∷ []))) }
         ensures same { OnErr result (HasOpen self.new (opens_in self.old)) }
         ensures first_tick { self.new.first_tick ≡ self.old.first_tick }
     {
         match rec {
-            Rec::Problem { event, .. } => add(alloc, conf, &mut self.rows, *event, rec),
+            Rec::Problem { event, .. } => add(alloc, stage, &mut self.rows, *event, rec),
             Rec::Recovery { event, .. } => {
-                close(alloc, &mut self.rows, *event);
+                close(alloc, &mut self.rows, stage.home(*event), *event);
                 Ok(())
             }
-            Rec::Step { event, .. } => run(alloc, &mut self.rows, *event, rec),
+            Rec::Step { event, .. } => run(alloc, &mut self.rows, stage.home(*event), rec),
             Rec::Failure { .. } | Rec::Message { .. } => Ok(()),
         }
     }

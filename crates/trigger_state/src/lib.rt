@@ -6,7 +6,8 @@
 //! with one more finds (`specs/Problems.antt`, [`laws`]).
 //!
 //! A trigger is in PROBLEM while a problem of it is open: a Problem record whose event no later Recovery names. An
-//! open problem keeps its Problem record, the last Step record of each action, and the depth that its trigger had. A
+//! open problem keeps its Problem record, the last Step record of each action, and the rank of its event, which is the
+//! depth that its trigger had. Which trigger an event is of, [`InForce`] tells. A
 //! trigger is held while one of its masters, through any number of dependencies, is in PROBLEM. With p for the value
 //! of its problem expression and r for that of its recovery expression, the verdict is:
 //!
@@ -21,9 +22,10 @@
 //! With a `close_tag` only those close that share a value of it with the trigger's tags as they are now. A short use:
 //!
 //! ```text
-//! let mut cells = TriggerCells::new(alloc, &conf)?;
-//! match verdict(alloc, &conf, &cells, trigger, p, r, tags, is_value)? {
-//!     Verdict::New => cells.absorb(alloc, &conf, &problem)?,
+//! let stage = InForce::first(conf);
+//! let mut cells = TriggerCells::new(alloc, stage.conf())?;
+//! match verdict(alloc, stage.conf(), &cells, trigger, p, r, tags, is_value)? {
+//!     Verdict::New => cells.absorb(alloc, &stage, &problem)?,
 //!     Verdict::Close(events) => { .. }        // a Recovery record for each, absorbed in turn
 //!     Verdict::Nothing => {}
 //! }
@@ -37,6 +39,7 @@ mod judging;
 pub mod laws;
 mod looking;
 mod problems;
+mod stage;
 mod steps;
 
 pub use absorbing::absorb_into;
@@ -45,3 +48,4 @@ pub use cells::TriggerCells;
 pub use judging::{held_by, verdict, verdict_over};
 pub use looking::Opens;
 pub use problems::Open;
+pub use stage::InForce;

@@ -12,12 +12,12 @@ use zbx_types::{EventId, Many, OutOfMemory, Rec, copy_records, same_record, same
 pub struct Open {
     /// Its Problem record.
     pub problem: Rec,
-    /// The last Step record of each action that ran a step for it, in the order of first steps. An action goes by
-    /// name.
+    /// The last Step record of each action that ran a step for it, in the order of the bytes of the actions' names. An
+    /// action goes by name.
     pub steps: Many<Rec>,
-    /// The depth of its trigger when it opened. With the number and the trigger of its event, the depth says where the
-    /// problem stands in the order of making.
-    pub depth: u32,
+    /// The rank of its event: the depth of its trigger when it opened. With the number and the trigger of its event, the
+    /// rank says where the problem stands in the order of making.
+    pub rank: u32,
 }
 
 impl Open {
@@ -29,15 +29,15 @@ impl Open {
         Ok(Open {
             problem: self.problem.copy(alloc)?,
             steps,
-            depth: self.depth,
+            rank: self.rank,
         })
     }
 
-    /// Whether two open problems are equal: their records, their steps and their depths.
+    /// Whether two open problems are equal: their records, their steps and their ranks.
     pub fn is_same(&self, other: &Open) -> bool
         ensures { IsTrue result ↔ (self.now ≡ other.now) }
     {
-        self.depth == other.depth
+        self.rank == other.rank
             && same_record(&self.problem, &other.problem)
             && same_records(self.steps.as_slice(), other.steps.as_slice())
     }

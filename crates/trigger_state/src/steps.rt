@@ -3,7 +3,7 @@
 ghost use Rattle.std.specs.Prelude.{◌≡◌, ◌<◌, ◌++◌, ◌∷◌, [], map, length, IfSome, IfOk, OnOk, OnErr};
 ghost use Rattle.std.specs.List.{position_from};
 ghost use Rattle.zbx_types.specs.Records.{same_event};
-ghost use Rattle.trigger_state.specs.Problems.{action_of, same_action, event_in, with_step, stepped};
+ghost use Rattle.trigger_state.specs.Problems.{action_of, same_action, is_before, event_in, with_step, stepped};
 
 use crate::problems::{Open, is_of};
 use std::alloc::Global;
@@ -27,6 +27,13 @@ fn same_action(one: &Rec, other: &Rec) -> bool
     action_of(one) == action_of(other)
 }
 
+/// Whether a step's action stands before another one's.
+fn is_before(one: &Rec, other: &Rec) -> bool
+    ensures { result ≡ is_before one.now other.now }
+{
+    action_of(one).cmp(action_of(other)).is_lt()
+}
+
 /// Adds a copy of a step.
 fn push_copy(alloc: Global, steps: &mut Many<Rec>, step: &Rec) -> Result<(), OutOfMemory>
     ensures { OnOk result (steps.new ≡ steps.old ++ step.now ∷ []) }
@@ -35,18 +42,21 @@ fn push_copy(alloc: Global, steps: &mut Many<Rec>, step: &Rec) -> Result<(), Out
     Ok(())
 }
 
-/// Steps with one more: in the place of the one of its action, or behind them all.
+/// Steps with one more: in the place of the one of its action, else where it belongs by its action's name.
 fn steps_with(alloc: Global, steps: &[Rec], step: &Rec) -> Result<Many<Rec>, OutOfMemory>
     ensures { IfOk result (λ made. made ≡ with_step steps.now step.now) }
 {
     let mut made = Many::new(alloc);
     let mut taken = false;
     for one in steps {
-        if !taken && same_action(one, step) {
+        if taken || is_before(one, step) {
+            push_copy(alloc, &mut made, one)?;
+        } else {
             push_copy(alloc, &mut made, step)?;
             taken = true;
-        } else {
-            push_copy(alloc, &mut made, one)?;
+            if !same_action(one, step) {
+                push_copy(alloc, &mut made, one)?;
+            }
         }
     }
     if !taken {

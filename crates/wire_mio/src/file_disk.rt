@@ -2,6 +2,7 @@
 
 ghost use Rattle.std.specs.Prelude.{◌≡◌, ◌≤◌, length, Some, None, false, IfOk};
 ghost use Rattle.outside.specs.Causes.{HasCause};
+ghost use Rattle.outside.specs.Disk.{silent, silent_lawful};
 ghost use Rattle.wire_mio.specs.Adapters.{FailsAsFile, IsAlone, faults_behind};
 
 use crate::stored::{DiskFile, Stored};
@@ -103,21 +104,9 @@ fn opened<R: Files<File = File>>(rt: &R, path: &str) -> io::Result<File> {
 }
 
 impl<F: Stored> Disk for FileDisk<F> {
-    ghost bytes = { λ _. None };
+    ghost tells = { λ d. silent d.faults };
 
-    ghost images = { λ _ _. ⊥ };
-
-    ghost moment = { λ _. 0 };
-
-    ghost images_since = { λ _ _ _. ⊥ };
-
-    ghost faults = { λ d. d.faults };
-
-    ghost reads_as = { λ _. tt };
-
-    ghost counts_now = { λ _ _ _ _ image. image };
-
-    ghost only_now = { λ _ _ image. image };
+    ghost lawful = { λ d. silent_lawful d.faults };
 
     fn faults(&self) -> u64 {
         self.faults

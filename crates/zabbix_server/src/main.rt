@@ -31,9 +31,8 @@ mod running;
 
 ghost use Rattle.std.specs.Prelude.{◌≡◌, ℕ, List, IfOk};
 ghost use Rattle.std.specs.Process.{exit_status};
-ghost use Rattle.server_run.specs.Ran.{IsRunStatus};
 ghost use Rattle.server_words.specs.Printed.{exit_of};
-ghost use Rattle.zabbix_server.specs.Program.{status_in};
+ghost use Rattle.zabbix_server.specs.Program.{status_in, IsRunStatus};
 
 use server_words::Status;
 use std::process::ExitCode;

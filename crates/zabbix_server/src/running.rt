@@ -1,9 +1,9 @@
 //! From words to a run over files and standard output.
 
 ghost use Rattle.std.specs.Prelude.{◌≡◌, ◌⊎◌, None, IfOk};
-ghost use Rattle.server_words.specs.Words.{plan_of};
+ghost use Rattle.server_words.specs.Words.{plan_of, IsWithin};
 ghost use Rattle.server_words.specs.declared.status.Status.TheVariants as Status;
-ghost use Rattle.server_run.specs.Ran.{IsStatusOf, IsRunStatus};
+ghost use Rattle.zabbix_server.specs.Program.{IsStatusOf, IsRunStatus};
 
 use outside::{
     Disk, MemSink, MemSource, OpenGate, RamDisk, ScriptWire, Sink, Source, Wire, WorkWire,
@@ -46,6 +46,7 @@ fn run_planned<R: Threads + Wait + Sync>(
     words: &[Text],
     plan: &Plan,
 ) -> Result<Status, OutOfMemory>
+    requires within { IsWithin plan.now }
     ensures ran { IfOk result (IsRunStatus words.now) }
 {
     match plan.mode {
@@ -89,7 +90,7 @@ fn run_serve<R: Threads + Wait + Sync>(
     Ok(run_over(rt, threads, alloc, words, plan, config, wire))
 }
 
-/// Runs the server over the workload that a plan names. A plan of the command has from 1 to 1,000,000 values.
+/// Runs the server over the workload that a plan names.
 fn run_workload<R: Threads + Wait + Sync>(
     rt: &HostRuntime,
     threads: &R,
@@ -97,11 +98,11 @@ fn run_workload<R: Threads + Wait + Sync>(
     words: &[Text],
     plan: &Plan,
 ) -> Result<Status, OutOfMemory>
+    requires within { IsWithin plan.now }
     ensures ran { IfOk result (IsRunStatus words.now) }
 {
-    let values = plan.values.clamp(1, 1_000_000);
-    let config = work_source(alloc, plan.number, values)?;
-    let wire = WorkWire::new(alloc, plan.number, values);
+    let config = work_source(alloc, plan.number, plan.values)?;
+    let wire = WorkWire::new(alloc, plan.number, plan.values);
     Ok(run_over(rt, threads, alloc, words, plan, config, wire))
 }
 
@@ -213,11 +214,10 @@ pub(crate) fn status_of<
       source = S.left config;
       source_faults = S.faults config;
       wire = W.tells wire;
-      file = D.bytes disk;
-      disk_faults = D.faults disk;
+      file = (D.tells disk).bytes;
+      disk_faults = (D.tells disk).faults;
       outbox = O.tells outbox;
-      printer = P.tells printer;
-    }) result }
+    }) (P.tells printer) result }
 {
     let mut config = config;
     let mut wire = wire;

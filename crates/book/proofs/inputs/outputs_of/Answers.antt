@@ -7,6 +7,7 @@ use Rattle.book.specs.Progress.{OrderView, DoneView, AreHere, AreOutputs, entrie
 use Rattle.book.proofs.Batches.{within_ones}
 use Rattle.book.proofs.Claiming.{here_with, with_here, fresh_outputs}
 use Rattle.book.proofs.inputs.outputs_of.Goals as goal
+use Rattle.trigger_state.specs.Stages.{first_stage}
 
 pub is_usable-requires : goal.is_usable-requires
 is_usable-requires g c =
@@ -27,7 +28,7 @@ returns-then-is_usable-clause-made g c =
     fresh_outputs g.S.StartName.conf c.args.cells.now c.args.entries.now c.order.inside.entries c.args.done.order.batch.numbers c.order.inside.part c.done.inside.part c.done.inside.made c.requires.ready
     (here_with g.S.StartName.conf c.args.cells.now c.args.entries.now c.order.inside.entries c.args.done.order.batch.numbers c.requires.ready (c.order.invariant.numbers ∙ numbers) (subst (AreHere c.args.entries.now) c.as_slice.ensures usable.0))
     c.order.invariant.workable usable.1
-    (subst (λ (o : OrderView). WorksOut g.S.StartName.conf o.entries o.part c.done.inside.part c.done.inside.made) (sym c.order.view_is) c.done.invariant)
+    (subst (λ (o : OrderView). WorksOut (first_stage g.S.StartName.conf) o.entries o.part c.done.inside.part c.done.inside.made) (sym c.order.view_is) c.done.invariant)
 
 pub returns-in-Ok-clause-made : goal.returns-in-Ok-clause-made
 returns-in-Ok-clause-made g c =

@@ -11,13 +11,13 @@ use Rattle.entry_step.proofs.call_values.call_value.Goals as goal
 pub returns-in_default : goal.returns-in_default
 returns-in_default c =
     let none : slice_get c.args.calls.now.trigger.now.calls c.args.place ≡ None = search rules in
-    λ items sees. call_none items c.args.calls.now.occasion c.args.calls.now.ready.now.utc_offset c.args.calls.now.trigger.now c.args.place none
+    λ items sees. call_none items c.args.calls.now.occasion c.args.calls.now.ready.now.conf.utc_offset c.args.calls.now.trigger.now c.args.place none
 
 pub returns-in_default-item_at : goal.returns-in_default-item_at
 returns-in_default-item_at c =
     let there : slice_get c.args.calls.now.trigger.now.calls c.args.place ≡ Some c.in-Some.call.now = search rules in
     let none : slice_get c.args.calls.now.trigger.now.call_items c.args.place ≡ None = search rules in
-    λ items sees. item_none items c.args.calls.now.occasion c.args.calls.now.ready.now.utc_offset c.args.calls.now.trigger.now c.args.place c.in-Some.call.now there none
+    λ items sees. item_none items c.args.calls.now.occasion c.args.calls.now.ready.now.conf.utc_offset c.args.calls.now.trigger.now c.args.place c.in-Some.call.now there none
 
 pub value_over-requires : goal.value_over-requires
 value_over-requires c =
@@ -34,26 +34,26 @@ returns-in-None c =
     let there : slice_get c.args.calls.now.trigger.now.calls c.args.place ≡ Some c.in-Some.call.now = search rules in
     let item : slice_get c.args.calls.now.trigger.now.call_items c.args.place ≡ Some c.in-Some-item_at.item = search rules in
     let none : at_id c.args.calls.now.items.now c.in-Some-item_at.item ≡ None = search rules in
-    let called : IsCalled c.args.calls.now.ready.now c.args.calls.now.id c.in-Some-item_at.item = (c.args.calls.now.trigger.now, c.requires, get_in c.args.calls.now.trigger.now.call_items c.args.place c.in-Some-item_at.item item) in
+    let called : IsCalled c.args.calls.now.ready.now.conf c.args.calls.now.id c.in-Some-item_at.item = (c.args.calls.now.trigger.now, c.requires, get_in c.args.calls.now.trigger.now.call_items c.args.place c.in-Some-item_at.item item) in
     ok_sub c.value_over.result _ _
     (λ v e items sees.
-    e ∙ ap (λ xs. value_of c.in-Some.call.now xs c.args.calls.now.occasion.now c.args.calls.now.occasion.tick c.args.calls.now.ready.now.utc_offset)
+    e ∙ ap (λ xs. value_of c.in-Some.call.now xs c.args.calls.now.occasion.now c.args.calls.now.occasion.tick c.args.calls.now.ready.now.conf.utc_offset)
     (window_none c.in-Some.call.now.range c.in-Some.call.now.shift c.args.calls.now.occasion.now
     ∙ ap (window_of c.in-Some.call.now.range c.in-Some.call.now.shift c.args.calls.now.occasion.now)
-    (sym (empty_of c.args.calls.now.ready.now c.args.calls.now.items.now (still_to_come c.args.calls.now.coming.now) c.args.calls.now.occasion.now items c.args.calls.now.id c.in-Some-item_at.item none sees called)))
-    ∙ call_is items c.args.calls.now.occasion c.args.calls.now.ready.now.utc_offset c.args.calls.now.trigger.now c.args.place c.in-Some.call.now c.in-Some-item_at.item there item) c.value_over.ensures
+    (sym (empty_of c.args.calls.now.ready.now.conf c.args.calls.now.items.now (still_to_come c.args.calls.now.coming.now) c.args.calls.now.occasion.now items c.args.calls.now.id c.in-Some-item_at.item none sees called)))
+    ∙ call_is items c.args.calls.now.occasion c.args.calls.now.ready.now.conf.utc_offset c.args.calls.now.trigger.now c.args.place c.in-Some.call.now c.in-Some-item_at.item there item) c.value_over.ensures
 
 pub returns-in-Some-by_id : goal.returns-in-Some-by_id
 returns-in-Some-by_id c =
     let there : slice_get c.args.calls.now.trigger.now.calls c.args.place ≡ Some c.in-Some.call.now = search rules in
     let item : slice_get c.args.calls.now.trigger.now.call_items c.args.place ≡ Some c.in-Some-item_at.item = search rules in
     let cell : at_id c.args.calls.now.items.now c.in-Some-item_at.item ≡ Some c.in-Some-by_id.cell.now = search rules in
-    let called : IsCalled c.args.calls.now.ready.now c.args.calls.now.id c.in-Some-item_at.item = (c.args.calls.now.trigger.now, c.requires, get_in c.args.calls.now.trigger.now.call_items c.args.place c.in-Some-item_at.item item) in
-    let asks = (c.asks_within.ensures c.args.calls.now.ready.now c.args.calls.now.id c.args.place c.in-Some-item_at.item c.args.calls.now.trigger.now c.in-Some.call.now c.requires there item).1 in
+    let called : IsCalled c.args.calls.now.ready.now.conf c.args.calls.now.id c.in-Some-item_at.item = (c.args.calls.now.trigger.now, c.requires, get_in c.args.calls.now.trigger.now.call_items c.args.place c.in-Some-item_at.item item) in
+    let asks = (c.asks_within.ensures c.args.calls.now.ready.now.conf c.args.calls.now.id c.args.place c.in-Some-item_at.item c.args.calls.now.trigger.now c.in-Some.call.now c.requires there item).1 in
     let period = (c.place_of-pattern.ensures c.args.calls.now.trigger.now c.in-Some.call.now c.requires there).1 in
     ok_sub c.value_in.result _ _
     (λ v h items sees.
     h c.in-Some-item_at.item (items c.in-Some-item_at.item)
-    (seen_of_cell c.args.calls.now.ready.now c.args.calls.now.items.now (still_to_come c.args.calls.now.coming.now) c.args.calls.now.occasion.now items c.args.calls.now.id c.in-Some-item_at.item c.in-Some-by_id.cell.now _ cell
+    (seen_of_cell c.args.calls.now.ready.now.conf c.args.calls.now.items.now (still_to_come c.args.calls.now.coming.now) c.args.calls.now.occasion.now items c.args.calls.now.id c.in-Some-item_at.item c.in-Some-by_id.cell.now _ cell
     c.still_to_come-stored.ensures sees called) (asks period)
-    ∙ call_is items c.args.calls.now.occasion c.args.calls.now.ready.now.utc_offset c.args.calls.now.trigger.now c.args.place c.in-Some.call.now c.in-Some-item_at.item there item) c.value_in.ensures
+    ∙ call_is items c.args.calls.now.occasion c.args.calls.now.ready.now.conf.utc_offset c.args.calls.now.trigger.now c.args.place c.in-Some.call.now c.in-Some-item_at.item there item) c.value_in.ensures

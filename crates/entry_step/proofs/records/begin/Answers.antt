@@ -1,4 +1,5 @@
 use Rattle.std.proofs.Common.{◌∙◌, refl, ap}
+use Rattle.trigger_state.specs.Stages.{Stage, rank_of}
 use Rattle.entry_step.specs.Records.{problem_of, begun_with}
 use Rattle.entry_step.specs.Represents.{problems_at}
 use Rattle.entry_step.proofs.Represented.{ok_sub}
@@ -12,8 +13,8 @@ returns-in-Ok-clause-records c =
     c.in-Ok.ensures.closes c.in-Ok.ensures.records in
     ok_sub c.landed.result _ _
     (λ o l.
-    lands_made c.conf-conf.result.now c.args.problems.now c.args.id _ c.in-Ok.made.closes.old c.in-Ok.made.records o l ∙ both.0
-    ∙ ap (begun_with c.args.ready.now c.args.number c.args.now all c.args.id (problem_of c.args.ready.now c.args.number c.args.now c.args.values.now c.args.id c.args.trigger.now)) both.1)
+    lands_made c.stage-stage.result.now c.args.problems.now c.args.id _ c.in-Ok.made.closes.old c.in-Ok.made.records o l ∙ both.0
+    ∙ ap (begun_with c.args.ready.now c.args.number c.args.now all c.args.id (problem_of c.args.ready.now.conf c.args.number c.args.now c.args.values.now c.args.id c.args.trigger.now)) both.1)
     c.landed.ensures
 
 pub returns-in-Ok-clause-rows : goal.returns-in-Ok-clause-rows
@@ -22,7 +23,7 @@ returns-in-Ok-clause-rows c =
     let both = begun_is c.args.ready.now c.args.ready.now c.args.number c.args.now c.args.values.now c.args.id c.args.trigger.now all c.in_ok-problem.problem c.in-Ok.made.closes c.in-Ok.made.records refl c.requires c.in_ok-problem.ensures
     c.in-Ok.ensures.closes c.in-Ok.ensures.records in
     ok_sub c.landed.result _ _
-    (λ o l size.
-    lands_from c.args.ready.now c.args.number c.args.now c.args.values.now c.args.id c.args.trigger.now c.args.problems.now c.in-Ok.made.closes c.in-Ok.made.records c.requires size both.0 c.conf-conf.result.now c.in_ok-problem.problem o
-    c.conf-conf.ensures c.in_ok-problem.ensures l)
+    (λ o l ids size.
+    lands_from c.args.ready.now c.args.number c.args.now c.args.values.now c.args.id c.args.trigger.now c.args.problems.now c.in-Ok.made.closes c.in-Ok.made.records ids c.requires size both.0 c.stage-stage.result.now c.in_ok-problem.problem c.rank.result o
+    c.stage-stage.ensures c.in_ok-problem.ensures (c.rank.ensures ∙ ap (λ (s : Stage). rank_of s (record { number = c.args.number; trigger = c.args.id })) c.stage-stage.ensures) l)
     c.landed.ensures

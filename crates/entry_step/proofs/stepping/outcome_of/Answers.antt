@@ -8,7 +8,7 @@ use Rattle.entry_step.proofs.stepping.outcome_of.Goals as goal
 
 pub returns-clause-records : goal.returns-clause-records
 returns-clause-records c =
-    let there : at_id c.args.ready.now.triggers c.args.id ≡ Some c.in-Some.trigger.now = search rules in
+    let there : at_id c.args.ready.now.conf.triggers c.args.id ≡ Some c.in-Some.trigger.now = search rules in
     ok_sub c.judge.result _ _
     (λ made e histories sees.
     e histories sees ∙ outcome_is c.args.ready.now c.args.ready.now c.args.occasion.now (value_in c.as_slice-2.result.now) histories (problems_at c.args.problems.now) c.args.id c.in-Some.trigger.now

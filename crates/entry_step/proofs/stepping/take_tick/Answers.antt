@@ -10,13 +10,13 @@ returns-in-Ok-clause-ok g c =
     c.in-Ok.ensures.records c.in-Ok.ensures.rows (ap (λ v. v.items) c.cells.view_is) (ap (λ v. v.memories) c.cells.view_is) refl
 
 pub returns-in-Ok-clause-counted : goal.returns-in-Ok-clause-counted
-returns-in-Ok-clause-counted g c = c.in_ok-draft.ensures.counted ∙ ap (λ (ids : List ℕ). c.args.steps.now + length ids) (asked_all c.args.ready.now c.timed.result.now ∙ c.timed.ensures)
+returns-in-Ok-clause-counted g c = c.in_ok-draft.ensures.counted ∙ ap (λ (ids : List ℕ). c.args.steps.now + length ids) (asked_all c.args.ready.now.conf c.timed.result.now ∙ c.timed.ensures)
 
 pub returns-in-Ok-clause-most : goal.returns-in-Ok-clause-most
-returns-in-Ok-clause-most g c = subst (λ (ids : List ℕ). c.evaluated.new.steps ≤ c.args.steps.now + length ids) (asked_all c.args.ready.now c.timed.result.now ∙ c.timed.ensures) c.evaluated.ensures.most
+returns-in-Ok-clause-most g c = subst (λ (ids : List ℕ). c.evaluated.new.steps ≤ c.args.steps.now + length ids) (asked_all c.args.ready.now.conf c.timed.result.now ∙ c.timed.ensures) c.evaluated.ensures.most
 
 pub returns-in-Err-clause-most : goal.returns-in-Err-clause-most
-returns-in-Err-clause-most g c = subst (λ (ids : List ℕ). c.evaluated.new.steps ≤ c.args.steps.now + length ids) (asked_all c.args.ready.now c.timed.result.now ∙ c.timed.ensures) c.evaluated.ensures.most
+returns-in-Err-clause-most g c = subst (λ (ids : List ℕ). c.evaluated.new.steps ≤ c.args.steps.now + length ids) (asked_all c.args.ready.now.conf c.timed.result.now ∙ c.timed.ensures) c.evaluated.ensures.most
 
 pub returns-in_err-draft-clause-most : goal.returns-in_err-draft-clause-most
-returns-in_err-draft-clause-most g c = subst (λ (ids : List ℕ). c.evaluated.new.steps ≤ c.args.steps.now + length ids) (asked_all c.args.ready.now c.timed.result.now ∙ c.timed.ensures) c.evaluated.ensures.most
+returns-in_err-draft-clause-most g c = subst (λ (ids : List ℕ). c.evaluated.new.steps ≤ c.args.steps.now + length ids) (asked_all c.args.ready.now.conf c.timed.result.now ∙ c.timed.ensures) c.evaluated.ensures.most

@@ -18,7 +18,7 @@ use Rattle.entry_step.proofs.stepping.take_value.Goals as goal
 
 pub returns-clause-ok : goal.returns-clause-ok
 returns-clause-ok g c =
-    let conf = c.args.ready.now in
+    let conf = c.args.ready.now.conf in
     let number : ℕ = c.args.occasion.now.number in
     let entry : Entry = Value c.args.occasion.now.now c.args.item c.args.time c.args.value.now in
     let of : CellsView → List Visit = λ view. visits_at conf (memory_in view.memories) number entry in
@@ -30,13 +30,13 @@ returns-clause-ok g c =
     ap (λ (vs : List Visit). filter (is_asked conf (Some (record { visits = vs }))) (triggers_under conf c.args.item)) visits ∙ triggers_listed conf (memory_in c.args.cells.now.memories) number c.args.occasion.now.now c.args.item c.args.time c.args.value.now in
     ok_both c.take_draft.result _ _ _
     (λ made drafted becomes.
-    takes_in conf c.args.occasion.now draft (of c.args.cells.now) c.in_ok-draft.field-0.failures (filter (is_asked conf (Some draft)) (triggers_under conf c.args.item)) (triggers_at conf (memory_in c.args.cells.now.memories) number entry)
+    takes_in c.args.ready.now c.args.occasion.now draft (of c.args.cells.now) c.in_ok-draft.field-0.failures (filter (is_asked conf (Some draft)) (triggers_under conf c.args.item)) (triggers_at conf (memory_in c.args.cells.now.memories) number entry)
     c.cells.inside.items c.prepare.new.cells c.take_draft.new.items c.cells.inside.problems.items c.take_draft.new.problems.items c.cells.inside.tick c.args.cells.now made (sym c.cells.view_is) visits failures listed c.in_ok-draft.ensures.same drafted becomes)
     c.take_draft.ensures.made c.take_draft.ensures.came
 
 pub returns-clause-counted : goal.returns-clause-counted
 returns-clause-counted g c =
-    let conf = c.args.ready.now in
+    let conf = c.args.ready.now.conf in
     let number : ℕ = c.args.occasion.now.number in
     let entry : Entry = Value c.args.occasion.now.now c.args.item c.args.time c.args.value.now in
     let of : CellsView → List Visit = λ view. visits_at conf (memory_in view.memories) number entry in
@@ -48,7 +48,7 @@ returns-clause-counted g c =
 
 pub returns-clause-most : goal.returns-clause-most
 returns-clause-most g c =
-    let conf = c.args.ready.now in
+    let conf = c.args.ready.now.conf in
     let number : ℕ = c.args.occasion.now.number in
     let entry : Entry = Value c.args.occasion.now.now c.args.item c.args.time c.args.value.now in
     let of : CellsView → List Visit = λ view. visits_at conf (memory_in view.memories) number entry in

@@ -8,4 +8,4 @@ use Rattle.entry_step.proofs.touched.trigger_ids.Given as goal
 abbrev pub invariant-loop-one : goal.invariant-loop-one
 invariant-loop-one g l =
     (id : ℕ) → is_one l.all id ≡ true
-    → (has_id l.found.items id || any_touches l.ready (drop l.one-index l.entries) (TriggerKey id)) ≡ any_touches l.ready l.entries (TriggerKey id)
+    → (has_id l.found.items id || any_touches l.ready.conf (drop l.one-index l.entries) (TriggerKey id)) ≡ any_touches l.ready.conf l.entries (TriggerKey id)

@@ -7,14 +7,14 @@ returns-then-is_kept-clause-written g c =
     let i = c.args.held.now in
     let b = c.args.batch.now in
     let w = c.write-is_kept.ensures in
-    commit_written g.D.Disk.bytes g.D.Disk.moment g.D.Disk.images_since g.D.Disk.faults c.args.journal.now.disk c.write-is_kept.new.journal.disk i b c.requires.waiting.batch w.later w.told
+    commit_written (g.D.Disk.tells c.args.journal.now.disk) (g.D.Disk.tells c.write-is_kept.new.journal.disk) i b c.requires.waiting.batch w.later w.told
     (w.any_moment (take b.mark.kept i.entries) b.mark.bytes (c.requires.waiting.journaled c.requires.ready))
 
 pub returns-then-is_kept-clause-waiting : goal.returns-then-is_kept-clause-waiting
 returns-then-is_kept-clause-waiting g c =
     let i = c.args.held.now in
     let b = c.args.batch.now in
-    kept_waiting g.D.Disk.bytes g.D.Disk.images c.write-is_kept.new.journal i b _ c.requires.waiting.batch
+    kept_waiting g.D.Disk.tells c.write-is_kept.new.journal i b _ c.requires.waiting.batch
     (c.write-is_kept.ensures.kept c.if-is_kept.true (take b.mark.kept i.entries) b.mark.bytes (c.requires.waiting.journaled c.requires.ready))
     c.clear.ensures c.replace-first.ensures.after refl c.of-batch.ensures.value c.of-batch.ensures.few
 
@@ -23,5 +23,5 @@ returns-in-Some-clause-written g c =
     let i = c.args.held.now in
     let b = c.args.batch.now in
     let w = c.write-is_kept.ensures in
-    commit_written g.D.Disk.bytes g.D.Disk.moment g.D.Disk.images_since g.D.Disk.faults c.args.journal.now.disk c.write-is_kept.new.journal.disk i b c.requires.waiting.batch w.later w.told
+    commit_written (g.D.Disk.tells c.args.journal.now.disk) (g.D.Disk.tells c.write-is_kept.new.journal.disk) i b c.requires.waiting.batch w.later w.told
     (w.any_moment (take b.mark.kept i.entries) b.mark.bytes (c.requires.waiting.journaled c.requires.ready))

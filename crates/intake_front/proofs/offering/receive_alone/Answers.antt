@@ -9,7 +9,7 @@ use Rattle.intake_front.proofs.offering.receive_alone.Goals as goal
 
 pub commit-requires-clause-waiting : goal.commit-requires-clause-waiting
 commit-requires-clause-waiting g c =
-    did_waiting c.args.journal.now c.new-collection.result c.args.held.now c.receive.new.held c.args.batch.now c.receive.new.batch c.args.event.now g.D.Disk.bytes g.D.Disk.images c.receive.result c.requires.waiting
+    did_waiting c.args.journal.now c.new-collection.result c.args.held.now c.receive.new.held c.args.batch.now c.receive.new.batch c.args.event.now g.D.Disk.tells c.receive.result c.requires.waiting
     c.receive.ensures.room c.receive.ensures.taken
 
 pub returns-in-Some-clause-offered : goal.returns-in-Some-clause-offered
@@ -27,10 +27,10 @@ returns-in-Some-clause-offered g c =
     let batch = c.requires.waiting.batch in
     let front = ap (λ (v : Intake). take b.mark.kept v.entries) (sym t.after) ∙ did_front journal conf i m b k e c.receive.result batch c.receive.ensures.taken in
     let list = sym c.in-Some.ensures.items ∙ c.into_vec.ensures in
-    subst (λ (k : Conf). IsOffered d.bytes d.moment d.images_since d.faults journal c.commit.new.journal i c.commit.new.held (λ n. handled (limits_of journal n) k i e) (Ok c.in-Some.answer)) c.new-collection.ensures
+    subst (λ (k : Conf). IsOffered d.tells journal c.commit.new.journal i c.commit.new.held (λ n. handled (limits_of journal n) k i e) (Ok c.in-Some.answer)) c.new-collection.ensures
     (⊎_elim
-    (λ ready. alone_kept d.bytes d.moment d.images_since d.faults journal c.commit.new.journal i m c.commit.new.held b k says c.in_ok-receive.field-0 c.requires.block batch t front
+    (λ ready. alone_kept d.tells journal c.commit.new.journal i m c.commit.new.held b k says c.in_ok-receive.field-0 c.requires.block batch t front
     c.pop.new.self.items c.in-Some.answer c.requires.answers (list ∙ (c.commit.ensures.done ready).0) (c.commit.ensures.done ready).1 (c.commit.ensures.done ready).2 c.commit.ensures.written)
-    (λ broken. alone_failed d.bytes d.moment d.images_since d.faults journal c.commit.new.journal i m c.commit.new.held b k says c.in_ok-receive.field-0 c.requires.block batch t front
+    (λ broken. alone_failed d.tells journal c.commit.new.journal i m c.commit.new.held b k says c.in_ok-receive.field-0 c.requires.block batch t front
     c.pop.new.self.items c.in-Some.answer c.requires.answers (list ∙ (c.commit.ensures.failed broken).0) (c.commit.ensures.failed broken).1 (c.commit.ensures.failed broken).2 (c.commit.ensures.failed broken).3 broken c.commit.ensures.written)
     c.commit.ensures.state)

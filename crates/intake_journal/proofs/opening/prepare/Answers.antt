@@ -11,105 +11,105 @@ use Rattle.intake_journal.proofs.Openings.{and_then, short_keeps, anew_opened, f
 use Rattle.intake_journal.proofs.opening.prepare.Goals as goal
 
 pub returns-in_err-make_anew-clause-any_moment : goal.returns-in_err-make_anew-clause-any_moment
-returns-in_err-make_anew-clause-any_moment g c = if_some (g.D.Disk.bytes c.args.disk.now) _ (λ b is.
-    let bytes = g.D.Disk.bytes in let images = g.D.Disk.images in let moment = g.D.Disk.moment in let since = g.D.Disk.images_since in
-    let d0 = c.args.disk.now in let d1 = c.sync.new.self in let d2 = c.len.new.self in
-    let told : bytes d2 ≡ Some b = c.len.ensures.bytes ∙ c.sync.ensures.bytes ∙ is in
-    let only : Only b (images d2) = λ f now. told_of (bytes d0) b (λ l. Only l (images d1)) is c.in_ok-sync.ensures.durable f (c.len.ensures.crash f now) in
-    let size : c.in_ok-len.field-0 ≡ length b = told_of (bytes d1) b (λ l. c.in_ok-len.field-0 ≡ length l) (c.sync.ensures.bytes ∙ is) c.in_ok-len.ensures.length in
-    let P = KeepsAsOneOf (images d0) in
-    let s0 = started images moment since P d0 (g.met.D.Disk.only_now d0) (λ f now. (f, now, refl)) in
-    let s1 = stays images moment since P d0 d0 d1 s0 c.sync.ensures.time c.sync.ensures.crash in
-    let s2 = stays images moment since P d0 d1 d2 s1 c.len.ensures.time c.len.ensures.crash in
-    let image = told_of (bytes d0) b (images d0) is (g.met.D.Disk.reads_as d0) in
+returns-in_err-make_anew-clause-any_moment g c = if_some (g.D.Disk.tells c.args.disk.now).bytes _ (λ b is.
+    let tells = g.D.Disk.tells in
+    let d0 = tells c.args.disk.now in let d1 = tells c.sync.new.self in let d2 = tells c.len.new.self in
+    let told : d2.bytes ≡ Some b = c.len.ensures.bytes ∙ c.sync.ensures.bytes ∙ is in
+    let only : Only b d2 = λ f now. told_of d0.bytes b (λ l. Only l d1) is c.in_ok-sync.ensures.durable f (c.len.ensures.crash f now) in
+    let size : c.in_ok-len.field-0 ≡ length b = told_of d1.bytes b (λ l. c.in_ok-len.field-0 ≡ length l) (c.sync.ensures.bytes ∙ is) c.in_ok-len.ensures.length in
+    let P = KeepsAsOneOf d0 in
+    let s0 = started P d0 (g.met.D.Disk.lawful c.args.disk.now) (λ f now. (f, now, refl)) in
+    let s1 = stays P d0 d0 d1 s0 c.sync.ensures.time c.sync.ensures.crash in
+    let s2 = stays P d0 d1 d2 s1 c.len.ensures.time c.len.ensures.crash in
+    let image = told_of d0.bytes b d0.images is (g.met.D.Disk.lawful c.args.disk.now).reads_as in
     let short : length b ≤ 9 = omega (arith, size, c.if-branch-le9.true) in
-    let more = told_of (bytes d2) b (λ l. length l ≤ 9 → Only l (images d2) → LeavesOnly moment since d2 c.make_anew.new.disk (λ f. length f ≤ 9)) told c.make_anew.ensures.any_moment short only in
-    and_then moment since d0 d2 c.make_anew.new.disk P (λ f. length f ≤ 9) s2.moments more (short_keeps (images d0) b image short))
+    let more = told_of d2.bytes b (λ l. length l ≤ 9 → Only l d2 → LeavesOnly d2 (tells c.make_anew.new.disk) (λ f. length f ≤ 9)) told c.make_anew.ensures.any_moment short only in
+    and_then d0 d2 (tells c.make_anew.new.disk) P (λ f. length f ≤ 9) s2.moments more (short_keeps d0 b image short))
 
 pub returns-then-branch-le9-clause-any_moment : goal.returns-then-branch-le9-clause-any_moment
-returns-then-branch-le9-clause-any_moment g c = if_some (g.D.Disk.bytes c.args.disk.now) _ (λ b is.
-    let bytes = g.D.Disk.bytes in let images = g.D.Disk.images in let moment = g.D.Disk.moment in let since = g.D.Disk.images_since in
-    let d0 = c.args.disk.now in let d1 = c.sync.new.self in let d2 = c.len.new.self in
-    let told : bytes d2 ≡ Some b = c.len.ensures.bytes ∙ c.sync.ensures.bytes ∙ is in
-    let only : Only b (images d2) = λ f now. told_of (bytes d0) b (λ l. Only l (images d1)) is c.in_ok-sync.ensures.durable f (c.len.ensures.crash f now) in
-    let size : c.in_ok-len.field-0 ≡ length b = told_of (bytes d1) b (λ l. c.in_ok-len.field-0 ≡ length l) (c.sync.ensures.bytes ∙ is) c.in_ok-len.ensures.length in
-    let P = KeepsAsOneOf (images d0) in
-    let s0 = started images moment since P d0 (g.met.D.Disk.only_now d0) (λ f now. (f, now, refl)) in
-    let s1 = stays images moment since P d0 d0 d1 s0 c.sync.ensures.time c.sync.ensures.crash in
-    let s2 = stays images moment since P d0 d1 d2 s1 c.len.ensures.time c.len.ensures.crash in
-    let image = told_of (bytes d0) b (images d0) is (g.met.D.Disk.reads_as d0) in
+returns-then-branch-le9-clause-any_moment g c = if_some (g.D.Disk.tells c.args.disk.now).bytes _ (λ b is.
+    let tells = g.D.Disk.tells in
+    let d0 = tells c.args.disk.now in let d1 = tells c.sync.new.self in let d2 = tells c.len.new.self in
+    let told : d2.bytes ≡ Some b = c.len.ensures.bytes ∙ c.sync.ensures.bytes ∙ is in
+    let only : Only b d2 = λ f now. told_of d0.bytes b (λ l. Only l d1) is c.in_ok-sync.ensures.durable f (c.len.ensures.crash f now) in
+    let size : c.in_ok-len.field-0 ≡ length b = told_of d1.bytes b (λ l. c.in_ok-len.field-0 ≡ length l) (c.sync.ensures.bytes ∙ is) c.in_ok-len.ensures.length in
+    let P = KeepsAsOneOf d0 in
+    let s0 = started P d0 (g.met.D.Disk.lawful c.args.disk.now) (λ f now. (f, now, refl)) in
+    let s1 = stays P d0 d0 d1 s0 c.sync.ensures.time c.sync.ensures.crash in
+    let s2 = stays P d0 d1 d2 s1 c.len.ensures.time c.len.ensures.crash in
+    let image = told_of d0.bytes b d0.images is (g.met.D.Disk.lawful c.args.disk.now).reads_as in
     let short : length b ≤ 9 = omega (arith, size, c.if-branch-le9.true) in
-    let more = told_of (bytes d2) b (λ l. length l ≤ 9 → Only l (images d2) → LeavesOnly moment since d2 c.make_anew.new.disk (λ f. length f ≤ 9)) told c.make_anew.ensures.any_moment short only in
-    and_then moment since d0 d2 c.make_anew.new.disk P (λ f. length f ≤ 9) s2.moments more (short_keeps (images d0) b image short))
+    let more = told_of d2.bytes b (λ l. length l ≤ 9 → Only l d2 → LeavesOnly d2 (tells c.make_anew.new.disk) (λ f. length f ≤ 9)) told c.make_anew.ensures.any_moment short only in
+    and_then d0 d2 (tells c.make_anew.new.disk) P (λ f. length f ≤ 9) s2.moments more (short_keeps d0 b image short))
 
 pub returns-then-branch-le9-clause-ours : goal.returns-then-branch-le9-clause-ours
-returns-then-branch-le9-clause-ours g c = if_some (g.D.Disk.bytes c.args.disk.now) _ (λ b is.
-    let bytes = g.D.Disk.bytes in let images = g.D.Disk.images in let moment = g.D.Disk.moment in let since = g.D.Disk.images_since in
-    let d0 = c.args.disk.now in let d1 = c.sync.new.self in let d2 = c.len.new.self in
-    let told : bytes d2 ≡ Some b = c.len.ensures.bytes ∙ c.sync.ensures.bytes ∙ is in
-    let only : Only b (images d2) = λ f now. told_of (bytes d0) b (λ l. Only l (images d1)) is c.in_ok-sync.ensures.durable f (c.len.ensures.crash f now) in
-    let size : c.in_ok-len.field-0 ≡ length b = told_of (bytes d1) b (λ l. c.in_ok-len.field-0 ≡ length l) (c.sync.ensures.bytes ∙ is) c.in_ok-len.ensures.length in
+returns-then-branch-le9-clause-ours g c = if_some (g.D.Disk.tells c.args.disk.now).bytes _ (λ b is.
+    let tells = g.D.Disk.tells in
+    let d0 = tells c.args.disk.now in let d1 = tells c.sync.new.self in let d2 = tells c.len.new.self in
+    let told : d2.bytes ≡ Some b = c.len.ensures.bytes ∙ c.sync.ensures.bytes ∙ is in
+    let only : Only b d2 = λ f now. told_of d0.bytes b (λ l. Only l d1) is c.in_ok-sync.ensures.durable f (c.len.ensures.crash f now) in
+    let size : c.in_ok-len.field-0 ≡ length b = told_of d1.bytes b (λ l. c.in_ok-len.field-0 ≡ length l) (c.sync.ensures.bytes ∙ is) c.in_ok-len.ensures.length in
     let short : length b ≤ 9 = omega (arith, size, c.if-branch-le9.true) in
     λ _. fresh_other b short)
 
 pub returns-then-branch-le9-clause-opened : goal.returns-then-branch-le9-clause-opened
-returns-then-branch-le9-clause-opened g c = if_some (g.D.Disk.bytes c.args.disk.now) _ (λ b is.
-    let bytes = g.D.Disk.bytes in let images = g.D.Disk.images in let moment = g.D.Disk.moment in let since = g.D.Disk.images_since in
-    let d0 = c.args.disk.now in let d1 = c.sync.new.self in let d2 = c.len.new.self in
-    let told : bytes d2 ≡ Some b = c.len.ensures.bytes ∙ c.sync.ensures.bytes ∙ is in
-    let only : Only b (images d2) = λ f now. told_of (bytes d0) b (λ l. Only l (images d1)) is c.in_ok-sync.ensures.durable f (c.len.ensures.crash f now) in
-    let size : c.in_ok-len.field-0 ≡ length b = told_of (bytes d1) b (λ l. c.in_ok-len.field-0 ≡ length l) (c.sync.ensures.bytes ∙ is) c.in_ok-len.ensures.length in
+returns-then-branch-le9-clause-opened g c = if_some (g.D.Disk.tells c.args.disk.now).bytes _ (λ b is.
+    let tells = g.D.Disk.tells in
+    let d0 = tells c.args.disk.now in let d1 = tells c.sync.new.self in let d2 = tells c.len.new.self in
+    let told : d2.bytes ≡ Some b = c.len.ensures.bytes ∙ c.sync.ensures.bytes ∙ is in
+    let only : Only b d2 = λ f now. told_of d0.bytes b (λ l. Only l d1) is c.in_ok-sync.ensures.durable f (c.len.ensures.crash f now) in
+    let size : c.in_ok-len.field-0 ≡ length b = told_of d1.bytes b (λ l. c.in_ok-len.field-0 ≡ length l) (c.sync.ensures.bytes ∙ is) c.in_ok-len.ensures.length in
     let short : length b ≤ 9 = omega (arith, size, c.if-branch-le9.true) in
     let file = overwritten b 0 (magic ++ 0 ∷ []) in
-    let d3 = c.make_anew.new.disk in
-    let made : bytes d3 ≡ Some file = told_of (bytes d2) b (λ l. bytes d3 ≡ Some (overwritten l 0 (magic ++ 0 ∷ []))) told c.in_ok-make_anew.ensures.made in
-    let durable = told_of (bytes d3) file (λ l. Only l (images d3)) made c.in_ok-make_anew.ensures.durable in
-    let opened : IfSome (Some file) (λ f. true ≡ true → IsOpened (images d3) b f) = λ _. anew_opened (images d3) b short durable in
-    subst (λ (o : Option (List ℕ)). IfSome o (λ f. true ≡ true → IsOpened (images d3) b f)) (sym made) opened)
+    let d3 = tells c.make_anew.new.disk in
+    let made : d3.bytes ≡ Some file = told_of d2.bytes b (λ l. d3.bytes ≡ Some (overwritten l 0 (magic ++ 0 ∷ []))) told c.in_ok-make_anew.ensures.made in
+    let durable = told_of d3.bytes file (λ l. Only l d3) made c.in_ok-make_anew.ensures.durable in
+    let opened : IfSome (Some file) (λ f. true ≡ true → IsOpened d3 b f) = λ _. anew_opened d3 b short durable in
+    subst (λ (o : Option (List ℕ)). IfSome o (λ f. true ≡ true → IsOpened d3 b f)) (sym made) opened)
 
 pub returns-clause-any_moment : goal.returns-clause-any_moment
-returns-clause-any_moment g c = if_some (g.D.Disk.bytes c.args.disk.now) _ (λ b is.
-    let bytes = g.D.Disk.bytes in let images = g.D.Disk.images in let moment = g.D.Disk.moment in let since = g.D.Disk.images_since in
-    let d0 = c.args.disk.now in let d1 = c.sync.new.self in let d2 = c.len.new.self in
-    let told : bytes d2 ≡ Some b = c.len.ensures.bytes ∙ c.sync.ensures.bytes ∙ is in
-    let only : Only b (images d2) = λ f now. told_of (bytes d0) b (λ l. Only l (images d1)) is c.in_ok-sync.ensures.durable f (c.len.ensures.crash f now) in
-    let size : c.in_ok-len.field-0 ≡ length b = told_of (bytes d1) b (λ l. c.in_ok-len.field-0 ≡ length l) (c.sync.ensures.bytes ∙ is) c.in_ok-len.ensures.length in
-    let P = KeepsAsOneOf (images d0) in
-    let s0 = started images moment since P d0 (g.met.D.Disk.only_now d0) (λ f now. (f, now, refl)) in
-    let s1 = stays images moment since P d0 d0 d1 s0 c.sync.ensures.time c.sync.ensures.crash in
-    let s2 = stays images moment since P d0 d1 d2 s1 c.len.ensures.time c.len.ensures.crash in
-    and_then moment since d0 d2 c.is_journal.new.disk P (images d2) s2.moments c.is_journal.ensures.before.moments (λ f now. s2.now f now))
+returns-clause-any_moment g c = if_some (g.D.Disk.tells c.args.disk.now).bytes _ (λ b is.
+    let tells = g.D.Disk.tells in
+    let d0 = tells c.args.disk.now in let d1 = tells c.sync.new.self in let d2 = tells c.len.new.self in
+    let told : d2.bytes ≡ Some b = c.len.ensures.bytes ∙ c.sync.ensures.bytes ∙ is in
+    let only : Only b d2 = λ f now. told_of d0.bytes b (λ l. Only l d1) is c.in_ok-sync.ensures.durable f (c.len.ensures.crash f now) in
+    let size : c.in_ok-len.field-0 ≡ length b = told_of d1.bytes b (λ l. c.in_ok-len.field-0 ≡ length l) (c.sync.ensures.bytes ∙ is) c.in_ok-len.ensures.length in
+    let P = KeepsAsOneOf d0 in
+    let s0 = started P d0 (g.met.D.Disk.lawful c.args.disk.now) (λ f now. (f, now, refl)) in
+    let s1 = stays P d0 d0 d1 s0 c.sync.ensures.time c.sync.ensures.crash in
+    let s2 = stays P d0 d1 d2 s1 c.len.ensures.time c.len.ensures.crash in
+    and_then d0 d2 (tells c.is_journal.new.disk) P d2.images s2.moments c.is_journal.ensures.before.moments (λ f now. s2.now f now))
 
 pub returns-clause-ours : goal.returns-clause-ours
-returns-clause-ours g c = IfOk-weaker c.is_journal.result _ _ (λ ours is_ours. if_some (g.D.Disk.bytes c.args.disk.now) _ (λ b is.
-    let bytes = g.D.Disk.bytes in let images = g.D.Disk.images in
-    let d0 = c.args.disk.now in let d1 = c.sync.new.self in let d2 = c.len.new.self in
-    let told : bytes d2 ≡ Some b = c.len.ensures.bytes ∙ c.sync.ensures.bytes ∙ is in
-    let size : c.in_ok-len.field-0 ≡ length b = told_of (bytes d1) b (λ l. c.in_ok-len.field-0 ≡ length l) (c.sync.ensures.bytes ∙ is) c.in_ok-len.ensures.length in
+returns-clause-ours g c = IfOk-weaker c.is_journal.result _ _ (λ ours is_ours. if_some (g.D.Disk.tells c.args.disk.now).bytes _ (λ b is.
+    let tells = g.D.Disk.tells in
+    let d0 = tells c.args.disk.now in let d1 = tells c.sync.new.self in let d2 = tells c.len.new.self in
+    let told : d2.bytes ≡ Some b = c.len.ensures.bytes ∙ c.sync.ensures.bytes ∙ is in
+    let size : c.in_ok-len.field-0 ≡ length b = told_of d1.bytes b (λ l. c.in_ok-len.field-0 ≡ length l) (c.sync.ensures.bytes ∙ is) c.in_ok-len.ensures.length in
     let long : 9 < length b = omega (arith, size, c.if-branch-le9.false) in
-    let test : ours ≡ list_all (λ p. p.0 == p.1) (zip magic b) = told_of (bytes d2) b (λ l. ours ≡ list_all (λ p. p.0 == p.1) (zip magic l)) told is_ours in
+    let test : ours ≡ list_all (λ p. p.0 == p.1) (zip magic b) = told_of d2.bytes b (λ l. ours ≡ list_all (λ p. p.0 == p.1) (zip magic l)) told is_ours in
     λ yes. long_ours b long (sym test ∙ yes))) c.is_journal.ensures.ours
 
 pub returns-clause-not_ours : goal.returns-clause-not_ours
-returns-clause-not_ours g c = IfOk-weaker c.is_journal.result _ _ (λ ours is_ours. if_some (g.D.Disk.bytes c.args.disk.now) _ (λ b is.
-    let bytes = g.D.Disk.bytes in let images = g.D.Disk.images in
-    let d0 = c.args.disk.now in let d1 = c.sync.new.self in let d2 = c.len.new.self in
-    let told : bytes d2 ≡ Some b = c.len.ensures.bytes ∙ c.sync.ensures.bytes ∙ is in
-    let size : c.in_ok-len.field-0 ≡ length b = told_of (bytes d1) b (λ l. c.in_ok-len.field-0 ≡ length l) (c.sync.ensures.bytes ∙ is) c.in_ok-len.ensures.length in
+returns-clause-not_ours g c = IfOk-weaker c.is_journal.result _ _ (λ ours is_ours. if_some (g.D.Disk.tells c.args.disk.now).bytes _ (λ b is.
+    let tells = g.D.Disk.tells in
+    let d0 = tells c.args.disk.now in let d1 = tells c.sync.new.self in let d2 = tells c.len.new.self in
+    let told : d2.bytes ≡ Some b = c.len.ensures.bytes ∙ c.sync.ensures.bytes ∙ is in
+    let size : c.in_ok-len.field-0 ≡ length b = told_of d1.bytes b (λ l. c.in_ok-len.field-0 ≡ length l) (c.sync.ensures.bytes ∙ is) c.in_ok-len.ensures.length in
     let long : 9 < length b = omega (arith, size, c.if-branch-le9.false) in
-    let test : ours ≡ list_all (λ p. p.0 == p.1) (zip magic b) = told_of (bytes d2) b (λ l. ours ≡ list_all (λ p. p.0 == p.1) (zip magic l)) told is_ours in
+    let test : ours ≡ list_all (λ p. p.0 == p.1) (zip magic b) = told_of d2.bytes b (λ l. ours ≡ list_all (λ p. p.0 == p.1) (zip magic l)) told is_ours in
     λ not. long_not_ours b long (sym test ∙ not))) c.is_journal.ensures.ours
 
 pub returns-clause-opened : goal.returns-clause-opened
-returns-clause-opened g c = IfOk-weaker c.is_journal.result _ _ (λ ours is_ours. if_some (g.D.Disk.bytes c.args.disk.now) _ (λ b is.
-    let bytes = g.D.Disk.bytes in let images = g.D.Disk.images in
-    let d0 = c.args.disk.now in let d1 = c.sync.new.self in let d2 = c.len.new.self in
-    let told : bytes d2 ≡ Some b = c.len.ensures.bytes ∙ c.sync.ensures.bytes ∙ is in
-    let size : c.in_ok-len.field-0 ≡ length b = told_of (bytes d1) b (λ l. c.in_ok-len.field-0 ≡ length l) (c.sync.ensures.bytes ∙ is) c.in_ok-len.ensures.length in
+returns-clause-opened g c = IfOk-weaker c.is_journal.result _ _ (λ ours is_ours. if_some (g.D.Disk.tells c.args.disk.now).bytes _ (λ b is.
+    let tells = g.D.Disk.tells in
+    let d0 = tells c.args.disk.now in let d1 = tells c.sync.new.self in let d2 = tells c.len.new.self in
+    let told : d2.bytes ≡ Some b = c.len.ensures.bytes ∙ c.sync.ensures.bytes ∙ is in
+    let size : c.in_ok-len.field-0 ≡ length b = told_of d1.bytes b (λ l. c.in_ok-len.field-0 ≡ length l) (c.sync.ensures.bytes ∙ is) c.in_ok-len.ensures.length in
     let long : 9 < length b = omega (arith, size, c.if-branch-le9.false) in
-    let test : ours ≡ list_all (λ p. p.0 == p.1) (zip magic b) = told_of (bytes d2) b (λ l. ours ≡ list_all (λ p. p.0 == p.1) (zip magic l)) told is_ours in
-    let d3 = c.is_journal.new.disk in
-    let only : Only b (images d3) = λ f now. told_of (bytes d0) b (λ l. Only l (images d1)) is c.in_ok-sync.ensures.durable f (c.len.ensures.crash f (c.is_journal.ensures.before.no_others f now)) in
-    let told_then : bytes d3 ≡ Some b = c.is_journal.ensures.before.same ∙ told in
-    let opened : IfSome (Some b) (λ f. ours ≡ true → IsOpened (images d3) b f) = λ yes. long_opened (images d3) b long (sym test ∙ yes) only in
-    subst (λ (o : Option (List ℕ)). IfSome o (λ f. ours ≡ true → IsOpened (images d3) b f)) (sym told_then) opened)) c.is_journal.ensures.ours
+    let test : ours ≡ list_all (λ p. p.0 == p.1) (zip magic b) = told_of d2.bytes b (λ l. ours ≡ list_all (λ p. p.0 == p.1) (zip magic l)) told is_ours in
+    let d3 = tells c.is_journal.new.disk in
+    let only : Only b d3 = λ f now. told_of d0.bytes b (λ l. Only l d1) is c.in_ok-sync.ensures.durable f (c.len.ensures.crash f (c.is_journal.ensures.before.no_others f now)) in
+    let told_then : d3.bytes ≡ Some b = c.is_journal.ensures.before.same ∙ told in
+    let opened : IfSome (Some b) (λ f. ours ≡ true → IsOpened d3 b f) = λ yes. long_opened d3 b long (sym test ∙ yes) only in
+    subst (λ (o : Option (List ℕ)). IfSome o (λ f. ours ≡ true → IsOpened d3 b f)) (sym told_then) opened)) c.is_journal.ensures.ours

@@ -5,9 +5,9 @@ use Rattle.intake_journal.proofs.whole.read_whole.Given as goal
 abbrev pub invariant-loop-count : goal.invariant-loop-count
 invariant-loop-count g l = record {
   room : l.count ≤ length l.into;
-  content : IfSome (g.D.Disk.bytes l.fn.disk) (λ b. take l.count l.into ≡ take l.count (drop l.at b));
-  before : IsAsBefore g.D.Disk.bytes g.D.Disk.images g.D.Disk.moment g.D.Disk.images_since l.fn.disk l.disk;
-  count : g.D.Disk.faults l.fn.disk ≤ g.D.Disk.faults l.disk;
+  content : IfSome (g.D.Disk.tells l.fn.disk).bytes (λ b. take l.count l.into ≡ take l.count (drop l.at b));
+  before : IsAsBefore (g.D.Disk.tells l.fn.disk) (g.D.Disk.tells l.disk);
+  count : (g.D.Disk.tells l.fn.disk).faults ≤ (g.D.Disk.tells l.disk).faults;
 }
 
 abbrev pub decreases-loop-count : goal.decreases-loop-count

@@ -7,4 +7,4 @@ returns-clause-err g c =
 
 pub returns-in-Ok-prepare-clause-ok : goal.returns-in-Ok-prepare-clause-ok
 returns-in-Ok-prepare-clause-ok g c =
-    is_configured _ c.in-Ok.plan _ _ c.as_slice.result.now _ c.in-Ok.ensures.ok (rw c.as_slice.ensures c.in-Ok-read_all.ensures.text) (rw c.as_slice.ensures c.in-Ok-read_all.ensures.end) c.in-Ok-prepare.ensures.ok
+    is_configured _ c.in-Ok.plan _ _ c.as_slice.result.now _ c.in-Ok.ensures.ok (rw c.as_slice.ensures c.in-Ok-read_all.ensures.text) (rw c.as_slice.ensures c.in-Ok-read_all.ensures.end) c.in-Ok-prepare.ensures.ok.0

@@ -6,8 +6,8 @@ use Rattle.server_run.proofs.recovering.read_all.Given as goal
 
 abbrev pub invariant-loop : goal.invariant-loop
 invariant-loop g l = record {
-  before : IsAsBefore g.D.Disk.bytes g.D.Disk.images g.D.Disk.moment g.D.Disk.images_since l.fn.journal.disk l.journal.disk;
-  later : g.D.Disk.faults l.fn.journal.disk ≤ g.D.Disk.faults l.journal.disk;
+  before : IsAsBefore (g.D.Disk.tells l.fn.journal.disk) (g.D.Disk.tells l.journal.disk);
+  later : (g.D.Disk.tells l.fn.journal.disk).faults ≤ (g.D.Disk.tells l.journal.disk).faults;
   state : l.journal.state ≡ Reading;
-  read : IsReadSoFar g.D.Disk.bytes l.conf l.fn.journal l.journal l.numbering;
+  read : IsReadSoFar g.D.Disk.tells l.conf l.fn.journal l.journal l.numbering;
 }

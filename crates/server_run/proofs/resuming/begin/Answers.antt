@@ -1,7 +1,16 @@
-use Rattle.server_run.proofs.Beginning.{has_begun}
+use Rattle.std.proofs.Common.{subst, sym}
+use Rattle.server_run.specs.Resumed.{TurnedAway}
+use Rattle.server_run.proofs.Beginning.{has_begun, turned_at_front}
 use Rattle.server_run.proofs.resuming.begin.Goals as goal
 
 pub returns-in-Ok-clause-ok : goal.returns-in-Ok-clause-ok
 returns-in-Ok-clause-ok g c = λ most old t.
     let e = c.in-Ok.ensures in
-    has_begun _ _ _ _ _ c.args.ready.now most old c.args.journal c.args.kept t c.in-Ok.front e.made e.sound e.idle e.durable e.state e.later e.told e.any_moment
+    has_begun g.D.Disk.tells c.args.ready.now.conf most old c.args.journal c.args.kept t c.in-Ok.front e.made e.sound e.idle e.durable e.state e.later e.told e.any_moment
+
+pub returns-in-Err-clause-err : goal.returns-in-Err-clause-err
+returns-in-Err-clause-err g c = λ most held old t.
+    let e = c.in-Err.ensures in
+    let u = c.in-Err.unmade in
+    subst (λ s. TurnedAway c.args.ready.now.conf most held (g.D.Disk.tells old) (g.D.Disk.tells u.disk) u.kept s) (sym c.status_of.ensures)
+    (turned_at_front g.D.Disk.tells c.args.ready.now.conf most old c.args.journal c.args.kept t held u.disk u.kept u.error e.back e.only_full e.fault e.same e.later e.told e.any_moment)

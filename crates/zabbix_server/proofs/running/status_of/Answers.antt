@@ -1,69 +1,28 @@
 -- The status is that of the run, of which all its clauses are true.
-use Rattle.std.proofs.Common.{ap}
-use Rattle.server_run.specs.Ran.{Objects, IsRun}
+use Rattle.server_run.specs.Ran.{Objects}
+use Rattle.zabbix_server.proofs.Untold.{seen_of, run_too}
 use Rattle.zabbix_server.proofs.running.status_of.Goals as goal
 
 pub returns : goal.returns
 returns g c =
     let r = c.run_syncers in
+    let before : Objects = record {
+      source = g.S.Source.left c.args.config;
+      source_faults = g.S.Source.faults c.args.config;
+      wire = g.W.Wire.tells c.args.wire;
+      disk = g.D.Disk.tells c.args.disk;
+      outbox = g.O.Sink.tells c.args.outbox;
+    } in
     let after : Objects = record {
       source = g.S.Source.left r.new.config;
       source_faults = g.S.Source.faults r.new.config;
       wire = g.W.Wire.tells r.new.wire;
-      file = g.D.Disk.bytes r.result.disk;
-      disk_faults = g.D.Disk.faults r.result.disk;
+      disk = g.D.Disk.tells r.result.disk;
       outbox = g.O.Sink.tells r.result.outbox;
-      printer = g.P.Sink.tells r.new.print;
     } in (
-      after,
+      seen_of after,
+      g.P.Sink.tells r.new.print,
       r.result.began,
       r.result.entries,
-      record {
-        usage = r.ensures.usage;
-        not_command = r.ensures.not_command;
-        taken = r.ensures.taken;
-        to_the_end = r.ensures.to_the_end;
-        config_refused = r.ensures.config_refused;
-        refused_text = r.ensures.refused_text;
-        pattern_refused = r.ensures.pattern_refused;
-        pattern_too_large = r.ensures.pattern_too_large;
-        barred = r.ensures.barred;
-        bars = r.ensures.bars;
-        source = r.ensures.source;
-        wire = r.ensures.wire;
-        disk = r.ensures.disk;
-        outbox = r.ensures.outbox;
-        print = r.ensures.print;
-        not_begun = λ h. let n = r.ensures.not_begun h in (n.0, ap g.W.Wire.tells n.1, ap g.O.Sink.tells n.2);
-        has_found = r.ensures.has_found;
-        begun = r.ensures.begun;
-        followed = λ h. let f = r.ensures.followed h in record {
-          plan = f.plan;
-          conf = f.conf;
-          configured = f.configured;
-          groups = f.groups;
-          found = f.found;
-          accepted = f.accepted;
-          enough = f.enough;
-          finished = record {
-            handled = f.finished.handled;
-            lost = f.finished.lost;
-            refused = f.finished.refused;
-            few = f.finished.few;
-            given = f.finished.given;
-            told = f.finished.told;
-            entries_are = f.finished.entries_are;
-            ends = f.finished.ends;
-            refused_is = f.finished.refused_is;
-            shows = f.finished.shows;
-            journaled = tt;
-          };
-        };
-        keeps = r.ensures.keeps;
-        told = r.ensures.told;
-        lines = r.ensures.lines;
-        size = r.ensures.size;
-        printed = r.ensures.printed;
-        complete = λ plan text conf file groups all a b d e h i j k l m none patterns. r.ensures.complete plan text conf file groups all a b d e h i j k l m none.source none.wire none.disk none.outbox none.printer patterns;
-      },
+      run_too c.args.words.now before after (g.P.Sink.tells c.args.printer) (g.P.Sink.tells r.new.print) r.result.began r.result.entries r.result.status r.ensures.run,
     )

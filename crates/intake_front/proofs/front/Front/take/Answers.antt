@@ -12,12 +12,12 @@ use Rattle.intake_front.proofs.front.Front.take.Goals as goal
 pub receive-requires-clause-stands : goal.receive-requires-clause-stands
 receive-requires-clause-stands g c =
     let f = c.self.inside.inside in
-    stands_of g.D.Disk.bytes g.D.Disk.images f.journal f.held f.batch c.self.invariant (ap (λ v. v.journal.state) c.self.view_is ∙ c.requires.going)
+    stands_of g.D.Disk.tells f.journal f.held f.batch c.self.invariant (ap (λ v. v.journal.state) c.self.view_is ∙ c.requires.going)
 
 pub invariant_of-self : goal.invariant_of-self
 invariant_of-self g c =
     let f = c.self.inside.inside in
-    did_waiting f.journal c.args.collection.now f.held c.receive.new.held f.batch c.receive.new.batch c.args.event.now g.D.Disk.bytes g.D.Disk.images c.receive.result c.self.invariant c.receive.ensures.room c.receive.ensures.taken
+    did_waiting f.journal c.args.collection.now f.held c.receive.new.held f.batch c.receive.new.batch c.args.event.now g.D.Disk.tells c.receive.result c.self.invariant c.receive.ensures.room c.receive.ensures.taken
 
 pub returns-clause-taken : goal.returns-clause-taken
 returns-clause-taken g c =

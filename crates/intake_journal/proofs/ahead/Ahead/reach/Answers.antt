@@ -5,8 +5,8 @@ use Rattle.intake_journal.proofs.ahead.Ahead.reach.Goals as goal
 pub returns-in_ok-self-clause-told : goal.returns-in_ok-self-clause-told
 returns-in_ok-self-clause-told g c =
     let enough : c.args.size ≤ c.max.result = omega (arith, c.max.ensures) in
-    filled_there (g.D.Disk.bytes c.args.disk.now) c.in_ok-self.field-0 c.args.at c.args.size c.max.result enough c.in_ok-self.ensures.told
+    filled_there (g.D.Disk.tells c.args.disk.now).bytes c.in_ok-self.field-0 c.args.at c.args.size c.max.result enough c.in_ok-self.ensures.told
 
 pub returns-else-not-has-clause-told : goal.returns-else-not-has-clause-told
 returns-else-not-has-clause-told g c =
-    reached_there (g.D.Disk.bytes c.args.disk.now) c.args.self.now.bytes c.args.self.now.at c.args.at c.args.size (c.if-not-has.ensures refl).0 (c.if-not-has.ensures refl).1 c.requires.ahead
+    reached_there (g.D.Disk.tells c.args.disk.now).bytes c.args.self.now.bytes c.args.self.now.at c.args.at c.args.size (c.if-not-has.ensures refl).0 (c.if-not-has.ensures refl).1 c.requires.ahead

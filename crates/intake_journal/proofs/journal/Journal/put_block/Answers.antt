@@ -12,62 +12,62 @@ use Rattle.intake_journal.proofs.journal.Journal.put_block.Goals as goal
 
 pub returns-in-Ok-clause-kept : goal.returns-in-Ok-clause-kept
 returns-in-Ok-clause-kept g c =
-    let bytes = g.D.Disk.bytes in let images = g.D.Disk.images in
-    let j = c.self.inside in let new = c.keep.new.disk in let groups = c.args.block.now in
+    let tells = g.D.Disk.tells in
+    let j = c.self.inside in let old = tells j.disk in let new = tells c.keep.new.disk in let groups = c.args.block.now in
     let read : j.state ≢ Reading = λ e. c.requires.read (sym (ap (λ v. v.state) c.self.view_is) ∙ e) in
     let going : j.state ≢ Broken = λ e. c.requires.going (sym (ap (λ v. v.state) c.self.view_is) ∙ e) in
     let within : j.at + length (opened_bytes groups) + 1 ≤ longest_journal =
     room_within j.at j.entries j.max_entries j.max_bytes groups (subst (λ v. passes_with_all v groups ≡ false) (sym c.self.view_is) c.requires.room) c.self.invariant.0.2 in
     let readable = c.behind_gate.ensures.readable in
     let shape = c.behind_gate.ensures.shape in
-    let ready = ready_of j.state (images j.disk) j.at j.entries (bytes j.disk) read going c.self.invariant.1 in
-    let done = kept_after_all bytes images j.disk new j.at j.entries groups readable within ready c.behind_gate.result.now shape c.in-Ok.ensures.kept in
-    subst (λ v. IfSome (bytes v.disk) (λ b. IfSome (bytes new) (λ f. groups_of (kept f) ≡ added_all v.at groups (groups_of (kept b))))) c.self.view_is done
+    let ready = ready_of j.state old j.at j.entries read going c.self.invariant.1 in
+    let done = kept_after_all old new j.at j.entries groups readable within ready c.behind_gate.result.now shape c.in-Ok.ensures.kept in
+    subst (λ v. IfSome (tells v.disk).bytes (λ b. IfSome new.bytes (λ f. groups_of (kept f) ≡ added_all v.at groups (groups_of (kept b))))) c.self.view_is done
 
 -- behind the groups the journal is as before them
 pub invariant_of-self : goal.invariant_of-self
 invariant_of-self g c =
-    let bytes = g.D.Disk.bytes in let images = g.D.Disk.images in
-    let j = c.self.inside in let new = c.keep.new.disk in let groups = c.args.block.now in
+    let tells = g.D.Disk.tells in
+    let j = c.self.inside in let old = tells j.disk in let new = tells c.keep.new.disk in let groups = c.args.block.now in
     let read : j.state ≢ Reading = λ e. c.requires.read (sym (ap (λ v. v.state) c.self.view_is) ∙ e) in
     let going : j.state ≢ Broken = λ e. c.requires.going (sym (ap (λ v. v.state) c.self.view_is) ∙ e) in
     let within : j.at + length (opened_bytes groups) + 1 ≤ longest_journal =
     room_within j.at j.entries j.max_entries j.max_bytes groups (subst (λ v. passes_with_all v groups ≡ false) (sym c.self.view_is) c.requires.room) c.self.invariant.0.2 in
     let readable = c.behind_gate.ensures.readable in
     let shape = c.behind_gate.ensures.shape in
-    let ready = ready_of j.state (images j.disk) j.at j.entries (bytes j.disk) read going c.self.invariant.1 in
-    let done = ready_after_all bytes images j.disk new j.at j.entries groups readable within ready c.behind_gate.result.now shape c.in-Ok.ensures.kept c.keep.ensures.told c.in-Ok.ensures.durable in
+    let ready = ready_of j.state old j.at j.entries read going c.self.invariant.1 in
+    let done = ready_after_all old new j.at j.entries groups readable within ready c.behind_gate.result.now shape c.in-Ok.ensures.kept c.keep.ensures.told c.in-Ok.ensures.durable in
     let place : j.at + length (opened_bytes groups) ≡ j.at + (c.size.result - 1) = omega (arith, c.size.ensures.value) in
     let small : IsWithin (j.at + (c.size.result - 1)) (j.entries + c.entries.result) j.max_bytes =
     (omega (arith, within, place), omega (arith, c.self.invariant.0.1, count_all_small groups, c.entries.ensures.value, place), c.self.invariant.0.2) in
-    let settled = settled_of j.state (images new) _ _ (bytes new) read done in
-    let counted = subst (λ (n : ℕ). IsSettled j.state (images new) (j.at + length (opened_bytes groups)) (j.entries + n) (bytes new)) (sym c.entries.ensures.value) settled in
-    (small, subst (λ (n : ℕ). IsSettled j.state (images new) n (j.entries + c.entries.result) (bytes new)) place counted, λ e. absurd (read e))
+    let settled = settled_of j.state new _ _ read done in
+    let counted = subst (λ (n : ℕ). IsSettled j.state new (j.at + length (opened_bytes groups)) (j.entries + n)) (sym c.entries.ensures.value) settled in
+    (small, subst (λ (n : ℕ). IsSettled j.state new n (j.entries + c.entries.result)) place counted, λ e. absurd (read e))
 
 pub returns-in-Ok-clause-any_moment : goal.returns-in-Ok-clause-any_moment
 returns-in-Ok-clause-any_moment g c =
-    let bytes = g.D.Disk.bytes in let images = g.D.Disk.images in
-    let j = c.self.inside in let new = c.keep.new.disk in let groups = c.args.block.now in
+    let tells = g.D.Disk.tells in
+    let j = c.self.inside in let old = tells j.disk in let new = tells c.keep.new.disk in let groups = c.args.block.now in
     let read : j.state ≢ Reading = λ e. c.requires.read (sym (ap (λ v. v.state) c.self.view_is) ∙ e) in
     let going : j.state ≢ Broken = λ e. c.requires.going (sym (ap (λ v. v.state) c.self.view_is) ∙ e) in
     let within : j.at + length (opened_bytes groups) + 1 ≤ longest_journal =
     room_within j.at j.entries j.max_entries j.max_bytes groups (subst (λ v. passes_with_all v groups ≡ false) (sym c.self.view_is) c.requires.room) c.self.invariant.0.2 in
     let readable = c.behind_gate.ensures.readable in
     let shape = c.behind_gate.ensures.shape in
-    let ready = ready_of j.state (images j.disk) j.at j.entries (bytes j.disk) read going c.self.invariant.1 in
-    let around = moments_after_all bytes images j.disk new j.at j.entries groups readable within ready c.behind_gate.result.now shape g.D.Disk.moment g.D.Disk.images_since c.keep.ensures.any_moment in
-    subst (λ v. IfSome (bytes v.disk) (λ b. LeavesOnly g.D.Disk.moment g.D.Disk.images_since v.disk new (KeepsNoneOrAll (groups_of (kept b)) v.at groups))) c.self.view_is around
+    let ready = ready_of j.state old j.at j.entries read going c.self.invariant.1 in
+    let around = moments_after_all old new j.at j.entries groups readable within ready c.behind_gate.result.now shape c.keep.ensures.any_moment in
+    subst (λ v. IfSome (tells v.disk).bytes (λ b. LeavesOnly (tells v.disk) new (KeepsNoneOrAll (groups_of (kept b)) v.at groups))) c.self.view_is around
 
 pub returns-in-Err-clause-any_moment : goal.returns-in-Err-clause-any_moment
 returns-in-Err-clause-any_moment g c =
-    let bytes = g.D.Disk.bytes in let images = g.D.Disk.images in
-    let j = c.self.inside in let new = c.keep.new.disk in let groups = c.args.block.now in
+    let tells = g.D.Disk.tells in
+    let j = c.self.inside in let old = tells j.disk in let new = tells c.keep.new.disk in let groups = c.args.block.now in
     let read : j.state ≢ Reading = λ e. c.requires.read (sym (ap (λ v. v.state) c.self.view_is) ∙ e) in
     let going : j.state ≢ Broken = λ e. c.requires.going (sym (ap (λ v. v.state) c.self.view_is) ∙ e) in
     let within : j.at + length (opened_bytes groups) + 1 ≤ longest_journal =
     room_within j.at j.entries j.max_entries j.max_bytes groups (subst (λ v. passes_with_all v groups ≡ false) (sym c.self.view_is) c.requires.room) c.self.invariant.0.2 in
     let readable = c.behind_gate.ensures.readable in
     let shape = c.behind_gate.ensures.shape in
-    let ready = ready_of j.state (images j.disk) j.at j.entries (bytes j.disk) read going c.self.invariant.1 in
-    let around = moments_after_all bytes images j.disk new j.at j.entries groups readable within ready c.behind_gate.result.now shape g.D.Disk.moment g.D.Disk.images_since c.keep.ensures.any_moment in
-    subst (λ v. IfSome (bytes v.disk) (λ b. LeavesOnly g.D.Disk.moment g.D.Disk.images_since v.disk new (KeepsNoneOrAll (groups_of (kept b)) v.at groups))) c.self.view_is around
+    let ready = ready_of j.state old j.at j.entries read going c.self.invariant.1 in
+    let around = moments_after_all old new j.at j.entries groups readable within ready c.behind_gate.result.now shape c.keep.ensures.any_moment in
+    subst (λ v. IfSome (tells v.disk).bytes (λ b. LeavesOnly (tells v.disk) new (KeepsNoneOrAll (groups_of (kept b)) v.at groups))) c.self.view_is around

@@ -1,7 +1,7 @@
 use Rattle.std.specs.Str.Parse.{ParsesUnsigned, ExplainsUnsignedError, HasUnsignedDigitsIfOk}
 use Rattle.clap.specs.Words.{found_of}
 use Rattle.server_words.proofs.Rows.{number_of_rows}
-use Rattle.server_words.proofs.planning.narrow_number_in.Goals as goal
+use Rattle.server_words.proofs.planning.read_narrow_number.Goals as goal
 
 pub returns : goal.returns
 returns c = number_of_rows _ 32 (λ text x. ParsesUnsigned 32 10 text x × ExplainsUnsignedError 10 text x × HasUnsignedDigitsIfOk text x)

@@ -1,0 +1,132 @@
+-- Why a run ends at its opening: one row a status. All that is said of a run that doesn't begin is said over these.
+use Rattle.std.specs.Prelude.{◌≡◌, ◌⊎◌, ℕ, List, [], Option, None, IfSome, IsSome, unwrap_or, ⊤}
+use Rattle.zbx_types.specs.declared.conf.Conf.{Conf}
+use Rattle.zbx_types.specs.declared.entries.Numbered.{Numbered}
+use Rattle.outside.specs.Causes.{Rose}
+use Rattle.outside.specs.Disk.{DiskTells}
+use Rattle.intake_journal.specs.Kept.{kept}
+use Rattle.intake_journal.specs.Kept.Kept.{NotOurs, Damaged}
+use Rattle.intake_journal.specs.declared.format.Group.{Group}
+use Rattle.intake_front.specs.Fronted.{kept_entries}
+use Rattle.config_templates.specs.Flat.{flat_of}
+use Rattle.config_templates.specs.Places.{refuse}
+use Rattle.pattern_set.specs.Patterns.{IsNoPattern}
+use Rattle.server_words.specs.Words.{plan_of}
+use Rattle.server_words.specs.declared.status.Status.{Status}
+use Rattle.server_words.specs.declared.status.Status.TheVariants as status
+use Rattle.server_run.specs.Patterns.{HasFlawAt, HoldsBrace}
+use Rattle.server_run.specs.Opening.{FoundGroups, IsRejected, IsAhead, IsFullAtFirst}
+
+-- a run doesn't end so before it has begun; its words have no plan; memory was refused; its source failed; its
+-- configuration's text is like this; its disk failed; the file of its journal is like this, for its configuration and
+-- for so many entries at most; its outbox holds so many bytes that this is so, for its configuration and that file
+pub data Reason : Type 1 where
+  no_reason : Reason
+  in_words : Reason
+  by_memory : Reason
+  by_source : Reason
+  in_text : (List ℕ → Type 0) → Reason
+  by_disk : Reason
+  in_journal : (Conf → ℕ → Option (List ℕ) → Type 0) → Reason
+  in_outbox : (Conf → Option (List ℕ) → ℕ → Type 0) → Reason
+
+-- a file's groups, which aren't those of a run with this configuration
+abbrev pub Rejects : Conf → Option (List ℕ) → Status → Type 0
+Rejects conf file s = (groups : List Group) × FoundGroups file groups × IsRejected conf groups s
+
+-- why a run ends at its opening with a status
+abbrev pub reason_of : Status → Reason
+reason_of status.Usage = in_words
+reason_of status.OutOfMemory = by_memory
+reason_of status.SourceFault = by_source
+reason_of (status.ConfigRefused path cause) = in_text (λ text. flat_of text ≡ refuse path cause)
+reason_of (status.PatternRefused path) = in_text (HasFlawAt IsNoPattern path)
+reason_of (status.PatternTooLarge path) = in_text (HasFlawAt HoldsBrace path)
+reason_of status.DiskFault = by_disk
+reason_of status.NotOurs = in_journal (λ conf most file. IfSome file (λ b. kept b ≡ NotOurs))
+reason_of (status.Damaged at) =
+    in_journal (λ conf most file. IfSome file (λ b. kept b ≡ Damaged at) ⊎ Rejects conf file (status.Damaged at))
+reason_of (status.ConfigDiffers at) = in_journal (λ conf most file. Rejects conf file (status.ConfigDiffers at))
+reason_of (status.Full entries bytes) =
+    in_journal (λ conf most file. FoundGroups file [] × IsFullAtFirst most conf entries bytes)
+reason_of (status.OutboxAhead told lines) =
+    in_outbox (λ conf file held. (groups : List Group) × FoundGroups file groups × IsAhead conf groups held told lines)
+reason_of _ = no_reason
+
+-- a status of a run that hasn't begun
+abbrev pub ends_opening : Reason → Type 0
+ends_opening no_reason = ⊥
+ends_opening _ = ⊤
+
+abbrev pub IsRefusal : Status → Type 0
+IsRefusal s = ends_opening (reason_of s)
+
+-- a status that names what the journal or the outbox of a run was at its opening
+abbrev pub names_object : Reason → Type 0
+names_object (in_journal Is) = ⊤
+names_object (in_outbox Is) = ⊤
+names_object _ = ⊥
+
+abbrev pub IsBarring : Status → Type 0
+IsBarring s = names_object (reason_of s)
+
+-- why the text of a configuration couldn't be taken: memory was refused, it is refused for its first fault, or a
+-- pattern of it isn't one, or holds a brace and is too large
+abbrev pub untaken_for : Reason → List ℕ → Type 0
+untaken_for by_memory text = ⊤
+untaken_for (in_text Is) text = Is text
+untaken_for _ text = ⊥
+
+abbrev pub IsUntaken : List ℕ → Status → Type 0
+IsUntaken text s = untaken_for (reason_of s) text
+
+-- why a run wasn't configured: its words have no plan; memory was refused; or they have one, and its source failed,
+-- or the source's text couldn't be taken
+abbrev pub unconfigured_for : Reason → List (List ℕ) → Option (List ℕ) → ℕ → ℕ → Type 0
+unconfigured_for in_words words source faults faults' = plan_of words ≡ None
+unconfigured_for by_memory words source faults faults' = ⊤
+unconfigured_for by_source words source faults faults' = IsSome (plan_of words) × Rose faults faults'
+unconfigured_for (in_text Is) words source faults faults' = IsSome (plan_of words) × IfSome source Is
+unconfigured_for _ words source faults faults' = ⊥
+
+abbrev pub Unconfigured : List (List ℕ) → Option (List ℕ) → ℕ → ℕ → Status → Type 0
+Unconfigured words source faults faults' s = unconfigured_for (reason_of s) words source faults faults'
+
+-- what bars a run with this configuration, which allows so many entries: what its file keeps, or how many bytes its
+-- outbox holds
+abbrev pub bars_for : Reason → Conf → ℕ → Option (List ℕ) → ℕ → Type 0
+bars_for (in_journal Is) conf most file held = Is conf most file
+bars_for (in_outbox Is) conf most file held = Is conf file held
+bars_for _ conf most file held = ⊥
+
+abbrev pub Bars : Conf → ℕ → Option (List ℕ) → ℕ → Status → Type 0
+Bars conf most file held s = bars_for (reason_of s) conf most file held
+
+-- why a run that was configured doesn't begin: memory was refused, or its disk failed, or it was barred
+abbrev pub unopened_for : Reason → Conf → ℕ → DiskTells → DiskTells → ℕ → Type 0
+unopened_for by_memory conf most old new held = ⊤
+unopened_for by_disk conf most old new held = Rose old.faults new.faults
+unopened_for (in_journal Is) conf most old new held = Is conf most old.bytes
+unopened_for (in_outbox Is) conf most old new held = Is conf old.bytes held
+unopened_for _ conf most old new held = ⊥
+
+abbrev pub Unopened : Conf → ℕ → DiskTells → DiskTells → ℕ → Status → Type 0
+Unopened conf most old new held s = unopened_for (reason_of s) conf most old new held
+
+-- Which entries a run has that ended so at its opening: what its file keeps, and none where that is no journal; those
+-- with which it was to begin; where memory or its disk failed it none, or some that it found; else none.
+abbrev pub has_for : Reason → Option (List ℕ) → (List Numbered → Type 0) → (List Numbered → Type 0) → List Numbered
+    → Type 0
+has_for (in_journal Is) file Begins Found entries = IfSome file (λ b. entries ≡ unwrap_or (kept_entries b) [])
+has_for (in_outbox Is) file Begins Found entries = Begins entries
+has_for by_memory file Begins Found entries = (entries ≡ []) ⊎ Found entries
+has_for by_disk file Begins Found entries = (entries ≡ []) ⊎ Found entries
+has_for _ file Begins Found entries = entries ≡ []
+
+-- which entries a crash may have left by then that weren't in the journal before: some that the run found, where it
+-- came as far as to open the journal
+abbrev pub enters_for : Reason → (List Numbered → Type 0) → List Numbered → Type 0
+enters_for (in_outbox Is) Found entries = Found entries
+enters_for by_memory Found entries = Found entries
+enters_for by_disk Found entries = Found entries
+enters_for _ Found entries = ⊥

@@ -1,0 +1,63 @@
+-- What is in force: a configuration, and where events come from.
+use Rattle.std.specs.Prelude.{◌≡◌, ℕ, ◌+◌, Bool, ◌&&◌, List, [], position, Option, Some, None, option_map}
+use Rattle.std.specs.List.{find}
+use Rattle.std.specs.Option.{unwrap_or}
+use Rattle.std.specs.Str.{bytes_eq}
+use Rattle.zbx_types.specs.Hosts.{host_name}
+use Rattle.zbx_types.specs.Ids.{at_id}
+use Rattle.zbx_types.specs.Masters.{depth_of}
+use Rattle.zbx_types.specs.Records.{same_event}
+use Rattle.zbx_types.specs.declared.conf.Conf.{Conf}
+use Rattle.zbx_types.specs.declared.entries.EventId.{EventId}
+use Rattle.zbx_types.specs.declared.triggers.Trigger.{Trigger}
+
+-- what is known of an event of another configuration: the names by which its trigger is found again, its host's and its
+-- own, and its rank among the events of its entry
+pub record Origin : Type 0 where
+  pub event : EventId
+  pub host : List ℕ
+  pub trigger : List ℕ
+  pub rank : ℕ
+
+-- what is in force at an entry: a configuration, and the origins of the events of others
+pub record Stage : Type 0 where
+  pub conf : Conf
+  pub origins : List Origin
+
+-- the origin of an event, where it is told
+abbrev pub origin_of : List Origin → EventId → Option Origin
+origin_of origins event = find (λ o. same_event o.event event) origins
+
+-- a trigger has the names of an origin
+abbrev pub has_names : Conf → Origin → Trigger → Bool
+has_names conf origin trigger =
+    bytes_eq (host_name (at_id conf.hosts trigger.host)) origin.host && bytes_eq trigger.name origin.trigger
+
+-- the id of the first trigger with these names, 0 where there is none
+unfoldable pub trigger_named : Conf → Origin → ℕ
+trigger_named conf origin = unwrap_or (option_map (λ place. place + 1) (position (has_names conf origin) conf.triggers)) 0
+
+-- the id of an event's trigger, and its rank, where this is its origin: an event of the configuration itself has none
+abbrev pub home_by : Conf → EventId → Option Origin → ℕ
+home_by conf event None = event.trigger
+home_by conf event (Some origin) = trigger_named conf origin
+
+abbrev pub rank_by : Conf → EventId → Option Origin → ℕ
+rank_by conf event None = depth_of conf event.trigger
+rank_by conf event (Some origin) = origin.rank
+
+-- the id that the trigger of an event has in the configuration in force
+abbrev pub home : Stage → EventId → ℕ
+home stage event = home_by stage.conf event (origin_of stage.origins event)
+
+-- the rank of an event among those of its entry
+abbrev pub rank_of : Stage → EventId → ℕ
+rank_of stage event = rank_by stage.conf event (origin_of stage.origins event)
+
+-- the trigger of each event still has the id that stands in the event
+abbrev pub KeepsIds : Stage → Type 0
+KeepsIds stage = (event : EventId) → home stage event ≡ event.trigger
+
+-- what is in force while a configuration is the only one
+abbrev pub first_stage : Conf → Stage
+first_stage conf = record { conf = conf; origins = [] }

@@ -1,0 +1,105 @@
+-- A run over objects is one over objects that tell no image of the disk.
+use Rattle.std.proofs.Common.{◌≡◌, ℕ, List, Bool, Option, Some, None, arith}
+use Rattle.std.specs.Prelude.{IfSome}
+use Rattle.zbx_types.specs.declared.entries.Numbered.{Numbered}
+use Rattle.outside.specs.Disk.{DiskTells, LeavesOnly}
+use Rattle.outside.specs.Tells.{SinkTells, WireTells}
+use Rattle.intake_front.specs.Fronted.{Keeps, IsKept}
+use Rattle.intake_front.specs.declared.answer.Stop.{Stop}
+use Rattle.intake_journal.specs.Settled.{KeepsAsOneOf}
+use Rattle.server_words.specs.declared.status.Status.{Status}
+use Rattle.server_run.specs.Ran.{Objects, IsRun}
+use Rattle.server_run.specs.Runs.{Followed}
+use Rattle.server_run.specs.Stops.{Journals}
+use Rattle.zabbix_server.specs.Program.{Seen, without_images, objects_of}
+
+-- what objects tell but for the images of the disk
+abbrev pub seen_of : Objects → Seen
+seen_of o = record { source = o.source; source_faults = o.source_faults; wire = o.wire; file = o.disk.bytes; disk_faults = o.disk.faults; outbox = o.outbox }
+
+abbrev untold : DiskTells → DiskTells
+untold d = without_images d.bytes d.faults
+
+-- of a disk without images a crash leaves nothing
+nothing_left : (old new : DiskTells) (o : Option (List ℕ)) (P : List ℕ → Type 0) → IfSome o (λ _. LeavesOnly (untold old) (untold new) P)
+nothing_left old new None P = tt
+nothing_left old new (Some b) P = record { later = omega arith; each = λ c none. absurd none; before = λ t c le none. absurd none }
+
+kept_too : (disk : DiskTells) (entries : List Numbered) → IsKept disk entries → IsKept (untold disk) entries
+kept_too disk entries = by disk.bytes
+  where
+    by : (o : Option (List ℕ)) → IfSome o (λ b. Keeps entries b × ((c : List ℕ) → disk.images c → Keeps entries c)) → IfSome o (λ b. Keeps entries b × ((c : List ℕ) → ⊥ → Keeps entries c))
+    by None k = tt
+    by (Some b) k = (k.0, λ c none. absurd none)
+
+journals_too : (old new : DiskTells) (among : List Numbered → Type 0) (reason : Option Stop) (entries : List Numbered) → Journals (KeepsAsOneOf old) old new among reason entries
+    → Journals (KeepsAsOneOf (untold old)) (untold old) (untold new) among reason entries
+journals_too old new among reason entries j = record {
+  left = nothing_left old new old.bytes _;
+  fault = j.fault;
+  kept = λ other. kept_too new entries (j.kept other);
+  later = j.later;
+  told = j.told;
+}
+
+followed_too : (words : List (List ℕ)) (source : Option (List ℕ)) (held : ℕ) (old new : DiskTells) (wire wire' : WireTells) (s : Status) (entries : List Numbered)
+    → Followed words source old.bytes held (Journals (KeepsAsOneOf old) old new) wire wire' s entries
+    → Followed words source old.bytes held (Journals (KeepsAsOneOf (untold old)) (untold old) (untold new)) wire wire' s entries
+followed_too words source held old new wire wire' s entries f = record {
+  plan = f.plan;
+  conf = f.conf;
+  configured = f.configured;
+  groups = f.groups;
+  found = f.found;
+  accepted = f.accepted;
+  enough = f.enough;
+  whole = f.whole;
+  fits = f.fits;
+  finished = record {
+    handled = f.finished.handled;
+    lost = f.finished.lost;
+    refused = f.finished.refused;
+    runs_on = f.finished.runs_on;
+    few = f.finished.few;
+    given = f.finished.given;
+    told = f.finished.told;
+    entries_are = f.finished.entries_are;
+    ends = f.finished.ends;
+    refused_is = f.finished.refused_is;
+    shows = f.finished.shows;
+    journaled = journals_too old new _ _ entries f.finished.journaled;
+  };
+}
+
+pub run_too : (words : List (List ℕ)) (before after : Objects) (line line' : SinkTells) (began : Bool) (entries : List Numbered) (s : Status) → IsRun words before after line line' began entries s
+    → IsRun words (objects_of (seen_of before)) (objects_of (seen_of after)) line line' began entries s
+run_too words before after line line' began entries s r = record {
+  usage = r.usage;
+  not_command = r.not_command;
+  taken = r.taken;
+  to_the_end = r.to_the_end;
+  config_refused = r.config_refused;
+  refused_text = r.refused_text;
+  pattern_refused = r.pattern_refused;
+  pattern_too_large = r.pattern_too_large;
+  barred = r.barred;
+  bars = r.bars;
+  source = r.source;
+  wire = r.wire;
+  disk = r.disk;
+  outbox = r.outbox;
+  print = r.print;
+  not_begun = r.not_begun;
+  has_found = r.has_found;
+  has = r.has;
+  stopped = λ n. nothing_left before.disk after.disk before.disk.bytes _;
+  begun = r.begun;
+  followed = λ y. followed_too words before.source before.outbox.held before.disk after.disk before.wire after.wire s entries (r.followed y);
+  keeps = r.keeps;
+  told = r.told;
+  lines = r.lines;
+  size = r.size;
+  printed = r.printed;
+  complete = λ plan text conf file groups all a b d e f g h i j none patterns.
+      r.complete plan text conf file groups all a b d e f g h i j (record { source = none.source; wire = none.wire; disk = none.disk; outbox = none.outbox; printer = none.printer }) patterns;
+}
