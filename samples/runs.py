@@ -237,6 +237,44 @@ def taken_port(program):
     same("the run", ran, (13, b"status: WireFault\n"))
 
 
+MESSAGES = LINE + b"M|3-1|act|1|ops|hot|a\\nb\nS|3-1|act|1|100.000000000\nM|3-1|act|1|boss|h\\|t|\nM|4-1|act|1|late"
+
+
+def alerts(program, outbox, *words):
+    put("lines", outbox)
+    return run(program, "--mode", "alerts", "--outbox", "lines", "--progress", "progress", *words)
+
+
+def sent(program):
+    """A program that ends well takes each message, and a second call finds nothing to do."""
+    for _ in range(2):
+        same("the call", alerts(program, MESSAGES, "--command", "echo"), (0, b"status: Ok; messages: 2; done: 2; failed: 0\n"))
+        same("the progress", held("progress"), b"ZTSALR01\x01d\x01d\0")
+
+
+def unsent(program):
+    """With a program that isn't there each message fails."""
+    words = ["--command", "/there/is/no/such/program", "--attempts", "2"]
+    same("the call", alerts(program, MESSAGES, *words), (0, b"status: Ok; messages: 2; done: 0; failed: 2\n"))
+    same("the progress", held("progress"), b"ZTSALR01\x01f\x01f\0")
+
+
+def refused_alerts(program):
+    """Lines, progresses and words that alerts refuse."""
+    bad = b"M|3-1|act|1|ops|hot\n"
+    same("a bad line", alerts(program, LINE + bad, "--command", "echo"), (22, b"status: BadLine; at: 34\n"))
+    put("progress", b"ZTSALR01\x01d\0")
+    same("marks ahead", alerts(program, LINE, "--command", "echo"), (23, b"status: MarksAhead; marks: 1; messages: 0\n"))
+    put("progress", b"ZTSALR01\x01x\0")
+    same("damage", alerts(program, LINE, "--command", "echo"), (7, b"status: Damaged; at: 8\n"))
+    put("progress", bytes(10))
+    same("another file", alerts(program, LINE, "--command", "echo"), (6, b"status: NotOurs\n"))
+    same("no command", alerts(program, LINE), (2, b"status: Usage\n"))
+    words = ["--mode", "alerts", "--progress", "progress", "--command", "echo"]
+    same("no outbox", run(program, *words), (2, b"status: Usage\n"))
+    same("an outbox that isn't there", run(program, *words, "--outbox", "none"), (5, b"status: SourceFault\n"))
+
+
 CASES = [
     ("a restart behind no line", restart, 0),
     ("a restart behind a third of a line", restart, 10),
@@ -250,6 +288,9 @@ CASES = [
     ("replies over sockets, on one thread", replies, "0"),
     ("a connection that is reset", reset),
     ("an address that is taken", taken_port),
+    ("alerts that are sent", sent),
+    ("alerts that fail", unsent),
+    ("alerts that are refused", refused_alerts),
 ]
 
 

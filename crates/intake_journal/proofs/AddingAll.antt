@@ -6,13 +6,13 @@ use Rattle.std.proofs.lemmas.Bool.{cases_eq}
 use Rattle.std.proofs.lemmas.List.{take_at, take_more, drop_more, get_or_at, length-take}
 use Rattle.outside.specs.Disk.{DiskTells, overwritten, Only, LeavesOnly}
 use Rattle.zbx_types.specs.declared.entries.Entry.{Entry}
-use Rattle.intake_journal.specs.Around.{IsAround}
+use Rattle.gated_file.specs.Around.{IsAround}
 use Rattle.intake_journal.specs.Kept.{longest_journal, kept, groups_of}
 use Rattle.intake_journal.specs.Settled.{IsFront, IsDurable}
 use Rattle.intake_journal.specs.Block.{opened_bytes, placed, count_all, added_all, KeepsNoneOrAll, IsReadable}
 use Rattle.intake_journal.specs.declared.format.Group.{Group}
-use Rattle.intake_journal.proofs.Torn.{behind, opened_is}
-use Rattle.intake_journal.proofs.Moments.{if_some, told_of}
+use Rattle.gated_file.proofs.Torn.{behind, opened_is}
+use Rattle.gated_file.proofs.Moments.{if_some, told_of}
 use Rattle.intake_journal.proofs.Adding.{groups_closed, told_too}
 use Rattle.intake_journal.proofs.Blocks.{front_with, count_entries-placed}
 

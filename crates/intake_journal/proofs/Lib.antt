@@ -2,14 +2,10 @@ pub mod Texts
 pub mod Entries
 pub mod Writing
 pub mod Again
-pub mod Moments
-pub mod Torn
 pub mod Fronts
 pub mod Written
 pub mod Adding
 pub mod Behind
-pub mod Before
-pub mod Pieces
 pub mod Look
 pub mod Steps
 pub mod Openings

@@ -14,7 +14,7 @@ use Rattle.intake_journal.specs.declared.format.Group.{Group}
 use Rattle.zbx_types.specs.declared.entries.Entry.{Entry}
 use Rattle.intake_journal.proofs.Adding.{fresh}
 use Rattle.intake_journal.proofs.Fronts.{closed, kept_long}
-use Rattle.intake_journal.proofs.Torn.{overwritten_inside}
+use Rattle.gated_file.proofs.Torn.{overwritten_inside}
 
 -- one run of calls and then another
 pub and_then : (old mid new : DiskTells) (P Q : List ℕ → Type 0) → LeavesOnly old mid P → LeavesOnly mid new Q → ((c : List ℕ) → Q c → P c) → LeavesOnly old new P

@@ -7,13 +7,13 @@ use Rattle.outside.specs.Disk.{DiskTells, AddsNothing}
 use Rattle.zbx_types.specs.declared.entries.Entry.{Entry}
 use Rattle.intake_journal.specs.Kept.{Damaged, Groups, group_behind, with_group, followed, kept_behind, kept_from}
 use Rattle.intake_journal.specs.Found.{HasGroup, IsFound}
-use Rattle.intake_journal.specs.Moments.{IsAsBefore}
+use Rattle.gated_file.specs.Moments.{IsAsBefore}
 use Rattle.intake_journal.specs.Settled.{Journaled, IsFront, IsDurable, IsSettled}
 use Rattle.intake_journal.specs.declared.format.Group.{Group}
 use Rattle.intake_journal.specs.declared.reading.Found.TheVariants.{End, Damage, Next}
 use Rattle.intake_journal.specs.declared.state.State.{State}
 use Rattle.intake_journal.specs.declared.state.State.TheVariants.{Reading, Ready, Broken}
-use Rattle.intake_journal.proofs.Moments.{if_some, told_of}
+use Rattle.gated_file.proofs.Moments.{if_some, told_of}
 use Rattle.intake_journal.proofs.Behind.{group_there, group_same}
 use Rattle.intake_journal.proofs.Fronts.{closed, opened, front_goes_on, count_entries-push}
 

@@ -3,8 +3,6 @@ pub mod Format
 pub mod Given
 pub mod Kept
 pub mod Found
-pub mod Around
-pub mod Moments
 pub mod Opened
 pub mod Settled
 pub mod Next

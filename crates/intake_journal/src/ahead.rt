@@ -4,9 +4,9 @@ ghost use Rattle.std.specs.Prelude.{◌≡◌, ◌≤◌, ◌<◌, ◌+◌, ◌-
 ghost use Rattle.outside.specs.Causes.{Rose};
 ghost use Rattle.outside.specs.declared.event.Trouble.TheVariants as trouble;
 ghost use Rattle.intake_journal.specs.Ahead.{IsAhead, part_of};
-ghost use Rattle.intake_journal.specs.Moments.{IsAsBefore};
+ghost use Rattle.gated_file.specs.Moments.{IsAsBefore};
 
-use crate::whole::read_whole;
+use gated_file::read_whole;
 use outside::{Disk, Trouble};
 use std::alloc::Global;
 use zbx_types::{Bytes, OutOfMemory};

@@ -15,10 +15,10 @@ ghost use Rattle.intake_journal.specs.declared.state.JournalError.TheVariants as
 
 use crate::ahead::Ahead;
 use crate::block::Block;
-use crate::disk_calls::keep;
 use crate::encoding::size;
 use crate::opening::{FIRST_GATE, prepare};
 use crate::state::{AppendError, JournalError, State};
+use gated_file::keep;
 use outside::{Disk, Failed};
 use std::alloc::Global;
 use std::marker::Model;

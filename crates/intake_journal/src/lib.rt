@@ -32,14 +32,12 @@
 mod ahead;
 mod block;
 mod decoding;
-mod disk_calls;
 mod encoding;
 mod format;
 mod journal;
 mod opening;
 mod reading;
 mod state;
-mod whole;
 
 pub use block::Block;
 pub use decoding::decode;

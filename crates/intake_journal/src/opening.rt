@@ -6,11 +6,11 @@ ghost use Rattle.outside.specs.Causes.{HasCause};
 ghost use Rattle.outside.specs.Disk.{Only, LeavesOnly, overwritten};
 ghost use Rattle.intake_journal.specs.Kept.{magic, kept};
 ghost use Rattle.intake_journal.specs.Kept.Kept.{NotOurs};
-ghost use Rattle.intake_journal.specs.Moments.{IsAsBefore};
+ghost use Rattle.gated_file.specs.Moments.{IsAsBefore};
 ghost use Rattle.intake_journal.specs.Opened.{IsOpened};
 ghost use Rattle.intake_journal.specs.Settled.{KeepsAsOneOf};
 
-use crate::whole::read_whole;
+use gated_file::read_whole;
 use outside::{Disk, Failed};
 
 /// The bytes with which each journal begins.

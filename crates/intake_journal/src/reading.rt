@@ -9,7 +9,7 @@ ghost use Rattle.intake_journal.specs.Format.{entries_of};
 ghost use Rattle.intake_journal.specs.Kept.{fits as has_room};
 ghost use Rattle.intake_journal.specs.Found.{IsHead, IsFound, IsSmall};
 ghost use Rattle.intake_journal.specs.declared.reading.Head.TheVariants.{Open};
-ghost use Rattle.intake_journal.specs.Moments.{IsAsBefore};
+ghost use Rattle.gated_file.specs.Moments.{IsAsBefore};
 ghost use Rattle.intake_journal.specs.Next.{ReadsNext};
 ghost use Rattle.intake_journal.specs.declared.state.State.TheVariants.{Ready, Broken};
 ghost use Rattle.intake_journal.specs.declared.state.JournalError.TheVariants as error;

@@ -149,6 +149,9 @@ is_wire status.NotOurs = inr (λ e. cc)
 is_wire (status.Damaged at) = inr (λ e. cc)
 is_wire (status.ConfigDiffers at) = inr (λ e. cc)
 is_wire (status.OutboxAhead held lines) = inr (λ e. cc)
+is_wire (status.BadLine at) = inr (λ e. cc)
+is_wire (status.MarksAhead marks messages) = inr (λ e. cc)
+is_wire status.LinesTooLong = inr (λ e. cc)
 
 -- a run that ended is one whose outbox failed
 finished_fault : (limits : Limits) (conf : Conf) (recovered : List Numbered) (begun : Intake) (entries : List Numbered) (turns : ℕ) (did : Doing) (w w' : WireTells) (s : Status) → (s ≡ status.OutOfMemory → ⊥)

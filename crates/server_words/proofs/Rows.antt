@@ -15,7 +15,8 @@ use Rattle.clap.proofs.OnLiterals.{clap_on_literals}
 use Rattle.clap.specs.ValueTests.{is_numeral}
 use Rattle.clap.specs.declared.parser.matches.Found.{Found}
 use Rattle.clap.proofs.WalkLemmas.{both, first_value-rows, one_text-rows}
-use Rattle.server_words.specs.Words.{number_of, server_app, is_taken, plan_in, plan_of}
+use Rattle.server_words.specs.Words.{number_of, server_app, is_taken, plan_in, plan_for}
+use Rattle.server_words.specs.declared.words.Call.{Call}
 
 -- the text of an option
 pub text_of_rows : (f : Found) (name : List ℕ) → first_value f name ≡ first_of name (rows_of f)
@@ -82,16 +83,16 @@ same_words [] = refl
 same_words (w ∷ ws) = ap (λ l. w ∷ l) (same_words ws)
 
 -- words that clap takes
-pub plan_found : (app : App) (words : List (List ℕ)) (m : ArgMatches) → app ≡ server_app → HasMatchesOf app (map (λ (t : List ℕ). t) words) m
-    → (is_simple_and_free app ≡ true → fault_of app (map (λ (t : List ℕ). t) words) ≡ []) → plan_of words ≡ plan_in (rows_of (found_of m))
-unfolding plan_of
-plan_found app words m is has none =
+pub plan_found : (call : Call) (app : App) (words : List (List ℕ)) (m : ArgMatches) → app ≡ server_app → HasMatchesOf app (map (λ (t : List ℕ). t) words) m
+    → (is_simple_and_free app ≡ true → fault_of app (map (λ (t : List ℕ). t) words) ≡ []) → plan_for call words ≡ plan_in call (rows_of (found_of m))
+unfolding plan_for
+plan_found call app words m is has none =
     let rows = (has (ap is_simple is ∙ simple)).0 in
     let clean = none (ap is_simple_and_free is ∙ free) in
     let same = same_words words in
     let taken : fault_of server_app words ≡ [] = ap (fault_of server_app) (sym same) ∙ ap (λ (a : App). fault_of a (map (λ (t : List ℕ). t) words)) (sym is) ∙ clean in
     let found : matches_of server_app words ≡ rows_of (found_of m) = ap (matches_of server_app) (sym same) ∙ ap (λ (a : App). matches_of a (map (λ (t : List ℕ). t) words)) (sym is) ∙ sym rows in
-    ap₂ (λ (kinds : Kinds) (rows : List Row). cond (is_empty kinds) (plan_in rows) None) taken found
+    ap₂ (λ (kinds : Kinds) (rows : List Row). cond (is_empty kinds) (plan_in call rows) None) taken found
 
 refused : (kinds : Kinds) (e : Error) → HasKind kinds e → (kind_of e ≡ kind.OutOfMemory → ⊥) → is_empty kinds ≡ false
 refused [] e (inl spent) other = absurd (other spent)
@@ -99,12 +100,12 @@ refused [] e (inr none) other = absurd none
 refused (k ∷ ks) e among other = ne_eqb _ _ (λ same. omega arith)
 
 -- words that clap refuses
-pub plan_refused : (app : App) (words : List (List ℕ)) (e : Error) → app ≡ server_app
-    → (is_simple_and_free app ≡ true → HasKind (fault_of app (map (λ (t : List ℕ). t) words)) e) → (kind_of e ≡ kind.OutOfMemory → ⊥) → plan_of words ≡ None
-unfolding plan_of
-plan_refused app words e is fails other =
+pub plan_refused : (call : Call) (app : App) (words : List (List ℕ)) (e : Error) → app ≡ server_app
+    → (is_simple_and_free app ≡ true → HasKind (fault_of app (map (λ (t : List ℕ). t) words)) e) → (kind_of e ≡ kind.OutOfMemory → ⊥) → plan_for call words ≡ None
+unfolding plan_for
+plan_refused call app words e is fails other =
     let same = same_words words in
     let words_are : fault_of app (map (λ (t : List ℕ). t) words) ≡ fault_of server_app words =
     ap (λ (a : App). fault_of a (map (λ (t : List ℕ). t) words)) is ∙ ap (fault_of server_app) same in
     let left : is_taken words ≡ false = refused (fault_of server_app words) e (subst (λ (k : Kinds). HasKind k e) words_are (fails (ap is_simple_and_free is ∙ free))) other in
-    ap (λ (b : Bool). cond b (plan_in (matches_of server_app words)) None) left
+    ap (λ (b : Bool). cond b (plan_in call (matches_of server_app words)) None) left

@@ -25,6 +25,9 @@ exit_of status.WireFault = 13
 exit_of (status.Full entries bytes) = 14
 exit_of status.TurnLimit = 15
 exit_of status.OutOfMemory = 16
+exit_of (status.BadLine at) = 22
+exit_of (status.MarksAhead marks messages) = 23
+exit_of status.LinesTooLong = 24
 exit_of (status.PatternTooLarge path) = 26
 
 -- a count behind its name
@@ -90,3 +93,16 @@ printed_text status.OutboxFault c = codes "status: OutboxFault\n"
 printed_text status.PrintFault c = []
 printed_text status.TurnLimit c = codes "status: TurnLimit\n"
 printed_text status.OutOfMemory c = codes "status: OutOfMemory\n"
+printed_text (status.BadLine at) c = count_text (codes "status: BadLine; at: ") at ++ codes "\n"
+printed_text (status.MarksAhead marks messages) c = count_text (codes "status: MarksAhead; marks: ") marks ++ count_text (codes "; messages: ") messages ++ codes "\n"
+printed_text status.LinesTooLong c = codes "status: LinesTooLong\n"
+
+-- the line of alerts that ended well: how many messages there are, how many of them were sent, and how many failed
+abbrev pub alerts_text : ℕ → ℕ → ℕ → List ℕ
+alerts_text messages done failed =
+    count_text (codes "status: Ok; messages: ") messages ++ count_text (codes "; done: ") done ++ count_text (codes "; failed: ") failed ++ codes "\n"
+
+-- the line of a status of alerts
+abbrev pub alerts_line : Status → ℕ → ℕ → ℕ → List ℕ
+alerts_line status.Ok messages done failed = alerts_text messages done failed
+alerts_line s messages done failed = printed_text s (record { entries = 0; problems = 0; recoveries = 0; messages = 0; bytes = 0 })

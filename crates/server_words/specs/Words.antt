@@ -1,5 +1,5 @@
 -- The words of the command line, as `clap` reads a simple command, and their plan.
-use Rattle.std.specs.Prelude.{ℕ, Bool, true, ◌&&◌, List, [], ◌∷◌, Option, Some, None, is_some, option_and_then, option_map, unwrap_or, if◌then◌else◌, codes, nat_lt, nat_le, ◌≤◌, ◌^◌, ◌-◌}
+use Rattle.std.specs.Prelude.{ℕ, Bool, true, false, not, ◌&&◌, List, [], ◌∷◌, Option, Some, None, is_some, option_and_then, option_map, unwrap_or, if◌then◌else◌, codes, nat_lt, nat_le, ◌≤◌, ◌^◌, ◌-◌}
 use Rattle.std.specs.Str.{bytes_eq}
 use Rattle.std.specs.Str.Parse.{digits_value, without_leading_plus}
 use Rattle.clap.specs.Words.{App, Row, Rule, new_app, new_rule, with_rule, matches_of, fault_of, first_of, one_of}
@@ -9,9 +9,11 @@ use Rattle.clap.specs.declared.builder.value_parser.ValueParser.TheVariants as v
 use Rattle.server_words.specs.declared.words.Plan.{Plan}
 use Rattle.server_words.specs.declared.planning.Numbers.{Numbers}
 use Rattle.server_words.specs.declared.words.Mode.{Mode}
-use Rattle.server_words.specs.declared.words.Mode.TheVariants.{Feed, Serve, Workload}
+use Rattle.server_words.specs.declared.words.Mode.TheVariants.{Feed, Serve, Workload, Alerts}
+use Rattle.server_words.specs.declared.words.Call.{Call}
+use Rattle.server_words.specs.declared.words.Call.TheVariants.{Run, Alerting}
 
--- the most syncers, turns, entries and values of a workload that a plan may ask for
+-- the most syncers, turns, entries, tries of a message and values of a workload that a plan may ask for
 abbrev pub most_syncers : ℕ
 most_syncers = 16
 
@@ -20,6 +22,9 @@ most_turns = 1000000000
 
 abbrev pub most_entries : ℕ
 most_entries = 4000000
+
+abbrev pub most_attempts : ℕ
+most_attempts = 100
 
 abbrev pub most_values : ℕ
 most_values = 1000000
@@ -46,22 +51,35 @@ bare_app = let app = new_app (codes "zabbix_server") in record app { top = recor
 
 -- the command with its texts
 abbrev pub text_app : App
-text_app = with_rule (with_rule (with_rule (with_rule (with_rule (with_rule bare_app
+text_app = with_rule (with_rule (with_rule (with_rule (with_rule (with_rule (with_rule (with_rule bare_app
     (needed (codes "mode"))) (option (codes "config"))) (option (codes "listen")))
-    (option (codes "script"))) (option (codes "journal"))) (with_default (codes "outbox") (codes "-"))
+    (option (codes "script"))) (option (codes "journal"))) (option (codes "progress")))
+    (option (codes "command"))) (with_default (codes "outbox") (codes "-"))
 
 -- the command: its texts and its numbers
 abbrev pub server_app : App
-server_app = with_rule (with_rule (with_rule (with_rule (with_rule text_app
+server_app = with_rule (with_rule (with_rule (with_rule (with_rule (with_rule text_app
     (number (codes "syncers") (codes "4") 0 most_syncers)) (number (codes "turns") (codes "1000000000") 1 most_turns))
     (number (codes "max-entries") (codes "4000000") 1 most_entries)) (number (codes "number") (codes "1") 0 (2 ^ 64 - 1)))
-    (number (codes "values") (codes "1000") 1 most_values)
+    (number (codes "attempts") (codes "3") 1 most_attempts)) (number (codes "values") (codes "1000") 1 most_values)
 
 -- the mode of this name
 abbrev pub mode_of : List ℕ → Option Mode
 mode_of name = if bytes_eq name (codes "feed") then Some Feed
     else if bytes_eq name (codes "serve") then Some Serve
-    else if bytes_eq name (codes "workload") then Some Workload else None
+    else if bytes_eq name (codes "workload") then Some Workload
+    else if bytes_eq name (codes "alerts") then Some Alerts else None
+
+-- a mode is one of a call's
+abbrev pub is_mode_of : Call → Mode → Bool
+is_mode_of Run Feed = true
+is_mode_of Run Serve = true
+is_mode_of Run Workload = true
+is_mode_of Run Alerts = false
+is_mode_of Alerting Feed = false
+is_mode_of Alerting Serve = false
+is_mode_of Alerting Workload = false
+is_mode_of Alerting Alerts = true
 
 -- the number that a text writes, where an unsigned type of so many bits holds it
 abbrev pub number_of : ℕ → List ℕ → Option ℕ
@@ -83,6 +101,8 @@ abbrev pub has_needed : Mode → List Row → Bool
 has_needed Feed rows = is_some (first_of (codes "config") rows) && is_some (first_of (codes "script") rows)
 has_needed Serve rows = is_some (first_of (codes "config") rows) && is_some (first_of (codes "listen") rows)
 has_needed Workload rows = true
+has_needed Alerts rows = is_some (first_of (codes "progress") rows) && is_some (first_of (codes "command") rows)
+    && not (bytes_eq (unwrap_or (first_of (codes "outbox") rows) (codes "-")) (codes "-"))
 
 -- the numbers of the options
 abbrev pub numbers_in : List Row → Option Numbers
@@ -91,8 +111,10 @@ numbers_in rows =
     option_and_then (λ turns.
     option_and_then (λ max_entries.
     option_and_then (λ number.
-    option_map (λ values. record { syncers = syncers; turns = turns; max_entries = max_entries; number = number; values = values })
+    option_and_then (λ attempts.
+    option_map (λ values. record { syncers = syncers; turns = turns; max_entries = max_entries; number = number; attempts = attempts; values = values })
     (number_in 64 1 most_values (codes "values") rows))
+    (number_in 32 1 most_attempts (codes "attempts") rows))
     (number_in 64 0 (2 ^ 64 - 1) (codes "number") rows))
     (number_in 64 1 most_entries (codes "max-entries") rows))
     (number_in 64 1 most_turns (codes "turns") rows))
@@ -112,25 +134,37 @@ plan_with rows mode numbers = record {
   max_entries = numbers.max_entries;
   number = numbers.number;
   values = numbers.values;
+  progress = first_of (codes "progress") rows;
+  command = first_of (codes "command") rows;
+  attempts = numbers.attempts;
 }
 
--- the plan that the options ask for, or none where one is missing that the mode needs
-abbrev pub plan_in : List Row → Option Plan
-plan_in rows =
-    option_and_then (λ mode. if has_needed mode rows then option_map (plan_with rows mode) (numbers_in rows) else None)
+-- the plan that the options ask of a call, or none where the mode is another one's, or one is missing that it needs
+abbrev pub plan_in : Call → List Row → Option Plan
+plan_in call rows =
+    option_and_then (λ mode. if is_mode_of call mode && has_needed mode rows then option_map (plan_with rows mode) (numbers_in rows) else None)
     (option_and_then mode_of (first_of (codes "mode") rows))
 
 -- the words are those of the command, as `clap` takes them
 abbrev pub is_taken : List (List ℕ) → Bool
 is_taken words = is_empty (fault_of server_app words)
 
--- the plan of a list of words, or none where they aren't the command's
-unfoldable pub plan_of : List (List ℕ) → Option Plan
-plan_of words = if is_taken words then plan_in (matches_of server_app words) else None
+-- the plan of a list of words for a call, or none where they aren't the command's
+unfoldable pub plan_for : Call → List (List ℕ) → Option Plan
+plan_for call words = if is_taken words then plan_in call (matches_of server_app words) else None
+
+-- the plan of a list of words for the server's run
+abbrev pub plan_of : List (List ℕ) → Option Plan
+plan_of words = plan_for Run words
+
+-- the plan of a list of words for alerts
+abbrev pub alerts_plan_of : List (List ℕ) → Option Plan
+alerts_plan_of words = plan_for Alerting words
 
 -- the numbers of a plan are those that may be asked for
 pub record IsWithin (plan : Plan) : Type 0 where
   pub syncers : plan.syncers ≤ most_syncers
   pub turns : (1 ≤ plan.turns) × (plan.turns ≤ most_turns)
   pub entries : (1 ≤ plan.max_entries) × (plan.max_entries ≤ most_entries)
+  pub attempts : (1 ≤ plan.attempts) × (plan.attempts ≤ most_attempts)
   pub values : (1 ≤ plan.values) × (plan.values ≤ most_values)

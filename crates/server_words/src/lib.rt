@@ -20,7 +20,7 @@ mod printing;
 mod status;
 mod words;
 
-pub use planning::plan;
-pub use printing::printed;
+pub use planning::{alerts_plan, plan};
+pub use printing::{printed, printed_alerts};
 pub use status::{Counts, Status};
 pub use words::{Mode, Plan, PlanError};

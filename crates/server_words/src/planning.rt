@@ -2,10 +2,12 @@
 
 ghost use Rattle.std.specs.Prelude.{◌≡◌, [], IfOk, IsErrOf, Some, None, option_and_then, unwrap_or, codes};
 ghost use Rattle.clap.specs.Words.{found_of, first_of, one_of, rows_of};
-ghost use Rattle.server_words.specs.Words.{IsWithin, most_syncers, plan_of, plan_in, plan_with, mode_of, number_of, within, number_in, numbers_in, has_needed};
+ghost use Rattle.server_words.specs.Words.{IsWithin, plan_of, alerts_plan_of, plan_for, plan_in, plan_with, mode_of, is_mode_of, number_of, within, number_in, numbers_in, has_needed};
 
-use crate::command::{MOST_ENTRIES, MOST_SYNCERS, MOST_TURNS, MOST_VALUES, command};
-use crate::words::{Mode, Plan, PlanError};
+use crate::command::{
+    MOST_ATTEMPTS, MOST_ENTRIES, MOST_SYNCERS, MOST_TURNS, MOST_VALUES, command,
+};
+use crate::words::{Call, Mode, Plan, PlanError};
 use clap::ArgMatches;
 use clap::error::ErrorKind;
 use std::alloc::Global;
@@ -17,7 +19,7 @@ use zbx_types::{OutOfMemory, Text};
 /// `workload`. The first two need `--config`, a path; feed needs `--script`, a path, and serve needs `--listen`, an
 /// address and port. `--journal` is a path, `--outbox` a path or `-`, `--syncers` is 0 to 16, `--turns` 1 to
 /// 1,000,000,000, `--max-entries` 1 to 4,000,000, `--number` 0 to 2^64 - 1, and `--values` 1 to 1,000,000. What a mode
-/// doesn't need it may have.
+/// doesn't need it may have, and so may it have what [`alerts_plan`] needs.
 ///
 /// [`PlanError::Usage`] comes exactly where `clap` doesn't take the words as this command's, or the mode is another one
 /// or lacks what it needs. [`PlanError::OutOfMemory`] where there is no room for the command or for the plan.
@@ -26,11 +28,32 @@ pub fn plan(alloc: Global, words: &[Text]) -> Result<Plan, PlanError>
     ensures within { IfOk result IsWithin }
     ensures usage { IsErrOf result PlanError.Usage → plan_of words.now ≡ None }
 {
+    plan_for(Call::Run, alloc, words)
+}
+
+/// The plan of a list of words for alerts.
+///
+/// `--mode` is `alerts`. It needs `--outbox` and `--progress`, which are paths, the first not `-`, and `--command`, a
+/// program. `--attempts` is 1 to 100. Usage and OutOfMemory come as with [`plan`].
+pub fn alerts_plan(alloc: Global, words: &[Text]) -> Result<Plan, PlanError>
+    ensures ok { IfOk result (λ plan. alerts_plan_of words.now ≡ Some plan) }
+    ensures within { IfOk result IsWithin }
+    ensures usage { IsErrOf result PlanError.Usage → alerts_plan_of words.now ≡ None }
+{
+    plan_for(Call::Alerting, alloc, words)
+}
+
+/// The plan of a list of words for a call.
+fn plan_for(call: Call, alloc: Global, words: &[Text]) -> Result<Plan, PlanError>
+    ensures ok { IfOk result (λ plan. plan_for call words.now ≡ Some plan) }
+    ensures within { IfOk result IsWithin }
+    ensures usage { IsErrOf result PlanError.Usage → plan_for call words.now ≡ None }
+{
     let Ok(command) = command(alloc) else {
         return Err(PlanError::OutOfMemory);
     };
     match command.try_get_matches_from(words) {
-        Ok(matches) => planned(alloc, &matches),
+        Ok(matches) => planned(call, alloc, &matches),
         Err(error) => match error.kind() {
             ErrorKind::OutOfMemory => Err(PlanError::OutOfMemory),
             _ => Err(PlanError::Usage),
@@ -39,14 +62,14 @@ pub fn plan(alloc: Global, words: &[Text]) -> Result<Plan, PlanError>
 }
 
 /// The plan that the options ask for.
-fn planned(alloc: Global, matches: &ArgMatches) -> Result<Plan, PlanError>
-    ensures ok { IfOk result (λ plan. plan_in (rows_of (found_of matches.now)) ≡ Some plan) }
-    ensures usage { IsErrOf result PlanError.Usage → plan_in (rows_of (found_of matches.now)) ≡ None }
+fn planned(call: Call, alloc: Global, matches: &ArgMatches) -> Result<Plan, PlanError>
+    ensures ok { IfOk result (λ plan. plan_in call (rows_of (found_of matches.now)) ≡ Some plan) }
+    ensures usage { IsErrOf result PlanError.Usage → plan_in call (rows_of (found_of matches.now)) ≡ None }
 {
     let Some(mode) = mode_in(matches) else {
         return Err(PlanError::Usage);
     };
-    if !has_needed(mode, matches) {
+    if !is_mode_of(call, mode) || !has_needed(mode, matches) {
         return Err(PlanError::Usage);
     }
     let Some(numbers) = numbers_in(matches) else {
@@ -66,7 +89,20 @@ fn mode_of(name: &str) -> Option<Mode>
         "feed" => Some(Mode::Feed),
         "serve" => Some(Mode::Serve),
         "workload" => Some(Mode::Workload),
+        "alerts" => Some(Mode::Alerts),
         _ => None,
+    }
+}
+
+/// Whether a mode is one of a call's.
+fn is_mode_of(call: Call, mode: Mode) -> bool
+    ensures { result ≡ is_mode_of call mode }
+{
+    match (call, mode) {
+        (Call::Run, Mode::Feed | Mode::Serve | Mode::Workload) => true,
+        (Call::Run, Mode::Alerts) => false,
+        (Call::Alerting, Mode::Feed | Mode::Serve | Mode::Workload) => false,
+        (Call::Alerting, Mode::Alerts) => true,
     }
 }
 
@@ -87,6 +123,11 @@ fn has_needed(mode: Mode, matches: &ArgMatches) -> bool
         Mode::Feed => matches.get_str("config").is_some() && matches.get_str("script").is_some(),
         Mode::Serve => matches.get_str("config").is_some() && matches.get_str("listen").is_some(),
         Mode::Workload => true,
+        Mode::Alerts => {
+            matches.get_str("progress").is_some()
+                && matches.get_str("command").is_some()
+                && matches.get_str("outbox").unwrap_or("-") != "-"
+        }
     }
 }
 
@@ -122,12 +163,12 @@ fn number_in(matches: &ArgMatches, name: &str, least: u64, most: u64) -> Option<
     within(read_number(matches, name)?, least, most)
 }
 
-/// The number of syncers.
-fn syncers_in(matches: &ArgMatches) -> Option<u32>
-    ensures { result ≡ number_in 32 0 most_syncers (codes "syncers") (rows_of (found_of matches.now)) }
+/// The number of an option, from the least to the most, as 32 bits hold it.
+fn narrow_number_in(matches: &ArgMatches, name: &str, least: u32, most: u32) -> Option<u32>
+    ensures { result ≡ number_in 32 least most name.now (rows_of (found_of matches.now)) }
 {
-    let number = read_narrow_number(matches, "syncers")?;
-    if number <= MOST_SYNCERS {
+    let number = read_narrow_number(matches, name)?;
+    if least <= number && number <= most {
         Some(number)
     } else {
         None
@@ -141,6 +182,7 @@ struct Numbers {
     turns: u64,
     max_entries: u64,
     number: u64,
+    attempts: u32,
     values: u64,
 }
 
@@ -149,10 +191,11 @@ fn numbers_in(matches: &ArgMatches) -> Option<Numbers>
     ensures { result ≡ numbers_in (rows_of (found_of matches.now)) }
 {
     Some(Numbers {
-        syncers: syncers_in(matches)?,
+        syncers: narrow_number_in(matches, "syncers", 0, MOST_SYNCERS)?,
         turns: number_in(matches, "turns", 1, MOST_TURNS)?,
         max_entries: number_in(matches, "max-entries", 1, MOST_ENTRIES)?,
         number: number_in(matches, "number", 0, u64::MAX)?,
+        attempts: narrow_number_in(matches, "attempts", 1, MOST_ATTEMPTS)?,
         values: number_in(matches, "values", 1, MOST_VALUES)?,
     })
 }
@@ -202,6 +245,7 @@ fn plan_with(
     let outbox = outbox_in(alloc, matches)?;
     let (config, script) = texts_in(alloc, matches, "config", "script")?;
     let (listen, journal) = texts_in(alloc, matches, "listen", "journal")?;
+    let (progress, command) = texts_in(alloc, matches, "progress", "command")?;
     Ok(Plan {
         mode,
         config,
@@ -214,5 +258,8 @@ fn plan_with(
         max_entries: numbers.max_entries,
         number: numbers.number,
         values: numbers.values,
+        progress,
+        command,
+        attempts: numbers.attempts,
     })
 }

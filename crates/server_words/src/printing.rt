@@ -1,7 +1,7 @@
 //! The line that a run prints.
 
 ghost use Rattle.std.specs.Prelude.{◌≡◌, ◌++◌, OnOk, IfOk, codes};
-ghost use Rattle.server_words.specs.Printed.{printed_text, ok_text, refused_text, reason_text, cause_text, count_text, path_text, first_counts, last_counts};
+ghost use Rattle.server_words.specs.Printed.{printed_text, alerts_text, ok_text, refused_text, reason_text, cause_text, count_text, path_text, first_counts, last_counts};
 
 use crate::status::{Counts, Status};
 use std::alloc::Global;
@@ -161,5 +161,38 @@ pub fn printed(alloc: Global, status: &Status, counts: &Counts) -> Result<Text, 
         Status::PrintFault => Ok(Text::new(alloc)),
         Status::TurnLimit => Text::of(alloc, "status: TurnLimit\n"),
         Status::OutOfMemory => Text::of(alloc, "status: OutOfMemory\n"),
+        Status::BadLine { at } => count_line(alloc, "status: BadLine; at: ", *at),
+        Status::MarksAhead { marks, messages } => two_counts_line(
+            alloc,
+            "status: MarksAhead; marks: ",
+            *marks,
+            "; messages: ",
+            *messages,
+        ),
+        Status::LinesTooLong => Text::of(alloc, "status: LinesTooLong\n"),
     }
+}
+
+fn put_marks(line: &mut Text, messages: u64, done: u64, failed: u64) -> Result<(), OutOfMemory>
+    ensures { OnOk result (line.new ≡ line.old ++ (count_text (codes "status: Ok; messages: ") messages ++ count_text (codes "; done: ") done ++ count_text (codes "; failed: ") failed)) }
+{
+    put_count(line, "status: Ok; messages: ", messages)?;
+    put_count(line, "; done: ", done)?;
+    put_count(line, "; failed: ", failed)
+}
+
+/// The line of alerts that ended well: how many messages there are, how many were sent, and how many failed.
+#[tactic(auto, using(std::proofs::lemmas::List::append_assoc))]
+pub fn printed_alerts(
+    alloc: Global,
+    messages: u64,
+    done: u64,
+    failed: u64,
+) -> Result<Text, OutOfMemory>
+    ensures { IfOk result (λ line. line ≡ alerts_text messages done failed) }
+{
+    let mut line = Text::new(alloc);
+    put_marks(&mut line, messages, done, failed)?;
+    put_end(&mut line)?;
+    Ok(line)
 }

@@ -67,6 +67,20 @@ pub enum Status {
     },
     /// As many events were taken as the plan allows, and none closed the wire.
     TurnLimit,
+    /// A line of the outbox begins as a message and is none.
+    BadLine {
+        /// The place of its first byte, counted from 0.
+        at: u64,
+    },
+    /// There are more marks than messages.
+    MarksAhead {
+        /// How many marks there are.
+        marks: u64,
+        /// How many messages there are.
+        messages: u64,
+    },
+    /// The outbox has more bytes than are read.
+    LinesTooLong,
     /// No memory was to be had.
     OutOfMemory,
 }
@@ -93,6 +107,9 @@ impl Status {
             Status::Full { .. } => 14,
             Status::TurnLimit => 15,
             Status::OutOfMemory => 16,
+            Status::BadLine { .. } => 22,
+            Status::MarksAhead { .. } => 23,
+            Status::LinesTooLong => 24,
             Status::PatternTooLarge { .. } => 26,
         }
     }

@@ -12,6 +12,17 @@ pub enum Mode {
     Serve,
     /// It makes its configuration and its events itself, from a number.
     Workload,
+    /// It runs a script for each message of an outbox.
+    Alerts,
+}
+
+/// Which call takes the words: the server's run, or that of alerts. Each has modes of its own.
+#[derive(Clone, Copy, Debug, PartialEq, Eq)]
+pub enum Call {
+    /// The server's run: Feed, Serve and Workload.
+    Run,
+    /// That of alerts: Alerts.
+    Alerting,
 }
 
 /// What the words of the command line ask for. Where an option isn't named it has its default.
@@ -39,13 +50,19 @@ pub struct Plan {
     pub number: u64,
     /// How many values a workload has: 1 to 1,000,000; 1,000 is the default.
     pub values: u64,
+    /// The path of the marks of alerts. Alerts has one.
+    pub progress: Option<Text>,
+    /// The program that is run for each message. Alerts has one.
+    pub command: Option<Text>,
+    /// How many tries a message has at most: 1 to 100; 3 is the default.
+    pub attempts: u32,
 }
 
 /// Why there is no plan.
 #[derive(Clone, Copy, Debug, PartialEq, Eq, Error)]
 pub enum PlanError {
     /// The words aren't those of the command.
-    #[error("usage: --mode feed --config PATH --script PATH, --mode serve --config PATH --listen ADDRESS:PORT, or --mode workload")]
+    #[error("usage: --mode feed --config PATH --script PATH, --mode serve --config PATH --listen ADDRESS:PORT, --mode workload, or --mode alerts --outbox PATH --progress PATH --command PROGRAM")]
     Usage,
     /// No memory was to be had.
     #[error("out of memory")]

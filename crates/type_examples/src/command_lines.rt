@@ -38,6 +38,7 @@ fn plan_line(alloc: Global, plan: &Plan) -> Result<Text, OutOfMemory> {
             Mode::Feed => "feed",
             Mode::Serve => "serve",
             Mode::Workload => "workload",
+            Mode::Alerts => "alerts",
         },
     )?;
     put_text(&mut line, " config ", &plan.config)?;
@@ -269,6 +270,25 @@ fn each_status_has_its_exit_and_its_line(rt: HostRuntime) -> Result<(), Fail> {
     assert_eq!(rt;
         said(alloc, Status::OutOfMemory)?.as_str(),
         "16 status: OutOfMemory\n"
+    );
+    assert_eq!(rt;
+        said(alloc, Status::BadLine { at: 34 })?.as_str(),
+        "22 status: BadLine; at: 34\n"
+    );
+    assert_eq!(rt;
+        said(
+            alloc,
+            Status::MarksAhead {
+                marks: 2,
+                messages: 1
+            }
+        )?
+        .as_str(),
+        "23 status: MarksAhead; marks: 2; messages: 1\n"
+    );
+    assert_eq!(rt;
+        said(alloc, Status::LinesTooLong)?.as_str(),
+        "24 status: LinesTooLong\n"
     );
     Ok(())
 }

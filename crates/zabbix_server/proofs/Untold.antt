@@ -1,5 +1,5 @@
 -- A run over objects is one over objects that tell no image of the disk.
-use Rattle.std.proofs.Common.{◌≡◌, ℕ, List, Bool, Option, Some, None, arith}
+use Rattle.std.proofs.Common.{◌≡◌, ◌⊎◌, inl, inr, ℕ, List, Bool, Option, Some, None, arith}
 use Rattle.std.specs.Prelude.{IfSome}
 use Rattle.zbx_types.specs.declared.entries.Numbered.{Numbered}
 use Rattle.outside.specs.Disk.{DiskTells, LeavesOnly}
@@ -11,7 +11,12 @@ use Rattle.server_words.specs.declared.status.Status.{Status}
 use Rattle.server_run.specs.Ran.{Objects, IsRun}
 use Rattle.server_run.specs.Runs.{Followed}
 use Rattle.server_run.specs.Stops.{Journals}
-use Rattle.zabbix_server.specs.Program.{Seen, without_images, objects_of}
+use Rattle.outside.specs.Causes.{Rose}
+use Rattle.alert_run.specs.Marks.{marks_in, EachKeeps}
+use Rattle.alert_run.specs.declared.types.Mark.{Mark}
+use Rattle.server_jobs.specs.Alerts.{Around, IsCut, ComesTo}
+use Rattle.server_jobs.specs.Reports.{Prints}
+use Rattle.zabbix_server.specs.Program.{Seen, without_images, objects_of, IsAlertsOf}
 
 -- what objects tell but for the images of the disk
 abbrev pub seen_of : Objects → Seen
@@ -103,3 +108,40 @@ run_too words before after line line' began entries s r = record {
   complete = λ plan text conf file groups all a b d e f g h i j none patterns.
       r.complete plan text conf file groups all a b d e f g h i j (record { source = none.source; wire = none.wire; disk = none.disk; outbox = none.outbox; printer = none.printer }) patterns;
 }
+
+-- ---- alerts
+
+alerts_keep : (disk : DiskTells) (marks : List Mark) → EachKeeps disk marks → EachKeeps (untold disk) marks
+alerts_keep disk marks = by disk.bytes
+  where
+    by : (o : Option (List ℕ)) → IfSome o (λ _. (c : List ℕ) → disk.images c → marks_in c ≡ Some marks) → IfSome o (λ _. (c : List ℕ) → ⊥ → marks_in c ≡ Some marks)
+    by None k = tt
+    by (Some b) k = λ c none. absurd none
+
+-- what objects told of a call, but for the images of the disk
+abbrev pub around_too : Around → Around
+around_too a = record a { disk = untold a.disk; disk' = untold a.disk' }
+
+keeps_too : (a : Around) (s : Status) (marks : List Mark) → EachKeeps a.disk' marks ⊎ (IsCut s × Rose a.disk.faults a.disk'.faults)
+    → EachKeeps (untold a.disk') marks ⊎ (IsCut s × Rose a.disk.faults a.disk'.faults)
+keeps_too a s marks (inl k) = inl (alerts_keep a.disk' marks k)
+keeps_too a s marks (inr cut) = inr cut
+
+pub comes_too : (words : List (List ℕ)) (a : Around) (s : Status) (marks : List Mark) → ComesTo words a s marks → ComesTo words (around_too a) s marks
+comes_too words a s marks (inl refusal) = inl refusal
+comes_too words a s marks (inr w) = inr (record {
+  plan = w.plan;
+  plan_is = w.plan_is;
+  notes = w.notes;
+  notes_are = w.notes_are;
+  before = w.before;
+  recovered = w.recovered;
+  works = w.works;
+  why = w.why;
+  keeps = keeps_too a s marks w.keeps;
+})
+
+pub alerts_too : (words : List (List ℕ)) (a : Around) (s : Status) (marks : List Mark) (line line' : SinkTells) → ComesTo words a s marks → Prints s marks line line'
+    → IsAlertsOf words (record { lines = a.lines; lines_faults = a.faults; file = a.disk.bytes; disk_faults = a.disk.faults; spawner = a.spawner }) line s
+alerts_too words a s marks line line' comes prints =
+    (record { lines = None; lines_faults = a.faults'; file = a.disk'.bytes; disk_faults = a.disk'.faults; spawner = a.spawner' }, line', marks, comes_too words a s marks comes, prints)

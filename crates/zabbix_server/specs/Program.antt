@@ -1,9 +1,14 @@
 -- The status of the program's run, and the number with which it exits.
-use Rattle.std.specs.Prelude.{Ok, Err, Result, Bool, List, Option, ℕ}
+use Rattle.std.specs.Prelude.{◌≡◌, ◌⊎◌, Ok, Err, Result, Bool, List, Option, None, IsSome, ℕ}
 use Rattle.zbx_types.specs.declared.entries.Numbered.{Numbered}
 use Rattle.zbx_types.specs.declared.memory.OutOfMemory.{OutOfMemory}
+use Rattle.alert_run.specs.declared.types.Mark.{Mark}
 use Rattle.outside.specs.Disk.{DiskTells}
+use Rattle.outside.specs.Spawning.{SpawnerTells}
 use Rattle.outside.specs.Tells.{SinkTells, WireTells}
+use Rattle.server_jobs.specs.Alerts.{Around, ComesTo}
+use Rattle.server_jobs.specs.Reports.{Prints}
+use Rattle.server_words.specs.Words.{alerts_plan_of}
 use Rattle.server_words.specs.declared.status.Status.{Status}
 use Rattle.server_words.specs.declared.status.Status.TheVariants as status
 use Rattle.server_run.specs.Ran.{Objects, IsRun}
@@ -46,3 +51,39 @@ IsStatusOf words before line s =
 -- a status is that of a run over some objects, which the caller made itself
 abbrev pub IsRunStatus : List (List ℕ) → Status → Type 0
 IsRunStatus words s = (before : Seen) × (line : SinkTells) × IsStatusOf words before line s
+
+-- what the objects of a call for alerts told at one moment, but for its printer, and for what a crash would leave of its
+-- disk
+pub record AlertsSeen : Type 0 where
+  pub lines : Option (List ℕ)
+  pub lines_faults : ℕ
+  pub file : Option (List ℕ)
+  pub disk_faults : ℕ
+  pub spawner : SpawnerTells
+
+-- objects that told the one before a call and the other after it
+abbrev pub around_of : AlertsSeen → AlertsSeen → Around
+around_of before after = record {
+  lines = before.lines;
+  faults = before.lines_faults;
+  faults' = after.lines_faults;
+  disk = without_images before.file before.disk_faults;
+  disk' = without_images after.file after.disk_faults;
+  spawner = before.spawner;
+  spawner' = after.spawner;
+}
+
+-- a status is that of a call for alerts over objects that told this, and a printer
+abbrev pub IsAlertsOf : List (List ℕ) → AlertsSeen → SinkTells → Status → Type 0
+IsAlertsOf words before line s =
+    (after : AlertsSeen) × (line' : SinkTells) × (marks : List Mark)
+    × ComesTo words (around_of before after) s marks × Prints s marks line line'
+
+-- a status is that of a call for alerts over some objects, which the caller made itself
+abbrev pub IsAlertsStatus : List (List ℕ) → Status → Type 0
+IsAlertsStatus words s = (before : AlertsSeen) × (line : SinkTells) × IsAlertsOf words before line s
+
+-- the status of the program over its words: that of a call for alerts where they have a plan for it, else of a run
+abbrev pub IsProgramStatus : List (List ℕ) → Status → Type 0
+IsProgramStatus words s =
+    (IsSome (alerts_plan_of words) × IsAlertsStatus words s) ⊎ ((alerts_plan_of words ≡ None) × IsRunStatus words s)

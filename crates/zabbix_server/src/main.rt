@@ -15,30 +15,36 @@
 //! own. Without it they are 4; with 0 of them the thread that takes the events does all. The same entries come to the
 //! same lines whatever their number.
 //!
+//! With `--mode alerts --outbox OUTBOX --progress PROGRESS --command PROGRAM` it reads the file OUTBOX instead and runs the
+//! PROGRAM for each message in it, and keeps in the file PROGRESS what became of each. That is
+//! [`server_jobs::run_alerts`] over files and [`ChildSpawner`](child_spawner::ChildSpawner).
+//!
 //! It exits with the number of the status, 0 for Ok; `docs/FORMATS.md` has them all. Nothing goes to standard error.
 //!
 //! All that the run does is [`server_run::run_syncers`]. This crate hands it the files and standard output:
 //! [`FileSource`](wire_mio::FileSource) reads a file, [`FileSink`](wire_mio::FileSink) adds to one,
 //! [`FileDisk`](wire_mio::FileDisk) keeps one, and [`StdSink`](wire_mio::StdSink) writes to standard output.
 //!
-//! The one contract: the program exits with the number of its status, which is that of a run over its words, and the
-//! clauses of the whole run are true of it. So it is Usage exactly where the words have no plan, unless memory was
-//! refused.
+//! The one contract: the program exits with the number of its status, which is that of a run over its words, or of a
+//! call for alerts where they have a plan for that, and the clauses of that whole call are true of it. So it is Usage
+//! exactly where the words have no plan, unless memory was refused.
 #![tactic(auto)]
 
+mod alerting;
 mod arguments;
 mod running;
 
 ghost use Rattle.std.specs.Prelude.{◌≡◌, ℕ, List, IfOk};
 ghost use Rattle.std.specs.Process.{exit_status};
 ghost use Rattle.server_words.specs.Printed.{exit_of};
-ghost use Rattle.zabbix_server.specs.Program.{status_in, IsRunStatus};
+ghost use Rattle.zabbix_server.specs.Program.{status_in, IsProgramStatus};
 
-use server_words::Status;
+use server_words::{PlanError, Status, alerts_plan};
+use std::alloc::Global;
 use std::process::ExitCode;
 use std::sync::Wait;
 use std::thread::Threads;
-use zbx_types::OutOfMemory;
+use zbx_types::{OutOfMemory, Text};
 
 fn main(rt: HostRuntime) -> ExitCode {
     exit(status(&rt, &rt))
@@ -55,11 +61,27 @@ fn exit(ended: Result<Status, OutOfMemory>) -> ExitCode
     }
 }
 
-/// How the program ended: with the status of a run over its words. [`OutOfMemory`] where there is no memory for its
-/// words or what they name; nothing was printed then.
+/// How the program ended: with the status of a run over its words, or of a call for alerts where they have a plan for
+/// that. [`OutOfMemory`] where there is no memory for its words or what they name; nothing was printed then.
 fn status<R: Threads + Wait + Sync>(rt: &HostRuntime, threads: &R) -> Result<Status, OutOfMemory>
-    ensures { IfOk result (λ status. (words : List (List ℕ)) × IsRunStatus words status) }
+    ensures { IfOk result (λ status. (words : List (List ℕ)) × IsProgramStatus words status) }
 {
     let words = arguments::words(rt, rt.alloc())?;
-    running::run(rt, threads, rt.alloc(), words.as_slice())
+    status_over(rt, threads, rt.alloc(), words.as_slice())
+}
+
+/// How the call that the words ask for ended: that of alerts where they have a plan for it, else the server's run.
+fn status_over<R: Threads + Wait + Sync>(
+    rt: &HostRuntime,
+    threads: &R,
+    alloc: Global,
+    words: &[Text],
+) -> Result<Status, OutOfMemory>
+    ensures { IfOk result (IsProgramStatus words.now) }
+{
+    match alerts_plan(alloc, words) {
+        Ok(plan) => alerting::run(rt, alloc, words, &plan),
+        Err(PlanError::Usage) => running::run(rt, threads, alloc, words),
+        Err(PlanError::OutOfMemory) => Err(OutOfMemory),
+    }
 }

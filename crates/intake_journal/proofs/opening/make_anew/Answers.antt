@@ -1,5 +1,5 @@
 use Rattle.std.proofs.Common.{ℕ, ◌≤◌, List, length, ap, arith}
-use Rattle.intake_journal.proofs.Moments.{if_some, started, goes_on, stays}
+use Rattle.gated_file.proofs.Moments.{if_some, started, goes_on, stays}
 use Rattle.intake_journal.proofs.Openings.{stays_short}
 use Rattle.intake_journal.proofs.opening.make_anew.Goals as goal
 

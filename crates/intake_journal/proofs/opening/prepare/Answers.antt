@@ -6,7 +6,7 @@ use Rattle.outside.specs.Disk.{overwritten, Only, LeavesOnly}
 use Rattle.intake_journal.specs.Kept.{magic}
 use Rattle.intake_journal.specs.Opened.{IsOpened}
 use Rattle.intake_journal.specs.Settled.{KeepsAsOneOf}
-use Rattle.intake_journal.proofs.Moments.{if_some, told_of, started, stays}
+use Rattle.gated_file.proofs.Moments.{if_some, told_of, started, stays}
 use Rattle.intake_journal.proofs.Openings.{and_then, short_keeps, anew_opened, fresh_other, long_ours, long_not_ours, long_opened}
 use Rattle.intake_journal.proofs.opening.prepare.Goals as goal
 

@@ -1,7 +1,7 @@
 use Rattle.std.proofs.Common.{◌≡◌, ℕ, ◌+◌, ◌-◌, ◌≤◌, length, take, drop, true, false, sym, ap, ◌∙◌}
 use Rattle.intake_journal.specs.Format.{entries_of}
 use Rattle.intake_journal.specs.Kept.{fits}
-use Rattle.intake_journal.proofs.Moments.{if_some, told_of}
+use Rattle.gated_file.proofs.Moments.{if_some, told_of}
 use Rattle.intake_journal.proofs.Look.{is_open, unfit_found, unread_found, next_found, fit_inside}
 use Rattle.intake_journal.proofs.reading.group_at.Goals as goal
 

@@ -9,4 +9,5 @@ returns c =
     let turns = c.in_ok-arg-2.ensures.shape c.number-2.ensures.local ∙ ap₂ with_rule syncers c.number-2.ensures.rule in
     let entries = c.in_ok-arg-3.ensures.shape c.number-3.ensures.local ∙ ap₂ with_rule turns c.number-3.ensures.rule in
     let number = c.in_ok-arg-4.ensures.shape c.number-4.ensures.local ∙ ap₂ with_rule entries c.number-4.ensures.rule in
-    IfOk-weaker c.arg-5.result _ _ (λ command adds. adds.shape c.number-5.ensures.local ∙ ap₂ with_rule number c.number-5.ensures.rule) c.arg-5.ensures
+    let attempts = c.in_ok-arg-5.ensures.shape c.number-5.ensures.local ∙ ap₂ with_rule number c.number-5.ensures.rule in
+    IfOk-weaker c.arg-6.result _ _ (λ command adds. adds.shape c.number-6.ensures.local ∙ ap₂ with_rule attempts c.number-6.ensures.rule) c.arg-6.ensures

@@ -15,4 +15,6 @@ returns c =
     let listen = c.in_ok-arg-3.ensures.shape c.option-2.ensures.local ∙ ap₂ with_rule config c.option-2.ensures.rule in
     let script = c.in_ok-arg-4.ensures.shape c.option-3.ensures.local ∙ ap₂ with_rule listen c.option-3.ensures.rule in
     let journal = c.in_ok-arg-5.ensures.shape c.option-4.ensures.local ∙ ap₂ with_rule script c.option-4.ensures.rule in
-    IfOk-weaker c.arg-6.result _ _ (λ command adds. adds.shape c.with_default.ensures.local ∙ ap₂ with_rule journal c.with_default.ensures.rule) c.arg-6.ensures
+    let progress = c.in_ok-arg-6.ensures.shape c.option-5.ensures.local ∙ ap₂ with_rule journal c.option-5.ensures.rule in
+    let command = c.in_ok-arg-7.ensures.shape c.option-6.ensures.local ∙ ap₂ with_rule progress c.option-6.ensures.rule in
+    IfOk-weaker c.arg-8.result _ _ (λ made adds. adds.shape c.with_default.ensures.local ∙ ap₂ with_rule command c.with_default.ensures.rule) c.arg-8.ensures

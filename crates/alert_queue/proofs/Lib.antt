@@ -1,0 +1,4 @@
+pub mod Trees
+pub mod Schedules
+pub mod Filings
+pub mod Fillings

@@ -1,0 +1,4 @@
+pub mod Around
+pub mod Moments
+pub mod Opened
+pub mod Groups

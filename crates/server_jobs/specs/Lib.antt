@@ -1,0 +1,4 @@
+pub mod Tries
+pub mod Working
+pub mod Alerts
+pub mod Reports

@@ -1,0 +1,18 @@
+-- What whole writes do.
+use Rattle.std.specs.Prelude.{◌≡◌, ◌+◌, ℕ, List, length, take, Result, MatchResult}
+use Rattle.std.specs.Io.KnownBytes.{Appends}
+use Rattle.outside.specs.Tells.{SinkTells}
+use Rattle.outside.specs.declared.event.Failed.{Failed}
+
+-- a sink has these bytes more: in what it tells of them, and in their number
+pub record Grew (sink sink' : SinkTells) (more : List ℕ) : Type 0 where
+  pub bytes : Appends sink.bytes sink'.bytes more
+  pub size : sink'.held ≡ sink.held + length more
+
+-- a sink has some of these bytes more, from the front
+abbrev pub GrewByFront : SinkTells → SinkTells → List ℕ → Type 0
+GrewByFront sink sink' more = (n : ℕ) × Grew sink sink' (take n more)
+
+-- a sink grew by these bytes, or at an error by some from the front
+abbrev pub Writes : SinkTells → SinkTells → List ℕ → Result (Unit {0}) Failed → Type 0
+Writes sink sink' more result = MatchResult result (λ _. Grew sink sink' more) (λ _. GrewByFront sink sink' more)
