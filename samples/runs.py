@@ -8,6 +8,7 @@ usage: samples/runs.py PROGRAM    prints a line for each case that comes to some
 What is expected is written out here, or is what another run printed.
 """
 
+import json
 import os
 import re
 import socket
@@ -215,6 +216,114 @@ def replies(program, syncers):
         raise Differs(f"the printed line: {printed!r}")
 
 
+ITEMS = (
+    b'{"key":"k","kind":"active","delay":"30s"},{"key":"t"},{"key":"n","kind":"active","delay":"1d","enabled":false},'
+    b'{"key":"d","kind":"dependent","master":"k"},{"key":"q[\\"a b\\",\\u0001]","kind":"active"}'
+)
+TRIGGER = b'{"name":"hot","expression":"last(/h/k)>5","severity":3}'
+AGENTS = b'{"hosts":[{"name":"g","items":[{"key":"k","kind":"active"}]},{"name":"h","items":[%s],"triggers":[%s]},{"name":"off","enabled":false}]}'
+
+
+def checks_of(host):
+    return frame(b'{"request":"active checks","host":%s,"version":"6.0"}' % host)
+
+
+def refusal(info):
+    return frame(b'{"response":"failed","info":"%s"}' % info)
+
+
+def agents(program, syncers):
+    """An agent is told the active items of its host that are enabled, and no others; its values are taken for these alone, and
+    a text about an item that it doesn't support is counted as failed."""
+    put("config.json", AGENTS % (ITEMS, TRIGGER))
+    told = (
+        b'{"key":"k","delay":30,"lastlogsize":0,"mtime":0},'
+        b'{"key":"q[\\"a b\\",\\u0001]","delay":60,"lastlogsize":0,"mtime":0}'
+    )
+    element = b'{"host":"h","key":"%s","value":"%s","id":1,"clock":90,"ns":0%s}'
+    with Server(program, "--journal", "journal", "--outbox", "outbox", "--syncers", syncers) as server:
+
+        def answer(sent):
+            with server.connect() as conn:
+                conn.sendall(sent)
+                return rest(conn)
+
+        def counted(sent, processed, failed):
+            with server.connect() as conn:
+                conn.sendall(sent)
+                same_reply(conn, processed, failed)
+
+        for host, wanted in (
+            (b'"h"', frame(b'{"response":"success","data":[%s]}' % told)),
+            (b'"x"', refusal(b"unknown host")),
+            (b"1", refusal(b"unknown host")),
+            (b'"off"', refusal(b"host not monitored")),
+        ):
+            same(f"what the agent of {host!r} is told", answer(checks_of(host)), wanted)
+        same("what no agent is told", answer(frame(b'{"request":"agent data","data":{}}')), refusal(b"unsupported request"))
+        both = element % (b"k", b"10", b""), element % (b"k", b"no such file", b',"state":1')
+        counted(frame(b'{"data":[%s],"session":"s","request":"agent data"}' % b",".join(both)), 1, 1)
+        for key, failed in ((b"t", 1), (b"n", 1), (b"d", 1), (b"k", 0)):
+            counted(frame(b'{"request":"agent data","data":[%s]}' % (element % (key, b"10", b',"state":"1"'))), 1 - failed, failed)
+        counted(asked('"1"'), 0, 1)
+    put("outbox", b"")
+    put("script", b"0.000000000 closed\n")
+    status, _ = feed(program, "--journal", "journal", "--outbox", "outbox")
+    same("exit of the run over the journal", status, 0)
+    same("its lines", [line.split(b"|")[0] for line in held("outbox").splitlines()], [b"P"])
+
+
+def real_agent(program, syncers):
+    """Each frame that a real agent sent is answered: a host that is there is told all its items, one that isn't gets a refusal,
+    and of values exactly those that the agent doesn't support are counted as failed."""
+    with open(f"{SAMPLES}/real_agent/config.json", "rb") as file:
+        put("config.json", file.read())
+    with open(f"{SAMPLES}/real_agent/script", encoding="utf-8") as file:
+        bodies = [line.split(" ", 3)[3].rstrip("\n") for line in file if line.split(" ")[1] == "frame"]
+    same("frames that it sent", len(bodies), 24)
+    told = ",".join(
+        '{"key":"%s","delay":%d,"lastlogsize":0,"mtime":0}' % one
+        for one in (
+            ("system.uptime", 10),
+            ("vfs.fs.size[/,pused]", 15),
+            ("agent.ping", 5),
+            ('no.such.key[a,\\"b c\\"]', 10),
+            ("vfs.file.exists[/tmp/gifteldu-flag]", 5),
+        )
+    )
+    lists = {"web01": frame(b'{"response":"success","data":[%s]}' % told.encode()), "elsewhere": refusal(b"unknown host")}
+    with Server(program, "--syncers", syncers) as server:
+        for body in bodies:
+            asks = json.loads(body)
+            with server.connect() as conn:
+                conn.sendall(frame(body.encode()))
+                if asks["request"] == "active checks":
+                    same("what the agent is told", rest(conn), lists[asks["host"]])
+                else:
+                    failed = sum(value.get("state") == 1 for value in asks["data"])
+                    same_reply(conn, len(asks["data"]) - failed, failed)
+
+
+def the_most_items(program):
+    """A list that fills the data of a frame to the last byte is told; with one byte more there are too many items."""
+    head, tail, count = b'{"response":"success","data":[', b"]}", 8060
+    item = b'{"key":"%s","delay":60,"lastlogsize":0,"mtime":0}'
+    room = (1 << 24) - len(head + tail) - count * len(item % b"") - (count - 1)
+    prefix = b"k" * (room // count - 6)
+    ends = [b"%06d%s" % (at, b"-" if at < room % count else b"") for at in range(count)]
+    items = [b",".join(b'{"key":"{$L}%s","kind":"active"}' % end for end in (ends, [*ends[:-1], ends[-1] + b"-"])[more]) for more in (0, 1)]
+    hosts = b",".join(b'{"name":"%s","items":[%s]}' % pair for pair in zip((b"h", b"more"), items))
+    put("config.json", b'{"macros":[{"name":"{$L}","value":"%s"}],"hosts":[%s]}' % (prefix, hosts))
+    told = head + b",".join(item % (prefix + end) for end in ends) + tail
+    same("bytes of the longest list", len(told), 1 << 24)
+    with Server(program) as server:
+        for host, wanted in ((b'"h"', frame(told)), (b'"more"', refusal(b"too many items"))):
+            with server.connect() as conn:
+                conn.sendall(checks_of(host))
+                if rest(conn) != wanted:
+                    raise Differs(f"another list for the agent of {host!r}")
+
+
 def reset(program):
     """A connection that is reset in the midst of a frame comes to nothing, and others go on."""
     with Server(program) as server:
@@ -286,6 +395,11 @@ CASES = [
     ("an outbox that is full, on one thread", full_outbox, "0"),
     ("replies over sockets", replies, "4"),
     ("replies over sockets, on one thread", replies, "0"),
+    ("an agent", agents, "4"),
+    ("an agent, on one thread", agents, "0"),
+    ("what a real agent sent", real_agent, "4"),
+    ("what a real agent sent, on one thread", real_agent, "0"),
+    ("an agent with as many items as a frame has room for", the_most_items),
     ("a connection that is reset", reset),
     ("an address that is taken", taken_port),
     ("alerts that are sent", sent),

@@ -14,6 +14,7 @@ use Rattle.config_read.specs.declared.raw.RawItem.{RawItem}
 use Rattle.config_read.specs.declared.raw.RawTrigger.{RawTrigger}
 use Rattle.config_read.specs.declared.raw.RawHost.{RawHost}
 use Rattle.config_read.specs.Words.{is_host_name, is_macro_name, new_name, item_kind, value_type}
+use Rattle.config_read.specs.Ranges.{item_delay_of}
 use Rattle.config_read.specs.Steps.{steps_of}
 use Rattle.config_read.specs.Triggers.{triggers_of, unused_text}
 
@@ -57,13 +58,20 @@ item_back_of o = do
   steps ← steps_of (o ▸ codes "steps")
   Ok (type, enabled, steps)
 
+-- after how many seconds an agent is to bring the next value, a minute where it isn't given; an active item alone uses it
+unfoldable pub delay_of : ItemKind → Place → Result ℕ Fault
+delay_of kinds.Trapper at = Ok 0
+delay_of kinds.Dependent at = Ok 0
+delay_of kinds.Active at = given_or 60 item_delay_of at
+
 -- an item
 unfoldable pub item_of : Place → Result RawItem Fault
 item_of at = do
   o ← an_object at
   front ← item_front_of o
   back ← item_back_of o
-  Ok (record { key = front.0; kind = front.1; master = front.2; value_type = back.0; enabled = back.1; steps = back.2 })
+  delay ← delay_of front.1 (o ▸ codes "delay")
+  Ok (record { key = front.0; kind = front.1; master = front.2; value_type = back.0; enabled = back.1; steps = back.2; delay = delay })
 
 -- the templates of a host, each once
 unfoldable pub templates_of : Place → Result (List (List ℕ)) Fault

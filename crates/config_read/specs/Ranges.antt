@@ -22,6 +22,10 @@ step_duration_of = period_that (λ seconds. nat_le 60 seconds) 604800
 unfoldable pub operation_duration_of : Place → Result ℕ Fault
 operation_duration_of = period_that (λ seconds. seconds == 0 || nat_le 60 seconds) 604800
 
+-- 1 second to 1 day: after how long an agent is to bring the next value of an item
+unfoldable pub item_delay_of : Place → Result ℕ Fault
+item_delay_of = period_that (λ seconds. nat_le 1 seconds) 86400
+
 -- a place whose list has 1 to 16 elements
 unfoldable pub one_to_16 : Place → Result Place Fault
 one_to_16 at = not_empty at >>= λ some. at_most 16 BadMember some

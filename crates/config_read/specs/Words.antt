@@ -39,7 +39,7 @@ new_name form taken at = text_that form at >>= λ name. free taken at name
 
 -- where the values of an item come from
 abbrev pub item_kind : List ℕ → Option ItemKind
-item_kind = first_of_word ((codes "trapper", kinds.Trapper) ∷ (codes "dependent", kinds.Dependent) ∷ [])
+item_kind = first_of_word ((codes "trapper", kinds.Trapper) ∷ (codes "dependent", kinds.Dependent) ∷ (codes "active", kinds.Active) ∷ [])
 
 -- what the values of an item are
 abbrev pub value_type : List ℕ → Option ValueType

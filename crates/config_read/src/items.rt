@@ -1,9 +1,11 @@
 //! Items.
 
 ghost use Rattle.json_form.specs.Faults.{Gives};
-ghost use Rattle.json_form.specs.Places.{place_of, object_of};
-ghost use Rattle.config_read.specs.Hosts.{master_of, source_of, item_front_of, item_back_of, item_of};
+ghost use Rattle.json_form.specs.Places.{place_of, object_of, given_or};
+ghost use Rattle.config_read.specs.Hosts.{master_of, source_of, item_front_of, item_back_of, delay_of, item_of};
+ghost use Rattle.config_read.specs.Ranges.{item_delay_of};
 
+use crate::ranges::item_delay;
 use crate::raw::RawItem;
 use crate::steps::steps;
 use crate::triggers::unused_text;
@@ -60,6 +62,28 @@ fn back(alloc: Global, object: &Object<'_, '_>) -> Result<Back, ReadError>
     Ok((value_type, enabled, steps))
 }
 
+/// A delay that may be absent: a minute then.
+#[tactic(auto, unfolding(json_form::specs::Places::given_or))]
+fn delay_or_minute(alloc: Global, at: &At<'_, '_>) -> Result<u32, ReadError>
+    ensures { Gives result (given_or 60 item_delay_of (place_of at.now)) }
+{
+    match at.value {
+        Some(_) => item_delay(alloc, at),
+        None => Ok(60),
+    }
+}
+
+/// After how many seconds an agent is to bring the next value. An active item alone has it.
+#[tactic(auto, unfolding(crate::specs::Hosts::delay_of))]
+fn delay(alloc: Global, kind: ItemKind, at: &At<'_, '_>) -> Result<u32, ReadError>
+    ensures { Gives result (delay_of kind (place_of at.now)) }
+{
+    match kind {
+        ItemKind::Trapper | ItemKind::Dependent => Ok(0),
+        ItemKind::Active => delay_or_minute(alloc, at),
+    }
+}
+
 /// The reader of items.
 pub(crate) struct ItemReader;
 
@@ -73,6 +97,7 @@ impl Element for ItemReader {
         let object = Object::at(alloc, path, value)?;
         let (key, kind, master) = front(alloc, &object)?;
         let (value_type, enabled, steps) = back(alloc, &object)?;
+        let delay = delay(alloc, kind, &object.member("delay"))?;
         Ok(RawItem {
             key,
             kind,
@@ -80,6 +105,7 @@ impl Element for ItemReader {
             value_type,
             enabled,
             steps,
+            delay,
         })
     }
 }

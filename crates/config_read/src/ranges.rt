@@ -3,7 +3,7 @@
 ghost use Rattle.zbx_types.specs.Periods.{seconds_up_to};
 ghost use Rattle.json_form.specs.Faults.{Gives, GivesAs};
 ghost use Rattle.json_form.specs.Places.{place_of, word};
-ghost use Rattle.config_read.specs.Ranges.{length_of, step_duration_of, operation_duration_of, one_to_16};
+ghost use Rattle.config_read.specs.Ranges.{length_of, step_duration_of, operation_duration_of, item_delay_of, one_to_16};
 
 use json_form::{At, ReadError};
 use serde_json::Value;
@@ -15,6 +15,9 @@ const LONGEST_LENGTH: u32 = 2_678_400;
 
 /// The seconds of 7 days.
 const LONGEST_STEP: u32 = 604_800;
+
+/// The seconds of a day.
+const LONGEST_DELAY: u32 = 86_400;
 
 #[tactic(auto, unfolding(json_form::specs::Places::word))]
 fn period(alloc: Global, at: &At<'_, '_>, most: u32) -> Result<u32, ReadError>
@@ -60,6 +63,18 @@ pub(crate) fn operation_duration(alloc: Global, at: &At<'_, '_>) -> Result<u32, 
 {
     let seconds = period(alloc, at, LONGEST_STEP)?;
     if seconds != 0 && seconds < 60 {
+        return Err(at.refused(alloc, Cause::BadMember));
+    }
+    Ok(seconds)
+}
+
+/// After how long an agent is to bring the next value of an item.
+#[tactic(auto, unfolding(crate::specs::Ranges::item_delay_of, crate::specs::Ranges::period_that))]
+pub(crate) fn item_delay(alloc: Global, at: &At<'_, '_>) -> Result<u32, ReadError>
+    ensures { Gives result (item_delay_of (place_of at.now)) }
+{
+    let seconds = period(alloc, at, LONGEST_DELAY)?;
+    if seconds < 1 {
         return Err(at.refused(alloc, Cause::BadMember));
     }
     Ok(seconds)

@@ -66,6 +66,8 @@ pub struct RawItem {
     pub enabled: bool,
     /// Its preprocessing steps, 32 at most.
     pub steps: Many<StepSpec>,
+    /// After how many seconds an agent is to bring its next value, 1 to 86,400, or 0 where it is no active item.
+    pub delay: u32,
 }
 
 /// A trigger (the Zabbix 6.0 manual, "Configuring a trigger").

@@ -5,7 +5,7 @@ ghost use Rattle.config_read.specs.Words.{item_kind, value_type, step_kind, on_f
 use json_form::Words;
 use zbx_types::{ItemKind, Matching, OnFail, RecoveryMode, StepKind, TagOp, ValueType};
 
-/// `trapper`, `dependent`.
+/// `trapper`, `dependent`, `active`.
 pub(crate) struct ItemKinds;
 
 impl Words for ItemKinds {
@@ -17,6 +17,7 @@ impl Words for ItemKinds {
         match text {
             "trapper" => Some(ItemKind::Trapper),
             "dependent" => Some(ItemKind::Dependent),
+            "active" => Some(ItemKind::Active),
             _ => None,
         }
     }

@@ -38,7 +38,7 @@ has_item items host key = list_any (λ i. (i.host == host) && bytes_eq i.key key
 
 -- an item of a host, with its key; its master and its steps come later
 abbrev pub item_made : ℕ → List ℕ → RawItem → Item
-item_made host key raw = record { host = host; key = key; kind = raw.kind; master = 0; value_type = raw.value_type; enabled = raw.enabled; steps = []; delay = 0 }
+item_made host key raw = record { host = host; key = key; kind = raw.kind; master = 0; value_type = raw.value_type; enabled = raw.enabled; steps = []; delay = raw.delay }
 
 -- an item of a host with this key, behind those before it
 unfoldable pub item_keyed_of : ℕ → List ℕ → List Item → Placed RawItem → Result Item Flaw

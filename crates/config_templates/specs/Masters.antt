@@ -20,7 +20,7 @@ use Rattle.config_templates.specs.OwnedItems.{OwnedItem, owned_items, adding, wi
 abbrev pub most_dependents : ℕ
 most_dependents = 1000
 
--- the most levels of dependent items under a trapper item
+-- the most levels of dependent items under an item whose values are received
 abbrev pub most_levels : ℕ
 most_levels = 3
 
@@ -38,7 +38,7 @@ abbrev pub key_place : List Named → ℕ → List ℕ → Option ℕ
 key_place names host key = if nat_le (length key) longest_key then position (is_named host key) names else None
 
 -- the id of an item's master among items with these names: of a dependent item the one of its own host that has the key
--- which it names; 0 of a trapper item
+-- which it names; 0 of an item whose values are received
 unfoldable pub master_of : List Named → OwnedItem → Result ℕ Flaw
 master_of names o =
     if is_received_kind o.item.body.kind then Ok 0

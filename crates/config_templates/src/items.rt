@@ -48,7 +48,7 @@ fn make(alloc: Global, host: u32, key: Text, raw: &RawItem) -> Item
         value_type: raw.value_type,
         enabled: raw.enabled,
         steps: Many::new(alloc),
-        delay: 0,
+        delay: raw.delay,
     }
 }
 

@@ -47,7 +47,7 @@ fn named_master(
     }
 }
 
-/// The id of an item's master, by the names of all items; 0 of a trapper item.
+/// The id of an item's master, by the names of all items; 0 of an item whose values are received.
 #[tactic(auto, using(crate::proofs::Failing::refusal), unfolding(crate::specs::Masters::master_of))]
 fn master(
     alloc: Global,

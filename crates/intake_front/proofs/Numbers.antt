@@ -1,11 +1,10 @@
 -- Laws of numbered groups.
-use Rattle.std.proofs.Common.{◌≡◌, ℕ, ◌+◌, List, [], ◌∷◌, ◌++◌, length, suc, refl, ap, sym, ◌∙◌, arith, append-nil, append_assoc, length-append}
+use Rattle.std.proofs.Common.{◌≡◌, ℕ, ◌+◌, Result, List, [], ◌∷◌, ◌++◌, length, suc, refl, ap, sym, ◌∙◌, arith, append-nil, append_assoc, length-append}
 use Rattle.std.proofs.lemmas.Grind.{flat_map-append}
-use Rattle.zbx_types.specs.declared.conf.Conf.{Conf}
 use Rattle.zbx_types.specs.declared.entries.Entry.{Entry}
 use Rattle.zbx_types.specs.declared.entries.Numbered.{Numbered}
-use Rattle.sender_json.specs.declared.asked.Asked.{Asked}
-use Rattle.intake_front.specs.Taking.{taken_of, entry_in, group_of}
+use Rattle.intake_front.specs.Taking.{entry_in, group_by}
+use Rattle.intake_front.specs.declared.refusal.ValueRefusal.{ValueRefusal}
 use Rattle.intake_front.specs.Intake.{numbered_from, with_group}
 
 pub length_numbered : (n : ℕ) (group : List Entry) → length (numbered_from n group) ≡ length group
@@ -27,18 +26,19 @@ numbered_step first number made new group e is at more =
     more ∙ ap (λ (n : ℕ). made ++ record { number = n; entry = e } ∷ []) count ∙ ap (λ (l : List Numbered). l ++ record { number = first + length group; entry = e } ∷ []) is
     ∙ sym (numbered-append first group (e ∷ []))
 
-pub group_none : (conf : Conf) (now : ℕ) → group_of conf now [] ≡ []
-group_none conf now = refl
+module _ {A : Type 0} (taken : A → Result Entry ValueRefusal) where
+  pub group_none : group_by taken [] ≡ []
+  group_none = refl
 
--- one more asked value
-pub group_more : (conf : Conf) (now : ℕ) (made new : List Entry) (asked : List Asked) (one : Asked)
-    → made ≡ group_of conf now asked
-    → new ≡ made ++ entry_in (taken_of conf now one)
-    → new ≡ group_of conf now (asked ++ one ∷ [])
-group_more conf now made new asked one is more =
-    let behind = entry_in (taken_of conf now one) in
-    let all : group_of conf now (asked ++ one ∷ []) ≡ group_of conf now asked ++ behind = flat_map-append _ asked (one ∷ []) ∙ ap (λ t. group_of conf now asked ++ t) (append-nil behind) in
-    more ∙ ap (λ t. t ++ behind) is ∙ sym all
+  -- one more asked value
+  pub group_more : (made new : List Entry) (asked : List A) (one : A)
+      → made ≡ group_by taken asked
+      → new ≡ made ++ entry_in (taken one)
+      → new ≡ group_by taken (asked ++ one ∷ [])
+  group_more made new asked one is more =
+      let behind = entry_in (taken one) in
+      let all : group_by taken (asked ++ one ∷ []) ≡ group_by taken asked ++ behind = flat_map-append _ asked (one ∷ []) ∙ ap (λ t. group_by taken asked ++ t) (append-nil behind) in
+      more ∙ ap (λ t. t ++ behind) is ∙ sym all
 
 -- one more entry of a group behind others
 pub numbered_more : (first number : ℕ) (before made new : List Numbered) (group : List Entry) (e : Entry) → made ≡ before ++ numbered_from (first + length before) group → number ≡ first + length made

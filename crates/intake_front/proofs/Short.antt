@@ -1,24 +1,26 @@
 -- Values that are taken have at most 65,535 bytes.
 use Rattle.std.proofs.Common.{◌≡◌, ℕ, ◌≤◌, Bool, true, false, not, List, [], ◌∷◌, length, refl, sym, subst, arith}
-use Rattle.std.specs.Prelude.{◌&&◌, if◌then◌else◌, option_and_then, Option, Some, None, nat_le, Result, Err}
+use Rattle.std.specs.Prelude.{◌&&◌, if◌then◌else◌, option_and_then, Option, Some, None, nat_le, Result, Ok, Err}
 use Rattle.std.specs.List.{All}
 use Rattle.std.proofs.lemmas.Bool.Decides.{nat_tests}
 use Rattle.std.proofs.lemmas.List.Elements.{All-nil, All-cons, All-append}
 use Rattle.std.proofs.lemmas.List.Concat.{flat_map-cons}
 use Rattle.zbx_types.specs.Ids.{at_id}
-use Rattle.zbx_types.specs.Items.{is_trapper_item}
 use Rattle.zbx_types.specs.Limits.{longest_value}
 use Rattle.zbx_types.specs.declared.conf.Conf.{Conf}
 use Rattle.zbx_types.specs.declared.entries.Entry.{Entry}
+use Rattle.agent_json.specs.declared.request.AgentAsked.{AgentAsked}
 use Rattle.sender_json.specs.declared.asked.Asked.{Asked}
 use Rattle.sender_json.specs.declared.asked.Clock.{Clock}
 use Rattle.sender_json.specs.declared.asked.Clock.TheVariants as clock
 use Rattle.maintenance.specs.Suppression.{is_collected}
 use Rattle.entry_step.specs.Names.{host_named, item_keyed}
 use Rattle.intake_journal.specs.Bytes.{HasShortValue}
-use Rattle.intake_front.specs.Taking.{clocked, valued, keyed, hosted, taken_of, entry_in, group_of, is_enabled_host, is_enabled_item}
+use Rattle.intake_front.specs.Taking.{clocked, valued, keyed, hosted, supported, taken_of, agent_taken_of, entry_in, group_by, group_of, agent_group_of, is_enabled_host, is_enabled_item, comes_from, not_from, is_unsupported}
+use Rattle.intake_front.specs.declared.origin.Origin.{Origin}
+use Rattle.intake_front.specs.declared.origin.Origin.TheVariants.{Sender}
 use Rattle.intake_front.specs.declared.refusal.ValueRefusal.{ValueRefusal}
-use Rattle.intake_front.specs.declared.refusal.ValueRefusal.TheVariants.{Disabled, NotTrapper, InMaintenance, BadValue}
+use Rattle.intake_front.specs.declared.refusal.ValueRefusal.TheVariants.{Disabled, InMaintenance, BadValue}
 
 abbrev AllShort : List Entry → Type 0
 AllShort group = All HasShortValue group
@@ -47,31 +49,39 @@ module _ (conf : Conf) (now : ℕ) where
   valued_short item c None = All-nil HasShortValue
   valued_short item c (Some value) = only_where (nat_le (length value) longest_value) BadValue (clocked now item value c) (λ h. clocked_short now item value c (within (length value) h))
 
-  keyed_short : (asked : Asked) (host : ℕ) (item : Option ℕ) → AllShort (entry_in (keyed conf now asked host item))
+  keyed_short : (origin : Origin) (asked : Asked) (host : ℕ) (item : Option ℕ) → AllShort (entry_in (keyed conf now origin asked host item))
   unfolding keyed
-  keyed_short asked host None = All-nil HasShortValue
-  keyed_short asked host (Some item) =
+  keyed_short origin asked host None = All-nil HasShortValue
+  keyed_short origin asked host (Some item) =
       let there = at_id conf.items item in
       let value = valued now item asked.clock asked.value in
       let collected = if not (is_collected conf host now) then Err InMaintenance else value in
-      unless (not (is_enabled_host (at_id conf.hosts host) && is_enabled_item there)) Disabled (if not (is_trapper_item there) then Err NotTrapper else collected)
-      (unless (not (is_trapper_item there)) NotTrapper collected
+      unless (not (is_enabled_host (at_id conf.hosts host) && is_enabled_item there)) Disabled (if not (comes_from origin there) then Err (not_from origin) else collected)
+      (unless (not (comes_from origin there)) (not_from origin) collected
       (unless (not (is_collected conf host now)) InMaintenance value (valued_short item asked.clock asked.value)))
 
-  hosted_short : (asked : Asked) (host : Option ℕ) → AllShort (entry_in (hosted conf now asked host))
+  hosted_short : (origin : Origin) (asked : Asked) (host : Option ℕ) → AllShort (entry_in (hosted conf now origin asked host))
   unfolding hosted
-  hosted_short asked None = All-nil HasShortValue
-  hosted_short asked (Some host) = keyed_short asked host (option_and_then (item_keyed conf host) asked.key)
+  hosted_short origin asked None = All-nil HasShortValue
+  hosted_short origin asked (Some host) = keyed_short origin asked host (option_and_then (item_keyed conf host) asked.key)
 
-  taken_short : (asked : Asked) → AllShort (entry_in (taken_of conf now asked))
+  supported_short : (unsupported : Bool) (r : Result Entry ValueRefusal) → AllShort (entry_in r) → AllShort (entry_in (supported unsupported r))
+  supported_short true (Ok entry) h = All-nil HasShortValue
+  supported_short false (Ok entry) h = h
+  supported_short unsupported (Err cause) h = All-nil HasShortValue
+
+  taken_short : (origin : Origin) (asked : Asked) → AllShort (entry_in (taken_of conf now origin asked))
   unfolding taken_of
-  taken_short asked = hosted_short asked (option_and_then (host_named conf) asked.host)
+  taken_short origin asked = supported_short (is_unsupported origin) _ (hosted_short origin asked (option_and_then (host_named conf) asked.host))
 
-  all_short : (all : List Asked) → AllShort (group_of conf now all)
-  all_short [] = All-nil HasShortValue
-  all_short (asked ∷ rest) =
-      subst (All HasShortValue) (sym (flat_map-cons (λ a. entry_in (taken_of conf now a)) asked rest))
-      (All-append HasShortValue (entry_in (taken_of conf now asked)) (group_of conf now rest) (taken_short asked) (all_short rest))
+all_short : {A : Type 0} (taken : A → Result Entry ValueRefusal) → ((one : A) → AllShort (entry_in (taken one))) → (all : List A) → AllShort (group_by taken all)
+all_short taken short [] = All-nil HasShortValue
+all_short taken short (one ∷ rest) =
+    subst (All HasShortValue) (sym (flat_map-cons (λ a. entry_in (taken a)) one rest))
+    (All-append HasShortValue (entry_in (taken one)) (group_by taken rest) (short one) (all_short taken short rest))
 
 pub group_short : (conf : Conf) (now : ℕ) (all : List Asked) (group : List Entry) → group ≡ group_of conf now all → All HasShortValue group
-group_short conf now all group is = subst (All HasShortValue) (sym is) (all_short conf now all)
+group_short conf now all group is = subst (All HasShortValue) (sym is) (all_short (taken_of conf now Sender) (taken_short conf now Sender) all)
+
+pub agent_group_short : (conf : Conf) (now : ℕ) (all : List AgentAsked) (group : List Entry) → group ≡ agent_group_of conf now all → All HasShortValue group
+agent_group_short conf now all group is = subst (All HasShortValue) (sym is) (all_short (agent_taken_of conf now) (λ one. taken_short conf now _ one.asked) all)

@@ -7,7 +7,7 @@ use Rattle.std.proofs.lemmas.Bool.{ne_eqb}
 use Rattle.std.proofs.lemmas.List.Elements.{All-nil, All-cons, All-head, All-tail, All-append}
 use Rattle.std.proofs.lemmas.List.Concat.{flat_map-cons}
 use Rattle.zbx_types.specs.Ids.{at_id}
-use Rattle.zbx_types.specs.Items.{is_trapper_kind, is_trapper_item}
+use Rattle.zbx_types.specs.Items.{is_trapper_kind, is_received_kind}
 use Rattle.zbx_types.specs.Limits.{longest_value}
 use Rattle.zbx_types.specs.declared.conf.Conf.{Conf}
 use Rattle.zbx_types.specs.declared.items.Item.{Item}
@@ -24,21 +24,24 @@ use Rattle.wire_core.specs.declared.turn.Turn.TheVariants as turn
 use Rattle.sender_json.specs.declared.asked.Asked.{Asked}
 use Rattle.sender_json.specs.declared.asked.Clock.{Clock}
 use Rattle.sender_json.specs.declared.asked.Clock.TheVariants as clock
-use Rattle.sender_json.specs.declared.request.Request.{Request}
-use Rattle.sender_json.specs.declared.request.Request.TheVariants as request
-use Rattle.sender_json.specs.Requests.{request_of}
+use Rattle.agent_json.specs.Checks.{is_active_kind}
+use Rattle.intake_front.specs.declared.asking.Ask.{Ask}
+use Rattle.intake_front.specs.declared.asking.Ask.TheVariants as ask
+use Rattle.intake_front.specs.declared.origin.Origin.{Origin}
+use Rattle.intake_front.specs.declared.origin.Origin.TheVariants.{Sender, Agent}
+use Rattle.intake_front.specs.Asking.{ask_of}
 use Rattle.zbx_types.specs.Entries.{moment_of}
 use Rattle.entry_step.specs.Log.{log_of, last_moment, is_config, is_taking, IsFitting, IsFull, Fits}
 use Rattle.maintenance.specs.Suppression.{is_collected}
 use Rattle.entry_step.specs.Names.{host_named, item_keyed}
-use Rattle.intake_front.specs.Taking.{clocked, valued, keyed, hosted, taken_of, entry_in, group_of, is_enabled_host, is_enabled_item}
-use Rattle.intake_front.specs.Intake.{Limits, Intake, numbered_from, with_group, is_due, half_minute, ticks_at, answered_values, answered_request, turned, kept_with, ticked, values_offered, behind_tick, tick_offered, offered, refused, numbered_behind, stop_of, handled, start, IsSound}
+use Rattle.intake_front.specs.Taking.{clocked, valued, keyed, hosted, supported, taken_of, agent_taken_of, entry_in, group_by, is_enabled_host, is_enabled_item, comes_from, not_from, is_unsupported}
+use Rattle.intake_front.specs.Intake.{Limits, Intake, numbered_from, with_group, is_due, half_minute, ticks_at, counted, answered_ask, turned, kept_with, ticked, values_offered, behind_tick, tick_offered, offered, refused, numbered_behind, stop_of, handled, start, IsSound}
 use Rattle.zbx_types.specs.declared.memory.OutOfMemory.{OutOfMemory}
 use Rattle.intake_front.specs.declared.answer.Answer.{Answer}
 use Rattle.intake_front.specs.declared.answer.Stop.{Stop}
 use Rattle.intake_front.specs.declared.drafts.Draft.{Draft}
 use Rattle.intake_front.specs.declared.refusal.ValueRefusal.{ValueRefusal}
-use Rattle.intake_front.specs.declared.refusal.ValueRefusal.TheVariants.{Disabled, NotTrapper, InMaintenance, BadValue}
+use Rattle.intake_front.specs.declared.refusal.ValueRefusal.TheVariants.{Disabled, InMaintenance, BadValue}
 
 -- an entry that is taken at a moment: it is no Config, and fits
 record IsTakenAt (conf : Conf) (now : ℕ) (e : Entry) : Type 0 where
@@ -107,53 +110,66 @@ both_true true true h = refl
 both_true true false h = absurd (cc)
 both_true false b h = absurd (cc)
 
-only_trapper : (kind : ItemKind) → not (is_trapper_kind kind) ≡ false → kind ≡ kinds.Trapper
-only_trapper kinds.Trapper h = refl
-only_trapper kinds.Dependent h = absurd (cc)
-only_trapper kinds.Active h = absurd (cc)
+trapper_received : (kind : ItemKind) → not (is_trapper_kind kind) ≡ false → is_received_kind kind ≡ true
+trapper_received kinds.Trapper h = refl
+trapper_received kinds.Dependent h = absurd (cc)
+trapper_received kinds.Active h = absurd (cc)
 
-trapper : (o : Option Item) → is_enabled_item o ≡ true → not (is_trapper_item o) ≡ false → is_taking o ≡ true
-trapper None enabled takes = absurd (cc)
-trapper (Some item) enabled takes = rw (only_trapper item.kind takes) enabled
+active_received : (kind : ItemKind) → not (is_active_kind kind) ≡ false → is_received_kind kind ≡ true
+active_received kinds.Trapper h = absurd (cc)
+active_received kinds.Dependent h = absurd (cc)
+active_received kinds.Active h = refl
+
+-- an enabled item whose values may come from a sender or an agent takes values
+taking : (origin : Origin) (o : Option Item) → is_enabled_item o ≡ true → not (comes_from origin o) ≡ false → is_taking o ≡ true
+taking origin None enabled takes = absurd (cc)
+taking Sender (Some item) enabled takes = rw (trapper_received item.kind takes) enabled
+taking (Agent unsupported) (Some item) enabled takes = rw (active_received item.kind takes) enabled
 
 module _ (conf : Conf) (now : ℕ) where
-  keyed_fits : (asked : Asked) (host : ℕ) (item : Option ℕ) → All (IsTakenAt conf now) (entry_in (keyed conf now asked host item))
+  keyed_fits : (origin : Origin) (asked : Asked) (host : ℕ) (item : Option ℕ) → All (IsTakenAt conf now) (entry_in (keyed conf now origin asked host item))
   unfolding keyed
-  keyed_fits asked host None = All-nil (IsTakenAt conf now)
-  keyed_fits asked host (Some item) =
+  keyed_fits origin asked host None = All-nil (IsTakenAt conf now)
+  keyed_fits origin asked host (Some item) =
       let P : Entry → Type 0 = IsTakenAt conf now in
       let there = at_id conf.items item in
       unless P (not (is_enabled_host (at_id conf.hosts host) && is_enabled_item there)) Disabled _ (λ enabled.
-      unless P (not (is_trapper_item there)) NotTrapper _ (λ takes.
+      unless P (not (comes_from origin there)) (not_from origin) _ (λ takes.
       unless P (not (is_collected conf host now)) InMaintenance _ (λ collected.
-      valued_fits conf now item asked.clock asked.value (trapper there (both_true (is_enabled_host (at_id conf.hosts host)) (is_enabled_item there) enabled) takes))))
+      valued_fits conf now item asked.clock asked.value (taking origin there (both_true (is_enabled_host (at_id conf.hosts host)) (is_enabled_item there) enabled) takes))))
 
-  hosted_fits : (asked : Asked) (host : Option ℕ) → All (IsTakenAt conf now) (entry_in (hosted conf now asked host))
+  hosted_fits : (origin : Origin) (asked : Asked) (host : Option ℕ) → All (IsTakenAt conf now) (entry_in (hosted conf now origin asked host))
   unfolding hosted
-  hosted_fits asked None = All-nil (IsTakenAt conf now)
-  hosted_fits asked (Some host) = keyed_fits asked host (option_and_then (item_keyed conf host) asked.key)
+  hosted_fits origin asked None = All-nil (IsTakenAt conf now)
+  hosted_fits origin asked (Some host) = keyed_fits origin asked host (option_and_then (item_keyed conf host) asked.key)
 
-  taken_fits : (asked : Asked) → All (IsTakenAt conf now) (entry_in (taken_of conf now asked))
+  supported_fits : (unsupported : Bool) (r : Result Entry ValueRefusal) → All (IsTakenAt conf now) (entry_in r) → All (IsTakenAt conf now) (entry_in (supported unsupported r))
+  supported_fits true (Ok entry) h = All-nil (IsTakenAt conf now)
+  supported_fits false (Ok entry) h = h
+  supported_fits unsupported (Err cause) h = All-nil (IsTakenAt conf now)
+
+  taken_fits : (origin : Origin) (asked : Asked) → All (IsTakenAt conf now) (entry_in (taken_of conf now origin asked))
   unfolding taken_of
-  taken_fits asked = hosted_fits asked (option_and_then (host_named conf) asked.host)
+  taken_fits origin asked = supported_fits (is_unsupported origin) _ (hosted_fits origin asked (option_and_then (host_named conf) asked.host))
 
-  group_fits : (all : List Asked) → All (IsTakenAt conf now) (group_of conf now all)
-  group_fits [] = All-nil (IsTakenAt conf now)
-  group_fits (asked ∷ rest) =
-      subst (All (IsTakenAt conf now)) (sym (flat_map-cons (λ a. entry_in (taken_of conf now a)) asked rest))
-      (All-append (IsTakenAt conf now) (entry_in (taken_of conf now asked)) (group_of conf now rest) (taken_fits asked) (group_fits rest))
+  group_fits : {A : Type 0} (taken : A → Result Entry ValueRefusal) → ((one : A) → All (IsTakenAt conf now) (entry_in (taken one))) → (all : List A) → All (IsTakenAt conf now) (group_by taken all)
+  group_fits taken each [] = All-nil (IsTakenAt conf now)
+  group_fits taken each (one ∷ rest) =
+      subst (All (IsTakenAt conf now)) (sym (flat_map-cons (λ a. entry_in (taken a)) one rest))
+      (All-append (IsTakenAt conf now) (entry_in (taken one)) (group_by taken rest) (each one) (group_fits taken each rest))
 
-  request_fits : (conn since : ℕ) (r : Request) → All (IsTakenAt conf now) (answered_request conf now conn since r).group
-  unfolding answered_request answered_values
-  request_fits conn since request.NotJson = All-nil (IsTakenAt conf now)
-  request_fits conn since request.Other = All-nil (IsTakenAt conf now)
-  request_fits conn since (request.Values all) = group_fits all
+  ask_fits : (conn since : ℕ) (a : Ask) → All (IsTakenAt conf now) (answered_ask conf now conn since a).group
+  unfolding answered_ask counted
+  ask_fits conn since (ask.Refused why) = All-nil (IsTakenAt conf now)
+  ask_fits conn since (ask.Values all) = group_fits (taken_of conf now Sender) (taken_fits Sender) all
+  ask_fits conn since (ask.Checks host) = All-nil (IsTakenAt conf now)
+  ask_fits conn since (ask.Data all) = group_fits (agent_taken_of conf now) (λ one. taken_fits (Agent one.unsupported) one.asked) all
 
   turned_fits : (t : Turn) → All (IsTakenAt conf now) (turned conf now t).group
   unfolding turned
   turned_fits turn.Nothing = All-nil (IsTakenAt conf now)
   turned_fits (turn.Shut conn) = All-nil (IsTakenAt conf now)
-  turned_fits (turn.Whole conn body since) = request_fits conn since (request_of body)
+  turned_fits (turn.Whole conn body since) = ask_fits conn since (ask_of body)
 
   tick_fits : (due : Bool) → All (IsTakenAt conf now) (if due then Tick now ∷ [] else [])
   tick_fits true = All-cons (IsTakenAt conf now) (Tick now) [] (record { moment = refl; plain = refl; fitting = tt }) (All-nil (IsTakenAt conf now))

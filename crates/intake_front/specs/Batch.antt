@@ -1,14 +1,16 @@
 -- Events that are taken together: what they are answered with, and what a front holds of them until its commit.
-use Rattle.std.specs.Prelude.{◌≡◌, ◌<◌, ℕ, ◌+◌, not, nat_lt, Bool, ◌&&◌, List, [], ◌∷◌, ◌++◌, length, Option, Some, None, is_some}
+use Rattle.std.specs.Prelude.{◌≡◌, ◌<◌, ℕ, ◌+◌, not, nat_lt, Bool, false, ◌&&◌, List, [], ◌∷◌, ◌++◌, length, reverse, Option, Some, None, is_some}
 use Rattle.std.specs.List.{list_any}
 use Rattle.zbx_types.specs.declared.conf.Conf.{Conf}
 use Rattle.zbx_types.specs.declared.entries.Entry.{Entry}
 use Rattle.outside.specs.declared.event.WireEvent.{WireEvent}
+use Rattle.agent_json.specs.Checks.{tells_items}
 use Rattle.entry_step.specs.Log.{tick_of}
 use Rattle.intake_journal.specs.Block.{opened_bytes}
 use Rattle.intake_front.specs.Intake.{Limits, Intake, Handled, handled}
 use Rattle.intake_front.specs.Fronted.{Fronted, limits_of, all_of}
 use Rattle.intake_front.specs.declared.answer.Answer.{Answer}
+use Rattle.intake_front.specs.declared.answer.Reply.{Reply}
 use Rattle.intake_front.specs.declared.answer.Stop.{Stop}
 use Rattle.intake_front.specs.declared.answer.Stop.TheVariants as stop
 
@@ -62,8 +64,19 @@ pub record HasTaken {D : Type 0} (conf : Conf) (begun : Intake) (events : List W
 abbrev pub longest_wait : ℕ
 longest_wait = 1048576
 
--- one more event may be taken before the commit: the groups that wait have fewer bytes, and no Tick is among them
-abbrev pub goes_on : List (List Entry) → Bool
-goes_on block =
+-- there is a reply, and it tells an agent its items
+abbrev pub has_list : Option Reply → Bool
+has_list None = false
+has_list (Some reply) = tells_items reply.bytes
+
+-- the first of these answers has such a reply
+abbrev pub begins_with_list : List Answer → Bool
+begins_with_list [] = false
+begins_with_list (answer ∷ answers) = has_list answer.reply
+
+-- one more event may be taken before the commit: the groups that wait have fewer bytes, no Tick is among them, and the
+-- last answer that waits tells no agent its items
+abbrev pub goes_on : List (List Entry) → List Answer → Bool
+goes_on block answers =
     nat_lt (length (opened_bytes block)) longest_wait && not
-    (list_any (λ entry. is_some (tick_of entry)) (all_of block))
+    (list_any (λ entry. is_some (tick_of entry)) (all_of block)) && not (begins_with_list (reverse answers))

@@ -13,14 +13,15 @@ use Rattle.intake_journal.specs.Bytes.{entries_bytes}
 use Rattle.wire_core.specs.Peers.{Peers, no_peers, turn_of, after_event}
 use Rattle.wire_core.specs.declared.turn.Turn.{Turn}
 use Rattle.wire_core.specs.declared.turn.Turn.TheVariants as turn
-use Rattle.sender_json.specs.Requests.{request_of}
 use Rattle.sender_json.specs.Replies.{reply_text, refusal_text}
 use Rattle.sender_json.specs.declared.asked.Asked.{Asked}
-use Rattle.sender_json.specs.declared.request.Request.{Request}
-use Rattle.sender_json.specs.declared.request.Request.TheVariants as request
-use Rattle.sender_json.specs.declared.refused.Refusal.TheVariants as refusal
+use Rattle.agent_json.specs.declared.request.AgentAsked.{AgentAsked}
 use Rattle.entry_step.specs.Log.{log_of, last_moment, tick_of, IsFull, Fits}
-use Rattle.intake_front.specs.Taking.{group_of}
+use Rattle.intake_front.specs.Asking.{ask_of}
+use Rattle.intake_front.specs.Taking.{group_of, agent_group_of}
+use Rattle.intake_front.specs.Telling.{told}
+use Rattle.intake_front.specs.declared.asking.Ask.{Ask}
+use Rattle.intake_front.specs.declared.asking.Ask.TheVariants as ask
 use Rattle.intake_front.specs.declared.answer.Answer.{Answer}
 use Rattle.intake_front.specs.declared.answer.Reply.{Reply}
 use Rattle.intake_front.specs.declared.answer.Stop.{Stop}
@@ -92,31 +93,29 @@ replying conn bytes = Some (record { conn = conn; bytes = bytes })
 abbrev pub counting : ℕ → ℕ → ℕ → ℕ → ℕ → Option Reply
 counting conn processed failed now since = replying conn (frame (reply_text processed failed ((now - since) / 1000)))
 
--- the values that are taken are one group; the reply counts them and the others, or all as failed where the group
--- isn't kept
-unfoldable pub answered_values : Conf → ℕ → ℕ → ℕ → List Asked → Draft
-answered_values conf now conn since all =
-    let group = group_of conf now all in
-    record {
-      group = group;
-      reply = counting conn (length group) (length all - length group) now since;
-      failing = counting conn 0 (length all) now since;
-      shut = Some conn;
-    }
+-- the values that are taken, of so many, are one group; the reply counts them and the others, or all as failed where the
+-- group isn't kept
+unfoldable pub counted : ℕ → ℕ → ℕ → List Entry → ℕ → Draft
+counted now conn since group total = record {
+  group = group;
+  reply = counting conn (length group) (total - length group) now since;
+  failing = counting conn 0 total now since;
+  shut = Some conn;
+}
 
--- a request that brings no values is refused by its reply
-unfoldable pub answered_request : Conf → ℕ → ℕ → ℕ → Request → Draft
-answered_request conf now conn since request.NotJson =
-    only (replying conn (frame (refusal_text refusal.NotJson))) (Some conn)
-answered_request conf now conn since request.Other =
-    only (replying conn (frame (refusal_text refusal.Unsupported))) (Some conn)
-answered_request conf now conn since (request.Values all) = answered_values conf now conn since all
+-- what a body asks is answered: the values that it brings are counted; an agent is told its items, and no entry is made;
+-- any other body is refused by its reply
+unfoldable pub answered_ask : Conf → ℕ → ℕ → ℕ → Ask → Draft
+answered_ask conf now conn since (ask.Refused why) = only (replying conn (frame (refusal_text why))) (Some conn)
+answered_ask conf now conn since (ask.Values all) = counted now conn since (group_of conf now all) (length all)
+answered_ask conf now conn since (ask.Checks host) = only (replying conn (told conf host)) (Some conn)
+answered_ask conf now conn since (ask.Data all) = counted now conn since (agent_group_of conf now all) (length all)
 
 -- what is made at a moment of what an event meant for its connection
 unfoldable pub turned : Conf → ℕ → Turn → Draft
 turned conf now turn.Nothing = only None None
 turned conf now (turn.Shut conn) = only None (Some conn)
-turned conf now (turn.Whole conn body since) = answered_request conf now conn since (request_of body)
+turned conf now (turn.Whole conn body since) = answered_ask conf now conn since (ask_of body)
 
 -- Closed is the last event
 abbrev pub stop_of : WireEvent → Option Stop

@@ -7,3 +7,5 @@ pub mod Batch
 pub mod Misfit
 pub mod Staging
 pub mod Waiting
+pub mod Asking
+pub mod Telling

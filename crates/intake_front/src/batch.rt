@@ -1,16 +1,17 @@
 //! Events that were taken and wait for their commit.
 
-ghost use Rattle.std.specs.Prelude.{◌≡◌, ◌⊎◌, ◌≤◌, ◌<◌, ◌++◌, ◌+◌, ◌-◌, [], ◌∷◌, length, take, slice_set, Option, None, false};
+ghost use Rattle.std.specs.Prelude.{◌≡◌, ◌⊎◌, ◌≤◌, ◌<◌, ◌++◌, ◌+◌, ◌-◌, [], ◌∷◌, length, take, reverse, slice_set, Option, None, false};
 ghost use Rattle.outside.specs.Causes.{Rose};
 ghost use Rattle.intake_journal.specs.declared.state.State.TheVariants as state;
 ghost use Rattle.intake_front.specs.Fronted.{IsReady, all_of};
-ghost use Rattle.intake_front.specs.Batch.{goes_on};
+ghost use Rattle.intake_front.specs.Batch.{has_list, begins_with_list, goes_on};
 ghost use Rattle.intake_front.specs.Staging.{IsWritten};
 ghost use Rattle.intake_front.specs.Waiting.{failing_of, first_with, mark_of, back_to, has_tick, IsBatch, IsWaiting};
 
-use crate::answer::Answer;
+use crate::answer::{Answer, Reply};
 use crate::held::Held;
 use crate::staging::write;
+use agent_json::tells_items;
 use intake_journal::{Block, Journal};
 use outside::Disk;
 use std::alloc::Global;
@@ -117,6 +118,26 @@ fn first_with(first: Option<First>, at: usize, fault: Option<Answer>) -> Option<
     }
 }
 
+/// Whether a reply tells an agent its items.
+fn has_list(reply: &Option<Reply>) -> bool
+    ensures { result ≡ has_list reply.now }
+{
+    match reply {
+        Some(reply) => tells_items(reply.bytes.as_slice()),
+        None => false,
+    }
+}
+
+/// Whether the last of these answers tells an agent its items.
+fn ends_with_list(answers: &[Answer]) -> bool
+    ensures { result ≡ begins_with_list (reverse answers.now) }
+{
+    match answers.last() {
+        Some(answer) => has_list(&answer.reply),
+        None => false,
+    }
+}
+
 impl Batch {
     /// Nothing waits, over a block without groups.
     pub(crate) fn new(alloc: Global, block: Block, held: &Held) -> Batch
@@ -140,9 +161,11 @@ impl Batch {
     /// Whether one more event may be taken before the commit.
     pub(crate) fn goes_on(&self) -> bool
         requires { self.now.is_ticked ≡ has_tick (all_of self.now.block) }
-        ensures { result ≡ goes_on self.now.block }
+        ensures { result ≡ goes_on self.now.block self.now.answers.items }
     {
-        self.block.size() < LONGEST_WAIT && !self.is_ticked
+        self.block.size() < LONGEST_WAIT
+            && !self.is_ticked
+            && !ends_with_list(self.answers.as_slice())
     }
 
     /// Adds what an event is answered with, and with what where the disk refuses its first group.

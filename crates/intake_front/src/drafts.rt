@@ -2,13 +2,15 @@
 
 ghost use Rattle.std.specs.Prelude.{◌≡◌, ◌<◌, All, IfOk};
 ghost use Rattle.intake_journal.specs.Bytes.{HasShortValue};
-ghost use Rattle.intake_front.specs.Intake.{ticks_at, is_due, only, replying, counting, answered_values, answered_request, turned, stop_of, stopping};
+ghost use Rattle.intake_front.specs.Intake.{ticks_at, is_due, only, replying, counting, counted, answered_ask, turned, stop_of, stopping};
 
 use crate::answer::{Answer, Reply, Stop};
+use crate::asking::{Ask, ask_of};
 use crate::collection::Collection;
-use crate::taking::group;
+use crate::taking::{agent_group, group};
+use crate::telling::told;
 use outside::WireEvent;
-use sender_json::{Asked, Refusal, Request, read, refusal, reply};
+use sender_json::{refusal, reply};
 use std::alloc::Global;
 use wire_core::Turn;
 use zbx_types::{Bytes, Entry, Many, Moment, OutOfMemory};
@@ -57,21 +59,20 @@ fn counting(
     Ok(replying(conn, bytes))
 }
 
-#[tactic(auto, unfolding(crate::specs::Intake::answered_values))]
-fn answered_values(
+/// What an event makes that brings so many values, of which these are taken.
+#[tactic(auto, unfolding(crate::specs::Intake::counted))]
+fn counted(
     alloc: Global,
-    collection: &mut Collection<'_>,
     now: Moment,
     conn: u64,
     since: Moment,
-    all: Many<Asked>,
+    group: Many<Entry>,
+    total: usize,
 ) -> Result<Draft, OutOfMemory>
-    ensures made { IfOk result (λ draft. draft ≡ answered_values collection.old now conn since all) }
-    ensures same { collection.new ≡ collection.old }
-    ensures short { IfOk result (λ draft. All HasShortValue draft.group) }
+    ensures made { IfOk result (λ draft. draft ≡ counted now conn since group total) }
+    ensures same { IfOk result (λ draft. draft.group ≡ group) }
 {
-    let total = all.as_slice().len() as u64;
-    let group = group(alloc, collection, now, all)?;
+    let total = total as u64;
     let processed = group.as_slice().len() as u64;
     let good = counting(
         alloc,
@@ -90,29 +91,39 @@ fn answered_values(
     })
 }
 
-#[tactic(auto, unfolding(crate::specs::Intake::answered_request))]
-fn answered_request(
+/// What is made of what a body asks.
+#[tactic(auto, unfolding(crate::specs::Intake::answered_ask))]
+fn answered_ask(
     alloc: Global,
     collection: &mut Collection<'_>,
     now: Moment,
     conn: u64,
     since: Moment,
-    request: Request,
+    ask: Ask,
 ) -> Result<Draft, OutOfMemory>
-    ensures made { IfOk result (λ draft. draft ≡ answered_request collection.old now conn since request) }
+    ensures made { IfOk result (λ draft. draft ≡ answered_ask collection.old now conn since ask) }
     ensures same { collection.new ≡ collection.old }
     ensures short { IfOk result (λ draft. All HasShortValue draft.group) }
 {
-    match request {
-        Request::NotJson => {
-            let bytes = refusal(alloc, Refusal::NotJson)?;
+    match ask {
+        Ask::Refused(why) => {
+            let bytes = refusal(alloc, why)?;
             Ok(only(alloc, replying(conn, bytes), Some(conn)))
         }
-        Request::Other => {
-            let bytes = refusal(alloc, Refusal::Unsupported)?;
+        Ask::Values(all) => {
+            let total = all.len();
+            let group = group(alloc, collection, now, all)?;
+            counted(alloc, now, conn, since, group, total)
+        }
+        Ask::Checks { host } => {
+            let bytes = told(alloc, collection.ready(), &host)?;
             Ok(only(alloc, replying(conn, bytes), Some(conn)))
         }
-        Request::Values(all) => answered_values(alloc, collection, now, conn, since, all),
+        Ask::Data(all) => {
+            let total = all.len();
+            let group = agent_group(alloc, collection, now, all)?;
+            counted(alloc, now, conn, since, group, total)
+        }
     }
 }
 
@@ -132,8 +143,8 @@ pub(crate) fn turned(
         Turn::Nothing => Ok(only(alloc, None, None)),
         Turn::Shut { conn } => Ok(only(alloc, None, Some(conn))),
         Turn::Whole { conn, body, since } => {
-            let request = read(alloc, body.as_slice())?;
-            answered_request(alloc, collection, now, conn, since, request)
+            let ask = ask_of(alloc, body.as_slice())?;
+            answered_ask(alloc, collection, now, conn, since, ask)
         }
     }
 }

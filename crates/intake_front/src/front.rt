@@ -254,9 +254,10 @@ impl<D: Disk> Front<D> {
         )
     }
 
-    /// Whether one more event may be taken before the commit: what waits has less than 1 MiB, and no Tick is among it.
+    /// Whether one more event may be taken before the commit: what waits has less than 1 MiB, no Tick is among it, and the
+    /// last reply that waits tells no agent its items: many of these together would take much memory.
     pub fn goes_on(&self) -> bool
-        ensures { result ≡ goes_on self.now.block }
+        ensures { result ≡ goes_on self.now.block self.now.answers }
     {
         self.inside.batch.goes_on()
     }

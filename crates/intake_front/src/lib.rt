@@ -7,11 +7,13 @@
 //!
 //! An event sets the moment, which never goes back, and offers a Tick to the journal where none was numbered in this
 //! half minute. Then it does what it means for its connection. A whole frame is read as a request of the sender
-//! protocol (the Zabbix 6.0 manual, section "Trapper items"): the values that are taken are offered as one group
-//! behind the Tick, the reply counts them and those that failed, and the connection is closed behind it. A value is
-//! taken where its host and key name an enabled trapper item of an enabled host, no maintenance without data
-//! collection is in force for that host, its value has at most 65,535 bytes and its clock is absent or good; its time
-//! is its clock, but never later than the moment at which it is taken. `Closed` is the last event.
+//! protocol (the Zabbix 6.0 manual, section "Trapper items"), or as one of an agent: the values that are taken are
+//! offered as one group behind the Tick, the reply counts them and those that failed, and the connection is closed
+//! behind it. A value is taken where its host and key name an enabled item of an enabled host, a trapper item for a
+//! sender and an active one for an agent, no maintenance without data collection is in force for that host, its value
+//! has at most 65,535 bytes, its clock is absent or good, and its agent supports the item; its time is its clock, but
+//! never later than the moment at which it is taken. An agent that asks for its items is told those of its host, and
+//! no entry is made. `Closed` is the last event.
 //!
 //! Events are taken one by one and committed together. `take` numbers an event's entries, stages its Tick and its
 //! values as two groups behind those that wait, and holds its answer back. `commit` writes all groups that wait by
@@ -33,6 +35,7 @@
 #![tactic(auto)]
 
 mod answer;
+mod asking;
 mod batch;
 mod collection;
 mod drafts;
@@ -41,10 +44,12 @@ mod front;
 mod held;
 mod offering;
 mod opening;
+mod origin;
 mod refusal;
 mod settling;
 mod staging;
 mod taking;
+mod telling;
 
 pub use answer::{Answer, FrontError, Reply, Stop, Unmade};
 pub use collection::Collection;

@@ -5,21 +5,24 @@ ghost use Rattle.maintenance.specs.Force.{is_in_force};
 ghost use Rattle.maintenance.specs.Suppression.{is_collected};
 ghost use Rattle.entry_step.specs.Names.{host_named, item_keyed};
 ghost use Rattle.zbx_types.specs.Items.{is_trapper_item};
-ghost use Rattle.intake_front.specs.Taking.{is_enabled_host, is_enabled_item, AllCollected, clocked, valued, keyed, hosted, taken_of, entry_in, group_of};
+ghost use Rattle.agent_json.specs.Checks.{is_active_kind};
+ghost use Rattle.intake_front.specs.Taking.{is_enabled_host, is_enabled_item, is_active_item, comes_from, not_from, is_unsupported, AllCollected, clocked, valued, keyed, hosted, supported, taken_of, agent_taken_of, entry_in, group_of, agent_group_of};
 ghost use Rattle.intake_journal.specs.Bytes.{HasShortValue};
 
 use crate::collection::Collection;
+use crate::origin::Origin;
 use crate::refusal::ValueRefusal;
+use agent_json::AgentAsked;
 use entry_step::Ready;
 use maintenance::{collects, in_force};
 use sender_json::{Asked, Clock};
 use std::alloc::Global;
 use zbx_types::{
-    Conf, Entry, Host, Item, LONGEST_VALUE, Maintenance, Many, Moment, OutOfMemory, Text, by_id,
-    id_of,
+    Conf, Entry, Host, Item, ItemKind, LONGEST_VALUE, Maintenance, Many, Moment, OutOfMemory, Text,
+    by_id, id_of,
 };
 
-fn asked_host(ready: &Ready, name: &Option<Text>) -> Option<u32>
+pub(crate) fn asked_host(ready: &Ready, name: &Option<Text>) -> Option<u32>
     ensures { result ≡ option_and_then (host_named ready.now.conf) name.now }
 {
     match name {
@@ -37,7 +40,7 @@ fn asked_item(ready: &Ready, host: u32, key: &Option<Text>) -> Option<u32>
     }
 }
 
-fn is_enabled_host(host: Option<&Host>) -> bool
+pub(crate) fn is_enabled_host(host: Option<&Host>) -> bool
     ensures { result ≡ is_enabled_host (option_copied host.entry) }
 {
     match host {
@@ -55,12 +58,61 @@ fn is_enabled_item(item: Option<&Item>) -> bool
     }
 }
 
+/// Whether agents may bring values of a kind of item.
+fn is_active_kind(kind: ItemKind) -> bool
+    ensures { result ≡ is_active_kind kind }
+{
+    match kind {
+        ItemKind::Active => true,
+        ItemKind::Trapper | ItemKind::Dependent => false,
+    }
+}
+
 fn is_trapper_item(item: Option<&Item>) -> bool
     ensures { result ≡ is_trapper_item (option_copied item.entry) }
 {
     match item {
         Some(item) => item.kind.is_trapper(),
         None => false,
+    }
+}
+
+fn is_active_item(item: Option<&Item>) -> bool
+    ensures { result ≡ is_active_item (option_copied item.entry) }
+{
+    match item {
+        Some(item) => is_active_kind(item.kind),
+        None => false,
+    }
+}
+
+/// Whether an item's values may come from there.
+fn comes_from(origin: Origin, item: Option<&Item>) -> bool
+    ensures { result ≡ comes_from origin (option_copied item.entry) }
+{
+    match origin {
+        Origin::Sender => is_trapper_item(item),
+        Origin::Agent { .. } => is_active_item(item),
+    }
+}
+
+/// Why a value is refused whose item takes none from there.
+fn not_from(origin: Origin) -> ValueRefusal
+    ensures { result ≡ not_from origin }
+{
+    match origin {
+        Origin::Sender => ValueRefusal::NotTrapper,
+        Origin::Agent { .. } => ValueRefusal::NotActive,
+    }
+}
+
+/// Whether an agent says that it doesn't support the item.
+fn is_unsupported(origin: Origin) -> bool
+    ensures { result ≡ is_unsupported origin }
+{
+    match origin {
+        Origin::Sender => false,
+        Origin::Agent { unsupported } => unsupported,
     }
 }
 
@@ -130,25 +182,26 @@ fn valued(now: Moment, item: u32, clock: Clock, value: Option<Text>) -> Result<E
 
 #[tactic(auto, unfolding(crate::specs::Taking::keyed))]
 fn keyed(
-    conf: &Conf,
+    ready: &Ready,
     now: Moment,
     some_out: bool,
+    origin: Origin,
     asked: Asked,
     host: u32,
-    item: Option<u32>,
 ) -> Result<Entry, ValueRefusal>
-    requires { some_out ≡ false → AllCollected conf.now now }
-    ensures { result ≡ keyed conf.now now asked host item }
+    requires { some_out ≡ false → AllCollected ready.now.conf now }
+    ensures { result ≡ keyed ready.now.conf now origin asked host (option_and_then (item_keyed ready.now.conf host) asked.key) }
 {
-    let Some(item) = item else {
+    let Some(item) = asked_item(ready, host, &asked.key) else {
         return Err(ValueRefusal::UnknownKey);
     };
+    let conf = ready.conf();
     let found = by_id(conf.items.as_slice(), item);
     if !(is_enabled_host(by_id(conf.hosts.as_slice(), host)) && is_enabled_item(found)) {
         return Err(ValueRefusal::Disabled);
     }
-    if !is_trapper_item(found) {
-        return Err(ValueRefusal::NotTrapper);
+    if !comes_from(origin, found) {
+        return Err(not_from(origin));
     }
     if !is_collected(conf, now, some_out, host) {
         return Err(ValueRefusal::InMaintenance);
@@ -161,27 +214,63 @@ fn hosted(
     ready: &Ready,
     now: Moment,
     some_out: bool,
+    origin: Origin,
     asked: Asked,
-    host: Option<u32>,
 ) -> Result<Entry, ValueRefusal>
     requires { some_out ≡ false → AllCollected ready.now.conf now }
-    ensures { result ≡ hosted ready.now.conf now asked host }
+    ensures { result ≡ hosted ready.now.conf now origin asked (option_and_then (host_named ready.now.conf) asked.host) }
 {
-    let Some(host) = host else {
-        return Err(ValueRefusal::UnknownHost);
-    };
-    let item = asked_item(ready, host, &asked.key);
-    keyed(ready.conf(), now, some_out, asked, host, item)
+    match asked_host(ready, &asked.host) {
+        Some(host) => keyed(ready, now, some_out, origin, asked, host),
+        None => Err(ValueRefusal::UnknownHost),
+    }
+}
+
+fn supported(unsupported: bool, taken: Result<Entry, ValueRefusal>) -> Result<Entry, ValueRefusal>
+    ensures { result ≡ supported unsupported taken }
+{
+    match taken {
+        Ok(entry) => {
+            if unsupported {
+                Err(ValueRefusal::Unsupported)
+            } else {
+                Ok(entry)
+            }
+        }
+        Err(cause) => Err(cause),
+    }
 }
 
 /// The entry that an asked value becomes, or the cause for which it is refused.
 #[tactic(auto, unfolding(crate::specs::Taking::taken_of))]
-fn taken(ready: &Ready, now: Moment, some_out: bool, asked: Asked) -> Result<Entry, ValueRefusal>
+fn taken(
+    ready: &Ready,
+    now: Moment,
+    some_out: bool,
+    origin: Origin,
+    asked: Asked,
+) -> Result<Entry, ValueRefusal>
     requires { some_out ≡ false → AllCollected ready.now.conf now }
-    ensures { result ≡ taken_of ready.now.conf now asked }
+    ensures { result ≡ taken_of ready.now.conf now origin asked }
 {
-    let host = asked_host(ready, &asked.host);
-    hosted(ready, now, some_out, asked, host)
+    supported(
+        is_unsupported(origin),
+        hosted(ready, now, some_out, origin, asked),
+    )
+}
+
+/// The entry that an element of agent data becomes, or the cause for which it is refused.
+fn agent_taken(
+    ready: &Ready,
+    now: Moment,
+    some_out: bool,
+    one: AgentAsked,
+) -> Result<Entry, ValueRefusal>
+    requires { some_out ≡ false → AllCollected ready.now.conf now }
+    ensures { result ≡ agent_taken_of ready.now.conf now one }
+{
+    let AgentAsked { asked, unsupported } = one;
+    taken(ready, now, some_out, Origin::Agent { unsupported }, asked)
 }
 
 /// Adds a value that was taken.
@@ -194,7 +283,7 @@ fn add(made: &mut Many<Entry>, taken: Result<Entry, ValueRefusal>) -> Result<(),
     Ok(())
 }
 
-/// The values that are taken, as entries. All are taken at one moment.
+/// The values of a sender that are taken, as entries. All are taken at one moment.
 #[tactic(auto, using(crate::proofs::Numbers::group_none, crate::proofs::Numbers::group_more, crate::proofs::Short::group_short))]
 pub(crate) fn group(
     alloc: Global,
@@ -210,7 +299,31 @@ pub(crate) fn group(
     let ready = collection.ready();
     let mut made = Many::new(alloc);
     for asked in all.into_vec() {
-        add(&mut made, taken(ready, now, some_out, asked))?;
+        add(
+            &mut made,
+            taken(ready, now, some_out, Origin::Sender, asked),
+        )?;
+    }
+    Ok(made)
+}
+
+/// The values of an agent that are taken, as entries. All are taken at one moment.
+#[tactic(auto, using(crate::proofs::Numbers::group_none, crate::proofs::Numbers::group_more, crate::proofs::Short::agent_group_short))]
+pub(crate) fn agent_group(
+    alloc: Global,
+    collection: &mut Collection<'_>,
+    now: Moment,
+    all: Many<AgentAsked>,
+) -> Result<Many<Entry>, OutOfMemory>
+    ensures made { IfOk result (λ made. made ≡ agent_group_of collection.old now all) }
+    ensures same { collection.new ≡ collection.old }
+    ensures short { IfOk result (λ made. All HasShortValue made) }
+{
+    let some_out = collection.some_out(now)?;
+    let ready = collection.ready();
+    let mut made = Many::new(alloc);
+    for one in all.into_vec() {
+        add(&mut made, agent_taken(ready, now, some_out, one))?;
     }
     Ok(made)
 }

@@ -7,10 +7,12 @@ use Rattle.serde_json.proofs.Views.{get_member-put, get_member-put_other}
 use Rattle.sender_json.specs.declared.asked.Asked.{Asked}
 use Rattle.sender_json.specs.declared.asked.Clock.{Clock}
 use Rattle.sender_json.specs.declared.element.Parts.{Parts}
+use Rattle.sender_json.specs.declared.body.Body.{Body}
+use Rattle.sender_json.specs.declared.reading.Top.{Top}
 use Rattle.sender_json.specs.declared.request.Request.TheVariants.{Other, Values}
 use Rattle.sender_json.specs.declared.seen.Seen.{Seen}
-use Rattle.sender_json.specs.Requests.{value_text, whole_within, ns_of, moment_of, clock_of, asked_of, all_asked, is_sender_data, values_or_other, sender_request}
-use Rattle.sender_json.specs.Seen.{data_of, plain, Holds, HoldsParts}
+use Rattle.sender_json.specs.Requests.{value_text, whole_within, ns_of, moment_of, clock_of, asked_of, all_asked, all_by, body_of, is_one, is_one_at, is_unsupported, is_sender_data, values_or_other, sender_request}
+use Rattle.sender_json.specs.Seen.{data_of, plain, Holds, HoldsParts, HoldsTop}
 use Rattle.sender_json.proofs.Firsts.{is_object, is_array}
 
 -- ---- the parts
@@ -57,6 +59,18 @@ unfolding clock_of
 plain-clock None p = refl
 plain-clock (Some d) p = ap₂ moment_of (plain-whole 4294967295 d) (plain-ns p)
 
+plain-is_one : (o : Option Data) → is_one_at (option_map plain o) ≡ is_one_at o
+unfolding is_one_at is_one
+plain-is_one None = refl
+plain-is_one (Some null) = refl
+plain-is_one (Some (boolean b)) = refl
+plain-is_one (Some (number (unsigned n))) = refl
+plain-is_one (Some (number (negative z))) = refl
+plain-is_one (Some (number (float x))) = refl
+plain-is_one (Some (string s)) = refl
+plain-is_one (Some (array ds)) = refl
+plain-is_one (Some (object ms)) = refl
+
 under_plain : {B : Type 0} (f : Data → Option B) → ((d : Data) → f (plain d) ≡ f d) → (o : Option Data) → option_and_then f (option_map plain o) ≡ option_and_then f o
 under_plain f same None = refl
 under_plain f same (Some d) = same d
@@ -85,6 +99,11 @@ asked-held parts d host key value clock h a b v m =
     let m2 = m ∙ clock-held (codes "clock") (codes "ns") parts.clock parts.ns d h.clock h.ns in
     rw (a2, b2, v2, m2) refl
 
+-- what was kept of `state` says whether an agent supports the item
+pub state-held : (held : Option Seen) (d : Data) → Holds (codes "state") held d → is_one_at (option_map data_of held) ≡ is_unsupported d
+unfolding is_unsupported
+state-held held d h = ap is_one_at h ∙ plain-is_one (get (codes "state") d)
+
 -- ---- a value that has no members
 
 pub no_members-get : (name : List ℕ) (d : Data) → is_object d ≡ false → get name d ≡ None
@@ -105,46 +124,70 @@ no_items-as_array (object ms) e = refl
 
 -- ---- a body
 
-module _ (request : Option Seen) (d : Data) (h : Holds (codes "request") request d) where
-  pub request-other : is_sender_data (option_and_then as_str (option_map data_of request)) ≡ false → sender_request d ≡ Other
-  unfolding sender_request
-  request-other e = rw (sym (ap is_sender_data (text-held (codes "request") request d h)) ∙ e) refl
+-- what is made of what was kept of a body is what is read of it
+pub body-held : {E : Type 0} (of : Data → E) (top : Top E) (d : Data) (request host : Option (List ℕ)) → HoldsTop of top d
+    → request ≡ option_and_then as_str (option_map data_of top.request) → host ≡ option_and_then as_str (option_map data_of top.host)
+    → record { request = request; host = host; elements = top.elements } ≡ body_of of d
+unfolding body_of
+body-held of top d request host h r n =
+    let r2 = r ∙ text-held (codes "request") top.request d h.request in
+    let n2 = n ∙ text-held (codes "host") top.host d h.host in
+    rw (r2, n2, h.elements) refl
 
-  pub request-values : is_sender_data (option_and_then as_str (option_map data_of request)) ≡ true → sender_request d ≡ values_or_other (option_and_then as_array (get (codes "data") d))
-  unfolding sender_request
-  request-values e = rw (sym (ap is_sender_data (text-held (codes "request") request d h)) ∙ e) refl
+-- of another value than an object nothing is read
+pub not_an_object : {E : Type 0} (of : Data → E) (d : Data) → is_object d ≡ false → body_of of d ≡ record { request = None; host = None; elements = None }
+unfolding body_of
+not_an_object of d e = rw (no_members-get (codes "request") d e, no_members-get (codes "host") d e, no_members-get (codes "data") d e) refl
 
-pub values-there : (o : Option Items) (vs : List Asked) → Some vs ≡ option_map all_asked o → values_or_other o ≡ Values vs
+-- the request that is made of what is read of a body is the request that the body is
+pub request-other : (body : Body Asked) (d : Data) → body ≡ body_of asked_of d → is_sender_data body.request ≡ false → sender_request d ≡ Other
+unfolding sender_request body_of
+request-other body d is other = let same : is_sender_data (option_and_then as_str (get (codes "request") d)) ≡ false = sym (ap (λ b. is_sender_data b.request) is) ∙ other in rw same refl
+
+values-there : (o : Option Items) (vs : List Asked) → Some vs ≡ option_map all_asked o → values_or_other o ≡ Values vs
 values-there None vs e = cc
 values-there (Some ds) vs e = cc
 
-pub values-absent : (o : Option Items) → None ≡ option_map all_asked o → values_or_other o ≡ Other
+values-absent : (o : Option Items) → None ≡ option_map all_asked o → values_or_other o ≡ Other
 values-absent None e = refl
 values-absent (Some ds) e = cc
 
-pub not_an_object : (d : Data) → is_object d ≡ false → sender_request d ≡ Other
-unfolding sender_request
-not_an_object d e = rw (no_members-get (codes "request") d e) refl
+pub request-values : (body : Body Asked) (d : Data) (vs : List Asked) → body ≡ body_of asked_of d → is_sender_data body.request ≡ true → body.elements ≡ Some vs → sender_request d ≡ Values vs
+unfolding sender_request body_of
+request-values body d vs is named there =
+    let same : is_sender_data (option_and_then as_str (get (codes "request") d)) ≡ true = sym (ap (λ b. is_sender_data b.request) is) ∙ named in
+    rw same (values-there _ vs (sym there ∙ ap (λ b. b.elements) is))
 
-request-not_data : codes "request" ≡ codes "data" → ⊥
+pub request-no_values : (body : Body Asked) (d : Data) → body ≡ body_of asked_of d → is_sender_data body.request ≡ true → body.elements ≡ None → sender_request d ≡ Other
+unfolding sender_request body_of
+request-no_values body d is named none =
+    let same : is_sender_data (option_and_then as_str (get (codes "request") d)) ≡ true = sym (ap (λ b. is_sender_data b.request) is) ∙ named in
+    rw same (values-absent _ (sym none ∙ ap (λ b. b.elements) is))
+
+pub request-not_data : codes "request" ≡ codes "data" → ⊥
 request-not_data h = true≢false (sym ((bytes_eq-Decides (codes "request") (codes "data")).1 h))
+
+pub host-not_data : codes "host" ≡ codes "data" → ⊥
+host-not_data h = true≢false (sym ((bytes_eq-Decides (codes "host") (codes "data")).1 h))
 
 -- a value without members has nothing under any name
 pub nothing-held : (name : List ℕ) (held : Option Seen) (d : Data) → held ≡ None → is_object d ≡ false → Holds name held d
 nothing-held name held d e n = ap (option_map data_of) e ∙ sym (ap (option_map plain) (no_members-get name d n))
 
-abbrev asked_data : Option Data → Option (List Asked)
-asked_data o = option_map all_asked (option_and_then as_array o)
+module _ {E : Type 0} (of : Data → E) where
+  abbrev kept_data : Option Data → Option (List E)
+  kept_data o = option_map (all_by of) (option_and_then as_array o)
 
--- `data` gives nothing to `request`, and is the last of its name
-pub data-kept : (name : List ℕ) (d : Data) (found : Members) (values : Option (List Asked)) → name ≡ codes "data" → values ≡ option_map all_asked (as_array d)
-    → values ≡ asked_data (get (codes "data") (object (put name d found)))
-data-kept name d found values named e = e ∙ sym (ap asked_data (ap (λ w. get_member w (put name d found)) (sym named) ∙ get_member-put name d found))
+  -- `data` is the last of its name
+  pub data-kept : (name : List ℕ) (d : Data) (found : Members) (elements : Option (List E)) → name ≡ codes "data" → elements ≡ option_map (all_by of) (as_array d)
+      → elements ≡ kept_data (get (codes "data") (object (put name d found)))
+  data-kept name d found elements named e = e ∙ sym (ap kept_data (ap (λ w. get_member w (put name d found)) (sym named) ∙ get_member-put name d found))
 
-pub request-stays : (name : List ℕ) (d : Data) (found : Members) (held : Option Seen) → name ≡ codes "data" → Holds (codes "request") held (object found)
-    → Holds (codes "request") held (object (put name d found))
-request-stays name d found held named h = h ∙ sym (ap (option_map plain) (get_member-put_other (codes "request") name d found (λ e. request-not_data (e ∙ named))))
+  pub data-stays : (name : List ℕ) (d : Data) (found : Members) (elements : Option (List E)) → (name ≡ codes "data" → ⊥) → elements ≡ kept_data (get (codes "data") (object found))
+      → elements ≡ kept_data (get (codes "data") (object (put name d found)))
+  data-stays name d found elements other e = e ∙ sym (ap kept_data (get_member-put_other (codes "data") name d found (λ h. other (sym h))))
 
-pub data-stays : (name : List ℕ) (d : Data) (found : Members) (values : Option (List Asked)) → (name ≡ codes "data" → ⊥) → values ≡ asked_data (get (codes "data") (object found))
-    → values ≡ asked_data (get (codes "data") (object (put name d found)))
-data-stays name d found values other e = e ∙ sym (ap asked_data (get_member-put_other (codes "data") name d found (λ h. other (sym h))))
+-- a member of another name leaves what was kept under this one
+pub text-stays : (wanted name : List ℕ) (d : Data) (found : Members) (held : Option Seen) → (wanted ≡ name → ⊥) → Holds wanted held (object found)
+    → Holds wanted held (object (put name d found))
+text-stays wanted name d found held other h = h ∙ sym (ap (option_map plain) (get_member-put_other wanted name d found other))

@@ -1,5 +1,5 @@
 -- The request that a body is, by the reading of JSON that `serde_json` states.
-use Rattle.std.specs.Prelude.{ℕ, ◌+◌, ◌*◌, nat_le, Bool, false, ◌&&◌, List, [], ◌∷◌, length, Option, Some, None, if◌then◌else◌, codes}
+use Rattle.std.specs.Prelude.{ℕ, ◌+◌, ◌*◌, ◌==◌, nat_le, Bool, false, ◌&&◌, List, [], ◌∷◌, length, Option, Some, None, if◌then◌else◌, codes}
 use Rattle.std.specs.Option.{option_map, option_and_then}
 use Rattle.std.specs.Str.{bytes_eq}
 use Rattle.std.specs.Fmt.{signed_decimal}
@@ -11,6 +11,7 @@ use Rattle.zbx_types.specs.Periods.{up_to}
 use Rattle.sender_json.specs.declared.asked.Asked.{Asked}
 use Rattle.sender_json.specs.declared.asked.Clock.{Clock}
 use Rattle.sender_json.specs.declared.asked.Clock.TheVariants.{Absent, Bad, At}
+use Rattle.sender_json.specs.declared.body.Body.{Body}
 use Rattle.sender_json.specs.declared.request.Request.{Request}
 use Rattle.sender_json.specs.declared.request.Request.TheVariants.{NotJson, Other, Values}
 
@@ -61,10 +62,45 @@ asked_of d = record {
   clock = clock_of (get (codes "clock") d) (get (codes "ns") d);
 }
 
+-- there is a number, and it is 1
+abbrev pub is_one_there : Option ℕ → Bool
+is_one_there None = false
+is_one_there (Some n) = n == 1
+
+-- a value is the whole number 1, as the reading holds it
+unfoldable pub is_one : Data → Bool
+is_one null = false
+is_one (boolean b) = false
+is_one (number n) = is_one_there (as_u64 n)
+is_one (string s) = false
+is_one (array ds) = false
+is_one (object ms) = false
+
+-- there is a value, and it is the whole number 1
+unfoldable pub is_one_at : Option Data → Bool
+is_one_at None = false
+is_one_at (Some d) = is_one d
+
+-- an agent says of an element that it doesn't support the item
+unfoldable pub is_unsupported : Data → Bool
+is_unsupported d = is_one_at (get (codes "state") d)
+
+-- what is made of all elements
+abbrev pub all_by : {E : Type 0} → (Data → E) → Items → List E
+all_by of no_items = []
+all_by of (item d ds) = of d ∷ all_by of ds
+
+-- what is read of a body's JSON value: texts `request` and `host`, and what is made of the elements of an array `data`
+unfoldable pub body_of : {E : Type 0} → (Data → E) → Data → Body E
+body_of of d = record {
+  request = option_and_then as_str (get (codes "request") d);
+  host = option_and_then as_str (get (codes "host") d);
+  elements = option_map (all_by of) (option_and_then as_array (get (codes "data") d));
+}
+
 -- the asked values of all elements
 abbrev pub all_asked : Items → List Asked
-all_asked no_items = []
-all_asked (item d ds) = asked_of d ∷ all_asked ds
+all_asked = all_by asked_of
 
 -- the name of a request, where it has one, is `sender data`
 abbrev pub is_sender_data : Option (List ℕ) → Bool

@@ -6,7 +6,7 @@ use Rattle.sender_json.specs.declared.seen.Seen.{Seen}
 use Rattle.sender_json.specs.declared.seen.Seen.TheVariants.{Text, Unsigned, Negative, Other}
 use Rattle.sender_json.specs.declared.element.Parts.{Parts}
 use Rattle.sender_json.specs.declared.reading.Top.{Top}
-use Rattle.sender_json.specs.Requests.{all_asked}
+use Rattle.sender_json.specs.Requests.{all_by}
 
 -- the value that was kept
 abbrev pub data_of : Seen → Data
@@ -41,8 +41,11 @@ pub record HoldsParts (parts : Parts) (d : Data) : Type 0 where
   pub value : Holds (codes "value") parts.value d
   pub clock : Holds (codes "clock") parts.clock d
   pub ns : Holds (codes "ns") parts.ns d
+  pub state : Holds (codes "state") parts.state d
 
--- what was kept of a body is its `request`, and the asked values of its `data` where that is an array
-pub record HoldsTop (top : Top) (d : Data) : Type 0 where
+-- what was kept of a body is its `request`, its `host`, and what is made of the elements of its `data` where that is an
+-- array
+pub record HoldsTop {E : Type 0} (of : Data → E) (top : Top E) (d : Data) : Type 0 where
   pub request : Holds (codes "request") top.request d
-  pub values : top.values ≡ option_map all_asked (option_and_then as_array (get (codes "data") d))
+  pub host : Holds (codes "host") top.host d
+  pub elements : top.elements ≡ option_map (all_by of) (option_and_then as_array (get (codes "data") d))

@@ -12,7 +12,7 @@
 //!
 //! A body is read in one pass over its tokens. Of an element nothing but its host, key, value, clock and ns is kept,
 //! and no tree is made, so that a body takes room for its length and for the asked values, whatever stands in it.
-//! `read_element` reads one element, for a reader of another request with such elements.
+//! `read_body` is this pass, over what an `Element` keeps of each element: requests of agents are read by it too.
 //!
 //! A body is `NotJson`, `Other` (JSON of another form) or `Values`. An element of any form is an asked value: a part
 //! that isn't of its form is `None`, and its `Clock` says whether a moment is absent, bad or there. Other members are
@@ -28,6 +28,7 @@
 #![tactic(auto)]
 
 mod asked;
+mod body;
 mod element;
 mod failed;
 mod parts;
@@ -39,9 +40,10 @@ mod request;
 mod seen;
 
 pub use asked::{Asked, Clock};
-pub use element::read_element;
+pub use body::Body;
+pub use element::{Element, read_agent_element, read_element};
 pub use failed::ElementError;
-pub use reading::read;
+pub use reading::{read, read_body};
 pub use refused::Refusal;
 pub use replying::{refusal, reply};
 pub use request::Request;

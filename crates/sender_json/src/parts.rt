@@ -4,7 +4,7 @@ ghost use Rattle.std.specs.Prelude.{◌≡◌, ◌<◌, ◌≤◌, IfOk, IfSome,
 ghost use Rattle.serde_json.specs.Data.{Data};
 ghost use Rattle.serde_json.specs.Find.{as_str};
 ghost use Rattle.sender_json.specs.Requests.{digits_within, whole_within, value_text, asked_of};
-ghost use Rattle.sender_json.specs.Requests.{ns_of, moment_of, clock_of};
+ghost use Rattle.sender_json.specs.Requests.{ns_of, moment_of, clock_of, is_one_at};
 ghost use Rattle.sender_json.specs.Seen.{data_of, HoldsParts};
 
 use crate::asked::{Asked, Clock};
@@ -27,7 +27,7 @@ pub(crate) fn text_of<'a>(seen: Option<Seen<'a>>) -> Option<&'a str>
     }
 }
 
-fn copied(alloc: Global, seen: Option<Seen<'_>>) -> Result<Option<Text>, OutOfMemory>
+pub(crate) fn copied(alloc: Global, seen: Option<Seen<'_>>) -> Result<Option<Text>, OutOfMemory>
     ensures { IfOk result (λ text. text ≡ option_and_then as_str (option_map data_of seen.entry)) }
 {
     match text_of(seen) {
@@ -119,6 +119,17 @@ fn clock_of(clock: Option<Seen<'_>>, ns: Option<Seen<'_>>) -> Clock
     match clock {
         Some(clock) => moment_of(whole_within(MOST_SECONDS, clock), ns_of(ns)),
         None => Clock::Absent,
+    }
+}
+
+/// Whether the whole number 1 was kept.
+#[tactic(auto, unfolding(crate::specs::Requests::is_one_at, crate::specs::Requests::is_one))]
+pub(crate) fn is_one(seen: Option<Seen<'_>>) -> bool
+    ensures { result ≡ is_one_at (option_map data_of seen.entry) }
+{
+    match seen {
+        Some(Seen::Unsigned(n)) => n == 1,
+        Some(Seen::Text(_) | Seen::Negative(_) | Seen::Other) | None => false,
     }
 }
 

@@ -3,62 +3,66 @@
 ghost use Rattle.std.specs.Prelude.{◌≡◌, ◌<◌, ◌≤◌, length, Some, None, IfOk, IfErr, OnOk};
 ghost use Rattle.std.specs.Prelude.{option_map, option_and_then};
 ghost use Rattle.serde_json.specs.Data.{Data, Items, Members, object, put};
-ghost use Rattle.serde_json.specs.Find.{as_array, as_str};
+ghost use Rattle.serde_json.specs.Find.{as_array};
 ghost use Rattle.serde_json.specs.Read.{read as read_json};
-ghost use Rattle.sender_json.specs.Requests.{all_asked, is_sender_data, sender_request, request_of};
-ghost use Rattle.sender_json.specs.Seen.{data_of, HoldsTop};
+ghost use Rattle.json_form.specs.Json.{json_of};
+ghost use Rattle.sender_json.specs.Requests.{all_by, asked_of, body_of, is_sender_data, sender_request, request_of};
+ghost use Rattle.sender_json.specs.Seen.{HoldsTop};
 ghost use Rattle.sender_json.specs.Tokens.{value_first, items_first, members_first};
 ghost use Rattle.sender_json.specs.declared.failed.ElementError.TheVariants.{NotJson};
 
 use crate::asked::Asked;
-use crate::element::{keep, read_element};
+use crate::body::Body;
+use crate::element::{Element, keep};
 use crate::failed::ElementError;
-use crate::parts::text_of;
+use crate::parts::copied;
 use crate::passing::{pass, pass_rest};
 use crate::request::Request;
 use crate::seen::Seen;
 use json::{Reader, Scratch, Token};
 use std::alloc::Global;
-use zbx_types::{Many, OutOfMemory};
+use std::convert::AsStr;
+use zbx_types::{Many, OutOfMemory, Text};
 
 /// The arrays and objects that a body may nest, as in `serde_json`.
 const MOST_DEPTH: usize = 127;
 
 /// What is kept of a body's members: of members with one name the last.
 #[derive(Drop)]
-pub(crate) struct Top<'a> {
+pub(crate) struct Top<'a, E> {
     pub(crate) request: Option<Seen<'a>>,
-    /// The asked values of `data`, where it is an array.
-    pub(crate) values: Option<Many<Asked>>,
+    pub(crate) host: Option<Seen<'a>>,
+    /// What is kept of the elements of `data`, where it is an array.
+    pub(crate) elements: Option<Many<E>>,
 }
 
-/// The asked values of the elements up to the end of their array.
-fn read_items(
+/// What is kept of the elements up to the end of their array.
+fn read_items<E: Element>(
     alloc: Global,
     reader: &mut Reader<'_>,
     depth: usize,
-) -> Result<Many<Asked>, ElementError>
+) -> Result<Many<E>, ElementError>
     ensures ok { IfOk result (λ found. (ds : Items) × (items_first depth reader.old ≡ Some (ds, reader.new))
-        × (found ≡ all_asked ds)) }
+        × (found ≡ all_by E.of ds)) }
     ensures shorter { OnOk result (length reader.new ≤ length reader.old) }
     ensures err { IfErr result (λ e. e ≡ NotJson → items_first depth reader.old ≡ None) }
 {
     let mut found = Many::new(alloc);
     'items: while !reader.take_end_array() {
-        let asked = read_element(alloc, reader, depth)?;
-        found.push(asked)?;
+        let element = E::read(alloc, reader, depth)?;
+        found.push(element)?;
     }
     Ok(found)
 }
 
-/// The asked values of the value that comes first, where it is an array.
-fn read_data(
+/// What is kept of the elements of the value that comes first, where it is an array.
+fn read_data<E: Element>(
     alloc: Global,
     reader: &mut Reader<'_>,
     depth: usize,
-) -> Result<Option<Many<Asked>>, ElementError>
+) -> Result<Option<Many<E>>, ElementError>
     ensures ok { IfOk result (λ found. (d : Data) × (value_first depth reader.old ≡ Some (d, reader.new))
-        × (found ≡ option_map all_asked (as_array d))) }
+        × (found ≡ option_map (all_by E.of) (as_array d))) }
     ensures shorter { OnOk result (length reader.new < length reader.old) }
     ensures err { IfErr result (λ e. e ≡ NotJson → value_first depth reader.old ≡ None) }
 {
@@ -79,45 +83,56 @@ fn read_data(
 
 /// What is kept of a body behind a member with this name, whose value comes first. A later `data` takes the place of an
 /// earlier one, which is given up before it is read.
-fn with_member<'a>(
+fn with_member<'a, E: Element>(
     alloc: Global,
-    top: Top<'a>,
+    top: Top<'a, E>,
     name: &str,
     reader: &mut Reader<'a>,
     depth: usize,
-) -> Result<Top<'a>, ElementError>
+) -> Result<Top<'a, E>, ElementError>
     ensures ok { IfOk result (λ more. (d : Data) × (value_first depth reader.old ≡ Some (d, reader.new))
-        × ((found : Members) → HoldsTop top.entry (object found) → HoldsTop more (object (put name.now d found)))) }
+        × ((found : Members) → HoldsTop E.of top.entry (object found)
+        → HoldsTop E.of more (object (put name.now d found)))) }
     ensures shorter { OnOk result (length reader.new < length reader.old) }
     ensures err { IfErr result (λ e. e ≡ NotJson → value_first depth reader.old ≡ None) }
 {
-    let Top { request, values } = top;
+    let Top {
+        request,
+        host,
+        elements,
+    } = top;
     if name == "data" {
-        drop(values);
-        let values = read_data(alloc, reader, depth)?;
-        return Ok(Top { request, values });
+        drop(elements);
+        let elements = read_data(alloc, reader, depth)?;
+        return Ok(Top {
+            request,
+            host,
+            elements,
+        });
     }
     let seen = pass(reader, depth)?;
     Ok(Top {
         request: keep("request", name, seen, request),
-        values,
+        host: keep("host", name, seen, host),
+        elements,
     })
 }
 
 /// What is kept of a body's members, up to the end of their object.
-fn read_members<'a>(
+fn read_members<'a, E: Element>(
     alloc: Global,
     reader: &mut Reader<'a>,
     depth: usize,
-) -> Result<Top<'a>, ElementError>
+) -> Result<Top<'a, E>, ElementError>
     ensures ok { IfOk result (λ top. (ms : Members) × (members_first depth reader.old ≡ Some (ms, reader.new))
-        × HoldsTop top (object ms)) }
+        × HoldsTop E.of top (object ms)) }
     ensures shorter { OnOk result (length reader.new ≤ length reader.old) }
     ensures err { IfErr result (λ e. e ≡ NotJson → members_first depth reader.old ≡ None) }
 {
     let mut top = Top {
         request: None,
-        values: None,
+        host: None,
+        elements: None,
     };
     'members: while let Some(name) = reader.next_key()? {
         top = with_member(alloc, top, name, reader, depth)?;
@@ -125,33 +140,27 @@ fn read_members<'a>(
     Ok(top)
 }
 
-fn is_sender_data(request: Option<Seen<'_>>) -> bool
-    ensures { result ≡ is_sender_data (option_and_then as_str (option_map data_of request.entry)) }
+/// What is read of a body, by what was kept of its members.
+fn body_of<E: Element>(alloc: Global, top: Top<'_, E>) -> Result<Body<E>, OutOfMemory>
+    ensures { IfOk result (λ body. (d : Data) → HoldsTop E.of top.entry d → body ≡ body_of E.of d) }
 {
-    match text_of(request) {
-        Some(name) => name == "sender data",
-        None => false,
-    }
+    let request = copied(alloc, top.request)?;
+    let host = copied(alloc, top.host)?;
+    Ok(Body {
+        request,
+        host,
+        elements: top.elements,
+    })
 }
 
-/// The request that a body's members make.
-fn sender_request(top: Top<'_>) -> Request
-    ensures { (d : Data) → HoldsTop top.entry d → result ≡ sender_request d }
-{
-    let Top { request, values } = top;
-    if !is_sender_data(request) {
-        return Request::Other;
-    }
-    match values {
-        Some(values) => Request::Values(values),
-        None => Request::Other,
-    }
-}
-
-/// The request that the value is that comes first.
-fn read_value(alloc: Global, reader: &mut Reader<'_>, depth: usize) -> Result<Request, ElementError>
-    ensures ok { IfOk result (λ request. (d : Data) × (value_first depth reader.old ≡ Some (d, reader.new))
-        × (request ≡ sender_request d)) }
+/// What is read of the value that comes first.
+fn read_value<E: Element>(
+    alloc: Global,
+    reader: &mut Reader<'_>,
+    depth: usize,
+) -> Result<Body<E>, ElementError>
+    ensures ok { IfOk result (λ body. (d : Data) × (value_first depth reader.old ≡ Some (d, reader.new))
+        × (body ≡ body_of E.of d)) }
     ensures err { IfErr result (λ e. e ≡ NotJson → value_first depth reader.old ≡ None) }
 {
     let token = reader.next().ok_or(ElementError::NotJson)?;
@@ -161,26 +170,77 @@ fn read_value(alloc: Global, reader: &mut Reader<'_>, depth: usize) -> Result<Re
                 return Err(ElementError::NotJson);
             }
             let top = read_members(alloc, reader, depth - 1)?;
-            Ok(sender_request(top))
+            Ok(body_of(alloc, top)?)
         }
         token => {
             pass_rest(token, reader, depth)?;
-            Ok(Request::Other)
+            Ok(Body {
+                request: None,
+                host: None,
+                elements: None,
+            })
         }
     }
 }
 
-/// The request that a text is, if it is JSON.
-fn read_text(alloc: Global, text: &str) -> Result<Request, ElementError>
-    ensures ok { IfOk result (λ request. option_map sender_request (read_json text.now) ≡ Some request) }
+/// What is read of a text, if it is JSON.
+fn read_text<E: Element>(alloc: Global, text: &str) -> Result<Body<E>, ElementError>
+    ensures ok { IfOk result (λ body. option_map (body_of E.of) (read_json text.now) ≡ Some body) }
     ensures err { IfErr result (λ e. e ≡ NotJson → read_json text.now ≡ None) }
 {
     let mut scratch = Scratch::new(alloc);
     let mut reader = Reader::new(text, &mut scratch)?;
-    let request = read_value(alloc, &mut reader, MOST_DEPTH)?;
+    let body = read_value(alloc, &mut reader, MOST_DEPTH)?;
     match reader.next() {
         Some(_) => Err(ElementError::NotJson),
-        None => Ok(request),
+        None => Ok(body),
+    }
+}
+
+/// What is read of a body, none where it isn't JSON by the reading of `serde_json`. It takes time in proportion to the
+/// body, and memory for a body's length and for what is kept of its elements.
+///
+/// # Errors
+///
+/// `OutOfMemory` where memory was refused, whatever the body is.
+#[tactic(auto, using(json_form::proofs::Bytes::not_json))]
+pub fn read_body<E: Element>(alloc: Global, body: &[u8]) -> Result<Option<Body<E>>, OutOfMemory>
+    ensures { IfOk result (λ found. found ≡ option_map (body_of E.of) (json_of body.now)) }
+{
+    let Ok(text) = str::from_utf8(body) else {
+        return Ok(None);
+    };
+    match read_text(alloc, text) {
+        Ok(body) => Ok(Some(body)),
+        Err(ElementError::NotJson) => Ok(None),
+        Err(ElementError::OutOfMemory) => Err(OutOfMemory),
+    }
+}
+
+fn is_sender_data(request: &Option<Text>) -> bool
+    ensures { result ≡ is_sender_data request.now }
+{
+    match request {
+        Some(name) => name.as_str() == "sender data",
+        None => false,
+    }
+}
+
+/// The request that a body makes.
+fn sender_request(body: Body<Asked>) -> Request
+    ensures { (d : Data) → body ≡ body_of asked_of d → result ≡ sender_request d }
+{
+    let Body {
+        request,
+        elements,
+        ..
+    } = body;
+    if !is_sender_data(&request) {
+        return Request::Other;
+    }
+    match elements {
+        Some(all) => Request::Values(all),
+        None => Request::Other,
     }
 }
 
@@ -190,16 +250,12 @@ fn read_text(alloc: Global, text: &str) -> Result<Request, ElementError>
 /// # Errors
 ///
 /// `OutOfMemory` where memory was refused, whatever the body is.
-#[tactic(auto, unfolding(crate::specs::Requests::request_of), using(json_form::proofs::Bytes::not_json))]
+#[tactic(auto, unfolding(crate::specs::Requests::request_of), using(crate::proofs::RequestLaws::some_read, crate::proofs::RequestLaws::none_read))]
 pub fn read(alloc: Global, body: &[u8]) -> Result<Request, OutOfMemory>
     ensures { IfOk result (λ r. r ≡ request_of body.now) }
 {
-    let Ok(text) = str::from_utf8(body) else {
-        return Ok(Request::NotJson);
-    };
-    match read_text(alloc, text) {
-        Ok(request) => Ok(request),
-        Err(ElementError::NotJson) => Ok(Request::NotJson),
-        Err(ElementError::OutOfMemory) => Err(OutOfMemory),
+    match read_body(alloc, body)? {
+        Some(found) => Ok(sender_request(found)),
+        None => Ok(Request::NotJson),
     }
 }

@@ -6,7 +6,7 @@ use Rattle.sender_json.proofs.Turns.{on_err, members_read, members_refused, memb
 use Rattle.sender_json.proofs.element.read_members.Goals as goal
 
 pub members-init : goal.members-init
-members-init c = record { turns = length c.args.reader.now; enough = omega arith; found = no_members; reads = refl; host = refl; key = refl; value = refl; clock = refl; ns = refl; shorter = omega arith }
+members-init c = record { turns = length c.args.reader.now; enough = omega arith; found = no_members; reads = refl; host = refl; key = refl; value = refl; clock = refl; ns = refl; state = refl; shorter = omega arith }
 
 pub returns-in_err-name-clause-err : goal.returns-in_err-name-clause-err
 returns-in_err-name-clause-err c =
@@ -42,6 +42,7 @@ members-preserved c =
       value = c.keep-value.ensures at.found d at.value done.ok.2;
       clock = c.keep-clock.ensures at.found d at.clock done.ok.2;
       ns = c.keep-ns.ensures at.found d at.ns done.ok.2;
+      state = c.keep-state.ensures at.found d at.state done.ok.2;
       shorter = omega (arith, at.shorter);
     }
 
@@ -50,5 +51,5 @@ returns-clause-ok c =
     let at = c.members.invariant in (
       at.found,
       at.reads ∙ members_over (value c.args.depth) at.found at.turns c.members.reader c.next_key.new.self at.enough (grind arith),
-      record { host = at.host; key = at.key; value = at.value; clock = at.clock; ns = at.ns },
+      record { host = at.host; key = at.key; value = at.value; clock = at.clock; ns = at.ns; state = at.state },
     )

@@ -17,6 +17,7 @@ invariant-members l = record {
   value : Holds (codes "value") l.value (object found);
   clock : Holds (codes "clock") l.clock (object found);
   ns : Holds (codes "ns") l.ns (object found);
+  state : Holds (codes "state") l.state (object found);
   shorter : length l.reader ≤ length l.initial.reader;
 }
 

@@ -56,6 +56,7 @@ returns-in_ok-pass_rest-in_default c =
           value = nothing-held (codes "value") _ d no.value kind;
           clock = nothing-held (codes "clock") _ d no.clock kind;
           ns = nothing-held (codes "ns") _ d no.ns kind;
+          state = nothing-held (codes "state") _ d no.state kind;
         },
       );
       shorter = rw first (omega (arith, done.shorter));

@@ -2,30 +2,29 @@ use Rattle.std.proofs.Common.{◌≡◌, ◌-◌, ◌<◌, List, [], ◌∷◌, 
 use Rattle.json.specs.Json.{parse_map, after_end_array, value}
 use Rattle.serde_json.specs.Data.{item, no_items}
 use Rattle.sender_json.proofs.Turns.{passed_on, map_id, map_twice, items_read, items_refused, items_over}
-use Rattle.sender_json.specs.declared.asked.Asked.{Asked}
 use Rattle.sender_json.specs.declared.failed.ElementError.TheVariants.{NotJson}
 use Rattle.sender_json.proofs.reading.read_items.Goals as goal
 
 pub items-init : goal.items-init
-items-init c = record { turns = length c.args.reader.now; enough = omega arith; before = λ a. a; reads = map_id _; asked = λ ds. rw c.new-found.ensures refl; shorter = omega arith }
+items-init g c = record { turns = length c.args.reader.now; enough = omega arith; before = λ a. a; reads = map_id _; kept = λ ds. rw c.new-found.ensures refl; shorter = omega arith }
 
-pub returns-in_err-asked-clause-err : goal.returns-in_err-asked-clause-err
-returns-in_err-asked-clause-err c =
+pub returns-in_err-element-clause-err : goal.returns-in_err-element-clause-err
+returns-in_err-element-clause-err g c =
     let at = c.items.invariant in
     let going : (after_end_array c.items.reader ≡ None) × (c.take_end_array.new.self ≡ c.items.reader) = grind arith in
-    passed_on _ NotJson c.in_err-asked.field-0.0 c.from_residual.ensures.1
-    (λ e. at.reads ∙ ap (parse_map at.before) (items_refused (value c.args.depth) at.turns c.items.reader going.0 (rw (← going.1) (c.in_err-asked.ensures.err e))))
+    passed_on _ NotJson c.in_err-element.field-0.0 c.from_residual.ensures.1
+    (λ e. at.reads ∙ ap (parse_map at.before) (items_refused (value c.args.depth) at.turns c.items.reader going.0 (rw (← going.1) (c.in_err-element.ensures.err e))))
 
-pushed : (found new : List Asked) (a b : Asked) (rest whole : List Asked) → whole ≡ found ++ b ∷ rest → a ≡ b → new ≡ found ++ a ∷ [] → whole ≡ new ++ rest
+pushed : {E : Type 0} (found new : List E) (a b : E) (rest whole : List E) → whole ≡ found ++ b ∷ rest → a ≡ b → new ≡ found ++ a ∷ [] → whole ≡ new ++ rest
 pushed found new a b rest whole w same n = rw (n, append_assoc, same) w
 
 pub items-preserved : goal.items-preserved
-items-preserved c =
+items-preserved g c =
     let at = c.items.invariant in
     let going : (after_end_array c.items.reader ≡ None) × (c.take_end_array.new.self ≡ c.items.reader) = grind arith in
-    let done = c.in_ok-asked.ensures in
+    let done = c.in_ok-element.ensures in
     let d = done.ok.0 in
-    let r = c.read_element.new.reader in
+    let r = c.read.new.reader in
     let less : length r < length c.items.reader = rw (← going.1) done.shorter in
     let turn = items_read (value c.args.depth) at.turns c.items.reader r d (omega (arith, at.enough)) going.0 (rw (← going.1) done.ok.1) in
     record {
@@ -33,11 +32,11 @@ items-preserved c =
       enough = omega (arith, at.enough);
       before = λ a. at.before (item d a);
       reads = at.reads ∙ ap (parse_map at.before) turn ∙ map_twice at.before (item d) _;
-      asked = λ ds. pushed c.items.found _ _ _ _ _ (at.asked (item d ds)) done.ok.2 c.in_ok-push.ensures.ok;
+      kept = λ ds. pushed c.items.found _ _ _ _ _ (at.kept (item d ds)) done.ok.2 c.in_ok-push.ensures.ok;
       shorter = omega (arith, at.shorter);
     }
 
 pub returns-clause-ok : goal.returns-clause-ok
-returns-clause-ok c =
+returns-clause-ok g c =
     let at = c.items.invariant in
-    (at.before no_items, at.reads ∙ ap (parse_map at.before) (items_over (value c.args.depth) at.turns c.items.reader c.take_end_array.new.self at.enough (grind arith)), sym (at.asked no_items ∙ append-nil c.items.found))
+    (at.before no_items, at.reads ∙ ap (parse_map at.before) (items_over (value c.args.depth) at.turns c.items.reader c.take_end_array.new.self at.enough (grind arith)), sym (at.kept no_items ∙ append-nil c.items.found))

@@ -7,15 +7,15 @@ use Rattle.sender_json.specs.declared.failed.ElementError.TheVariants.{NotJson}
 use Rattle.sender_json.proofs.reading.read_members.Goals as goal
 
 pub members-init : goal.members-init
-members-init c = record { turns = length c.args.reader.now; enough = omega arith; found = no_members; reads = refl; holds = record { request = refl; values = refl }; shorter = omega arith }
+members-init g c = record { turns = length c.args.reader.now; enough = omega arith; found = no_members; reads = refl; holds = record { request = refl; host = refl; elements = refl }; shorter = omega arith }
 
 pub returns-in_err-name-clause-err : goal.returns-in_err-name-clause-err
-returns-in_err-name-clause-err c =
+returns-in_err-name-clause-err g c =
     let at = c.members.invariant in
     on_error _ NotJson (at.reads ∙ members_no_key (value c.args.depth) at.found at.turns c.members.reader c.in_err-name.ensures.value)
 
 pub returns-in_err-top-clause-err : goal.returns-in_err-top-clause-err
-returns-in_err-top-clause-err c =
+returns-in_err-top-clause-err g c =
     let at = c.members.invariant in
     let k = c.in-Some.name.now in
     let s = c.next_key.new.self in
@@ -24,7 +24,7 @@ returns-in_err-top-clause-err c =
     (λ e. at.reads ∙ members_refused (value c.args.depth) at.found at.turns k c.members.reader s named (c.in_err-top.ensures.err e))
 
 pub members-preserved : goal.members-preserved
-members-preserved c =
+members-preserved g c =
     let at = c.members.invariant in
     let k = c.in-Some.name.now in
     let s = c.next_key.new.self in
@@ -44,6 +44,6 @@ members-preserved c =
     }
 
 pub returns-clause-ok : goal.returns-clause-ok
-returns-clause-ok c =
+returns-clause-ok g c =
     let at = c.members.invariant in
     (at.found, at.reads ∙ members_over (value c.args.depth) at.found at.turns c.members.reader c.next_key.new.self at.enough (grind arith), at.holds)

@@ -7,14 +7,14 @@ use Rattle.sender_json.specs.Tokens.{members_first}
 use Rattle.sender_json.proofs.reading.read_members.Given as goal
 
 abbrev pub invariant-members : goal.invariant-members
-invariant-members l = record {
+invariant-members g l = record {
   turns : ℕ;
   enough : length l.reader ≤ turns;
   found : Members;
   reads : members_first l.depth l.initial.reader ≡ converted (λ ms. of_members ms found) (members (value l.depth) turns l.reader);
-  holds : HoldsTop l.top (object found);
+  holds : HoldsTop g.E.Element.of l.top (object found);
   shorter : length l.reader ≤ length l.initial.reader;
 }
 
 abbrev pub decreases-members : goal.decreases-members
-decreases-members l = length l.reader
+decreases-members g l = length l.reader
