@@ -1,4 +1,5 @@
 -- Laws of what holds of a book.
+use Rattle.entry_step.specs.Start.{first_start}
 use Rattle.std.proofs.Common.{◌≡◌, ◌⊎◌, inl, inr, ℕ, zero, suc, ◌+◌, ◌-◌, ◌<◌, ◌≤◌, ◌^◌, List, [], ◌∷◌, ◌++◌, length, take, drop, get_or, refl, sym, ap, subst, ◌∙◌, arith, append_assoc, append-nil, length-append, reverse, replicate, eq-or-lt_of_le}
 use Rattle.std.proofs.Math.Seq.{take-append_seam, take-length}
 use Rattle.std.proofs.lemmas.Bool.{cases_lt}
@@ -21,7 +22,6 @@ use Rattle.book.specs.Outgoing.{Grew, GrewByFront, log_lines}
 use Rattle.book.specs.Book.{IsBook, AreApplied, StayApplied, AreOut, lines_upto}
 use Rattle.book.proofs.Counting.{tally_more}
 use Rattle.book.proofs.Growing.{lines_of-append, lines_newer, lacking, grew_none, grew_more, tally_bytes}
-use Rattle.trigger_state.specs.Stages.{first_stage}
 
 -- ---- lists
 
@@ -50,7 +50,7 @@ goes_on conf kept start received entries marks frontier tally sink unwritten rec
       received_is = is;
       within = omega (arith, b.within, long);
       applied = λ i l. keep i (b.applied i l);
-      tally_is = subst (λ es. tally ≡ tally_of (replay (first_stage conf) (log_of es))) (sym same) b.tally_is;
+      tally_is = subst (λ es. tally ≡ tally_of (replay (first_start conf) (log_of es))) (sym same) b.tally_is;
       enough = subst (λ es. start.held ≤ length (log_lines conf (log_of es))) (sym same) b.enough;
       out = subst (λ es. AreOut start sink unwritten (drop start.held (log_lines conf (log_of es)))) (sym same) b.out;
       later = b.later;
@@ -62,11 +62,11 @@ goes_on conf kept start received entries marks frontier tally sink unwritten rec
 pub passed : (conf : Conf) (kept : List Numbered) (start : SinkTells) (received entries : List Numbered) (marks : List Mark) (frontier : ℕ) (tally : Tally) (sink : SinkTells) (unwritten : List ℕ)
     (records : List Rec) (tally' : Tally) (unwritten' : List ℕ) → IsBook conf kept start received entries marks frontier tally sink unwritten
     → frontier < length entries → get_or marks frontier Pending ≡ Applied
-    → replay (first_stage conf) (log_of (take (frontier + 1) entries)) ≡ replay (first_stage conf) (log_of (take frontier entries)) ++ records
+    → replay (first_start conf) (log_of (take (frontier + 1) entries)) ≡ replay (first_start conf) (log_of (take frontier entries)) ++ records
     → tally' ≡ tally_with tally records → unwritten' ≡ unwritten ++ lines_of records
     → IsBook conf kept start received entries marks (frontier + 1) tally' sink unwritten'
 passed conf kept start received entries marks frontier tally sink unwritten records tally' unwritten' b within here next counts adds =
-    let before = replay (first_stage conf) (log_of (take frontier entries)) in
+    let before = replay (first_start conf) (log_of (take frontier entries)) in
     let lines : lines_upto conf entries frontier ++ lines_of records ≡ lines_upto conf entries (frontier + 1) = sym (lines_of-append before records) ∙ ap lines_of (sym next) in
     let long : length (lines_upto conf entries frontier) + length (lines_of records) ≡ length (lines_upto conf entries (frontier + 1)) =
     sym (length-append (lines_upto conf entries frontier) (lines_of records)) ∙ ap (λ (l : List ℕ). length l) lines in record {
@@ -130,7 +130,7 @@ front_of_all conf entries all frontier start sink unwritten pre enough out =
 
 -- all entries are those with which the run began, and all of them are applied
 pub opened : (conf : Conf) (kept : List Numbered) (start : SinkTells) (received entries : List Numbered) (marks : List Mark) (frontier : ℕ) (tally : Tally) (sink : SinkTells) (unwritten : List ℕ)
-    → entries ≡ kept → received ≡ [] → frontier ≡ length entries → AreApplied marks (length kept) → tally ≡ tally_of (replay (first_stage conf) (log_of kept)) → sink ≡ start
+    → entries ≡ kept → received ≡ [] → frontier ≡ length entries → AreApplied marks (length kept) → tally ≡ tally_of (replay (first_start conf) (log_of kept)) → sink ≡ start
     → start.held ≤ length (log_lines conf (log_of kept)) → unwritten ≡ drop start.held (log_lines conf (log_of kept))
     → IsBook conf kept start received entries marks frontier tally sink unwritten
 opened conf kept start received entries marks frontier tally sink unwritten is none at applied counts told enough lacks =
@@ -139,7 +139,7 @@ opened conf kept start received entries marks frontier tally sink unwritten is n
       received_is = is ∙ sym (append-nil kept) ∙ ap (λ l. kept ++ l) (sym none);
       within = omega (arith, at);
       applied = λ i l. applied i (omega (arith, l, long));
-      tally_is = counts ∙ ap (λ es. tally_of (replay (first_stage conf) (log_of es))) (sym same);
+      tally_is = counts ∙ ap (λ es. tally_of (replay (first_start conf) (log_of es))) (sym same);
       enough = subst (λ es. start.held ≤ length (log_lines conf (log_of es))) (sym same) enough;
       out = ([], subst (λ s. Grew start s []) (sym told) (grew_none start), ap (λ es. drop start.held (log_lines conf (log_of es))) same ∙ sym lacks);
       later = subst (λ (s : SinkTells). start.faults ≤ s.faults) (sym told) (omega arith);
@@ -208,7 +208,7 @@ frontier_at_end marks n size applied within next = by (eq-or-lt_of_le within)
 
 -- one that holds more than the lines: how much, and how many bytes these have
 pub outbox_ahead : (conf : Conf) (kept : List Numbered) (start told : SinkTells) (tally : Tally) (held h l : ℕ) → BookError.OutboxAhead held tally.bytes ≡ BookError.OutboxAhead h l → held ≡ told.held → told ≡ start
-    → tally ≡ tally_of (replay (first_stage conf) (log_of kept)) → tally.bytes < held → held < 2 ^ 64 → (h ≡ start.held) × (l ≡ length (log_lines conf (log_of kept))) × (l < h)
+    → tally ≡ tally_of (replay (first_start conf) (log_of kept)) → tally.bytes < held → held < 2 ^ 64 → (h ≡ start.held) × (l ≡ length (log_lines conf (log_of kept))) × (l < h)
 outbox_ahead conf kept start told tally held h l same is told_is counts less small =
     let first : held ≡ h = cc in
     let second : tally.bytes ≡ l = cc in
@@ -216,7 +216,7 @@ outbox_ahead conf kept start told tally held h l same is told_is counts less sma
     (sym first ∙ is ∙ ap (λ (s : SinkTells). s.held) told_is, omega (arith, second, bytes, less, small), omega (arith, first, second, less))
 
 -- and one that doesn't
-pub outbox_enough : (conf : Conf) (kept : List Numbered) (start told : SinkTells) (tally : Tally) (held : ℕ) → held ≡ told.held → told ≡ start → tally ≡ tally_of (replay (first_stage conf) (log_of kept))
+pub outbox_enough : (conf : Conf) (kept : List Numbered) (start told : SinkTells) (tally : Tally) (held : ℕ) → held ≡ told.held → told ≡ start → tally ≡ tally_of (replay (first_start conf) (log_of kept))
     → held ≤ tally.bytes → start.held ≤ length (log_lines conf (log_of kept))
 outbox_enough conf kept start told tally held is told_is counts enough =
     let bytes = tally_bytes conf (log_of kept) tally counts in
@@ -224,10 +224,10 @@ outbox_enough conf kept start told tally held is told_is counts enough =
 
 -- the book of a run that begins, where these are its entries
 pub begun : (conf : Conf) (kept : List Numbered) (start : SinkTells) (given received entries : List Numbered) (marks : List Mark) (frontier : ℕ) (tally : Tally) (sink : SinkTells) (unwritten : List ℕ) (held : ℕ)
-    → given ≡ kept → entries ≡ given → received ≡ [] → frontier ≡ length entries → AreApplied marks (length given) → tally ≡ tally_of (replay (first_stage conf) (log_of given)) → held ≡ sink.held → sink ≡ start
+    → given ≡ kept → entries ≡ given → received ≡ [] → frontier ≡ length entries → AreApplied marks (length given) → tally ≡ tally_of (replay (first_start conf) (log_of given)) → held ≡ sink.held → sink ≡ start
     → held ≤ tally.bytes → unwritten ≡ drop held (log_lines conf (log_of given)) → IsBook conf kept start received entries marks frontier tally sink unwritten
 begun conf kept start given received entries marks frontier tally sink unwritten held same is none at applied counts size told enough lacks =
-    let counted : tally ≡ tally_of (replay (first_stage conf) (log_of kept)) = counts ∙ ap (λ es. tally_of (replay (first_stage conf) (log_of es))) same in
+    let counted : tally ≡ tally_of (replay (first_start conf) (log_of kept)) = counts ∙ ap (λ es. tally_of (replay (first_start conf) (log_of es))) same in
     let holds : held ≡ start.held = size ∙ ap (λ (s : SinkTells). s.held) told in
     opened conf kept start received entries marks frontier tally sink unwritten (is ∙ same) none at
     (subst (λ (es : List Numbered). AreApplied marks (length es)) same applied)

@@ -1,4 +1,5 @@
 -- What a claim, the end of a batch and a new start leave.
+use Rattle.entry_step.specs.Start.{first_start}
 use Rattle.std.proofs.Common.{◌≡◌, ◌<◌, ◌≤◌, ◌+◌, ◌-◌, ℕ, suc, Bool, true, false, cond, ◌&&◌, ◌||◌, inl, inr, Option, Some, None, List, [], ◌∷◌, ◌++◌, length, map, get_or, set, length-set, ◌==◌, eq-eqb, reverse, refl, sym, ◌∙◌, ap, subst, append-nil, arith, zero}
 use Rattle.std.specs.Prelude.{nat_lt, replicate, is_some, All, IfSome, IfNone}
 use Rattle.std.proofs.lemmas.Bool.{le-ltb, ltb-true}
@@ -271,7 +272,7 @@ start_is gate is = ap (core_of []) is ∙ ap over (fun_ext status)
     status : (n : ℕ) → mark_of (record { first = 1; marks = []; next = 1 }) n ≡ Pending
     status n = go (nat_lt n 1)
 
-pub new_going : (conf : Conf) (entries : List Numbered) (before gate : Gate) (held : CellsView) (made : List (List Rec)) → IsWholeLog conf entries → HoldsLog (first_stage conf) held []
+pub new_going : (conf : Conf) (entries : List Numbered) (before gate : Gate) (held : CellsView) (made : List (List Rec)) → IsWholeLog conf entries → HoldsLog (first_start conf) held []
     → before ≡ record { first = 1; marks = []; next = 1 } → gate ≡ record { first = 1; marks = replicate (length entries) Pending; next = 1 }
     → ((old more : List Numbered) → core_of (old ++ more) gate ≡ offered more (core_of old before)) → made ≡ replicate (length entries) []
     → IsGoing conf (record { entries = entries; gate = gate; cells = held; made = made })
@@ -364,8 +365,8 @@ pub with_here : (conf : Conf) (held : CellsView) (entries es : List Numbered) (n
 with_here conf held entries es numbers ready is here = at_here entries es (ap (map (entry_at entries)) is ∙ sym ready.places ∙ here)
 
 -- the same for equal things
-pub holds_at : (conf other : Conf) (held : CellsView) → other ≡ conf → HoldsLog (first_stage other) held [] → HoldsLog (first_stage conf) held []
-holds_at conf other held same holds = subst (λ k. HoldsLog (first_stage k) held []) same holds
+pub holds_at : (conf other : Conf) (held : CellsView) → other ≡ conf → HoldsLog (first_start other) held [] → HoldsLog (first_start conf) held []
+holds_at conf other held same holds = subst (λ k. HoldsLog (first_start k) held []) same holds
 
 pub part_at : (conf : Conf) (other : Stage) (held : CellsView) (given es : List Numbered) (part : PartView) → other ≡ first_stage conf → given ≡ es → IsPartOf other.conf given held part → IsPartOf conf es held part
 part_at conf other held given es part same is of = subst (λ xs. IsPartOf conf xs held part) is (subst (λ (k : Stage). IsPartOf k.conf given held part) same of)
@@ -379,7 +380,7 @@ pub outputs_at : (conf : Conf) (other : Stage) (held : CellsView) (entries es gi
 outputs_at conf other held entries es given numbers part done lists same is also of works =
     worked_outputs conf held (entries_with numbers entries) part done lists of (subst (λ xs. WorksOut (first_stage conf) xs part done lists) (is ∙ also) (subst (λ k. WorksOut k es part done lists) same works))
 
-pub order_is : (conf : Conf) (held : CellsView) (entries es : List Numbered) (id : ℕ) (numbers ns : List ℕ) (part : PartView) (scratch : CellsView) → ns ≡ numbers → es ≡ entries_with ns entries → AreReady conf held entries numbers → IsPartOf conf (entries_with ns entries) held part → HoldsLog (first_stage conf) scratch []
+pub order_is : (conf : Conf) (held : CellsView) (entries es : List Numbered) (id : ℕ) (numbers ns : List ℕ) (part : PartView) (scratch : CellsView) → ns ≡ numbers → es ≡ entries_with ns entries → AreReady conf held entries numbers → IsPartOf conf (entries_with ns entries) held part → HoldsLog (first_start conf) scratch []
     → IsOrder conf (record { id = id; numbers = numbers }) es part scratch
 order_is conf held entries es id numbers ns part scratch same is ready of free =
     let e : es ≡ entries_with numbers entries = is ∙ ap (λ ms. entries_with ms entries) same in

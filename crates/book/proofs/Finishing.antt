@@ -1,4 +1,5 @@
 -- All entries are worked out, one after another.
+use Rattle.entry_step.specs.Start.{first_start}
 use Rattle.std.proofs.Common.{◌≡◌, ◌<◌, ◌≤◌, ◌+◌, ◌-◌, ◌∙◌, ℕ, zero, suc, Bool, true, false, cond, not, ◌||◌, List, [], ◌∷◌, length, map, get_or, set, take, drop, append_assoc, ◌++◌, length-set, Option, Some, reverse, refl, sym, ap, subst, arith}
 use Rattle.std.specs.Prelude.{nat_lt, IfSome}
 use Rattle.std.specs.List.{list_any}
@@ -24,7 +25,6 @@ use Rattle.book.specs.Schedule.{is_applied, Worked}
 use Rattle.book.specs.Progress.{ProgressView, worked_of, IsGoing, HasClaimed, IsSingle, IsOneMore}
 use Rattle.book.proofs.Scheduled.{IsConsistent, order_of, same_done}
 use Rattle.book.proofs.Going.{whole_numbers, stands_of, gate_going}
-use Rattle.trigger_state.specs.Stages.{first_stage}
 
 passed_reopened : (late early : Mark) → passes (reopened late) (reopened early) ≡ true → passes late early ≡ true
 passed_reopened Pending early p = let q : passes Pending (reopened early) ≡ true = p in absurd (never early q)
@@ -225,12 +225,12 @@ split_place xs k d l =
     sym (take-append-drop k xs) ∙ ap (λ ys. take k xs ++ ys) (drop-cons xs k d l ∙ ap (λ j. get_or xs k d ∷ drop j xs) (sym z))
 
 pub records_next : (conf : Conf) (p : ProgressView) → IsGoing conf p → (place : ℕ) → place < length p.entries → get_or p.gate.marks place Pending ≡ Applied
-    → replay (first_stage conf) (log_of (take (place + 1) p.entries)) ≡ replay (first_stage conf) (log_of (take place p.entries)) ++ get_or p.made place []
+    → replay (first_start conf) (log_of (take (place + 1) p.entries)) ≡ replay (first_start conf) (log_of (take place p.entries)) ++ get_or p.made place []
 records_next conf p going place l applied =
-    ap (λ es. replay (first_stage conf) (reverse es)) (taken_more p.entries place blank l)
-    ∙ ap (replay (first_stage conf)) (reverse-append (take place p.entries) (e ∷ []))
-    ∙ ap (λ rs. replay (first_stage conf) older ++ rs) (sym (going.facts.kept newer older e split is_one))
-    ∙ ap (λ k. replay (first_stage conf) older ++ get_or p.made k []) at
+    ap (λ es. replay (first_start conf) (reverse es)) (taken_more p.entries place blank l)
+    ∙ ap (replay (first_start conf)) (reverse-append (take place p.entries) (e ∷ []))
+    ∙ ap (λ rs. replay (first_start conf) older ++ rs) (sym (going.facts.kept newer older e split is_one))
+    ∙ ap (λ k. replay (first_start conf) older ++ get_or p.made k []) at
   where
     e : Numbered
     e = get_or p.entries place blank

@@ -23,6 +23,7 @@ use Rattle.book.specs.Progress.{ProgressView, made_at, worked_of, IsGoing}
 use Rattle.book.proofs.Places.{Rises, in_of, in_right, older_below}
 use Rattle.book.proofs.Scheduled.{IsConsistent, order_of, stepped}
 use Rattle.trigger_state.specs.Stages.{first_stage}
+use Rattle.entry_step.specs.Start.{first_start}
 
 -- numbers of a full log
 pub number_within : (log : List Numbered) → IsFull log → (y : Numbered) → In y log → (0 < y.number) × (y.number ≤ length log)
@@ -56,7 +57,7 @@ whole_numbers conf entries whole =
 pub whole_offered : (conf : Conf) (entries : List Numbered) (gate : Gate) → IsWholeLog conf entries → gate.first ≡ 1 → length entries ≡ length gate.marks → AreOffered gate entries
 whole_offered conf entries gate whole first size = record { size = size; numbers = subst (λ k. map (λ (e : Numbered). e.number) entries ≡ ids_from k entries) (sym first) (whole_numbers conf entries whole) }
 
-pub whole_suits : (conf : Conf) (entries : List Numbered) → IsWholeLog conf entries → Suits conf (reverse entries)
+pub whole_suits : (conf : Conf) (entries : List Numbered) → IsWholeLog conf entries → Suits (first_start conf) (reverse entries)
 whole_suits conf entries whole = whole.fits.1
 
 -- the facts behind steps
@@ -89,7 +90,7 @@ going_of conf w entries gate held made stands come = record {
   represented = come.represented;
   facts = record {
     order = subst (InOrder (feet_of conf)) (sym come.core) stands.holds.order;
-    stand = subst (λ (c : Core). AreCellsOf (first_stage conf) w.cells (filter (λ e. is_applied (c.status e.number)) c.log)) (sym come.core) stands.done.stand;
+    stand = subst (λ (c : Core). AreCellsOf (first_start conf) w.cells (filter (λ e. is_applied (c.status e.number)) c.log)) (sym come.core) stands.done.stand;
     kept = λ newer older e split d.
         come.kept e.number (number_within (reverse entries) come.whole.full e (subst (In e) (sym split) (in_right newer (e ∷ older) e (inl refl)))).0
         ∙ stands.done.kept newer older e (sym (ap (λ (c : Core). c.log) come.core) ∙ split) (sym (ap (λ (c : Core). is_applied (c.status e.number)) come.core) ∙ d);

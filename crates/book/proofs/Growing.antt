@@ -1,4 +1,5 @@
 -- Laws of the lines of a log, and of sinks that grow by them.
+use Rattle.entry_step.specs.Start.{first_start}
 use Rattle.std.proofs.Common.{◌≡◌, ℕ, zero, suc, ◌+◌, ◌-◌, ◌<◌, ◌≤◌, ◌^◌, min, List, [], ◌∷◌, ◌++◌, length, take, drop, reverse, refl, sym, ap, ◌∙◌, subst, append_assoc, append-nil, length-append, arith}
 use Rattle.std.specs.Io.KnownBytes.{Keeps}
 use Rattle.std.proofs.KnownBytes.{Appends-nil, Appends-trans, Appends-kept}
@@ -16,7 +17,6 @@ use Rattle.entry_step.specs.Records.{replay, out_of}
 use Rattle.book.specs.declared.tally.Tally.{Tally}
 use Rattle.book.specs.Tally.{tally_of}
 use Rattle.book.specs.Outgoing.{Grew, GrewByFront, Writes, log_lines}
-use Rattle.trigger_state.specs.Stages.{first_stage}
 
 -- ---- the lines of a log
 
@@ -24,15 +24,15 @@ pub lines_of-append : (a b : List Rec) → lines_of (a ++ b) ≡ lines_of a ++ l
 lines_of-append a b = flat_map-append line_of a b
 
 -- the lines of a log with one more entry
-pub lines_next : (conf : Conf) (log : List Numbered) (e : Numbered) → log_lines conf (e ∷ log) ≡ log_lines conf log ++ lines_of (out_of (first_stage conf) log e e.entry (replay (first_stage conf) log))
-lines_next conf log e = lines_of-append (replay (first_stage conf) log) (out_of (first_stage conf) log e e.entry (replay (first_stage conf) log))
+pub lines_next : (conf : Conf) (log : List Numbered) (e : Numbered) → log_lines conf (e ∷ log) ≡ log_lines conf log ++ lines_of (out_of (first_start conf) log e e.entry (replay (first_start conf) log))
+lines_next conf log e = lines_of-append (replay (first_start conf) log) (out_of (first_start conf) log e e.entry (replay (first_start conf) log))
 
 -- newer entries add lines behind those of the log before them
 pub lines_newer : (conf : Conf) (newer log : List Numbered) → (more : List ℕ) × (log_lines conf (newer ++ log) ≡ log_lines conf log ++ more)
 lines_newer conf [] log = ([], sym (append-nil (log_lines conf log)))
 lines_newer conf (e ∷ newer) log =
     let before = lines_newer conf newer log in
-    let here = lines_of (out_of (first_stage conf) (newer ++ log) e e.entry (replay (first_stage conf) (newer ++ log))) in
+    let here = lines_of (out_of (first_start conf) (newer ++ log) e e.entry (replay (first_start conf) (newer ++ log))) in
     (before.0 ++ here, lines_next conf (newer ++ log) e ∙ ap (λ l. l ++ here) before.1 ∙ append_assoc (log_lines conf log) before.0 here)
 
 -- what is lacking of lines, with more lines
@@ -57,8 +57,8 @@ pub tally_size : (rs : List Rec) (tally : Tally) → tally ≡ tally_of rs → t
 unfolding tally_of
 tally_size rs tally is = ap (λ (t : Tally). t.bytes) is
 
-pub tally_bytes : (conf : Conf) (log : List Numbered) (tally : Tally) → tally ≡ tally_of (replay (first_stage conf) log) → tally.bytes ≡ min (length (log_lines conf log)) 18446744073709551615
-tally_bytes conf log tally is = tally_size (replay (first_stage conf) log) tally is
+pub tally_bytes : (conf : Conf) (log : List Numbered) (tally : Tally) → tally ≡ tally_of (replay (first_start conf) log) → tally.bytes ≡ min (length (log_lines conf log)) 18446744073709551615
+tally_bytes conf log tally is = tally_size (replay (first_start conf) log) tally is
 
 -- what is said of an Ok
 pub on_ok : {T E : Type 0} (r : Result T E) (P Q : Type 0) → (P → Q) → OnOk r P → OnOk r Q

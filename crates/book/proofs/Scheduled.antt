@@ -26,6 +26,7 @@ use Rattle.book.proofs.Places.{Rises, is_in, in_of, in_reverse, of_reverse, in_f
 use Rattle.book.proofs.Working.{Done, also_all, all_in, all_out, all_done}
 use Rattle.book.proofs.Coming.{all_come}
 use Rattle.trigger_state.specs.Stages.{first_stage}
+use Rattle.entry_step.specs.Start.{first_start}
 
 -- the numbers of the entries that are applied
 abbrev pub applied_by : (ℕ → Mark) → ℕ → Bool
@@ -107,7 +108,7 @@ module _ (conf : Conf) (w : Worked) (stands : IsConsistent conf w) where
     rises = (each_from (λ y. y.number < e.number) w.core.log (λ y i. above y (is_in w.core.log y i)), stands.rises);
     done = record {
       order = order_of conf (happens w.core (Offer e)) next;
-      stand = subst (AreCellsOf (first_stage conf) w.cells) (ap (λ b. cond b (e ∷ part) part) (sym (new_waits e above))) stands.done.stand;
+      stand = subst (AreCellsOf (first_start conf) w.cells) (ap (λ b. cond b (e ∷ part) part) (sym (new_waits e above))) stands.done.stand;
       kept = kept;
     };
   }
@@ -118,7 +119,7 @@ module _ (conf : Conf) (w : Worked) (stands : IsConsistent conf w) where
       next : Holds (feet_of conf) (happens w.core (Offer e))
       next = each_step (feet_of conf) w.core (Offer e) stands.holds above
 
-      kept : (newer older : List Numbered) (x : Numbered) → e ∷ w.core.log ≡ newer ++ x ∷ older → applied_by w.core.status x.number ≡ true → w.made x.number ≡ out_of (first_stage conf) older x x.entry (replay (first_stage conf) older)
+      kept : (newer older : List Numbered) (x : Numbered) → e ∷ w.core.log ≡ newer ++ x ∷ older → applied_by w.core.status x.number ≡ true → w.made x.number ≡ out_of (first_start conf) older x x.entry (replay (first_start conf) older)
       kept [] older x split d = let q : e ≡ x = cc in let f = new_waits e above in let g : is_applied (w.core.status e.number) ≡ true = ap (λ z. applied_by w.core.status z.number) q ∙ d in absurd (cc)
       kept (z ∷ newer) older x split d = let q : w.core.log ≡ newer ++ x ∷ older = cc in stands.done.kept newer older x q d
 
@@ -173,7 +174,7 @@ module _ (conf : Conf) (w : Worked) (stands : IsConsistent conf w) where
   }
 
   -- each of a batch's entries, as those before it are worked out, comes after what the cells have seen
-  pub batch_comes : Suits conf w.core.log → (id : ℕ) → AllCome (first_stage conf) w.cells (batch_in w.core id)
+  pub batch_comes : Suits (first_start conf) w.core.log → (id : ℕ) → AllCome (first_stage conf) w.cells (batch_in w.core id)
   batch_comes suits id =
       all_come conf w.core.log stands.rises suits (batch_in w.core id) (applied_by w.core.status) w.cells w.made stands.done
       (λ x i. (of_batch id x i).0)
@@ -220,7 +221,7 @@ pub every_schedule_holds : EveryScheduleFacts
 every_schedule_holds conf steps allowed = let s = stands_all conf steps allowed in record { order = s.holds.order; stand = s.done.stand; kept = s.done.kept }
 
 -- the records kept of entries that are all done
-collected : (conf : Conf) (w : Worked) → Facts conf w → (newer older : List Numbered) → w.core.log ≡ newer ++ older → Each (λ e. has_applied w e ≡ true) older → records_kept w older ≡ replay (first_stage conf) older
+collected : (conf : Conf) (w : Worked) → Facts conf w → (newer older : List Numbered) → w.core.log ≡ newer ++ older → Each (λ e. has_applied w e ≡ true) older → records_kept w older ≡ replay (first_start conf) older
 collected conf w facts newer [] split done = refl
 collected conf w facts newer (e ∷ older) split done =
     ap (flat_map (λ x. w.made x.number)) (reverse-cons e older)

@@ -1,4 +1,5 @@
 -- The entries of a batch are worked out one after another.
+use Rattle.entry_step.specs.Start.{first_start}
 use Rattle.std.proofs.Common.{◌≡◌, ◌<◌, ◌⊎◌, inl, inr, ℕ, ◌==◌, Bool, true, false, cond, List, [], ◌∷◌, ◌++◌, filter, refl, sym, ◌∙◌, ap, ap₂, subst, eqb-true, eq-eqb, ne_eqb, arith}
 use Rattle.zbx_types.specs.declared.conf.Conf.{Conf}
 use Rattle.zbx_types.specs.declared.entries.Numbered.{Numbered}
@@ -8,7 +9,7 @@ use Rattle.entry_step.specs.Records.{out_of, replay}
 use Rattle.entry_step.specs.Cells.{Cells, records, after, look, AreCellsOf}
 use Rattle.entry_step.specs.Laws.{Apart, InPlace, cells_done, records_done, PassedApart}
 use Rattle.entry_step.proofs.Members.{each_from, each_at, each_filter, filter-append}
-use Rattle.entry_step.proofs.Orders.{insertion, applied_part}
+use Rattle.entry_step.proofs.Orders.{first_good, insertion, applied_part}
 use Rattle.book.specs.Schedule.{keeping}
 use Rattle.book.proofs.Places.{Rises, in_left, in_right, filter_cong, split_at, older_below, newer_above, same_entry}
 use Rattle.trigger_state.specs.Stages.{first_stage}
@@ -17,8 +18,8 @@ use Rattle.trigger_state.specs.Stages.{first_stage}
 -- older one that isn't
 pub record Done (conf : Conf) (log : List Numbered) (done : ℕ → Bool) (cells : Cells) (made : ℕ → List Rec) : Type 0 where
   pub order : (y e : Numbered) → In y log → In e log → y.number < e.number → done e.number ≡ true → done y.number ≡ false → Apart conf y e
-  pub stand : AreCellsOf (first_stage conf) cells (filter (λ e. done e.number) log)
-  pub kept : (newer older : List Numbered) (e : Numbered) → log ≡ newer ++ e ∷ older → done e.number ≡ true → made e.number ≡ out_of (first_stage conf) older e e.entry (replay (first_stage conf) older)
+  pub stand : AreCellsOf (first_start conf) cells (filter (λ e. done e.number) log)
+  pub kept : (newer older : List Numbered) (e : Numbered) → log ≡ newer ++ e ∷ older → done e.number ≡ true → made e.number ≡ out_of (first_start conf) older e e.entry (replay (first_start conf) older)
 
 -- one more number
 abbrev pub also : (ℕ → Bool) → ℕ → ℕ → Bool
@@ -73,7 +74,7 @@ abbrev pub kept_also : (ℕ → List Rec) → ℕ → List Rec → ℕ → List 
 kept_also made k rs n = cond (n == k) rs (made n)
 
 -- what the search finds in a log stands for it
-look_stands : (conf : Conf) (log : List Numbered) → AreCellsOf (first_stage conf) (look (first_stage conf) log (replay (first_stage conf) log)) log
+look_stands : (conf : Conf) (log : List Numbered) → AreCellsOf (first_start conf) (look (first_start conf) log (replay (first_start conf) log)) log
 unfolding AreCellsOf
 look_stands conf log = refl
 
@@ -103,8 +104,8 @@ module _ (conf : Conf) (log : List Numbered) (rises : Rises log) where
     in_newer newer older split y i = subst (In y) (sym split) (in_left newer (x ∷ older) y i)
 
     -- no newer one that is done conflicts with it, so it joins in its place
-    in_place : (newer older : List Numbered) → log ≡ newer ++ x ∷ older → InPlace (first_stage conf) (filter (λ e. done e.number) newer) x (filter (λ e. done e.number) older) cells
-    in_place newer older split = (insertion (first_stage conf) (filter (λ e. done e.number) newer) x (filter (λ e. done e.number) older) (λ event. refl) apart).1 cells (subst (AreCellsOf (first_stage conf) cells) before holds.stand)
+    in_place : (newer older : List Numbered) → log ≡ newer ++ x ∷ older → InPlace (first_start conf) (filter (λ e. done e.number) newer) x (filter (λ e. done e.number) older) cells
+    in_place newer older split = (insertion (first_start conf) (filter (λ e. done e.number) newer) x (filter (λ e. done e.number) older) (first_good conf) apart).1 cells (subst (AreCellsOf (first_start conf) cells) before holds.stand)
       where
         apart : Each (λ a. Apart conf x a) (filter (λ e. done e.number) newer)
         apart =
@@ -118,17 +119,17 @@ module _ (conf : Conf) (log : List Numbered) (rises : Rises log) where
             ∙ ap (λ b. filter (λ e. done e.number) newer ++ cond b (x ∷ filter (λ e. done e.number) older) (filter (λ e. done e.number) older)) waits
 
     -- its records are those of its place in the whole log
-    its_records : (newer older : List Numbered) → log ≡ newer ++ x ∷ older → records (first_stage conf) cells x ≡ out_of (first_stage conf) older x x.entry (replay (first_stage conf) older)
+    its_records : (newer older : List Numbered) → log ≡ newer ++ x ∷ older → records (first_stage conf) cells x ≡ out_of (first_start conf) older x x.entry (replay (first_start conf) older)
     its_records newer older split =
         (in_place newer older split).its_records
-        ∙ sym ((insertion (first_stage conf) [] x part (λ event. refl) tt).1 there (look_stands conf part)).its_records
-        ∙ applied_part (first_stage conf) (λ e. done e.number) older x (λ event. refl) pairs apart there (look_stands conf part)
+        ∙ sym ((insertion (first_start conf) [] x part (first_good conf) tt).1 there (look_stands conf part)).its_records
+        ∙ applied_part (first_start conf) (λ e. done e.number) older x (first_good conf) pairs apart there (look_stands conf part)
       where
         part : List Numbered
         part = filter (λ e. done e.number) older
 
         there : Cells
-        there = look (first_stage conf) part (replay (first_stage conf) part)
+        there = look (first_start conf) part (replay (first_start conf) part)
 
         apart : Each (λ y. done y.number ≡ false → Apart conf y x) older
         apart =
@@ -168,16 +169,16 @@ module _ (conf : Conf) (log : List Numbered) (rises : Rises log) where
         (filter_cong (λ e. next e.number) (λ e. done e.number) newer (λ y i. also_other done x.number y.number (λ q. let l = newer_above newer x older (rises_at newer older split) y i in omega arith)))
         (filter_cong (λ e. next e.number) (λ e. done e.number) older (λ y i. also_other done x.number y.number (λ q. let l = older_below newer x older (rises_at newer older split) y i in omega arith))))
 
-    stand_next : AreCellsOf (first_stage conf) (after (first_stage conf) cells x) (filter (λ e. next e.number) log)
-    stand_next = let r = split_at log x here in subst (AreCellsOf (first_stage conf) (after (first_stage conf) cells x)) (part_next r.0 r.1 r.2) (in_place r.0 r.1 r.2).stand
+    stand_next : AreCellsOf (first_start conf) (after (first_stage conf) cells x) (filter (λ e. next e.number) log)
+    stand_next = let r = split_at log x here in subst (AreCellsOf (first_start conf) (after (first_stage conf) cells x)) (part_next r.0 r.1 r.2) (in_place r.0 r.1 r.2).stand
 
-    kept_next : (newer older : List Numbered) (e : Numbered) → log ≡ newer ++ e ∷ older → next e.number ≡ true → kept_also made x.number (records (first_stage conf) cells x) e.number ≡ out_of (first_stage conf) older e e.entry (replay (first_stage conf) older)
+    kept_next : (newer older : List Numbered) (e : Numbered) → log ≡ newer ++ e ∷ older → next e.number ≡ true → kept_also made x.number (records (first_stage conf) cells x) e.number ≡ out_of (first_start conf) older e e.entry (replay (first_start conf) older)
     kept_next newer older e split d = go (e.number == x.number) refl d
       where
-        go : (b : Bool) → (e.number == x.number) ≡ b → cond b true (done e.number) ≡ true → cond b (records (first_stage conf) cells x) (made e.number) ≡ out_of (first_stage conf) older e e.entry (replay (first_stage conf) older)
+        go : (b : Bool) → (e.number == x.number) ≡ b → cond b true (done e.number) ≡ true → cond b (records (first_stage conf) cells x) (made e.number) ≡ out_of (first_start conf) older e e.entry (replay (first_start conf) older)
         go true q t =
             let s : e ≡ x = same_entry log rises e x (subst (In e) (sym split) (in_right newer (e ∷ older) e (inl refl))) here (eqb-true e.number x.number q) in
-            its_records newer older (split ∙ ap (λ z. newer ++ z ∷ older) s) ∙ ap (λ z. out_of (first_stage conf) older z z.entry (replay (first_stage conf) older)) (sym s)
+            its_records newer older (split ∙ ap (λ z. newer ++ z ∷ older) s) ∙ ap (λ z. out_of (first_start conf) older z z.entry (replay (first_start conf) older)) (sym s)
         go false q t = holds.kept newer older e split t
 
     pub one_done : Done conf log (also done x.number) (after (first_stage conf) cells x) (kept_also made x.number (records (first_stage conf) cells x))

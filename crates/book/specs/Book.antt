@@ -1,4 +1,5 @@
 -- The book: the work on the entries of a ring, and the lines that go out of it.
+use Rattle.entry_step.specs.Start.{first_start}
 use Rattle.std.specs.Prelude.{◌≡◌, ◌≢◌, ◌≤◌, ◌<◌, ℕ, List, ◌++◌, length, take, drop, get_or}
 use Rattle.zbx_types.specs.declared.conf.Conf.{Conf}
 use Rattle.zbx_types.specs.declared.entries.Numbered.{Numbered}
@@ -14,7 +15,6 @@ use Rattle.book.specs.declared.tally.Tally.{Tally}
 use Rattle.book.specs.Tally.{tally_of}
 use Rattle.book.specs.Outgoing.{Grew, log_lines}
 use Rattle.book.specs.Progress.{ProgressView}
-use Rattle.trigger_state.specs.Stages.{first_stage}
 
 -- The entries in the order of their numbers, where each stands, the cells, and the records kept of each entry; of how
 -- many entries from the first on the lines were made, and what their records count; what the outbox tells, and the
@@ -62,7 +62,7 @@ pub record IsBook (conf : Conf) (kept : List Numbered) (start : SinkTells) (rece
   pub received_is : entries ≡ kept ++ received
   pub within : frontier ≤ length entries
   pub applied : AreApplied marks frontier
-  pub tally_is : tally ≡ tally_of (replay (first_stage conf) (log_of (take frontier entries)))
+  pub tally_is : tally ≡ tally_of (replay (first_start conf) (log_of (take frontier entries)))
   pub enough : start.held ≤ length (lines_upto conf entries frontier)
   pub out : AreOut start sink unwritten (drop start.held (lines_upto conf entries frontier))
   pub later : start.faults ≤ sink.faults

@@ -1,4 +1,5 @@
 -- How far the work on the entries is.
+use Rattle.entry_step.specs.Start.{first_start}
 use Rattle.std.specs.Prelude.{◌≡◌, ◌<◌, ◌≤◌, ℕ, ◌-◌, Bool, List, [], ◌∷◌, ◌++◌, length, map, get_or, set, Option, None, Some, if◌then◌else◌, All}
 use Rattle.std.specs.Option.{unwrap_or}
 use Rattle.zbx_types.specs.Masters.{has_id}
@@ -61,7 +62,7 @@ pub record IsOrder (conf : Conf) (batch : Batch) (entries : List Numbered) (part
     (scratch : CellsView) : Type 0 where
   pub numbers : map (λ e. e.number) entries ≡ batch.numbers
   pub workable : IsWorkable (first_stage conf) entries part
-  pub scratch_free : HoldsLog (first_stage conf) scratch []
+  pub scratch_free : HoldsLog (first_start conf) scratch []
 
 -- an order that was worked out, with the copies that it leaves and the records of its entries
 pub record DoneView : Type 0 where

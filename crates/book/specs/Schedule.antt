@@ -1,4 +1,5 @@
 -- The work of several syncers: cells and records behind entries that are offered, claimed, applied and given back.
+use Rattle.entry_step.specs.Start.{first_start}
 use Rattle.std.specs.Prelude.{◌≡◌, ℕ, ◌==◌, Bool, true, false, List, [], ◌∷◌, ◌++◌, reverse, filter, flat_map, if◌then◌else◌}
 use Rattle.zbx_types.specs.declared.conf.Conf.{Conf}
 use Rattle.zbx_types.specs.declared.entries.Numbered.{Numbered}
@@ -50,7 +51,7 @@ worked conf w (Apply id) = record {
 
 -- no entry yet: the cells are what the search finds in an empty log, and nothing is kept
 abbrev pub begin_worked : Conf → Worked
-begin_worked conf = record { core = start; cells = look (first_stage conf) [] []; made = λ n. [] }
+begin_worked conf = record { core = start; cells = look (first_start conf) [] []; made = λ n. [] }
 
 -- what is there behind some steps
 abbrev pub worked_all : Conf → Worked → List Step → Worked
@@ -65,9 +66,9 @@ has_applied w e = is_applied (w.core.status e.number)
 -- applied entry are those that it makes in its place in one thread's replay.
 pub record Facts (conf : Conf) (w : Worked) : Type 0 where
   pub order : InOrder (feet_of conf) w.core
-  pub stand : AreCellsOf (first_stage conf) w.cells (filter (has_applied w) w.core.log)
+  pub stand : AreCellsOf (first_start conf) w.cells (filter (has_applied w) w.core.log)
   pub kept : (newer older : List Numbered) (e : Numbered) → w.core.log ≡ newer ++ e ∷ older → has_applied w e ≡ true
-      → w.made e.number ≡ out_of (first_stage conf) older e e.entry (replay (first_stage conf) older)
+      → w.made e.number ≡ out_of (first_start conf) older e e.entry (replay (first_start conf) older)
 
 -- whatever is offered, claimed, applied and given back, the facts hold
 abbrev pub EveryScheduleFacts : Type 0
@@ -84,4 +85,4 @@ abbrev pub AtFrontier : Type 0
 AtFrontier = (conf : Conf) (steps : List Step) → AreAllowed (feet_of conf) start steps → (newer older : List Numbered)
     → (worked_all conf (begin_worked conf) steps).core.log ≡ newer ++ older
     → Each (λ e. has_applied (worked_all conf (begin_worked conf) steps) e ≡ true) older
-    → records_kept (worked_all conf (begin_worked conf) steps) older ≡ replay (first_stage conf) older
+    → records_kept (worked_all conf (begin_worked conf) steps) older ≡ replay (first_start conf) older

@@ -1,6 +1,7 @@
 //! The book: what the syncers share. It takes entries out of the ring, hands out batches of them, and writes their
 //! lines.
 
+ghost use Rattle.entry_step.specs.Start.{first_start};
 ghost use Rattle.std.specs.Prelude.{◌≡◌, ◌≤◌, ◌<◌, ◌+◌, ◌-◌, ◌++◌, [], ℕ, List, min, true, false, length, drop, replicate, get_or, is_some, IfOk, IfErr, IfSome, OnOk, OnErr, IsErrOf};
 ghost use Rattle.std.specs.Option.{option_map};
 ghost use mathlib.Core.List.{IsPrefix};
@@ -427,7 +428,7 @@ impl<S: StartName, N: RunName, O: Sink> Book<S, N, O> {
         ensures lines { Grew S.outbox (O.tells result.outbox)
             (drop S.outbox.held (log_lines S.conf (log_of self.entries))) }
         ensures sink { O.tells result.outbox ≡ self.sink }
-        ensures counts { tally_of (replay (first_stage S.conf) (log_of self.entries)) ≡ record
+        ensures counts { tally_of (replay (first_start S.conf) (log_of self.entries)) ≡ record
             { problems = result.problems; recoveries = result.recoveries; messages = result.messages; bytes = result.bytes } }
     {
         let Book {
@@ -464,7 +465,7 @@ impl<S: StartName, N: RunName, O: Sink> Book<S, N, O> {
         ensures entries { IfOk result (λ closed. closed.entries ≡ S.kept ++ head.sent) }
         ensures lines { IfOk result (λ closed. Grew S.outbox (O.tells closed.outbox)
             (drop S.outbox.held (log_lines S.conf (log_of (S.kept ++ head.sent))))) }
-        ensures counts { IfOk result (λ closed. tally_of (replay (first_stage S.conf) (log_of (S.kept ++ head.sent))) ≡ record
+        ensures counts { IfOk result (λ closed. tally_of (replay (first_start S.conf) (log_of (S.kept ++ head.sent))) ≡ record
             { problems = closed.problems; recoveries = closed.recoveries; messages = closed.messages; bytes = closed.bytes }) }
         ensures front { IfErr result (λ refused. GrewByFront S.outbox (O.tells refused.0)
             (drop S.outbox.held (log_lines S.conf (log_of (S.kept ++ head.sent))))) }

@@ -1,5 +1,6 @@
 //! What an order needs of the entries and the cells, and what comes of it.
 
+ghost use Rattle.entry_step.specs.Start.{first_start};
 ghost use Rattle.std.specs.Prelude.{◌≡◌, ◌↔◌, ◌≤◌, ◌<◌, [], true, false, length, map, is_some, All, IfOk, IfErr, OnOk, OnErr, IfSome, IfNone};
 ghost use Rattle.footprint.specs.Feet.{feet_of};
 ghost use Rattle.syncer_gate.specs.Gate.{AreOffered, IsOpenBatch, batch_of, claimed};
@@ -102,9 +103,9 @@ fn scratch_of<S: StartName>(
     spare: &mut Vec<Cells>,
 ) -> Result<Cells, OutOfMemory>
     requires conf { ready.now ≡ first_stage S.conf }
-    requires spare { All (λ cells. Holds (first_stage S.conf) cells []) spare.old.items }
-    ensures cells { IfOk result (λ cells. Holds (first_stage S.conf) cells []) }
-    ensures spare { All (λ cells. Holds (first_stage S.conf) cells []) spare.new.items }
+    requires spare { All (λ cells. Holds (first_start S.conf) cells []) spare.old.items }
+    ensures cells { IfOk result (λ cells. Holds (first_start S.conf) cells []) }
+    ensures spare { All (λ cells. Holds (first_start S.conf) cells []) spare.new.items }
 {
     match spare.pop() {
         Some(cells) => Ok(cells),
@@ -114,8 +115,8 @@ fn scratch_of<S: StartName>(
 
 /// Keeps spare cells, if there is room.
 pub(crate) fn put_by(spare: &mut Vec<Cells>, scratch: Cells)
-    ensures { (conf : Conf) → All (λ cells. Holds (first_stage conf) cells []) spare.old.items → Holds (first_stage conf) scratch []
-        → All (λ cells. Holds (first_stage conf) cells []) spare.new.items }
+    ensures { (conf : Conf) → All (λ cells. Holds (first_start conf) cells []) spare.old.items → Holds (first_start conf) scratch []
+        → All (λ cells. Holds (first_start conf) cells []) spare.new.items }
 {
     let _ = spare.push(scratch);
 }
@@ -131,12 +132,12 @@ pub(crate) fn order_of<S: StartName>(
 ) -> Result<Order<S>, (Batch, OutOfMemory)>
     requires conf { ready.now ≡ first_stage S.conf }
     requires ready { AreReady S.conf cells.now entries.now batch.numbers }
-    requires spare { All (λ cells. Holds (first_stage S.conf) cells []) spare.old.items }
+    requires spare { All (λ cells. Holds (first_start S.conf) cells []) spare.old.items }
     ensures batch { IfOk result (λ order. order.batch ≡ batch) }
     ensures entries { IfOk result (λ order. order.entries ≡ entries_with batch.numbers entries.now) }
     ensures part { IfOk result (λ order. IsPartOf S.conf (entries_with batch.numbers entries.now) cells.now
         order.part) }
-    ensures spare { All (λ cells. Holds (first_stage S.conf) cells []) spare.new.items }
+    ensures spare { All (λ cells. Holds (first_start S.conf) cells []) spare.new.items }
     ensures back { IfErr result (λ refused. refused.0 ≡ batch) }
 {
     let numbers = batch.numbers.as_slice();
@@ -188,11 +189,11 @@ fn rework<S: StartName, L: Ledger>(
 ) -> Result<Again, OutOfMemory>
     requires conf { ready.now ≡ first_stage S.conf }
     requires ready { AreReady S.conf cells.now entries.now numbers.now }
-    requires scratch { Holds (first_stage S.conf) scratch.old [] }
+    requires scratch { Holds (first_start S.conf) scratch.old [] }
     ensures entries { IfOk result (λ again. again.entries ≡ entries_with numbers.now entries.now) }
     ensures made { IfOk result (λ again. AreOutputs S.conf cells.now (entries_with numbers.now entries.now)
         again.part again.made) }
-    ensures scratch { Holds (first_stage S.conf) scratch.new [] }
+    ensures scratch { Holds (first_start S.conf) scratch.new [] }
 {
     let inputs = inputs_of::<S>(alloc, ready, cells, entries, numbers)?;
     let own = inputs.entries.as_slice();
@@ -228,7 +229,7 @@ pub(crate) fn outputs_of<S: StartName, L: Ledger>(
     ensures entries { IfOk result (λ made. made.entries ≡ entries_with done.order.batch.numbers entries.now) }
     ensures made { IfOk result (λ made. AreOutputs S.conf cells.now
         (entries_with done.order.batch.numbers entries.now) made.part made.made) }
-    ensures scratch { IfOk result (λ made. Holds (first_stage S.conf) made.scratch []) }
+    ensures scratch { IfOk result (λ made. Holds (first_start S.conf) made.scratch []) }
     ensures uncounted { entries_with done.order.batch.numbers entries.now ≡ done.order.entries
         → IsSame cells.now done.order.part → steps.new ≡ steps.old }
     ensures back { IfErr result (λ refused. refused.0 ≡ done) }

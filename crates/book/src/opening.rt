@@ -1,5 +1,6 @@
 //! The entries with which a run begins are worked out, and their lines made.
 
+ghost use Rattle.entry_step.specs.Start.{first_start};
 ghost use Rattle.std.specs.Prelude.{◌≡◌, ◌<◌, length, drop, IfOk};
 ghost use Rattle.entry_step.specs.Log.{log_of};
 ghost use Rattle.entry_step.specs.Records.{replay};
@@ -50,7 +51,7 @@ fn lines_behind<S: StartName>(
     held: u64,
 ) -> Result<(Tally, Bytes), OutOfMemory>
     requires { AreApplied progress.now.gate.marks (length progress.now.entries) }
-    ensures tally { IfOk result (λ made. made.0 ≡ tally_of (replay (first_stage S.conf) (log_of progress.now.entries))) }
+    ensures tally { IfOk result (λ made. made.0 ≡ tally_of (replay (first_start S.conf) (log_of progress.now.entries))) }
     ensures lines { IfOk result (λ made. made.1 ≡ drop held (log_lines S.conf (log_of progress.now.entries))) }
 {
     let mut tally = Tally::new();
@@ -73,7 +74,7 @@ pub(crate) fn begin<S: StartName>(
     requires whole { IsWholeLog S.conf kept }
     ensures entries { IfOk result (λ begun. begun.progress.entries ≡ kept) }
     ensures applied { IfOk result (λ begun. AreApplied begun.progress.gate.marks (length kept)) }
-    ensures tally { IfOk result (λ begun. begun.tally ≡ tally_of (replay (first_stage S.conf) (log_of kept))) }
+    ensures tally { IfOk result (λ begun. begun.tally ≡ tally_of (replay (first_start S.conf) (log_of kept))) }
     ensures missing { IfOk result (λ begun. begun.missing ≡ drop held (log_lines S.conf (log_of kept))) }
 {
     let progress = worked_out::<S>(alloc, ready, kept)?;

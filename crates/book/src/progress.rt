@@ -1,6 +1,7 @@
 //! How far the work on the entries is: the entries themselves, where each of them stands, the cells, and the records
 //! kept.
 
+ghost use Rattle.entry_step.specs.Start.{first_start};
 ghost use Rattle.std.specs.Prelude.{◌≡◌, ◌≢◌, ◌≤◌, ◌<◌, ◌+◌, ◌++◌, [], ℕ, true, false, length, map, replicate, get_or, is_some, IfOk, IfErr, IfSome, OnOk, OnErr, Some, None, take};
 ghost use Rattle.std.specs.Option.{option_map};
 ghost use Rattle.footprint.specs.Feet.{feet_of};
@@ -52,7 +53,7 @@ impl<S: StartName> Model for Progress<S> {
 
     ghost view = { λ p. record { entries = p.entries.items; gate = p.claims; cells = p.cells; made = p.made.items } };
 
-    ghost invariant = { λ p. IsGoing S.conf (record { entries = p.entries.items; gate = p.claims; cells = p.cells; made = p.made.items }) × All (λ cells. Holds (first_stage S.conf) cells []) p.spare.items };
+    ghost invariant = { λ p. IsGoing S.conf (record { entries = p.entries.items; gate = p.claims; cells = p.cells; made = p.made.items }) × All (λ cells. Holds (first_start S.conf) cells []) p.spare.items };
 }
 
 /// The records of so many entries, of which none is applied.
@@ -354,7 +355,7 @@ impl<S: StartName> Progress<S> {
     pub(crate) fn records(&self, place: usize) -> &[Rec]
         ensures made { result.now ≡ get_or self.now.made place [] }
         ensures next { place < length self.now.entries → get_or self.now.gate.marks place Mark.Pending ≡ Mark.Applied
-            → replay (first_stage S.conf) (log_of (take (place + 1) self.now.entries)) ≡ replay (first_stage S.conf)
+            → replay (first_start S.conf) (log_of (take (place + 1) self.now.entries)) ≡ replay (first_start S.conf)
             (log_of (take place self.now.entries)) ++ result.now }
     {
         kept_at(&self.made, place)

@@ -21,15 +21,15 @@ use Rattle.trigger_state.specs.Stages.{Stage, KeepsIds, home}
 use Rattle.trigger_state.specs.Problems.{event_in}
 use Rattle.trigger_state.specs.declared.problems.Open.{Open}
 use Rattle.entry_step.specs.Each.{Each}
-use Rattle.entry_step.specs.Order.{order, sorted_by}
-use Rattle.entry_step.specs.Due.{number_in, by_making}
+use Rattle.entry_step.specs.Order.{order, by_event}
+use Rattle.entry_step.specs.Due.{by_making}
 use Rattle.entry_step.specs.Index.{some_reaches}
 use Rattle.entry_step.specs.Records.{closed_records, problems_open, ruled, ruled_records, begun_with, begun_records}
 use Rattle.entry_step.specs.Represents.{AllAtHome, IsTagged, AllTagged}
 use Rattle.entry_step.proofs.Members.{each_at, each_append, each_filter, each_map, each_all, each_both, each_sub, each_from, each_kept, filter_none, filter_map, filter_flat_map, flat_maps, flat_map_cong, or_false_left, or_false_right, true_or_false}
 use Rattle.zbx_types.proofs.RowLemmas.{at_zero, at_suc}
 use Rattle.entry_step.proofs.Said.{each_flat_map}
-use Rattle.entry_step.proofs.Sorting.{filter_by, each_sorted, sorted_map}
+use Rattle.entry_step.proofs.Sorting.{by_event_filter, by_event_each, by_event_map}
 
 -- the open problems of all triggers are in the cells of their own triggers, and have the names of their tags
 pub record AllTidy (stage : Stage) (all : ℕ → List Open) : Type 0 where
@@ -51,7 +51,7 @@ pub record Covers (conf : Conf) (K : ℕ → Bool) (id : ℕ) : Type 0 where
 -- what holds of the problems of each trigger holds of all that are open, and of what closes of them
 pub open_each : (Q : Rec → Type 0) (stage : Stage) (all : ℕ → List Open) → ((id : ℕ) → Each (λ o. Q o.problem) (all id)) → Each Q (problems_open stage all)
 unfolding by_making
-open_each Q stage all h = each_map Q (λ o. o.problem) (by_making stage all) (each_sorted number_in (λ o. Q o.problem) (flat_map all (order stage.conf)) (each_flat_map (λ o. Q o.problem) all (order stage.conf) h))
+open_each Q stage all h = each_map Q (λ o. o.problem) (by_making stage all) (by_event_each stage event_in (λ o. Q o.problem) (flat_map all (order stage.conf)) (each_flat_map (λ o. Q o.problem) all (order stage.conf) h))
 
 closed_each : (Q : Rec → Type 0) (m : Rule → Rec → Bool) (old : List Rec) (earlier rules : List Rule) → Each Q old → Each Q (closed_from m old earlier rules)
 closed_each Q m old earlier [] h = tt
@@ -107,19 +107,19 @@ nothing_ruled stage one problem all e tagged =
     with_its r = record one { tags = tags_of r }
 
 -- what the code finds is what is open, in the order of making
-pub open_found : (stage : Stage) (all : ℕ → List Open) → sorted_by (λ r. (event_of r).number) (flat_map (λ id. map (λ o. o.problem) (all id)) (order stage.conf)) ≡ problems_open stage all
+pub open_found : (stage : Stage) (all : ℕ → List Open) → by_event stage event_of (flat_map (λ id. map (λ o. o.problem) (all id)) (order stage.conf)) ≡ problems_open stage all
 unfolding by_making
 open_found stage all =
-    ap (sorted_by (λ r. (event_of r).number)) (flat_maps (λ (o : Open). o.problem) all (order stage.conf)) ∙ sorted_map (λ (o : Open). o.problem) (λ r. (event_of r).number) (flat_map all (order stage.conf))
+    ap (by_event stage event_of) (flat_maps (λ (o : Open). o.problem) all (order stage.conf)) ∙ by_event_map stage (λ (o : Open). o.problem) event_of (flat_map all (order stage.conf))
 
 -- and what is closed of it is what the rules close
-pub ruled_is : (conf : Conf) (ready : Stage) (problem : Rec) (all : ℕ → List Open) (ids : List ℕ) (found sorted slice : List Rec) → conf ≡ ready.conf → ids ≡ order ready.conf → found ≡ flat_map (λ id. map (λ o. o.problem) (all id)) ids
-    → sorted ≡ sorted_by (λ r. (event_of r).number) found → slice ≡ sorted → closes_of conf problem slice ≡ ruled ready problem all
+pub ruled_is : (conf : Conf) (stage ready : Stage) (problem : Rec) (all : ℕ → List Open) (ids : List ℕ) (found sorted slice : List Rec) → conf ≡ ready.conf → stage ≡ ready → ids ≡ order ready.conf → found ≡ flat_map (λ id. map (λ o. o.problem) (all id)) ids
+    → sorted ≡ by_event stage event_of found → slice ≡ sorted → closes_of conf problem slice ≡ ruled ready problem all
 unfolding ruled
-ruled_is conf ready problem all ids found sorted slice c i f s a =
+ruled_is conf stage ready problem all ids found sorted slice c at i f s a =
     ap (λ x. closes_of x problem slice) c
     ∙ ap (closes_of ready.conf problem)
-    (a ∙ s ∙ ap (sorted_by (λ r. (event_of r).number)) (f ∙ ap (flat_map (λ id. map (λ (o : Open). o.problem) (all id))) i) ∙ open_found ready all)
+    (a ∙ s ∙ ap (λ x. by_event x event_of found) at ∙ ap (by_event ready event_of) (f ∙ ap (flat_map (λ id. map (λ (o : Open). o.problem) (all id))) i) ∙ open_found ready all)
 
 -- whether some rule reaches a trigger, by its place
 pub reached_is : (conf inside : Conf) (reached : List Bool) (id : ℕ) (one : Trigger) (found : Option Bool) → inside ≡ conf → reached ≡ map (some_reaches inside.correlations) inside.triggers → at_id reached id ≡ found → at_id conf.triggers id ≡ Some one
@@ -190,19 +190,19 @@ module _ (stage : Stage) (id : ℕ) (one : Trigger) (there : at_id stage.conf.tr
             go (inl t) = ap (filter (λ o. shares stage one o.problem)) (agree j t)
             go (inr f) = none_shares p tidy_p j f ∙ sym (none_shares q tidy_q j f)
 
-        kept_open : (all : ℕ → List Open) → filter (shares stage one) (problems_open stage all) ≡ map (λ o. o.problem) (sorted_by number_in (flat_map (λ j. filter (λ o. shares stage one o.problem) (all j)) (order stage.conf)))
+        kept_open : (all : ℕ → List Open) → filter (shares stage one) (problems_open stage all) ≡ map (λ o. o.problem) (by_event stage event_in (flat_map (λ j. filter (λ o. shares stage one o.problem) (all j)) (order stage.conf)))
         unfolding by_making
         kept_open all =
             filter_map (shares stage one) (λ (o : Open). o.problem) (by_making stage all)
-            ∙ ap (map (λ (o : Open). o.problem)) (filter_by number_in (λ o. shares stage one o.problem) (flat_map all (order stage.conf)))
-            ∙ ap (λ os. map (λ (o : Open). o.problem) (sorted_by number_in os)) (filter_flat_map (λ o. shares stage one o.problem) all (order stage.conf))
+            ∙ ap (map (λ (o : Open). o.problem)) (by_event_filter stage event_in (λ o. shares stage one o.problem) (flat_map all (order stage.conf)))
+            ∙ ap (λ os. map (λ (o : Open). o.problem) (by_event stage event_in os)) (filter_flat_map (λ o. shares stage one o.problem) all (order stage.conf))
 
         pub ruled_same : ruled stage problem p ≡ ruled stage problem q
         ruled_same =
             ruled_kept p tidy_p
             ∙ ap (closes_of stage.conf problem)
             (kept_open p
-            ∙ ap (λ os. map (λ (o : Open). o.problem) (sorted_by number_in os))
+            ∙ ap (λ os. map (λ (o : Open). o.problem) (by_event stage event_in os))
             (flat_map_cong (λ j. filter (λ o. shares stage one o.problem) (p j)) (λ j. filter (λ o. shares stage one o.problem) (q j)) (order stage.conf) (each_from (λ j. filter (λ o. shares stage one o.problem) (p j) ≡ filter (λ o. shares stage one o.problem) (q j)) (order stage.conf) (λ j i. same_at j)))
             ∙ sym (kept_open q))
             ∙ sym (ruled_kept q tidy_q)

@@ -1,11 +1,11 @@
 -- The laws of order.
-use Rattle.std.proofs.Common.{◌≡◌, ℕ, suc, slice_get, Bool, true, false, cond, ◌&&◌, ◌⊎◌, inl, inr, Option, Some, None, List, [], ◌∷◌, ◌++◌, filter, is_some, refl, sym, ◌∙◌, ap, ap₂, subst, append-nil}
+use Rattle.std.proofs.Common.{◌≡◌, ℕ, suc, slice_get, Bool, true, false, cond, ◌&&◌, ◌⊎◌, inl, inr, Option, Some, None, List, [], ◌∷◌, ◌++◌, filter, is_some, refl, sym, ◌∙◌, ap, ap₂, subst, append-nil, append_assoc}
 use mathlib.Core.Path.{fun_ext}
 use Rattle.std.specs.List.{list_any}
 use Rattle.zbx_types.specs.Ids.{at_id, ids_from}
 use Rattle.zbx_types.specs.Masters.{has_id, is_master}
 use Rattle.zbx_types.specs.declared.conf.Conf.{Conf}
-use Rattle.trigger_state.specs.Stages.{Stage, KeepsIds}
+use Rattle.trigger_state.specs.Stages.{Stage, first_stage}
 use Rattle.zbx_types.specs.declared.entries.Entry.{Entry}
 use Rattle.zbx_types.specs.declared.entries.Entry.TheVariants.{Config, Value, Tick}
 use Rattle.zbx_types.specs.declared.entries.Numbered.{Numbered}
@@ -16,7 +16,7 @@ use Rattle.zbx_types.specs.declared.rules.Rule.{Rule}
 use Rattle.footprint.specs.Feet.{under_of, is_of, over_of, reach_by, is_reached, feet_of}
 use Rattle.entry_step.specs.Each.{Each, In, EachPair}
 use Rattle.zbx_types.specs.Entries.{moment_of}
-use Rattle.entry_step.specs.Log.{first_tick}
+use Rattle.entry_step.specs.Log.{}
 use Rattle.prep_steps.specs.declared.memory.StepMemory.{StepMemory}
 use Rattle.preprocess.specs.Ways.{memory_at}
 use Rattle.preprocess.specs.Draft.{visit_at, stored_at, stored_of as stored_by, marks_after, failures_of}
@@ -29,7 +29,7 @@ use Rattle.trigger_state.specs.Problems.{absorbed_all}
 use Rattle.entry_step.specs.Records.{evaluated, phase, has_call, triggers_at, failures_at, out_of, replay}
 use Rattle.entry_step.specs.Cells.{Key, ItemKey, TriggerKey, TickKey, CellOf, ItemCell, Cells, opens_in, memory_in, touches, item_after, histories_after, judged_at, records_at, records, after, look, AreCellsOf}
 use Rattle.entry_step.specs.Represents.{IsTidy}
-use Rattle.entry_step.specs.Laws.{Agree, IsLocal, IsConfined, Apart, AreTidyCells, Locality, SameOut, Insertion, cells_done, records_done, any_touches, BatchOnACopy, PassedApart, AppliedPart}
+use Rattle.entry_step.specs.Laws.{Agree, IsLocal, IsConfined, Apart, AreTidyCells, Locality, SameOut, Insertion, cells_done, records_done, any_touches, BatchOnACopy, PassedApart, AppliedPart, IsGood, FreshIsGood}
 use Rattle.entry_step.proofs.Members.{or_left, or_right, and_left, and_right, any_elim, each_filter, or_false_left, or_false_right, each_at, any_intro, true_or_false}
 use Rattle.entry_step.proofs.Feet.{there, one_of, gone, in_ids, over_in_foot, master_in_foot, reach_in_foot}
 use Rattle.entry_step.proofs.Landing.{LandIn, land_append, land_sub, land_off}
@@ -39,6 +39,7 @@ use Rattle.entry_step.proofs.Covered.{phase_lands, phase_same}
 use Rattle.zbx_types.proofs.RowLemmas.{at_suc}
 use Rattle.entry_step.proofs.Represented.{calls_touched, own_touched, absent_after, stays_tidy, failures_land, records_are, after_is}
 use Rattle.entry_step.specs.Occasions.{occasion_of}
+use Rattle.entry_step.specs.Start.{Start, fresh, first_start}
 
 trigger_touched : (conf : Conf) (now item time : ℕ) (value : List ℕ) (id : ℕ) → has_id ((feet_of conf).triggers item) id ≡ true → touches conf (Value now item time value) (TriggerKey id) ≡ true
 unfolding touches
@@ -214,20 +215,31 @@ pub locality : Locality
 locality stage e c d tidy_c tidy_d agree = (local stage e c d tidy_c tidy_d agree, confined stage e c tidy_c)
 
 -- Insertion, from locality alone
-abbrev pub cells_of : Stage → List Numbered → Cells
-cells_of stage [] = look stage [] []
-cells_of stage (e ∷ log) = after stage (cells_of stage log) e
+abbrev pub cells_of : Start → List Numbered → Cells
+cells_of start [] = look start [] start.records
+cells_of start (e ∷ log) = after start.stage (cells_of start log) e
 
-pub cells_are : (stage : Stage) (log : List Numbered) → cells_of stage log ≡ look stage log (replay stage log)
-cells_are stage [] = refl
-cells_are stage (e ∷ log) = ap (λ c. after stage c e) (cells_are stage log) ∙ after_is stage log (replay stage log) e
+pub cells_are : (start : Start) (log : List Numbered) → cells_of start log ≡ look start log (start.records ++ replay start log)
+cells_are start [] = ap (look start []) (sym (append-nil start.records))
+cells_are start (e ∷ log) =
+    let rs = start.records ++ replay start log in
+    ap (λ c. after start.stage c e) (cells_are start log) ∙ after_is start log rs e
+    ∙ ap (look start (e ∷ log)) (append_assoc start.records (replay start log) (out_of start log e e.entry rs))
 
-pub tidy_cells : (stage : Stage) → KeepsIds stage → (log : List Numbered) → IsTidy stage (cells_of stage log)
-tidy_cells stage ids [] = unfold look in record { ids = ids; homes = λ id. tt; tagged = λ id. tt; absent = λ id q. refl }
-tidy_cells stage ids (e ∷ log) = stays_tidy stage (cells_of stage log) e (tidy_cells stage ids log)
+pub tidy_cells : (start : Start) → IsGood start → (log : List Numbered) → IsTidy start.stage (cells_of start log)
+tidy_cells start good [] = good
+tidy_cells start good (e ∷ log) = stays_tidy start.stage (cells_of start log) e (tidy_cells start good log)
 
-pub records_of : (stage : Stage) (log : List Numbered) (e : Numbered) → records stage (cells_of stage log) e ≡ out_of stage log e e.entry (replay stage log)
-records_of stage log e = ap (λ c. records stage c e) (cells_are stage log) ∙ records_are stage log (replay stage log) e
+-- nothing stood before a fresh start
+pub fresh_is_good : FreshIsGood
+unfolding look
+fresh_is_good stage ids = record { ids = ids; homes = λ id. tt; tagged = λ id. tt; absent = λ id q. refl }
+
+pub first_good : (conf : Conf) → IsGood (first_start conf)
+first_good conf = fresh_is_good (first_stage conf) (λ event. refl)
+
+pub records_of : (start : Start) (log : List Numbered) (e : Numbered) → records start.stage (cells_of start log) e ≡ out_of start log e e.entry (start.records ++ replay start log)
+records_of start log e = ap (λ c. records start.stage c e) (cells_are start log) ∙ records_are start log (start.records ++ replay start log) e
 
 -- each entry touches something
 pub touches_some : (conf : Conf) (entry : Entry) → (k : Key) × (touches conf entry k ≡ true)
@@ -273,60 +285,60 @@ diamond stage a b apart c tidy = fun_ext (λ k. go k (true_or_false (touches sta
     go k (inr p) (inr q) = confined stage b (after stage c a) (stays_tidy stage c a tidy) k q ∙ confined stage a c tidy k p ∙ sym (confined stage a (after stage c b) (stays_tidy stage c b tidy) k p ∙ confined stage b c tidy k q)
 
 -- each of the newer entries has the same records with e in its place and without
-abbrev SameRecords : Stage → Numbered → List Numbered → List Numbered → Type 0
-SameRecords stage e [] older = Unit {0}
-SameRecords stage e (a ∷ newer) older = (records stage (cells_of stage (newer ++ older)) a ≡ records stage (cells_of stage (newer ++ e ∷ older)) a) × SameRecords stage e newer older
+abbrev SameRecords : Start → Numbered → List Numbered → List Numbered → Type 0
+SameRecords start e [] older = Unit {0}
+SameRecords start e (a ∷ newer) older = (records start.stage (cells_of start (newer ++ older)) a ≡ records start.stage (cells_of start (newer ++ e ∷ older)) a) × SameRecords start e newer older
 
-record Inserts (stage : Stage) (newer : List Numbered) (e : Numbered) (older : List Numbered) : Type 0 where
-  others : SameRecords stage e newer older
-  own : records stage (cells_of stage (newer ++ older)) e ≡ records stage (cells_of stage older) e
-  cells : after stage (cells_of stage (newer ++ older)) e ≡ cells_of stage (newer ++ e ∷ older)
+record Inserts (start : Start) (newer : List Numbered) (e : Numbered) (older : List Numbered) : Type 0 where
+  others : SameRecords start e newer older
+  own : records start.stage (cells_of start (newer ++ older)) e ≡ records start.stage (cells_of start older) e
+  cells : after start.stage (cells_of start (newer ++ older)) e ≡ cells_of start (newer ++ e ∷ older)
 
-inserts : (stage : Stage) → KeepsIds stage → (newer : List Numbered) (e : Numbered) (older : List Numbered) → Each (λ a. Apart stage.conf e a) newer → Inserts stage newer e older
-inserts stage ids [] e older apart = record { others = tt; own = refl; cells = refl }
-inserts stage ids (a ∷ newer) e older apart =
-    let ih = inserts stage ids newer e older apart.1 in
-    let c = cells_of stage (newer ++ older) in
-    let tidy = tidy_cells stage ids (newer ++ older) in
-    let ae = apart_sym stage.conf e a apart.0 in
+inserts : (start : Start) → IsGood start → (newer : List Numbered) (e : Numbered) (older : List Numbered) → Each (λ a. Apart start.stage.conf e a) newer → Inserts start newer e older
+inserts start good [] e older apart = record { others = tt; own = refl; cells = refl }
+inserts start good (a ∷ newer) e older apart =
+    let ih = inserts start good newer e older apart.1 in
+    let c = cells_of start (newer ++ older) in
+    let tidy = tidy_cells start good (newer ++ older) in
+    let ae = apart_sym start.stage.conf e a apart.0 in
     record {
-      others = (sym (records_apart stage e a apart.0 c tidy) ∙ ap (λ x. records stage x a) ih.cells, ih.others);
-      own = records_apart stage a e ae c tidy ∙ ih.own;
-      cells = diamond stage a e ae c tidy ∙ ap (λ x. after stage x a) ih.cells;
+      others = (sym (records_apart start.stage e a apart.0 c tidy) ∙ ap (λ x. records start.stage x a) ih.cells, ih.others);
+      own = records_apart start.stage a e ae c tidy ∙ ih.own;
+      cells = diamond start.stage a e ae c tidy ∙ ap (λ x. after start.stage x a) ih.cells;
     }
 
-stand_is : (stage : Stage) (c : Cells) (log : List Numbered) → AreCellsOf stage c log → c ≡ cells_of stage log
+stand_is : (start : Start) (c : Cells) (log : List Numbered) → AreCellsOf start c log → c ≡ cells_of start log
 unfolding AreCellsOf
-stand_is stage c log h = h ∙ sym (cells_are stage log)
+stand_is start c log h = h ∙ sym (cells_are start log)
 
-is_stand : (stage : Stage) (c : Cells) (log : List Numbered) → c ≡ cells_of stage log → AreCellsOf stage c log
+is_stand : (start : Start) (c : Cells) (log : List Numbered) → c ≡ cells_of start log → AreCellsOf start c log
 unfolding AreCellsOf
-is_stand stage c log h = h ∙ cells_are stage log
+is_stand start c log h = h ∙ cells_are start log
 
 pub are_tidy : AreTidyCells
-are_tidy stage c log ids h = let P : Cells → Type 0 = IsTidy stage in subst P (sym (stand_is stage c log h)) (tidy_cells stage ids log)
+are_tidy start c log good h = let P : Cells → Type 0 = IsTidy start.stage in subst P (sym (stand_is start c log h)) (tidy_cells start good log)
 
-same_out : (stage : Stage) (e : Numbered) (newer older : List Numbered) → SameRecords stage e newer older → SameOut stage e newer older
-same_out stage e [] older h = tt
-same_out stage e (a ∷ newer) older h = (sym (records_of stage (newer ++ older) a) ∙ h.0 ∙ records_of stage (newer ++ e ∷ older) a, same_out stage e newer older h.1)
+same_out : (start : Start) (e : Numbered) (newer older : List Numbered) → SameRecords start e newer older → SameOut start e newer older
+same_out start e [] older h = tt
+same_out start e (a ∷ newer) older h = (sym (records_of start (newer ++ older) a) ∙ h.0 ∙ records_of start (newer ++ e ∷ older) a, same_out start e newer older h.1)
 
 -- the changes of e behind the newer entries are those in its place
-changes_in_place : (stage : Stage) → KeepsIds stage → (newer : List Numbered) (e : Numbered) (older : List Numbered) → Each (λ a. Apart stage.conf e a) newer → (k : Key) → touches stage.conf e.entry k ≡ true
-    → after stage (cells_of stage (newer ++ older)) e k ≡ after stage (cells_of stage older) e k
-changes_in_place stage ids [] e older apart k t = refl
-changes_in_place stage ids (a ∷ newer) e older apart k t =
-    changes_apart stage a e (apart_sym stage.conf e a apart.0) (cells_of stage (newer ++ older)) (tidy_cells stage ids (newer ++ older)) k t ∙ changes_in_place stage ids newer e older apart.1 k t
+changes_in_place : (start : Start) → IsGood start → (newer : List Numbered) (e : Numbered) (older : List Numbered) → Each (λ a. Apart start.stage.conf e a) newer → (k : Key) → touches start.stage.conf e.entry k ≡ true
+    → after start.stage (cells_of start (newer ++ older)) e k ≡ after start.stage (cells_of start older) e k
+changes_in_place start good [] e older apart k t = refl
+changes_in_place start good (a ∷ newer) e older apart k t =
+    changes_apart start.stage a e (apart_sym start.stage.conf e a apart.0) (cells_of start (newer ++ older)) (tidy_cells start good (newer ++ older)) k t ∙ changes_in_place start good newer e older apart.1 k t
 
 pub insertion : Insertion
-insertion stage newer e older ids apart =
-    let r = inserts stage ids newer e older apart in (
-      same_out stage e newer older r.others,
+insertion start newer e older good apart =
+    let r = inserts start good newer e older apart in (
+      same_out start e newer older r.others,
       λ c h.
-          let s = stand_is stage c (newer ++ older) h in
+          let s = stand_is start c (newer ++ older) h in
           record {
-            its_records = ap (λ x. records stage x e) s ∙ r.own ∙ records_of stage older e;
-            its_changes = λ d g k t. ap (λ x. after stage x e k) s ∙ changes_in_place stage ids newer e older apart k t ∙ ap (λ x. after stage x e k) (sym (stand_is stage d older g));
-            stand = is_stand stage (after stage c e) (newer ++ e ∷ older) (ap (λ x. after stage x e) s ∙ r.cells);
+            its_records = ap (λ x. records start.stage x e) s ∙ r.own ∙ records_of start older e;
+            its_changes = λ d g k t. ap (λ x. after start.stage x e k) s ∙ changes_in_place start good newer e older apart k t ∙ ap (λ x. after start.stage x e k) (sym (stand_is start d older g));
+            stand = is_stand start (after start.stage c e) (newer ++ e ∷ older) (ap (λ x. after start.stage x e) s ∙ r.cells);
           },
     )
 
@@ -381,47 +393,47 @@ apart_reads conf y x h k (inl t) e = h k e t
 apart_reads conf y x h k (inr q) e = let f = quiet_tick conf y x h in let g : touches conf y.entry TickKey ≡ true = subst (λ z. touches conf y.entry z ≡ true) q e in cc
 
 -- without the entries that aren't applied, and touch nothing in K, the cells in K are the same
-part_agree : (stage : Stage) → KeepsIds stage → (applied : Numbered → Bool) (log : List Numbered) (K : Key → Type 0) → EachPair (PassedApart stage.conf applied) log
-    → ((y : Numbered) → In y log → applied y ≡ false → (k : Key) → K k → touches stage.conf y.entry k ≡ true → ⊥)
-    → (k : Key) → K k → cells_of stage (filter applied log) k ≡ cells_of stage log k
-part_agree stage ids applied [] K order h k m = refl
-part_agree stage ids applied (x ∷ older) K order h k m = go (applied x) refl (part_agree stage ids applied older)
+part_agree : (start : Start) → IsGood start → (applied : Numbered → Bool) (log : List Numbered) (K : Key → Type 0) → EachPair (PassedApart start.stage.conf applied) log
+    → ((y : Numbered) → In y log → applied y ≡ false → (k : Key) → K k → touches start.stage.conf y.entry k ≡ true → ⊥)
+    → (k : Key) → K k → cells_of start (filter applied log) k ≡ cells_of start log k
+part_agree start good applied [] K order h k m = refl
+part_agree start good applied (x ∷ older) K order h k m = go (applied x) refl (part_agree start good applied older)
   where
     wider : Key → Type 0
-    wider j = K j ⊎ Reads stage.conf x j
+    wider j = K j ⊎ Reads start.stage.conf x j
 
-    untouched : applied x ≡ false → touches stage.conf x.entry k ≡ false
-    untouched e = at (true_or_false (touches stage.conf x.entry k))
+    untouched : applied x ≡ false → touches start.stage.conf x.entry k ≡ false
+    untouched e = at (true_or_false (touches start.stage.conf x.entry k))
       where
-        at : (touches stage.conf x.entry k ≡ true) ⊎ (touches stage.conf x.entry k ≡ false) → touches stage.conf x.entry k ≡ false
+        at : (touches start.stage.conf x.entry k ≡ true) ⊎ (touches start.stage.conf x.entry k ≡ false) → touches start.stage.conf x.entry k ≡ false
         at (inl t) = absurd (h x (inl refl) e k m t)
         at (inr f) = f
 
-    still : applied x ≡ true → (y : Numbered) → In y older → applied y ≡ false → (j : Key) → wider j → touches stage.conf y.entry j ≡ true → ⊥
+    still : applied x ≡ true → (y : Numbered) → In y older → applied y ≡ false → (j : Key) → wider j → touches start.stage.conf y.entry j ≡ true → ⊥
     still a y i f j (inl n) t = h y (inr i) f j n t
-    still a y i f j (inr r) t = apart_reads stage.conf y x (each_at (PassedApart stage.conf applied x) older order.0 y i a f) j r t
+    still a y i f j (inr r) t = apart_reads start.stage.conf y x (each_at (PassedApart start.stage.conf applied x) older order.0 y i a f) j r t
 
     go : (b : Bool) → applied x ≡ b
-        → ((L : Key → Type 0) → EachPair (PassedApart stage.conf applied) older → ((y : Numbered) → In y older → applied y ≡ false → (j : Key) → L j → touches stage.conf y.entry j ≡ true → ⊥) → (j : Key) → L j → cells_of stage (filter applied older) j ≡ cells_of stage older j)
-        → cells_of stage (cond b (x ∷ filter applied older) (filter applied older)) k ≡ after stage (cells_of stage older) x k
-    go false e ih = ih K order.1 (λ y i. h y (inr i)) k m ∙ sym (confined stage x (cells_of stage older) (tidy_cells stage ids older) k (untouched e))
-    go true e ih = at (true_or_false (touches stage.conf x.entry k))
+        → ((L : Key → Type 0) → EachPair (PassedApart start.stage.conf applied) older → ((y : Numbered) → In y older → applied y ≡ false → (j : Key) → L j → touches start.stage.conf y.entry j ≡ true → ⊥) → (j : Key) → L j → cells_of start (filter applied older) j ≡ cells_of start older j)
+        → cells_of start (cond b (x ∷ filter applied older) (filter applied older)) k ≡ after start.stage (cells_of start older) x k
+    go false e ih = ih K order.1 (λ y i. h y (inr i)) k m ∙ sym (confined start.stage x (cells_of start older) (tidy_cells start good older) k (untouched e))
+    go true e ih = at (true_or_false (touches start.stage.conf x.entry k))
       where
-        agree : (j : Key) → wider j → cells_of stage (filter applied older) j ≡ cells_of stage older j
+        agree : (j : Key) → wider j → cells_of start (filter applied older) j ≡ cells_of start older j
         agree = ih wider order.1 (still e)
 
-        same : Agree stage.conf x (cells_of stage (filter applied older)) (cells_of stage older)
+        same : Agree start.stage.conf x (cells_of start (filter applied older)) (cells_of start older)
         same = record { at = λ j t. agree j (inr (inl t)); tick = agree TickKey (inr (inr refl)) }
 
-        at : (touches stage.conf x.entry k ≡ true) ⊎ (touches stage.conf x.entry k ≡ false) → after stage (cells_of stage (filter applied older)) x k ≡ after stage (cells_of stage older) x k
-        at (inl t) = (local stage x (cells_of stage (filter applied older)) (cells_of stage older) (tidy_cells stage ids (filter applied older)) (tidy_cells stage ids older) same).same_changes k t
-        at (inr f) = confined stage x (cells_of stage (filter applied older)) (tidy_cells stage ids (filter applied older)) k f ∙ agree k (inl m) ∙ sym (confined stage x (cells_of stage older) (tidy_cells stage ids older) k f)
+        at : (touches start.stage.conf x.entry k ≡ true) ⊎ (touches start.stage.conf x.entry k ≡ false) → after start.stage (cells_of start (filter applied older)) x k ≡ after start.stage (cells_of start older) x k
+        at (inl t) = (local start.stage x (cells_of start (filter applied older)) (cells_of start older) (tidy_cells start good (filter applied older)) (tidy_cells start good older) same).same_changes k t
+        at (inr f) = confined start.stage x (cells_of start (filter applied older)) (tidy_cells start good (filter applied older)) k f ∙ agree k (inl m) ∙ sym (confined start.stage x (cells_of start older) (tidy_cells start good older) k f)
 
 pub applied_part : AppliedPart
-applied_part stage applied older e ids order free c h =
-    ap (λ x. records stage x e) (stand_is stage c (filter applied older) h)
-    ∙ (local stage e (cells_of stage (filter applied older)) (cells_of stage older) (tidy_cells stage ids (filter applied older)) (tidy_cells stage ids older) (record { at = λ k t. agree k (inl t); tick = agree TickKey (inr refl) })).same_records
-    ∙ records_of stage older e
+applied_part start applied older e good order free c h =
+    ap (λ x. records start.stage x e) (stand_is start c (filter applied older) h)
+    ∙ (local start.stage e (cells_of start (filter applied older)) (cells_of start older) (tidy_cells start good (filter applied older)) (tidy_cells start good older) (record { at = λ k t. agree k (inl t); tick = agree TickKey (inr refl) })).same_records
+    ∙ records_of start older e
   where
-    agree : (k : Key) → Reads stage.conf e k → cells_of stage (filter applied older) k ≡ cells_of stage older k
-    agree = part_agree stage ids applied older (Reads stage.conf e) order (λ y i f k r t. apart_reads stage.conf y e (each_at (λ y. applied y ≡ false → Apart stage.conf y e) older free y i f) k r t)
+    agree : (k : Key) → Reads start.stage.conf e k → cells_of start (filter applied older) k ≡ cells_of start older k
+    agree = part_agree start good applied older (Reads start.stage.conf e) order (λ y i f k r t. apart_reads start.stage.conf y e (each_at (λ y. applied y ≡ false → Apart start.stage.conf y e) older free y i f) k r t)

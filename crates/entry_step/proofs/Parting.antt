@@ -35,6 +35,7 @@ use Rattle.entry_step.proofs.Phases.{none_same}
 use Rattle.entry_step.proofs.Represented.{stays_tidy, comes_after, one_entry}
 use Rattle.entry_step.proofs.Orders.{visits_agree, triggers_by, step_agrees, batch_off, batch_on_a_copy}
 use Rattle.entry_step.proofs.Exchanging.{item_id, item_cell, item_marks, trigger_id, trigger_problems, id_found, each_found, own_found, at_put_all, item_at_taken, trigger_at_taken, item_ids_taken, trigger_ids_taken, plain_found, plain_ids, items_rise, item_cells_are, item_marks_are, triggers_rise, trigger_problems_are}
+use Rattle.entry_step.specs.Start.{fresh, Start}
 
 -- ---- copies
 
@@ -364,11 +365,11 @@ same_evaluations stage K ticks (e ∷ es) c d tidy_c tidy_d inside same =
 
 -- the cells of the feet and the first Tick, over cells before the first entry
 abbrev mixed : Stage → List Numbered → Cells → Cells
-mixed stage es c (ItemKey id) = cond (any_touches stage.conf es (ItemKey id)) (c (ItemKey id)) (look stage [] [] (ItemKey id))
-mixed stage es c (TriggerKey id) = cond (any_touches stage.conf es (TriggerKey id)) (c (TriggerKey id)) (look stage [] [] (TriggerKey id))
+mixed stage es c (ItemKey id) = cond (any_touches stage.conf es (ItemKey id)) (c (ItemKey id)) (look (fresh stage) [] [] (ItemKey id))
+mixed stage es c (TriggerKey id) = cond (any_touches stage.conf es (TriggerKey id)) (c (TriggerKey id)) (look (fresh stage) [] [] (TriggerKey id))
 mixed stage es c TickKey = c TickKey
 
-module _ (stage : Stage) (es : List Numbered) (part copied back : PartView) (s first : CellsView) (blank : Represents stage s (look stage [] [])) (copy : IsCopy copied part) (in_place : IsReplaced s copied first) (taken : IsTaken s copied back)
+module _ (stage : Stage) (es : List Numbered) (part copied back : PartView) (s first : CellsView) (blank : Represents stage s (look (fresh stage) [] [])) (copy : IsCopy copied part) (in_place : IsReplaced s copied first) (taken : IsTaken s copied back)
     (held : CellsView) (c : Cells) (of : IsPartOf stage.conf es held part) (r : Represents stage held c) where
   abbrev m : Cells
   m = mixed stage es c
@@ -383,7 +384,7 @@ module _ (stage : Stage) (es : List Numbered) (part copied back : PartView) (s f
   size_problems = blank.triggers ∙ sym r.triggers
 
   pub begins : Represents stage first m
-  begins = mixed_represents stage (any_touches stage.conf es) held s first c (look stage [] []) m r blank
+  begins = mixed_represents stage (any_touches stage.conf es) held s first c (look (fresh stage) [] []) m r blank
       (λ id. into (any_touches stage.conf es (ItemKey id)) (at_id held.items id) (at_id s.items id) (at_id first.items id) (cell_in copied id) (some_same s.items held.items id size_items) (copy.cells id ∙ of.cells id) (in_place.items id))
       (λ id. into (any_touches stage.conf es (ItemKey id)) (at_id held.memories id) (at_id s.memories id) (at_id first.memories id) (marks_in copied id) (some_same s.memories held.memories id size_memories) (copy.marks id ∙ of.marks id) (in_place.memories id))
       (λ id. into (any_touches stage.conf es (TriggerKey id)) (at_id held.problems id) (at_id s.problems id) (at_id first.problems id) (problems_in copied id) (some_same s.problems held.problems id size_problems) (copy.problems id ∙ of.problems id) (in_place.problems id))
@@ -399,8 +400,8 @@ module _ (stage : Stage) (es : List Numbered) (part copied back : PartView) (s f
   back_problems id = back_from (any_touches stage.conf es (TriggerKey id)) (at_id held.problems id) (at_id s.problems id) (problems_in copied id) (problems_in back id) (some_same s.problems held.problems id size_problems) (copy.problems id ∙ of.problems id) (taken.problems id)
 
   touched : (k : Key) → any_touches stage.conf es k ≡ true → c k ≡ m k
-  touched (ItemKey id) t = sym (ap (λ b. cond b (c (ItemKey id)) (look stage [] [] (ItemKey id))) t)
-  touched (TriggerKey id) t = sym (ap (λ b. cond b (c (TriggerKey id)) (look stage [] [] (TriggerKey id))) t)
+  touched (ItemKey id) t = sym (ap (λ b. cond b (c (ItemKey id)) (look (fresh stage) [] [] (ItemKey id))) t)
+  touched (TriggerKey id) t = sym (ap (λ b. cond b (c (TriggerKey id)) (look (fresh stage) [] [] (TriggerKey id))) t)
   touched TickKey t = refl
 
   read : (k : Key) → (any_touches stage.conf es k ≡ true) ⊎ (k ≡ TickKey) → c k ≡ m k
@@ -446,31 +447,31 @@ module _ (stage : Stage) (es : List Numbered) (part copied back : PartView) (s f
     untouched : (k : Key) → any_touches stage.conf es k ≡ false → cells_done stage m some.taken k ≡ m k
     untouched k f = batch_off stage some.taken m begins.tidy k (any_first stage.conf some.taken some.rest k (ap (λ xs. any_touches stage.conf xs k) some.all ∙ f))
 
-    pub comes_back : Represents stage end (look stage [] [])
-    comes_back = mixed_represents stage (any_touches stage.conf es) s left end (look stage [] []) (cells_done stage m some.taken) (look stage [] []) blank some.represented
+    pub comes_back : Represents stage end (look (fresh stage) [] [])
+    comes_back = mixed_represents stage (any_touches stage.conf es) s left end (look (fresh stage) [] []) (cells_done stage m some.taken) (look (fresh stage) [] []) blank some.represented
         (λ id. into (any_touches stage.conf es (ItemKey id)) (at_id s.items id) (at_id left.items id) (at_id end.items id) (cell_in back id) (some_same left.items s.items id (some.represented.items ∙ sym blank.items)) (back_cells id) (put.items id))
         (λ id. into (any_touches stage.conf es (ItemKey id)) (at_id s.memories id) (at_id left.memories id) (at_id end.memories id) (marks_in back id) (some_same left.memories s.memories id (some.represented.memories ∙ sym blank.memories)) (back_marks id) (put.memories id))
         (λ id. into (any_touches stage.conf es (TriggerKey id)) (at_id s.problems id) (at_id left.problems id) (at_id end.problems id) (problems_in back id) (some_same left.problems s.problems id (some.represented.triggers ∙ sym blank.triggers)) (back_problems id) (put.problems id))
         (λ id. item id (any_touches stage.conf es (ItemKey id)) refl) (λ id. trigger id (any_touches stage.conf es (TriggerKey id)) refl) (put.tick ∙ taken.tick ∙ blank.tick)
       where
-        item : (id : ℕ) (b : Bool) → any_touches stage.conf es (ItemKey id) ≡ b → look stage [] [] (ItemKey id) ≡ cond b (look stage [] [] (ItemKey id)) (cells_done stage m some.taken (ItemKey id))
+        item : (id : ℕ) (b : Bool) → any_touches stage.conf es (ItemKey id) ≡ b → look (fresh stage) [] [] (ItemKey id) ≡ cond b (look (fresh stage) [] [] (ItemKey id)) (cells_done stage m some.taken (ItemKey id))
         item id true e = refl
-        item id false e = sym (untouched (ItemKey id) e ∙ ap (λ b. cond b (c (ItemKey id)) (look stage [] [] (ItemKey id))) e)
+        item id false e = sym (untouched (ItemKey id) e ∙ ap (λ b. cond b (c (ItemKey id)) (look (fresh stage) [] [] (ItemKey id))) e)
 
-        trigger : (id : ℕ) (b : Bool) → any_touches stage.conf es (TriggerKey id) ≡ b → look stage [] [] (TriggerKey id) ≡ cond b (look stage [] [] (TriggerKey id)) (cells_done stage m some.taken (TriggerKey id))
+        trigger : (id : ℕ) (b : Bool) → any_touches stage.conf es (TriggerKey id) ≡ b → look (fresh stage) [] [] (TriggerKey id) ≡ cond b (look (fresh stage) [] [] (TriggerKey id)) (cells_done stage m some.taken (TriggerKey id))
         trigger id true e = refl
-        trigger id false e = sym (untouched (TriggerKey id) e ∙ ap (λ b. cond b (c (TriggerKey id)) (look stage [] [] (TriggerKey id))) e)
+        trigger id false e = sym (untouched (TriggerKey id) e ∙ ap (λ b. cond b (c (TriggerKey id)) (look (fresh stage) [] [] (TriggerKey id))) e)
 
-blank_of : (stage : Stage) (s : CellsView) → Holds stage s [] → Represents stage s (look stage [] [])
+blank_of : (stage : Stage) (s : CellsView) → Holds (fresh stage) s [] → Represents stage s (look (fresh stage) [] [])
 unfolding AreCellsOf
 blank_of stage s h = subst (Represents stage s) h.stand h.represented
 
-holds_blank : (stage : Stage) (s : CellsView) → Represents stage s (look stage [] []) → Holds stage s []
+holds_blank : (stage : Stage) (s : CellsView) → Represents stage s (look (fresh stage) [] []) → Holds (fresh stage) s []
 unfolding AreCellsOf
-holds_blank stage s r = record { cells = look stage [] []; stand = refl; represented = r }
+holds_blank stage s r = record { cells = look (fresh stage) [] []; stand = refl; represented = r }
 
-module _ (stage : Stage) (es : List Numbered) (part copied back : PartView) (s first : CellsView) (holds : Holds stage s []) (copy : IsCopy copied part) (in_place : IsReplaced s copied first) (taken : IsTaken s copied back) where
-  pub holds_again : (left end : CellsView) → IsWorkable stage es part → AreSteppedTo stage first es left → IsReplaced left back end → Holds stage end []
+module _ (stage : Stage) (es : List Numbered) (part copied back : PartView) (s first : CellsView) (holds : Holds (fresh stage) s []) (copy : IsCopy copied part) (in_place : IsReplaced s copied first) (taken : IsTaken s copied back) where
+  pub holds_again : (left end : CellsView) → IsWorkable stage es part → AreSteppedTo stage first es left → IsReplaced left back end → Holds (fresh stage) end []
   holds_again left end w stepped put =
       holds_blank stage end (comes_back stage es part copied back s first (blank_of stage s holds) copy in_place taken w.held w.cells w.of w.represented left end
       (stepped (mixed stage es w.cells) (begins stage es part copied back s first (blank_of stage s holds) copy in_place taken w.held w.cells w.of w.represented) (come stage es part copied back s first (blank_of stage s holds) copy in_place taken w.held w.cells w.of w.represented w.come)) put)
@@ -491,20 +492,20 @@ module _ (stage : Stage) (es : List Numbered) (part copied back : PartView) (s f
 
 -- ---- entries that suit a log come to its cells
 
-suits_older : (conf : Conf) (newer older : List Numbered) → Suits conf (newer ++ older) → Suits conf older
-suits_older conf [] older h = h
-suits_older conf (e ∷ newer) older h = suits_older conf newer older h.0
+suits_older : (start : Start) (newer older : List Numbered) → Suits start (newer ++ older) → Suits start older
+suits_older start [] older h = h
+suits_older start (e ∷ newer) older h = suits_older start newer older h.0
 
 onto : (e : Numbered) (es log : List Numbered) → reverse (e ∷ es) ++ log ≡ reverse es ++ e ∷ log
 onto e es log = ap (λ xs. xs ++ log) (reverse-append (e ∷ []) es) ∙ append_assoc (reverse es) (e ∷ []) log
 
-pub all_come : (stage : Stage) (es log : List Numbered) (c : Cells) → AreCellsOf stage c log → Suits stage.conf (reverse es ++ log) → AllCome stage c es
-all_come stage [] log c stand h = tt
-all_come stage (e ∷ es) log c stand h =
-    let all : Suits stage.conf (reverse es ++ e ∷ log) = subst (Suits stage.conf) (onto e es log) h in
-    let own : Suits stage.conf (e ∷ log) = suits_older stage.conf (reverse es) (e ∷ log) all in
-    (comes_after stage c log e stand own, own.2, all_come stage es (e ∷ log) (after stage c e) (one_entry stage c log e stand).1 all)
+pub all_come : (start : Start) (es log : List Numbered) (c : Cells) → AreCellsOf start c log → Suits start (reverse es ++ log) → AllCome start.stage c es
+all_come start [] log c stand h = tt
+all_come start (e ∷ es) log c stand h =
+    let all : Suits start (reverse es ++ e ∷ log) = subst (Suits start) (onto e es log) h in
+    let own : Suits start (e ∷ log) = suits_older start (reverse es) (e ∷ log) all in
+    (comes_after start c log e stand own, own.2, all_come start es (e ∷ log) (after start.stage c e) (one_entry start c log e stand).1 all)
 
-pub workable_first : (stage : Stage) (es : List Numbered) (held : CellsView) (part : PartView) → Holds stage held [] → IsPartOf stage.conf es held part → Suits stage.conf (log_of es) → IsWorkable stage es part
+pub workable_first : (stage : Stage) (es : List Numbered) (held : CellsView) (part : PartView) → Holds (fresh stage) held [] → IsPartOf stage.conf es held part → Suits (fresh stage) (log_of es) → IsWorkable stage es part
 workable_first stage es held part h of s =
-    record { held = held; cells = h.cells; of = of; represented = h.represented; come = all_come stage es [] h.cells h.stand (subst (Suits stage.conf) (sym (append-nil (reverse es))) s) }
+    record { held = held; cells = h.cells; of = of; represented = h.represented; come = all_come (fresh stage) es [] h.cells h.stand (subst (Suits (fresh stage)) (sym (append-nil (reverse es))) s) }

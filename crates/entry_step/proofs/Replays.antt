@@ -26,6 +26,7 @@ use Rattle.entry_step.proofs.Visited.{Memory}
 use Rattle.entry_step.specs.History.{visits_at, memory_of, history_of}
 use Rattle.entry_step.specs.Order.{level, by_depth, above_depths, order}
 use Rattle.zbx_types.specs.Records.{event_of}
+use Rattle.entry_step.specs.Start.{first_start}
 use Rattle.trigger_state.specs.Stages.{first_stage, home}
 use Rattle.trigger_state.specs.Problems.{event_in, opens, recovers, opened, open_of}
 use Rattle.entry_step.specs.Records.{problem_of, ruled, ruled_records, last_records, begun_records, closed_records, verdict_records, evaluated, phase_over, has_call, is_timed_trigger, timed_triggers, stores, triggers_at, failures_at, judged_of, out_of, replay}
@@ -382,15 +383,15 @@ once_triggers conf memory number (Config now text) = tt
 once_triggers conf memory number (Tick now) = once_filter (λ id. is_timed_trigger (at_id conf.triggers id)) (order conf) (once_order conf)
 once_triggers conf memory number (Value now item time value) = once_filter (λ id. has_call (stores conf memory number (Value now item time value)) (at_id conf.triggers id)) (order conf) (once_order conf)
 
-judged_next : (conf : Conf) (log : List Numbered) (e : Numbered) (rs : List Rec) → Right conf e.number [] rs → (all : List ℕ) × Right conf e.number all (rs ++ judged_of (first_stage conf) log e e.entry rs)
+judged_next : (conf : Conf) (log : List Numbered) (e : Numbered) (rs : List Rec) → Right conf e.number [] rs → (all : List ℕ) × Right conf e.number all (rs ++ judged_of (first_start conf) log e e.entry rs)
 unfolding judged_of
 judged_next conf log e rs right =
-    let f = failures_at conf (memory_of conf log) e.number e.entry in
-    let q = failures_quiet conf (memory_of conf log) e.number e.entry in
-    let ids = triggers_at conf (memory_of conf log) e.number e.entry in
-    let r = phase_next conf (occasion_of (first_tick log) e.number e.entry) (history_of conf (e ∷ log)) [] ids (rs ++ f) (right_append conf e.number [] rs f right (quiet_right conf e.number [] f q.0 q.1) (quiet_all rs f q.0))
-    (once_triggers conf (memory_of conf log) e.number e.entry) (λ x i j. j) in
-    (r.0, subst (Right conf e.number r.0) (append_assoc rs f (phase_over (first_stage conf) (evaluated (first_stage conf) (occasion_of (first_tick log) e.number e.entry) (history_of conf (e ∷ log))) (rs ++ f) ids)) r.1)
+    let f = failures_at conf (memory_of (first_start conf) log) e.number e.entry in
+    let q = failures_quiet conf (memory_of (first_start conf) log) e.number e.entry in
+    let ids = triggers_at conf (memory_of (first_start conf) log) e.number e.entry in
+    let r = phase_next conf (occasion_of (first_tick (first_start conf) log) e.number e.entry) (history_of (first_start conf) (e ∷ log)) [] ids (rs ++ f) (right_append conf e.number [] rs f right (quiet_right conf e.number [] f q.0 q.1) (quiet_all rs f q.0))
+    (once_triggers conf (memory_of (first_start conf) log) e.number e.entry) (λ x i j. j) in
+    (r.0, subst (Right conf e.number r.0) (append_assoc rs f (phase_over (first_stage conf) (evaluated (first_stage conf) (occasion_of (first_tick (first_start conf) log) e.number e.entry) (history_of (first_start conf) (e ∷ log))) (rs ++ f) ids)) r.1)
 
 due_quiet : (conf : Conf) (n : ℕ) (done : List ℕ) (entry : Entry) (all : ℕ → List Open) → Each IsQuiet (due_at (first_stage conf) entry all) × Each (IsDone n done) (due_at (first_stage conf) entry all)
 unfolding due_at due_over
@@ -406,20 +407,20 @@ due_quiet conf n done (Tick now) all = (
         let about = due_about conf (home (first_stage conf) (event_in o)) o.problem o.steps now in
         (about_quiet (event_in o) (due_for (first_stage conf) now o) about, about_right (event_in o) n done (due_for (first_stage conf) now o) about)
 
-out_next : (conf : Conf) (log : List Numbered) (e : Numbered) (rs : List Rec) → Right conf e.number [] rs → (all : List ℕ) × Right conf e.number all (rs ++ out_of (first_stage conf) log e e.entry rs)
+out_next : (conf : Conf) (log : List Numbered) (e : Numbered) (rs : List Rec) → Right conf e.number [] rs → (all : List ℕ) × Right conf e.number all (rs ++ out_of (first_start conf) log e e.entry rs)
 unfolding out_of
 out_next conf log e rs right =
     let r = judged_next conf log e rs right in
-    let judged : List Rec = judged_of (first_stage conf) log e e.entry rs in
+    let judged : List Rec = judged_of (first_start conf) log e e.entry rs in
     let due : List Rec = due_at (first_stage conf) e.entry (open_of (first_stage conf) (rs ++ judged)) in
     let q = due_quiet conf e.number r.0 e.entry (open_of (first_stage conf) (rs ++ judged)) in
     (r.0, subst (Right conf e.number r.0) (append_assoc rs judged due) (right_append conf e.number r.0 (rs ++ judged) due r.1 (quiet_right conf e.number r.0 due q.0 q.1) (quiet_all (rs ++ judged) due q.0)))
 
-replay_right : (conf : Conf) (log : List Numbered) → IsRising log → (m : ℕ) → last_number log < m → Right conf m [] (replay (first_stage conf) log)
+replay_right : (conf : Conf) (log : List Numbered) → IsRising (first_start conf) log → (m : ℕ) → last_number (first_start conf) log < m → Right conf m [] (replay (first_start conf) log)
 replay_right conf [] r m l = record { early = tt; ids = tt; named = tt }
 replay_right conf (e ∷ log) r m l =
-    let here = out_next conf log e (replay (first_stage conf) log) (replay_right conf log r.1 e.number r.0) in
-    right_sub conf e.number m here.0 [] (replay (first_stage conf) (e ∷ log)) (later here.0) here.1
+    let here = out_next conf log e (replay (first_start conf) log) (replay_right conf log r.1 e.number r.0) in
+    right_sub conf e.number m here.0 [] (replay (first_start conf) (e ∷ log)) (later here.0) here.1
   where
     later : (all : List ℕ) (event : EventId) → Done e.number all event → Done m [] event
     later all event (inl k) = inl (omega arith)
@@ -493,7 +494,7 @@ comes_first host name earlier (r ∷ rs) free early = (λ q. one r free.0 q, com
 
 pub open_by_names : OpenByNames
 open_by_names conf log rising distinct id trigger is =
-    let bound : last_number log < last_number log + 1 = omega arith in
-    let right = replay_right conf log rising (last_number log + 1) bound in
-    open_by_test (first_stage conf) id (is_named (host_of conf trigger) trigger.name) (replay (first_stage conf) log) (tells conf id trigger distinct is (replay (first_stage conf) log) right.named)
-    (comes_first (host_of conf trigger) trigger.name [] (replay (first_stage conf) log) (free_none (replay (first_stage conf) log)) right.early)
+    let bound : last_number (first_start conf) log < last_number (first_start conf) log + 1 = omega arith in
+    let right = replay_right conf log rising (last_number (first_start conf) log + 1) bound in
+    open_by_test (first_stage conf) id (is_named (host_of conf trigger) trigger.name) (replay (first_start conf) log) (tells conf id trigger distinct is (replay (first_start conf) log) right.named)
+    (comes_first (host_of conf trigger) trigger.name [] (replay (first_start conf) log) (free_none (replay (first_start conf) log)) right.early)

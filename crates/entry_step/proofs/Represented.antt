@@ -1,5 +1,5 @@
 -- What is kept goes on representing cells.
-use Rattle.std.proofs.Common.{◌≡◌, ◌≢◌, ◌≤◌, ℕ, zero, suc, slice_get, ◌==◌, Bool, true, false, cond, Option, Some, None, List, [], ◌∷◌, ◌++◌, length, map, replicate, is_some, option_map, refl, sym, ◌∙◌, ap, subst, eq-eqb, arith, append-nil, Result, Ok, Err, IfOk, OnOk, reverse, ◌+◌}
+use Rattle.std.proofs.Common.{◌≡◌, ◌≢◌, ◌≤◌, ℕ, zero, suc, slice_get, ◌==◌, Bool, true, false, cond, Option, Some, None, List, [], ◌∷◌, ◌++◌, length, map, replicate, is_some, option_map, refl, sym, ◌∙◌, ap, subst, eq-eqb, arith, append-nil, Result, Ok, Err, IfOk, OnOk, reverse, ◌+◌, append_assoc}
 use mathlib.Core.Path.{fun_ext}
 use Rattle.std.specs.List.{cons_option}
 use Rattle.std.specs.Option.{option_or, unwrap_or, option_map_or}
@@ -25,7 +25,7 @@ use Rattle.preprocess.specs.declared.visit.Visit.{Visit}
 use Rattle.preprocess.specs.declared.visit.ItemOutcome.{ItemOutcome}
 use Rattle.preprocess.specs.declared.visit.ItemOutcome.TheVariants as outcome
 use Rattle.preprocess.proofs.Logs.{at_map, hold_nothing}
-use Rattle.trigger_state.specs.Stages.{Stage, KeepsIds, home, first_stage}
+use Rattle.trigger_state.specs.Stages.{Stage, KeepsIds, home}
 use Rattle.trigger_state.specs.Problems.{event_in, absorbed_all, grown, open_of}
 use Rattle.trigger_state.specs.declared.problems.Open.{Open}
 use Rattle.entry_step.specs.declared.occasions.Occasion.{Occasion}
@@ -53,6 +53,7 @@ use Rattle.entry_step.proofs.Said.{each_flat_map, due_about, IsQuiet, about_quie
 use Rattle.entry_step.proofs.Covered.{MakesTagged, quiet_tagged, phase_tagged, tagged_all}
 use Rattle.entry_step.proofs.Coming.{Became, became, same_length, some_map, still_ordered, keeps_with, empty_keeps, empty_ordered, size_roomless, marks_listed}
 use Rattle.entry_step.proofs.Phases.{none_same, phase_is}
+use Rattle.entry_step.specs.Start.{Start, fresh, first_start}
 
 -- the items of a trigger that is over the item of a value are in the value's foot
 pub calls_touched : (conf : Conf) (now item time : ℕ) (value : List ℕ) (id i : ℕ) → has_id (over_of conf item) id ≡ true → IsCalled conf id i → is_one conf.items i ≡ true → touches conf (Value now item time value) (ItemKey i) ≡ true
@@ -354,66 +355,70 @@ value_taken stage held next e now item time value made occasion is on takes =
     (subst (λ o. TakesIn stage o (visits_at stage.conf (memory_kept held.memories) o.number (Value o.now item time value)) (triggers_at stage.conf (memory_kept held.memories) o.number (Value o.now item time value)) held made next) (on ∙ ap (occasion_of held.tick e.number) is) takes))
 
 -- Over logs
-seen_by : (conf : Conf) (log : List Numbered) (i : ℕ) → Suits conf log → seen_of conf log i ≤ last_moment log
-seen_by conf [] i h = omega arith
-seen_by conf (e ∷ log) i h = go (touches conf e.entry (ItemKey i)) (seen_by conf log i h.0)
+seen_by : (start : Start) (log : List Numbered) (i : ℕ) → Suits start log → seen_of start log i ≤ last_moment start log
+seen_by start [] i h = omega arith
+seen_by start (e ∷ log) i h = go (touches start.stage.conf e.entry (ItemKey i)) (seen_by start log i h.0)
   where
-    go : (b : Bool) → seen_of conf log i ≤ last_moment log → cond b (moment_of e.entry) (seen_of conf log i) ≤ moment_of e.entry
+    go : (b : Bool) → seen_of start log i ≤ last_moment start log → cond b (moment_of e.entry) (seen_of start log i) ≤ moment_of e.entry
     go true k = omega arith
     go false k = let m = h.1 in omega arith
 
-pub comes_after : (stage : Stage) (c : Cells) (log : List Numbered) (e : Numbered) → AreCellsOf stage c log → Suits stage.conf (e ∷ log) → ComesAfter stage.conf c e
+pub comes_after : (start : Start) (c : Cells) (log : List Numbered) (e : Numbered) → AreCellsOf start c log → Suits start (e ∷ log) → ComesAfter start.stage.conf c e
 unfolding AreCellsOf look
-comes_after stage c log e stand h id t =
-    let k = seen_by stage.conf log id h.0 in
+comes_after start c log e stand h id t =
+    let k = seen_by start log id h.0 in
     let m = h.1 in
-    let s : (c (ItemKey id)).seen ≡ seen_of stage.conf log id = ap (λ x. (x (ItemKey id)).seen) stand in omega arith
+    let s : (c (ItemKey id)).seen ≡ seen_of start log id = ap (λ x. (x (ItemKey id)).seen) stand in omega arith
 
-judged_are : (stage : Stage) (log : List Numbered) (rs : List Rec) (e : Numbered) → judged_at stage (look stage log rs) e.number e.entry ≡ judged_of stage log e e.entry rs
+judged_are : (start : Start) (log : List Numbered) (rs : List Rec) (e : Numbered) → judged_at start.stage (look start log rs) e.number e.entry ≡ judged_of start log e e.entry rs
 unfolding judged_at judged_of look item_after
-judged_are stage log rs e =
+judged_are start log rs e =
     ap (λ xs. failures ++ xs)
-    (ap (λ p. phase stage one p ids) (sym quietly) ∙ phase_is stage one (rs ++ failures) ids)
+    (ap (λ p. phase start.stage one p ids) (sym quietly) ∙ phase_is start.stage one (rs ++ failures) ids)
   where
     failures : List Rec
-    failures = failures_at stage.conf (memory_of stage.conf log) e.number e.entry
+    failures = failures_at start.stage.conf (memory_of start log) e.number e.entry
 
     ids : List ℕ
-    ids = triggers_at stage.conf (memory_of stage.conf log) e.number e.entry
+    ids = triggers_at start.stage.conf (memory_of start log) e.number e.entry
 
     one : (ℕ → List Open) → ℕ → List Rec
-    one = evaluated stage (occasion_of (first_tick log) e.number e.entry) (λ i. with_stored (stored_of stage.conf (memory_of stage.conf log) e.number e.entry i) (history_of stage.conf log i))
+    one = evaluated start.stage (occasion_of (first_tick start log) e.number e.entry) (λ i. with_stored (stored_of start.stage.conf (memory_of start log) e.number e.entry i) (history_of start log i))
 
-    quietly : open_of stage (rs ++ failures) ≡ open_of stage rs
-    quietly = fun_ext (λ id. open_append stage id rs failures ∙ land_off stage (λ id. false) id (open_of stage rs id) failures (failures_land stage (memory_of stage.conf log) e.number e.entry) refl)
+    quietly : open_of start.stage (rs ++ failures) ≡ open_of start.stage rs
+    quietly = fun_ext (λ id. open_append start.stage id rs failures ∙ land_off start.stage (λ id. false) id (open_of start.stage rs id) failures (failures_land start.stage (memory_of start log) e.number e.entry) refl)
 
-pub records_are : (stage : Stage) (log : List Numbered) (rs : List Rec) (e : Numbered) → records stage (look stage log rs) e ≡ out_of stage log e e.entry rs
+pub records_are : (start : Start) (log : List Numbered) (rs : List Rec) (e : Numbered) → records start.stage (look start log rs) e ≡ out_of start log e e.entry rs
 unfolding records_at out_of look
-records_are stage log rs e =
-    let more : List Rec = judged_of stage log e e.entry rs in
-    ap (λ xs. xs ++ due_at stage e.entry (grown stage (opens_in (look stage log rs)) xs)) (judged_are stage log rs e)
-    ∙ ap (λ all. more ++ due_at stage e.entry all) (fun_ext (λ id. sym (open_append stage id rs more)))
+records_are start log rs e =
+    let more : List Rec = judged_of start log e e.entry rs in
+    ap (λ xs. xs ++ due_at start.stage e.entry (grown start.stage (opens_in (look start log rs)) xs)) (judged_are start log rs e)
+    ∙ ap (λ all. more ++ due_at start.stage e.entry all) (fun_ext (λ id. sym (open_append start.stage id rs more)))
 
-pub after_is : (stage : Stage) (log : List Numbered) (rs : List Rec) (e : Numbered) → after stage (look stage log rs) e ≡ look stage (e ∷ log) (rs ++ out_of stage log e e.entry rs)
+pub after_is : (start : Start) (log : List Numbered) (rs : List Rec) (e : Numbered) → after start.stage (look start log rs) e ≡ look start (e ∷ log) (rs ++ out_of start log e e.entry rs)
 unfolding after look item_after marks_of
-after_is stage log rs e = fun_ext go
+after_is start log rs e = fun_ext go
   where
-    go : (k : Key) → after stage (look stage log rs) e k ≡ look stage (e ∷ log) (rs ++ out_of stage log e e.entry rs) k
+    go : (k : Key) → after start.stage (look start log rs) e k ≡ look start (e ∷ log) (rs ++ out_of start log e e.entry rs) k
     go (ItemKey i) = refl
-    go (TriggerKey id) = ap (absorbed_all stage id (open_of stage rs id)) (records_are stage log rs e) ∙ sym (open_append stage id rs (out_of stage log e e.entry rs))
+    go (TriggerKey id) = ap (absorbed_all start.stage id (open_of start.stage rs id)) (records_are start log rs e) ∙ sym (open_append start.stage id rs (out_of start log e e.entry rs))
     go TickKey = refl
 
 -- One entry over cells that stand for a log
-pub one_entry : (stage : Stage) (c : Cells) (log : List Numbered) (e : Numbered) → AreCellsOf stage c log → (records stage c e ≡ out_of stage log e e.entry (replay stage log)) × AreCellsOf stage (after stage c e) (e ∷ log)
+pub one_entry : (start : Start) (c : Cells) (log : List Numbered) (e : Numbered) → AreCellsOf start c log → (records start.stage c e ≡ out_of start log e e.entry (start.records ++ replay start log)) × AreCellsOf start (after start.stage c e) (e ∷ log)
 unfolding AreCellsOf
-one_entry stage c log e h = (ap (λ x. records stage x e) h ∙ records_are stage log (replay stage log) e, ap (λ x. after stage x e) h ∙ after_is stage log (replay stage log) e)
+one_entry start c log e h =
+    let rs = start.records ++ replay start log in (
+      ap (λ x. records start.stage x e) h ∙ records_are start log rs e,
+      ap (λ x. after start.stage x e) h ∙ after_is start log rs e ∙ ap (look start (e ∷ log)) (append_assoc start.records (replay start log) (out_of start log e e.entry rs)),
+    )
 
-pub steps_out : (stage : Stage) (held next : CellsView) (e : Numbered) (made : List Rec) → StepsTo stage held e made next → (log : List Numbered) → Holds stage held log → Suits stage.conf (e ∷ log)
-    → (made ≡ out_of stage log e e.entry (replay stage log)) × Holds stage next (e ∷ log)
-steps_out stage held next e made steps log h suit =
-    let both = steps h.cells h.represented (comes_after stage h.cells log e h.stand suit) suit.2 in
-    let one = one_entry stage h.cells log e h.stand in
-    (both.0 ∙ one.0, record { cells = after stage h.cells e; stand = one.1; represented = both.1 })
+pub steps_out : (start : Start) (held next : CellsView) (e : Numbered) (made : List Rec) → StepsTo start.stage held e made next → (log : List Numbered) → Holds start held log → Suits start (e ∷ log)
+    → (made ≡ out_of start log e e.entry (start.records ++ replay start log)) × Holds start next (e ∷ log)
+steps_out start held next e made steps log h suit =
+    let both = steps h.cells h.represented (comes_after start h.cells log e h.stand suit) suit.2 in
+    let one = one_entry start h.cells log e h.stand in
+    (both.0 ∙ one.0, record { cells = after start.stage h.cells e; stand = one.1; represented = both.1 })
 
 -- Cells of a configuration, before its first entry
 replicated_rows : (n id : ℕ) → problems_at (replicate n []) id ≡ []
@@ -434,10 +439,10 @@ length_replicated zero x = refl
 length_replicated (suc n) x = ap suc (length_replicated n x)
 
 pub holds_nothing : (conf : Conf) (made : ItemCells) (problems : List (List Open)) → AreNew conf made → problems ≡ replicate (length conf.triggers) []
-    → Holds (first_stage conf) (record { items = map roomless made.cells.items; memories = made.memories.items; problems = problems; tick = None }) []
+    → Holds (first_start conf) (record { items = map roomless made.cells.items; memories = made.memories.items; problems = problems; tick = None }) []
 unfolding AreCellsOf look marks_of Rattle.preprocess.specs.Laws.marks_behind
 holds_nothing conf made problems new none = record {
-  cells = look (first_stage conf) [] [];
+  cells = look (first_start conf) [] [];
   stand = refl;
   represented = record {
     items = size_roomless made.cells.items ∙ same_length made.cells.items conf.items (λ id. sym (some_map kept_of (at_id made.cells.items id)) ∙ ap is_some (sym (at_map kept_of made.cells.items id) ∙ holds.kept id) ∙ some_map (λ (item : Item). kept_behind conf [] id) (at_id conf.items id));
@@ -484,7 +489,7 @@ on_ok (Ok x) P Q f p = f x p
 on_ok (Err x) P Q f p = tt
 
 -- what holds nothing holds a log of a configuration's entry
-pub config_holds : (stage : Stage) (held : CellsView) (e : Numbered) (now : ℕ) (text : List ℕ) → e.entry ≡ Config now text → Holds stage held [] → Holds stage held (e ∷ [])
+pub config_holds : (stage : Stage) (held : CellsView) (e : Numbered) (now : ℕ) (text : List ℕ) → e.entry ≡ Config now text → Holds (fresh stage) held [] → Holds (fresh stage) held (e ∷ [])
 config_holds stage held e now text is h =
-    (steps_out stage held held e [] (config_steps stage held e now text [] is refl) [] h
+    (steps_out (fresh stage) held held e [] (config_steps stage held e now text [] is refl) [] h
     (tt, omega arith, subst (IsFitting stage.conf) (sym is) tt)).1

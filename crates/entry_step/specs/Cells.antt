@@ -4,6 +4,7 @@ use Rattle.std.specs.List.{list_any}
 use Rattle.zbx_types.specs.Masters.{has_id}
 use Rattle.zbx_types.specs.declared.conf.Conf.{Conf}
 use Rattle.trigger_state.specs.Stages.{Stage}
+use Rattle.entry_step.specs.Start.{Start}
 use Rattle.zbx_types.specs.declared.entries.Entry.{Entry}
 use Rattle.zbx_types.specs.declared.entries.Entry.TheVariants.{Config, Value, Tick}
 use Rattle.zbx_types.specs.declared.entries.Numbered.{Numbered}
@@ -98,18 +99,19 @@ after stage c e (ItemKey i) = item_after stage.conf (memory_in c) e.number e.ent
 after stage c e (TriggerKey id) = absorbed_all stage id (c (TriggerKey id)) (records stage c e)
 after stage c e TickKey = tick_with (c TickKey) e.entry
 
--- the moment of the last entry of a log whose foot holds the item
-abbrev pub seen_of : Conf → List Numbered → ℕ → ℕ
-seen_of conf [] i = 0
-seen_of conf (e ∷ log) i = if touches conf e.entry (ItemKey i) then moment_of e.entry else seen_of conf log i
+-- the moment of the last entry of a log whose foot holds the item, or that of the start
+abbrev pub seen_of : Start → List Numbered → ℕ → ℕ
+seen_of start [] i = start.moment
+seen_of start (e ∷ log) i =
+    if touches start.stage.conf e.entry (ItemKey i) then moment_of e.entry else seen_of start log i
 
 -- what the cells hold, found by searching a log and its records
-unfoldable pub look : Stage → List Numbered → List Rec → Cells
-look stage log rs (ItemKey i) =
-    record { history = history_of stage.conf log i; marks = marks_of stage.conf log i; seen = seen_of stage.conf log i }
-look stage log rs (TriggerKey id) = open_of stage rs id
-look stage log rs TickKey = first_tick log
+unfoldable pub look : Start → List Numbered → List Rec → Cells
+look start log rs (ItemKey i) =
+    record { history = history_of start log i; marks = marks_of start log i; seen = seen_of start log i }
+look start log rs (TriggerKey id) = open_of start.stage rs id
+look start log rs TickKey = first_tick start log
 
 -- cells stand for a log: they are what the search finds in it and in its records
-unfoldable pub AreCellsOf : Stage → Cells → List Numbered → Type 0
-AreCellsOf stage c log = c ≡ look stage log (replay stage log)
+unfoldable pub AreCellsOf : Start → Cells → List Numbered → Type 0
+AreCellsOf start c log = c ≡ look start log (start.records ++ replay start log)

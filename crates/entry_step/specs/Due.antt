@@ -9,16 +9,11 @@ use Rattle.escalations.specs.Escalations.{due_records_of}
 use Rattle.trigger_state.specs.Stages.{Stage, home}
 use Rattle.trigger_state.specs.Problems.{event_in}
 use Rattle.trigger_state.specs.declared.problems.Open.{Open}
-use Rattle.entry_step.specs.Order.{order, sorted_by}
+use Rattle.entry_step.specs.Order.{order, by_event}
 
--- the number of the entry that made an open problem
-abbrev pub number_in : Open → ℕ
-number_in o = (event_in o).number
-
--- The open problems of all triggers in the order of making: by the number of their entry, and those of one entry in the
--- order in which triggers are evaluated.
+-- the open problems of all triggers in the order of making
 unfoldable pub by_making : Stage → (ℕ → List Open) → List Open
-by_making stage all = sorted_by number_in (flat_map all (order stage.conf))
+by_making stage all = by_event stage event_in (flat_map all (order stage.conf))
 
 -- the steps that are due at a moment for an open problem, one of each action at most
 abbrev pub due_for : Stage → ℕ → Open → List Rec

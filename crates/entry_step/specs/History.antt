@@ -28,15 +28,15 @@ stored_of conf memory number entry id = stored_at (visits_at conf memory number 
 
 -- what the steps of an item remember behind a log: where the newest entry comes to the item, what it leaves, and else
 -- what they remembered before it
-unfoldable pub marks_of : Conf → List Numbered → ℕ → List StepMemory
-marks_of conf [] id = option_map_or no_marks (at_id conf.items id) []
-marks_of conf (e ∷ log) id =
-    marks_after (visit_at (visits_at conf (λ i k. memory_at (marks_of conf log i) k) e.number e.entry) id)
-    (marks_of conf log id)
+unfoldable pub marks_of : Start → List Numbered → ℕ → List StepMemory
+marks_of start [] id = start.marks id
+marks_of start (e ∷ log) id =
+    marks_after (visit_at (visits_at start.stage.conf (λ i k. memory_at (marks_of start log i) k) e.number e.entry) id)
+    (marks_of start log id)
 
 -- the same of each step
-abbrev pub memory_of : Conf → List Numbered → ℕ → ℕ → StepMemory
-memory_of conf log i k = memory_at (marks_of conf log i) k
+abbrev pub memory_of : Start → List Numbered → ℕ → ℕ → StepMemory
+memory_of start log i k = memory_at (marks_of start log i) k
 
 -- with one more value, by its time and its number
 abbrev pub with_stored : Option Stored → List Stored → List Stored
@@ -44,7 +44,7 @@ with_stored None history = history
 with_stored (Some s) history = placed s history
 
 -- the history of an item: all values that were stored, the latest first, by time and then by number
-abbrev pub history_of : Conf → List Numbered → ℕ → List Stored
-history_of conf [] id = []
-history_of conf (e ∷ log) id =
-    with_stored (stored_of conf (memory_of conf log) e.number e.entry id) (history_of conf log id)
+abbrev pub history_of : Start → List Numbered → ℕ → List Stored
+history_of start [] id = start.histories id
+history_of start (e ∷ log) id =
+    with_stored (stored_of start.stage.conf (memory_of start log) e.number e.entry id) (history_of start log id)

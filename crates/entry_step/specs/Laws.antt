@@ -8,8 +8,9 @@ use Rattle.zbx_types.specs.declared.entries.Rec.{Rec}
 use Rattle.footprint.specs.Conflict.{conflict_of}
 use Rattle.entry_step.specs.Each.{Each, EachPair}
 use Rattle.entry_step.specs.Records.{out_of, replay}
-use Rattle.entry_step.specs.Cells.{Key, TickKey, CellOf, Cells, touches, records, after, AreCellsOf}
+use Rattle.entry_step.specs.Cells.{Key, TickKey, CellOf, Cells, touches, records, after, look, AreCellsOf}
 use Rattle.entry_step.specs.Represents.{IsTidy}
+use Rattle.entry_step.specs.Start.{Start, fresh}
 
 -- two families of cells agree on the foot of an entry, and have the same first Tick
 pub record Agree (conf : Conf) (e : Numbered) (c d : Cells) : Type 0 where
@@ -35,9 +36,18 @@ ConflictIsMeeting = (conf : Conf) (a b : Numbered)
     → (conflict_of conf a.entry b.entry ≡ false → Apart conf a b)
     × (Apart conf a b → conflict_of conf a.entry b.entry ≡ false)
 
--- cells that stand for a log are tidy, where the triggers of events still have the ids in them
+-- what stood before the entries of a log is tidy
+abbrev pub IsGood : Start → Type 0
+IsGood start = IsTidy start.stage (look start [] start.records)
+
+-- a fresh start is good where the triggers of events still have the ids in them
+abbrev pub FreshIsGood : Type 0
+FreshIsGood = (stage : Stage) → KeepsIds stage → IsGood (fresh stage)
+
+-- cells that stand for a log behind a good start are tidy
 abbrev pub AreTidyCells : Type 0
-AreTidyCells = (stage : Stage) (c : Cells) (log : List Numbered) → KeepsIds stage → AreCellsOf stage c log → IsTidy stage c
+AreTidyCells =
+    (start : Start) (c : Cells) (log : List Numbered) → IsGood start → AreCellsOf start c log → IsTidy start.stage c
 
 -- Locality: an entry's records and changes are a function of the entry, the configuration, the first Tick and the
 -- cells of its foot, and nothing else changes.
@@ -47,27 +57,28 @@ Locality =
     → IsLocal stage e c d × IsConfined stage e c
 
 -- each of the newer entries adds the same records with an entry in its place and without
-abbrev pub SameOut : Stage → Numbered → List Numbered → List Numbered → Type 0
-SameOut stage e [] older = Unit {0}
-SameOut stage e (a ∷ newer) older =
-    (out_of stage (newer ++ older) a a.entry (replay stage (newer ++ older)) ≡ out_of stage (newer ++ e ∷ older) a
-    a.entry (replay stage (newer ++ e ∷ older)))
-    × SameOut stage e newer older
+abbrev pub SameOut : Start → Numbered → List Numbered → List Numbered → Type 0
+SameOut start e [] older = Unit {0}
+SameOut start e (a ∷ newer) older =
+    (out_of start (newer ++ older) a a.entry (start.records ++ replay start (newer ++ older)) ≡ out_of start
+    (newer ++ e ∷ older) a a.entry (start.records ++ replay start (newer ++ e ∷ older)))
+    × SameOut start e newer older
 
 -- what an entry does over cells that stand for the log without it is what it does in its place, and behind it they
 -- stand for the log with it
-pub record InPlace (stage : Stage) (newer : List Numbered) (e : Numbered) (older : List Numbered)
+pub record InPlace (start : Start) (newer : List Numbered) (e : Numbered) (older : List Numbered)
     (c : Cells) : Type 0 where
-  pub its_records : records stage c e ≡ out_of stage older e e.entry (replay stage older)
-  pub its_changes : (d : Cells) → AreCellsOf stage d older → (k : Key) → touches stage.conf e.entry k ≡ true
-      → after stage c e k ≡ after stage d e k
-  pub stand : AreCellsOf stage (after stage c e) (newer ++ e ∷ older)
+  pub its_records : records start.stage c e ≡ out_of start older e e.entry (start.records ++ replay start older)
+  pub its_changes : (d : Cells) → AreCellsOf start d older → (k : Key) → touches start.stage.conf e.entry k ≡ true
+      → after start.stage c e k ≡ after start.stage d e k
+  pub stand : AreCellsOf start (after start.stage c e) (newer ++ e ∷ older)
 
 -- Insertion: an entry that conflicts with no newer one joins in its place.
 abbrev pub Insertion : Type 0
 Insertion =
-    (stage : Stage) (newer : List Numbered) (e : Numbered) (older : List Numbered) → KeepsIds stage → Each (λ a. Apart stage.conf e a) newer
-    → SameOut stage e newer older × ((c : Cells) → AreCellsOf stage c (newer ++ older) → InPlace stage newer e older c)
+    (start : Start) (newer : List Numbered) (e : Numbered) (older : List Numbered) → IsGood start
+    → Each (λ a. Apart start.stage.conf e a) newer
+    → SameOut start e newer older × ((c : Cells) → AreCellsOf start c (newer ++ older) → InPlace start newer e older c)
 
 -- the cells behind these entries, the oldest first
 abbrev pub cells_done : Stage → Cells → List Numbered → Cells
@@ -108,7 +119,7 @@ PassedApart conf applied e older = applied e ≡ true → applied older ≡ fals
 -- makes the records that it makes over the whole log.
 abbrev pub AppliedPart : Type 0
 AppliedPart =
-    (stage : Stage) (applied : Numbered → Bool) (older : List Numbered) (e : Numbered)
-    → KeepsIds stage → EachPair (PassedApart stage.conf applied) older
-    → Each (λ y. applied y ≡ false → Apart stage.conf y e) older → (c : Cells) → AreCellsOf stage c (filter applied older)
-    → records stage c e ≡ out_of stage older e e.entry (replay stage older)
+    (start : Start) (applied : Numbered → Bool) (older : List Numbered) (e : Numbered)
+    → IsGood start → EachPair (PassedApart start.stage.conf applied) older
+    → Each (λ y. applied y ≡ false → Apart start.stage.conf y e) older → (c : Cells) → AreCellsOf start c (filter applied older)
+    → records start.stage c e ≡ out_of start older e e.entry (start.records ++ replay start older)

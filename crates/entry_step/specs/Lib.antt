@@ -1,5 +1,6 @@
 pub mod Each
 pub mod Exchange
+pub mod Start
 pub mod Log
 pub mod Occasions
 pub mod History

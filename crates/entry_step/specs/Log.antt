@@ -9,15 +9,20 @@ use Rattle.zbx_types.specs.declared.items.Item.{Item}
 use Rattle.zbx_types.specs.declared.entries.Entry.{Entry}
 use Rattle.zbx_types.specs.declared.entries.Entry.TheVariants.{Config, Value, Tick}
 use Rattle.zbx_types.specs.declared.entries.Numbered.{Numbered}
+use Rattle.entry_step.specs.Start.{Start}
 
 -- the log of a list of entries in the order of their numbers
 abbrev pub log_of : List Numbered → List Numbered
 log_of entries = reverse entries
 
--- the moment of a log's newest entry, or moment 0
-abbrev pub last_moment : List Numbered → ℕ
-last_moment [] = 0
-last_moment (e ∷ log) = moment_of e.entry
+-- the moment of a log's newest entry, or this one
+abbrev pub moment_from : ℕ → List Numbered → ℕ
+moment_from moment [] = moment
+moment_from moment (e ∷ log) = moment_of e.entry
+
+-- the moment of a log's newest entry, or that of the start
+abbrev pub last_moment : Start → List Numbered → ℕ
+last_moment start log = moment_from start.moment log
 
 -- an entry is a Config
 abbrev pub is_config : Entry → Bool
@@ -46,20 +51,20 @@ tick_of (Tick now) = Some now
 abbrev pub tick_with : Option ℕ → Entry → Option ℕ
 tick_with first entry = option_or first (tick_of entry)
 
--- the moment of a log's first Tick
-abbrev pub first_tick : List Numbered → Option ℕ
-first_tick [] = None
-first_tick (e ∷ log) = tick_with (first_tick log) e.entry
+-- the moment of the first Tick, before a log or in it
+abbrev pub first_tick : Start → List Numbered → Option ℕ
+first_tick start [] = start.tick
+first_tick start (e ∷ log) = tick_with (first_tick start log) e.entry
 
--- the number of a log's newest entry, or 0
-abbrev pub last_number : List Numbered → ℕ
-last_number [] = 0
-last_number (e ∷ log) = e.number
+-- the number of a log's newest entry, or that of the start
+abbrev pub last_number : Start → List Numbered → ℕ
+last_number start [] = start.number
+last_number start (e ∷ log) = e.number
 
--- the numbers of a log rise
-abbrev pub IsRising : List Numbered → Type 0
-IsRising [] = Unit {0}
-IsRising (e ∷ log) = (last_number log < e.number) × IsRising log
+-- the numbers of a log rise, from that of the start on
+abbrev pub IsRising : Start → List Numbered → Type 0
+IsRising start [] = Unit {0}
+IsRising start (e ∷ log) = (last_number start log < e.number) × IsRising start log
 
 -- a log is full: its numbers are 1, 2, 3 and so on
 abbrev pub IsFull : List Numbered → Type 0
@@ -72,10 +77,11 @@ HasOneConfig [] = Unit {0}
 HasOneConfig (e ∷ log) = HasOneConfig log × (is_config e.entry ≡ (length log == 0))
 
 -- no moment of a log falls, and each of its values fits: so does each part of such a log
-abbrev pub Suits : Conf → List Numbered → Type 0
-Suits conf [] = Unit {0}
-Suits conf (e ∷ log) = Suits conf log × (last_moment log ≤ moment_of e.entry) × IsFitting conf e.entry
+abbrev pub Suits : Start → List Numbered → Type 0
+Suits start [] = Unit {0}
+Suits start (e ∷ log) =
+    Suits start log × (last_moment start log ≤ moment_of e.entry) × IsFitting start.stage.conf e.entry
 
--- a log fits a configuration, which its first entry brings
-abbrev pub Fits : Conf → List Numbered → Type 0
-Fits conf log = HasOneConfig log × Suits conf log
+-- a log fits a start, whose configuration its first entry brings
+abbrev pub Fits : Start → List Numbered → Type 0
+Fits start log = HasOneConfig log × Suits start log

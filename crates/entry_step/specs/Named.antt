@@ -13,6 +13,7 @@ use Rattle.entry_step.specs.Log.{IsRising}
 use Rattle.zbx_types.specs.Records.{event_of}
 use Rattle.trigger_state.specs.Problems.{recovers, open_of}
 use Rattle.entry_step.specs.Records.{replay}
+use Rattle.entry_step.specs.Start.{first_start}
 use Rattle.trigger_state.specs.Stages.{first_stage}
 
 -- a record is a Problem with these names of host and trigger
@@ -39,7 +40,7 @@ AreDistinct conf = (i j : ℕ) (a b : Trigger) → at_id conf.triggers i ≡ Som
 -- On a replay, the open problems of a trigger are those with its names that no Recovery names at all.
 abbrev pub OpenByNames : Type 0
 OpenByNames =
-    (conf : Conf) (log : List Numbered) → IsRising log → AreDistinct conf → (id : ℕ) (trigger : Trigger)
+    (conf : Conf) (log : List Numbered) → IsRising (first_start conf) log → AreDistinct conf → (id : ℕ) (trigger : Trigger)
     → at_id conf.triggers id ≡ Some trigger
-    → map (λ o. o.problem) (open_of (first_stage conf) (replay (first_stage conf) log) id) ≡ open_problems (replay (first_stage conf) log)
+    → map (λ o. o.problem) (open_of (first_stage conf) (replay (first_start conf) log) id) ≡ open_problems (replay (first_start conf) log)
     (host_of conf trigger) trigger.name

@@ -42,6 +42,7 @@ use Rattle.trigger_state.specs.declared.answer.Verdict.{Verdict}
 use Rattle.trigger_state.specs.declared.answer.Verdict.TheVariants.{Nothing, New, Close}
 use Rattle.trigger_state.specs.declared.problems.Open.{Open}
 use Rattle.entry_step.specs.declared.occasions.Occasion.{Occasion}
+use Rattle.entry_step.specs.Start.{Start}
 
 -- the Problem record of a trigger at an entry, at which its events show these values. It is suppressed where its
 -- trigger is, at this moment and for its own tags.
@@ -179,20 +180,20 @@ failures_at conf memory number entry = failures_of conf number (visits_at conf m
 
 -- what an entry makes before any step is due, behind this log and the records before it: its failures, and then the
 -- records of the triggers that it evaluates
-unfoldable pub judged_of : Stage → List Numbered → Numbered → Entry → List Rec → List Rec
-judged_of stage log e entry rs =
-    failures_at stage.conf (memory_of stage.conf log) e.number entry
-    ++ phase_over stage (evaluated stage (occasion_of (first_tick log) e.number entry) (history_of stage.conf (e ∷ log)))
-    (rs ++ failures_at stage.conf (memory_of stage.conf log) e.number entry)
-    (triggers_at stage.conf (memory_of stage.conf log) e.number entry)
+unfoldable pub judged_of : Start → List Numbered → Numbered → Entry → List Rec → List Rec
+judged_of start log e entry rs =
+    failures_at start.stage.conf (memory_of start log) e.number entry
+    ++ phase_over start.stage (evaluated start.stage (occasion_of (first_tick start log) e.number entry) (history_of start (e ∷ log)))
+    (rs ++ failures_at start.stage.conf (memory_of start log) e.number entry)
+    (triggers_at start.stage.conf (memory_of start log) e.number entry)
 
 -- the records that an entry adds to those before it, behind this log: with those, at a Tick, the steps that are due
 -- for what is open then
-unfoldable pub out_of : Stage → List Numbered → Numbered → Entry → List Rec → List Rec
-out_of stage log e entry rs =
-    judged_of stage log e entry rs ++ due_at stage entry (open_of stage (rs ++ judged_of stage log e entry rs))
+unfoldable pub out_of : Start → List Numbered → Numbered → Entry → List Rec → List Rec
+out_of start log e entry rs =
+    judged_of start log e entry rs ++ due_at start.stage entry (open_of start.stage (rs ++ judged_of start log e entry rs))
 
--- all records that the entries of a log make, one thread taking them in the order of their numbers
-abbrev pub replay : Stage → List Numbered → List Rec
-replay stage [] = []
-replay stage (e ∷ log) = replay stage log ++ out_of stage log e e.entry (replay stage log)
+-- all records that the entries of a log make behind its start, one thread taking them in the order of their numbers
+abbrev pub replay : Start → List Numbered → List Rec
+replay start [] = []
+replay start (e ∷ log) = replay start log ++ out_of start log e e.entry (start.records ++ replay start log)

@@ -19,6 +19,7 @@ use Rattle.value_cache.specs.Histories.{IsOrdered}
 use Rattle.entry_step.specs.Kept.{Keeps}
 use Rattle.entry_step.specs.Cells.{Cells, ItemKey, TriggerKey, TickKey, opens_in, touches, records, after, AreCellsOf}
 use Rattle.trigger_state.specs.declared.problems.Open.{Open}
+use Rattle.entry_step.specs.Start.{Start}
 
 -- the cells of the items, what their steps remember and the open problems of each trigger, in the order of ids, and the
 -- first Tick
@@ -66,10 +67,10 @@ pub record Represents (stage : Stage) (held : CellsView) (c : Cells) : Type 0 wh
   pub tidy : IsTidy stage c
 
 -- what a run keeps represents the cells that stand for a log
-pub record Holds (stage : Stage) (held : CellsView) (log : List Numbered) : Type 0 where
+pub record Holds (start : Start) (held : CellsView) (log : List Numbered) : Type 0 where
   pub cells : Cells
-  pub stand : AreCellsOf stage cells log
-  pub represented : Represents stage held cells
+  pub stand : AreCellsOf start cells log
+  pub represented : Represents start.stage held cells
 
 -- an entry isn't before the last moment that each item of its foot has seen
 abbrev pub ComesAfter : Conf → Cells → Numbered → Type 0

@@ -1,7 +1,7 @@
 //! The cells of a run.
 
 ghost use Rattle.std.specs.Prelude.{◌≡◌, [], replicate, IfOk};
-ghost use Rattle.trigger_state.specs.Stages.{first_stage};
+ghost use Rattle.entry_step.specs.Start.{first_start};
 ghost use Rattle.entry_step.specs.Represents.{Holds};
 
 use std::alloc::Global;
@@ -43,7 +43,7 @@ fn no_problems(alloc: Global, count: usize) -> Result<Vec<Many<Open>>, OutOfMemo
 impl Cells {
     /// The cells before the first entry of a configuration. `Err` where no memory is to be had.
     pub fn new(alloc: Global, conf: &Conf) -> Result<Cells, OutOfMemory>
-        ensures { IfOk result (λ cells. Holds (first_stage conf.now) cells []) }
+        ensures { IfOk result (λ cells. Holds (first_start conf.now) cells []) }
     {
         Ok(Cells {
             items: preprocess::Cells::new(alloc, conf)?,

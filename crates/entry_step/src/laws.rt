@@ -1,6 +1,6 @@
 //! The laws of order, over the definitions of what entries make. The functions do nothing: each stands for its clause.
 
-ghost use Rattle.entry_step.specs.Laws.{ConflictIsMeeting, AreTidyCells, Locality, Insertion, BatchOnACopy, AppliedPart};
+ghost use Rattle.entry_step.specs.Laws.{ConflictIsMeeting, FreshIsGood, AreTidyCells, Locality, Insertion, BatchOnACopy, AppliedPart};
 ghost use Rattle.entry_step.specs.Named.{OpenByNames};
 
 /// The crate `footprint` tells two entries to conflict exactly where some cell is in both feet.
@@ -8,8 +8,14 @@ pub fn conflict_is_meeting()
     ensures { ConflictIsMeeting }
 {}
 
-/// Cells that stand for a log hold each open problem in the cell of its own trigger, and nothing of an item
-/// that isn't there.
+/// A fresh start is good: nothing stood before it. It has the condition that the triggers of events still have the ids
+/// in them.
+pub fn fresh_is_good()
+    ensures { FreshIsGood }
+{}
+
+/// Cells that stand for a log behind a good start hold each open problem in the cell of its own trigger, and nothing of
+/// an item that isn't there.
 pub fn are_tidy()
     ensures { AreTidyCells }
 {}
@@ -20,9 +26,9 @@ pub fn locality()
     ensures { Locality }
 {}
 
-/// Insertion: an entry that conflicts with no later one joins in its place. Each later entry makes the same records
-/// with it and without; over cells that stand for the log without it, it makes the records and changes of its place,
-/// and behind it they stand for the log with it.
+/// Insertion: behind a good start, an entry that conflicts with no later one joins in its place. Each later entry makes
+/// the same records with it and without; over cells that stand for the log without it, it makes the records and changes
+/// of its place, and behind it they stand for the log with it.
 pub fn insertion()
     ensures { Insertion }
 {}
@@ -33,8 +39,8 @@ pub fn batch_on_a_copy()
     ensures { BatchOnACopy }
 {}
 
-/// Over cells that stand for the applied part of a log, an entry that conflicts with no older one that isn't applied
-/// makes the records that it makes over the whole log.
+/// Over cells that stand for the applied part of a log behind a good start, an entry that conflicts with no older one
+/// that isn't applied makes the records that it makes over the whole log.
 pub fn applied_part()
     ensures { AppliedPart }
 {}

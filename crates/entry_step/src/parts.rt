@@ -2,6 +2,7 @@
 //! others.
 
 ghost use Rattle.std.specs.Prelude.{◌≡◌, true, [], IfOk, OnOk, IsTrue, ◌↔◌};
+ghost use Rattle.entry_step.specs.Start.{fresh};
 ghost use Rattle.entry_step.specs.Represents.{Holds};
 ghost use Rattle.entry_step.specs.Parts.{IsPartOf, IsSame, IsReplaced, IsWorkable, WorksOut, IsCounted};
 ghost use Rattle.entry_step.specs.Exchange.{IsCopy, IsTaken};
@@ -182,9 +183,9 @@ pub fn work_out<L: Ledger>(
     entries: &[Numbered],
     steps: &mut Steps<L>,
 ) -> Result<WorkedOut, OutOfMemory>
-    requires scratch { Holds ready.now scratch.old [] }
+    requires scratch { Holds (fresh ready.now) scratch.old [] }
     requires workable { IsWorkable ready.now entries.now part.now }
-    ensures scratch { Holds ready.now scratch.new [] }
+    ensures scratch { Holds (fresh ready.now) scratch.new [] }
     ensures made { IfOk result (λ w. WorksOut ready.now entries.now part.now w.part w.made) }
     ensures counted { OnOk result (IsCounted ready.now entries.now part.now steps.old steps.new) }
 {

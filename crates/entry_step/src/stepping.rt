@@ -7,6 +7,7 @@ ghost use Rattle.std.specs.List.{list_any};
 ghost use Rattle.zbx_types.specs.declared.entries.Entry.TheVariants.{Value};
 ghost use Rattle.zbx_types.specs.declared.entries.Numbered.{Numbered};
 ghost use Rattle.zbx_types.specs.declared.entries.Stored.{Stored};
+ghost use Rattle.entry_step.specs.Start.{Start};
 ghost use Rattle.entry_step.specs.Log.{Suits};
 ghost use Rattle.preprocess.specs.Visits.{memory_in};
 ghost use Rattle.preprocess.specs.Draft.{stored_at, AreApart, HaveRoom};
@@ -394,11 +395,11 @@ pub fn step<L: Ledger>(
     steps: &mut Steps<L>,
 ) -> Result<Many<Rec>, OutOfMemory>
     ensures made { IfOk result (λ made. StepsTo ready.now cells.old entry.now made cells.new) }
-    ensures out { IfOk result (λ made. (log : List Numbered) → Holds ready.now cells.old log
-        → Suits ready.now.conf (entry.now ∷ log) → made ≡ out_of ready.now log entry.now entry.now.entry
-        (replay ready.now log)) }
-    ensures holds { OnOk result ((log : List Numbered) → Holds ready.now cells.old log
-        → Suits ready.now.conf (entry.now ∷ log) → Holds ready.now cells.new (entry.now ∷ log)) }
+    ensures out { IfOk result (λ made. (start : Start) (log : List Numbered) → start.stage ≡ ready.now
+        → Holds start cells.old log → Suits start (entry.now ∷ log)
+        → made ≡ out_of start log entry.now entry.now.entry (start.records ++ replay start log)) }
+    ensures holds { OnOk result ((start : Start) (log : List Numbered) → start.stage ≡ ready.now
+        → Holds start cells.old log → Suits start (entry.now ∷ log) → Holds start cells.new (entry.now ∷ log)) }
     ensures counted { OnOk result (steps.new ≡ steps.old + length
         (triggers_at ready.now.conf (memory_in cells.old.memories) entry.now.number entry.now.entry)) }
     ensures most { steps.new ≤ steps.old + length

@@ -14,13 +14,14 @@ use Rattle.intake_front.specs.Intake.{numbered_from}
 use Rattle.intake_front.specs.Fronted.{numbered_of}
 use Rattle.intake_front.specs.Misfit.{reached, log_with, FitsBehind}
 use Rattle.intake_front.proofs.Numbers.{length_numbered, numbered-append}
+use Rattle.entry_step.specs.Start.{first_start}
 
 -- one more entry fits a log that fits, exactly where it fits behind it
-behind_of : (conf : Conf) (e : Numbered) (log : List Numbered) → Fits conf (e ∷ log) → FitsBehind conf (reached log) e.entry
+behind_of : (conf : Conf) (e : Numbered) (log : List Numbered) → Fits (first_start conf) (e ∷ log) → FitsBehind conf (reached log) e.entry
 behind_of conf e [] fits = (fits.0.1, fits.1.2)
 behind_of conf e (f ∷ log) fits = (fits.0.1 ∙ ne_eqb _ 0 (λ h. absurd (omega (arith, h))), fits.1.1, fits.1.2)
 
-fits_more : (conf : Conf) (e : Numbered) (log : List Numbered) → Fits conf log → FitsBehind conf (reached log) e.entry → Fits conf (e ∷ log)
+fits_more : (conf : Conf) (e : Numbered) (log : List Numbered) → Fits (first_start conf) log → FitsBehind conf (reached log) e.entry → Fits (first_start conf) (e ∷ log)
 fits_more conf e [] fits behind = ((fits.0, behind.0), (fits.1, omega arith, behind.1))
 fits_more conf e (f ∷ log) fits behind = ((fits.0, behind.0 ∙ sym (ne_eqb _ 0 (λ h. absurd (omega (arith, h))))), (fits.1, behind.1, behind.2))
 
@@ -37,7 +38,7 @@ log_more log entries e =
     ∙ ap (λ (l : List Numbered). l ++ log) (reverse-append first last)
 
 -- a log that fits does so without its newest entries
-fits_without : (conf : Conf) (newer log : List Numbered) → Fits conf (newer ++ log) → Fits conf log
+fits_without : (conf : Conf) (newer log : List Numbered) → Fits (first_start conf) (newer ++ log) → Fits (first_start conf) log
 fits_without conf [] log fits = fits
 fits_without conf (e ∷ newer) log fits = fits_without conf newer log (fits.0.0, fits.1.0)
 
@@ -52,17 +53,17 @@ log_parts log a b =
     )
 
 -- entries so far, one of which is new
-pub step_fits : (conf : Conf) (log : List Numbered) (entries : List Entry) (e : Entry) → Fits conf (log_with log entries) → FitsBehind conf (reached (log_with log entries)) e → Fits conf (log_with log (entries ++ e ∷ []))
-step_fits conf log entries e fits behind = subst (Fits conf) (sym (log_more log entries e)) (fits_more conf (next log entries e) (log_with log entries) fits behind)
+pub step_fits : (conf : Conf) (log : List Numbered) (entries : List Entry) (e : Entry) → Fits (first_start conf) (log_with log entries) → FitsBehind conf (reached (log_with log entries)) e → Fits (first_start conf) (log_with log (entries ++ e ∷ []))
+step_fits conf log entries e fits behind = subst (Fits (first_start conf)) (sym (log_more log entries e)) (fits_more conf (next log entries e) (log_with log entries) fits behind)
 
 pub step_reached : (log : List Numbered) (entries : List Entry) (e : Entry) → reached (log_with log (entries ++ e ∷ [])) ≡ Some (moment_of e)
 step_reached log entries e = ap reached (log_more log entries e)
 
-pub step_misfits : (conf : Conf) (log : List Numbered) (entries rest : List Entry) (e : Entry) → ¬ (FitsBehind conf (reached (log_with log entries)) e) → ¬ (Fits conf (log_with log ((entries ++ e ∷ []) ++ rest)))
+pub step_misfits : (conf : Conf) (log : List Numbered) (entries rest : List Entry) (e : Entry) → ¬ (FitsBehind conf (reached (log_with log entries)) e) → ¬ (Fits (first_start conf) (log_with log ((entries ++ e ∷ []) ++ rest)))
 step_misfits conf log entries rest e misfits fits =
     let parts = log_parts log (entries ++ e ∷ []) rest in
-    let here = fits_without conf parts.0 (log_with log (entries ++ e ∷ [])) (subst (Fits conf) parts.1 fits) in
-    misfits (behind_of conf (next log entries e) (log_with log entries) (subst (Fits conf) (log_more log entries e) here))
+    let here = fits_without conf parts.0 (log_with log (entries ++ e ∷ [])) (subst (Fits (first_start conf)) parts.1 fits) in
+    misfits (behind_of conf (next log entries e) (log_with log entries) (subst (Fits (first_start conf)) (log_more log entries e) here))
 
 -- the log of groups with one more
 pub log_group : (groups : List Group) (g : Group) → log_of (numbered_of (groups ++ g ∷ [])) ≡ log_with (log_of (numbered_of groups)) g.entries

@@ -31,7 +31,7 @@ use Rattle.intake_front.specs.declared.origin.Origin.{Origin}
 use Rattle.intake_front.specs.declared.origin.Origin.TheVariants.{Sender, Agent}
 use Rattle.intake_front.specs.Asking.{ask_of}
 use Rattle.zbx_types.specs.Entries.{moment_of}
-use Rattle.entry_step.specs.Log.{log_of, last_moment, is_config, is_taking, IsFitting, IsFull, Fits}
+use Rattle.entry_step.specs.Log.{log_of, moment_from, is_config, is_taking, IsFitting, IsFull, Fits}
 use Rattle.maintenance.specs.Suppression.{is_collected}
 use Rattle.entry_step.specs.Names.{host_named, item_keyed}
 use Rattle.intake_front.specs.Taking.{clocked, valued, keyed, hosted, supported, taken_of, agent_taken_of, entry_in, group_by, is_enabled_host, is_enabled_item, comes_from, not_from, is_unsupported}
@@ -42,6 +42,7 @@ use Rattle.intake_front.specs.declared.answer.Stop.{Stop}
 use Rattle.intake_front.specs.declared.drafts.Draft.{Draft}
 use Rattle.intake_front.specs.declared.refusal.ValueRefusal.{ValueRefusal}
 use Rattle.intake_front.specs.declared.refusal.ValueRefusal.TheVariants.{Disabled, InMaintenance, BadValue}
+use Rattle.entry_step.specs.Start.{first_start}
 
 -- an entry that is taken at a moment: it is no Config, and fits
 record IsTakenAt (conf : Conf) (now : ℕ) (e : Entry) : Type 0 where
@@ -52,8 +53,8 @@ record IsTakenAt (conf : Conf) (now : ℕ) (e : Entry) : Type 0 where
 -- entries that are sound at a moment
 record EntriesSoundAt (conf : Conf) (now : ℕ) (entries : List Numbered) : Type 0 where
   full : IsFull (log_of entries)
-  fits : Fits conf (log_of entries)
-  moments : last_moment (log_of entries) ≤ now
+  fits : Fits (first_start conf) (log_of entries)
+  moments : moment_from 0 (log_of entries) ≤ now
   begun : 0 < length entries
 
 stand_one : (conf : Conf) (now : ℕ) (entries : List Numbered) (e : Entry) → EntriesSoundAt conf now entries → IsTakenAt conf now e
@@ -65,7 +66,7 @@ stand_one conf now entries e s t =
     let some : length entries ≡ 0 → ⊥ = λ none. let begun = s.begun in omega arith in
     let numbered : length entries + 1 ≡ length (log_of entries) + 1 = rw count refl in
     let first : is_config e ≡ eqb (length (log_of entries)) 0 = t.plain ∙ sym (ap (λ n. eqb n 0) count ∙ ne_eqb (length entries) 0 some) in
-    let later : last_moment (log_of entries) ≤ moment_of e = rw t.moment s.moments in
+    let later : moment_from 0 (log_of entries) ≤ moment_of e = rw t.moment s.moments in
     record {
       full = rw log (s.full, numbered);
       fits = rw log ((s.fits.0, first), (s.fits.1, later, t.fitting));
@@ -210,7 +211,7 @@ sound_first : (conf : Conf) (text : List ℕ) (bytes : ℕ) → IsSound conf (st
 sound_first conf text bytes = record { full = (tt, refl); fits = ((tt, refl), (tt, omega arith, tt)); moments = omega arith; begun = omega arith }
 
 -- so is one that goes on behind a full log that fits
-pub sound_start : (conf : Conf) (text : List ℕ) (kept : List Numbered) (bytes : ℕ) → IsFull (log_of kept) → Fits conf (log_of kept) → IsSound conf (start text kept bytes)
+pub sound_start : (conf : Conf) (text : List ℕ) (kept : List Numbered) (bytes : ℕ) → IsFull (log_of kept) → Fits (first_start conf) (log_of kept) → IsSound conf (start text kept bytes)
 sound_start conf text [] bytes full fits = sound_first conf text bytes
 sound_start conf text (e ∷ es) bytes full fits = record { full = full; fits = fits; moments = omega arith; begun = omega arith }
 
@@ -228,7 +229,7 @@ sound_handled limits conf i e s =
 pub kept : (limits : Limits) (conf : Conf) (old new : Intake) (e : WireEvent) → new ≡ (handled limits conf old e).intake → IsSound conf old → IsSound conf new
 kept limits conf old new e is s = subst (IsSound conf) (sym is) (sound_handled limits conf old e s)
 
-pub kept_start : (conf : Conf) (text : List ℕ) (entries : List Numbered) (bytes : ℕ) (i : Intake) → i ≡ start text entries bytes → IsFull (log_of entries) → Fits conf (log_of entries) → IsSound conf i
+pub kept_start : (conf : Conf) (text : List ℕ) (entries : List Numbered) (bytes : ℕ) (i : Intake) → i ≡ start text entries bytes → IsFull (log_of entries) → Fits (first_start conf) (log_of entries) → IsSound conf i
 kept_start conf text entries bytes i is full fits = subst (IsSound conf) (sym is) (sound_start conf text entries bytes full fits)
 
 pub kept_after : (conf : Conf) (i j : Intake) (e : WireEvent) (limits : Option Stop → Limits) (result : Result Answer OutOfMemory) → IfOk result (λ a. j ≡ (handled (limits a.stop) conf i e).intake)

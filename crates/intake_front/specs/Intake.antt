@@ -16,7 +16,7 @@ use Rattle.wire_core.specs.declared.turn.Turn.TheVariants as turn
 use Rattle.sender_json.specs.Replies.{reply_text, refusal_text}
 use Rattle.sender_json.specs.declared.asked.Asked.{Asked}
 use Rattle.agent_json.specs.declared.request.AgentAsked.{AgentAsked}
-use Rattle.entry_step.specs.Log.{log_of, last_moment, tick_of, IsFull, Fits}
+use Rattle.entry_step.specs.Log.{log_of, moment_from, tick_of, IsFull, Fits}
 use Rattle.intake_front.specs.Asking.{ask_of}
 use Rattle.intake_front.specs.Taking.{group_of, agent_group_of}
 use Rattle.intake_front.specs.Telling.{told}
@@ -27,6 +27,7 @@ use Rattle.intake_front.specs.declared.answer.Reply.{Reply}
 use Rattle.intake_front.specs.declared.answer.Stop.{Stop}
 use Rattle.intake_front.specs.declared.answer.Stop.TheVariants as stop
 use Rattle.intake_front.specs.declared.drafts.Draft.{Draft}
+use Rattle.entry_step.specs.Start.{first_start}
 
 -- What a run may journal: the most entries and the most bytes, and the number of the group that the disk refuses,
 -- counted from 1 in the run, or 0 where it refuses none.
@@ -214,7 +215,7 @@ half_with last entry = option_or (option_map half_minute (tick_of entry)) last
 -- the intake of a run that goes on behind these entries: no connection is there
 abbrev pub resumed : List Numbered → ℕ → Intake
 resumed entries bytes = record {
-  now = last_moment (log_of entries);
+  now = moment_from 0 (log_of entries);
   tick = option_map half_minute (last_tick (log_of entries));
   peers = no_peers;
   entries = entries;
@@ -235,6 +236,6 @@ start text (e ∷ es) bytes = resumed (e ∷ es) bytes
 -- the entries are a full log that fits, begun, and none is later than the moment that the events have reached
 pub record IsSound (conf : Conf) (i : Intake) : Type 0 where
   pub full : IsFull (log_of i.entries)
-  pub fits : Fits conf (log_of i.entries)
-  pub moments : last_moment (log_of i.entries) ≤ i.now
+  pub fits : Fits (first_start conf) (log_of i.entries)
+  pub moments : moment_from 0 (log_of i.entries) ≤ i.now
   pub begun : 0 < length i.entries

@@ -8,11 +8,12 @@ use Rattle.entry_step.specs.Log.{log_of, is_config, IsFitting, Fits}
 use Rattle.intake_journal.specs.declared.format.Group.{Group}
 use Rattle.intake_front.specs.Intake.{numbered_from}
 use Rattle.intake_front.specs.Fronted.{numbered_of}
+use Rattle.entry_step.specs.Start.{first_start}
 
 -- the entries of groups, numbered from 1, fit: the first alone is a Config, no moment falls, and each value is of an
 -- enabled trapper item and no later than its moment
 abbrev pub GroupsFit : Conf → List Group → Type 0
-GroupsFit conf groups = Fits conf (log_of (numbered_of groups))
+GroupsFit conf groups = Fits (first_start conf) (log_of (numbered_of groups))
 
 -- the place of the first group whose entries don't fit: those before it fit, and with it they don't; none where all fit
 abbrev pub IsFirstMisfit : Conf → List Group → Option ℕ → Type 0

@@ -5,6 +5,7 @@ ghost use Rattle.entry_step.specs.Log.{Fits, IsFitting, is_config, is_taking};
 ghost use Rattle.zbx_types.specs.Ids.{at_id};
 ghost use Rattle.zbx_types.specs.declared.entries.Numbered.{Numbered};
 ghost use Rattle.intake_front.specs.Misfit.{IsFirstMisfit, FitsBehind, reached, log_with};
+ghost use Rattle.entry_step.specs.Start.{first_start};
 
 use intake_journal::Group;
 use zbx_types::{Conf, Entry, Moment, by_id};
@@ -27,9 +28,9 @@ pub fn first_misfit(conf: &Conf, kept: &[Group]) -> Option<u64>
 
 /// Whether entries fit behind a log that has reached this moment, which goes on to that of the last one.
 fn group_fits(conf: &Conf, last: &mut Option<Moment>, entries: &[Entry]) -> bool
-    ensures fits { (log : List Numbered) → last.old ≡ reached log → Fits conf.now log
-        → MatchBool result (Fits conf.now (log_with log entries.now)
-        × (last.new ≡ reached (log_with log entries.now))) (¬ (Fits conf.now (log_with log entries.now))) }
+    ensures fits { (log : List Numbered) → last.old ≡ reached log → Fits (first_start conf.now) log
+        → MatchBool result (Fits (first_start conf.now) (log_with log entries.now)
+        × (last.new ≡ reached (log_with log entries.now))) (¬ (Fits (first_start conf.now) (log_with log entries.now))) }
 {
     for entry in entries {
         if !entry_fits(conf, *last, entry) {

@@ -13,6 +13,7 @@ ghost use Rattle.intake_front.specs.Fronted.{HasJournaled, KeepsEither, IsKept, 
 ghost use Rattle.intake_front.specs.Batch.{answered, IsIdle, HasTaken, goes_on};
 ghost use Rattle.intake_front.specs.declared.answer.Stop.TheVariants as stop;
 ghost use Rattle.intake_front.specs.declared.answer.FrontError.TheVariants as error;
+ghost use Rattle.entry_step.specs.Start.{first_start};
 
 use crate::answer::{Answer, FrontError, Stop, Unmade};
 use crate::batch::{Batch, commit};
@@ -75,7 +76,7 @@ impl<D: Disk> Front<D> {
         requires journaled { HasJournaled D.tells journal kept (journal.at + 1) }
 
         ensures made { IfOk result (λ f. f.intake ≡ start ready.now.conf.text kept (journal.at + 1)) }
-        ensures sound { IfOk result (λ f. IsFull (log_of kept) → Fits ready.now.conf (log_of kept)
+        ensures sound { IfOk result (λ f. IsFull (log_of kept) → Fits (first_start ready.now.conf) (log_of kept)
             → IsSound ready.now.conf f.intake) }
         ensures durable { IfOk result (λ f. IsKept (D.tells f.journal.disk) f.intake.entries) }
         ensures state { IfOk result (λ f. IsReady journal f.journal) }

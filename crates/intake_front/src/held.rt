@@ -3,7 +3,7 @@
 ghost use Rattle.std.specs.Prelude.{◌≡◌, ◌≤◌, ◌<◌, length};
 ghost use Rattle.std.specs.Option.{option_map};
 ghost use Rattle.intake_front.specs.Intake.{resumed, half_minute, half_with, last_tick};
-ghost use Rattle.entry_step.specs.Log.{log_of, last_moment};
+ghost use Rattle.entry_step.specs.Log.{log_of, moment_from};
 
 use std::alloc::Global;
 use std::marker::Model;
@@ -34,7 +34,7 @@ impl Model for Held {
 
 /// The moment of the last entry, or moment 0.
 fn last_moment(entries: &[Numbered]) -> Moment
-    ensures { result ≡ last_moment (log_of entries.now) }
+    ensures { result ≡ moment_from 0 (log_of entries.now) }
 {
     match entries.last() {
         Some(last) => last.entry.moment(),

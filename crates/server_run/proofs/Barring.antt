@@ -22,6 +22,7 @@ use Rattle.server_words.specs.declared.status.Status.TheVariants as status
 use Rattle.server_run.specs.Opening.{differ_at, kept_text, IsRejectedFor, IsRejected, IsAccepted, IsAhead, IsFullAtFirst, opening_lines}
 use Rattle.server_run.specs.Reasons.{Bars}
 use Rattle.server_run.proofs.Logs.{log_of-append, fits_front}
+use Rattle.entry_step.specs.Start.{first_start}
 
 -- ---- the first misfit
 
@@ -35,7 +36,7 @@ fits_prefix conf a b fits =
     let entries : List Group → List Entry = λ gs. flat_map (λ (g : Group). g.entries) gs in
     let more = numbered_append 1 (entries a) (entries b) in
     let all : numbered_of (a ++ b) ≡ numbered_of a ++ more.0 = ap (numbered_from 1) (flat_map-append (λ (g : Group). g.entries) a b) ∙ more.1 in
-    fits_front conf (log_of (numbered_of a)) more.0 (subst (Fits conf) (ap log_of all ∙ sym (log_of-append (numbered_of a) more.0)) fits)
+    fits_front conf (log_of (numbered_of a)) more.0 (subst (Fits (first_start conf)) (ap log_of all ∙ sym (log_of-append (numbered_of a) more.0)) fits)
 
 misfit_not : (conf : Conf) (groups : List Group) (at : ℕ) → IsFirstMisfit conf groups None → IsFirstMisfit conf groups (Some at) → ⊥
 misfit_not conf groups at fits (before, g, rest, is, place, first, misfits) =

@@ -33,6 +33,7 @@ use Rattle.server_run.specs.Resumed.{status_for, TurnedAway, IsTakenUp, HasBegun
 use Rattle.server_run.specs.Stops.{KeepsSome, IsEither}
 use Rattle.server_run.proofs.Logs.{onto, onto_reverse}
 use Rattle.server_run.proofs.Stopping.{leaves_more, rose_since}
+use Rattle.entry_step.specs.Start.{first_start}
 
 -- ---- entries of groups
 
@@ -61,7 +62,7 @@ full_numbered groups =
     subst IsFull (onto_reverse [] (numbered_from 1 es) ∙ append-nil (reverse (numbered_from 1 es))) (full_onto [] es 1 (omega arith) tt)
 
 -- which fits the configuration that accepts the groups
-pub fits_accepted : (conf : Conf) (groups : List Group) → IsAccepted conf groups → Fits conf (log_of (numbered_of groups))
+pub fits_accepted : (conf : Conf) (groups : List Group) → IsAccepted conf groups → Fits (first_start conf) (log_of (numbered_of groups))
 fits_accepted conf [] accepted = (tt, tt)
 fits_accepted conf (g ∷ gs) accepted = accepted.1
 
@@ -140,7 +141,7 @@ module _ {D : Type 0} (tells : D → DiskTells)
       joined (Some b) None told l l' = absurd (cc)
       joined (Some b) (Some b') told l l' = and_then (tells old) (tells journal.disk) (tells new) (λ c. KeepsAsOneOf (tells old) c ⊎ KeepsSome A c) (KeepsEither kept begins) (leaves_more (tells old) (tells journal.disk) _ _ (λ c k. inl k) l) l' among
 
-  pub has_begun : (made : Fronted D) → made.intake ≡ start conf.text kept (journal.at + 1) → (IsFull (log_of kept) → Fits conf (log_of kept) → IsSound conf made.intake) → IsIdle made → IsKept (tells made.journal.disk) made.intake.entries
+  pub has_begun : (made : Fronted D) → made.intake ≡ start conf.text kept (journal.at + 1) → (IsFull (log_of kept) → Fits (first_start conf) (log_of kept) → IsSound conf made.intake) → IsIdle made → IsKept (tells made.journal.disk) made.intake.entries
       → IsReady journal made.journal → (tells journal.disk).faults ≤ (tells made.journal.disk).faults → is_some (tells made.journal.disk).bytes ≡ is_some (tells journal.disk).bytes
       → IfSome (tells journal.disk).bytes (λ _. LeavesOnly (tells journal.disk) (tells made.journal.disk) (KeepsEither kept begins))
       → HasBegun tells conf most old made
@@ -154,7 +155,7 @@ module _ {D : Type 0} (tells : D → DiskTells)
         ready = ready.0;
         limits = (ready.1 ∙ t.limits.0, ready.2 ∙ t.limits.1);
         intake_is = intake_is;
-        sound = sound (subst (λ es. IsFull (log_of es)) (sym t.kept_are) (full_numbered t.groups)) (subst (λ es. Fits conf (log_of es)) (sym t.kept_are) (fits_accepted conf t.groups t.accepted));
+        sound = sound (subst (λ es. IsFull (log_of es)) (sym t.kept_are) (full_numbered t.groups)) (subst (λ es. Fits (first_start conf) (log_of es)) (sym t.kept_are) (fits_accepted conf t.groups t.accepted));
         idle = idle;
         journaled = record {
           left = left_so_far made.journal.disk (IsEither (numbered_of t.groups) made.intake.entries) (inl refl) (inr (sym entries_are)) left;

@@ -1,5 +1,5 @@
 -- Laws of the taking of events behind what a run had done.
-use Rattle.trigger_state.specs.Stages.{first_stage}
+use Rattle.entry_step.specs.Start.{first_start}
 use Rattle.std.proofs.Common.{◌≡◌, ◌⊎◌, ⊎_elim, ℕ, ◌+◌, ◌-◌, ◌≤◌, ◌<◌, List, [], ◌++◌, append-nil, refl, sym, ap, ◌∙◌, subst, arith, inl, inr, length, drop, true≢false}
 use Rattle.std.specs.Prelude.{◌≢◌, Option, Some, None, IfSome, Result, Ok, Err, OnOk, true, false}
 use Rattle.std.specs.Option.{option_to_list}
@@ -406,7 +406,7 @@ module _ {D : Type 0} (tells : D → DiskTells) where
     pub gone_course : (new : Fronted D) (t : Status) → course.began ≡ true → course.disk ≡ new.journal.disk → course.entries ≡ new.intake.entries → IsWorse t s → IsUnprinted t → (t ≡ status.WireFault → Rose w.faults w'.faults)
         → outbox.held ≤ length (log_lines conf (log_of kept)) → Finished (limits_of front.journal 0) conf kept front.intake new.intake.entries turns (doing front.journal.disk new.journal.disk) w w' (course_of t).ending
         → (s ≡ status.OutboxFault → Rose outbox.faults (shows course.outbox).faults) → LinesAre (course_of s).out outbox (shows course.outbox) (drop outbox.held (log_lines conf (log_of new.intake.entries)))
-        → (s ≡ status.Ok → course.counts ≡ counts_with (length new.intake.entries) (tally_of (replay (first_stage conf) (log_of new.intake.entries)))) → Gone
+        → (s ≡ status.Ok → course.counts ≡ counts_with (length new.intake.entries) (tally_of (replay (first_start conf) (log_of new.intake.entries)))) → Gone
     gone_course new t is_so disk_is entries_are worse own wire enough f fault lines counts_are = record {
       wire = wire_worse worse;
       fault = fault;
@@ -417,7 +417,7 @@ module _ {D : Type 0} (tells : D → DiskTells) where
           (subst (λ es. Finished (limits_of front.journal 0) conf kept front.intake es turns (doing front.journal.disk new.journal.disk) w w' (course_of s).ending) (sym entries_are)
           (finished_worse (limits_of front.journal 0) conf kept front.intake new.intake.entries turns (doing front.journal.disk new.journal.disk) w w' t s worse wire f));
       lines = λ y. subst (λ es. LinesAre (course_of s).out outbox (shows course.outbox) (drop outbox.held (log_lines conf (log_of es)))) (sym entries_are) lines;
-      counts_are = λ is. subst (λ es. course.counts ≡ counts_with (length es) (tally_of (replay (first_stage conf) (log_of es)))) (sym entries_are) (counts_are is);
+      counts_are = λ is. subst (λ es. course.counts ≡ counts_with (length es) (tally_of (replay (first_start conf) (log_of es)))) (sym entries_are) (counts_are is);
     }
       where
         wire_worse : IsWorse t s → s ≡ status.WireFault → Rose w.faults w'.faults

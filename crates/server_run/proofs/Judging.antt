@@ -24,13 +24,14 @@ use Rattle.server_run.specs.Recovered.{IsNumbered}
 use Rattle.server_run.specs.Opening.{config_text, first_text, kept_text, IsTextJudged, IsRejectedFor, IsRejected, IsAccepted}
 use Rattle.server_run.proofs.Barring.{fits_prefix, split_same}
 use Rattle.server_run.proofs.Logs.{onto, onto_reverse, fits_front}
+use Rattle.entry_step.specs.Start.{first_start}
 
 -- ---- the moment that a log has reached is all that matters to what is behind it
 
 some_moment : (a b : ℕ) → Some a ≡ Some b → a ≡ b
 some_moment a b e = cc
 
-same_step : (conf : Conf) (e : Entry) (n m : ℕ) (a b : List Numbered) → reached a ≡ reached b → Fits conf b → Fits conf (record { number = n; entry = e } ∷ a) → Fits conf (record { number = m; entry = e } ∷ b)
+same_step : (conf : Conf) (e : Entry) (n m : ℕ) (a b : List Numbered) → reached a ≡ reached b → Fits (first_start conf) b → Fits (first_start conf) (record { number = n; entry = e } ∷ a) → Fits (first_start conf) (record { number = m; entry = e } ∷ b)
 same_step conf e n m [] [] same fb fits = ((fb.0, fits.0.1), (fb.1, fits.1.1, fits.1.2))
 same_step conf e n m [] (h ∷ b) same fb fits = absurd (cc)
 same_step conf e n m (f ∷ a) [] same fb fits = absurd (cc)
@@ -39,7 +40,7 @@ same_step conf e n m (f ∷ a) (h ∷ b) same fb fits = (
   (fb.1, subst (λ t. t ≤ moment_of e) (some_moment (moment_of f.entry) (moment_of h.entry) same) fits.1.1, fits.1.2),
 )
 
-same_fits : (conf : Conf) (es : List Entry) (n m : ℕ) (a b : List Numbered) → reached a ≡ reached b → Fits conf b → Fits conf (onto a (numbered_from n es)) → Fits conf (onto b (numbered_from m es))
+same_fits : (conf : Conf) (es : List Entry) (n m : ℕ) (a b : List Numbered) → reached a ≡ reached b → Fits (first_start conf) b → Fits (first_start conf) (onto a (numbered_from n es)) → Fits (first_start conf) (onto b (numbered_from m es))
 same_fits conf [] n m a b same fb fits = fb
 same_fits conf (e ∷ es) n m a b same fb fits =
     let x : Numbered = record { number = n; entry = e } in
@@ -51,7 +52,7 @@ log_next groups g = log_group groups g ∙ sym (onto_reverse (log_of (numbered_o
 
 fits_beside : (conf : Conf) (a b : List Group) (g : Group) → reached (log_of (numbered_of a)) ≡ reached (log_of (numbered_of b)) → GroupsFit conf b → GroupsFit conf (a ++ g ∷ []) → GroupsFit conf (b ++ g ∷ [])
 fits_beside conf a b g same fb fits =
-    subst (Fits conf) (sym (log_next b g)) (same_fits conf g.entries _ _ (log_of (numbered_of a)) (log_of (numbered_of b)) same fb (subst (Fits conf) (log_next a g) fits))
+    subst (Fits (first_start conf)) (sym (log_next b g)) (same_fits conf g.entries _ _ (log_of (numbered_of a)) (log_of (numbered_of b)) same fb (subst (Fits (first_start conf)) (log_next a g) fits))
 
 -- a group is a misfit behind groups that fit where it is one behind others that fit and have reached the same moment
 pub next_misfit : (conf : Conf) (a b : List Group) (g : Group) (o : Option ℕ) → reached (log_of (numbered_of a)) ≡ reached (log_of (numbered_of b)) → GroupsFit conf a → GroupsFit conf b

@@ -8,6 +8,7 @@ use Rattle.zbx_types.specs.declared.entries.Numbered.{Numbered}
 use Rattle.entry_step.specs.Log.{log_of, IsFull, Fits}
 use Rattle.book.specs.Entries.{IsWholeLog}
 use Rattle.server_run.specs.Replayed.{conf_of_run}
+use Rattle.entry_step.specs.Start.{first_start}
 
 -- a log with entries behind it, in the order of their numbers
 abbrev pub onto : List Numbered → List Numbered → List Numbered
@@ -24,15 +25,15 @@ pub log_of-append : (a b : List Numbered) → onto (log_of a) b ≡ log_of (a ++
 log_of-append a b = onto_reverse (log_of a) b ∙ sym (reverse-append a b)
 
 -- what fits with entries behind it fits
-pub fits_front : (conf : Conf) (log es : List Numbered) → Fits conf (onto log es) → Fits conf log
+pub fits_front : (conf : Conf) (log es : List Numbered) → Fits (first_start conf) (onto log es) → Fits (first_start conf) log
 fits_front conf log [] fits = fits
-fits_front conf log (e ∷ es) fits = let longer : Fits conf (e ∷ log) = fits_front conf (e ∷ log) es fits in (longer.0.0, longer.1.0)
+fits_front conf log (e ∷ es) fits = let longer : Fits (first_start conf) (e ∷ log) = fits_front conf (e ∷ log) es fits in (longer.0.0, longer.1.0)
 
 full_before : (newer log : List Numbered) → IsFull (newer ++ log) → IsFull log
 full_before [] log full = full
 full_before (e ∷ es) log full = full_before es log full.0
 
-fits_before : (conf : Conf) (newer log : List Numbered) → Fits conf (newer ++ log) → Fits conf log
+fits_before : (conf : Conf) (newer log : List Numbered) → Fits (first_start conf) (newer ++ log) → Fits (first_start conf) log
 fits_before conf [] log fits = fits
 fits_before conf (e ∷ es) log fits = fits_before conf es log (fits.0.0, fits.1.0)
 
@@ -40,7 +41,7 @@ fits_before conf (e ∷ es) log fits = fits_before conf es log (fits.0.0, fits.1
 pub whole_front : (conf : Conf) (a b : List Numbered) → IsWholeLog conf (a ++ b) → IsWholeLog conf a
 whole_front conf a b whole = record {
   full = full_before (reverse b) (reverse a) (subst IsFull (reverse-append a b) whole.full);
-  fits = fits_before conf (reverse b) (reverse a) (subst (Fits conf) (reverse-append a b) whole.fits);
+  fits = fits_before conf (reverse b) (reverse a) (subst (Fits (first_start conf)) (reverse-append a b) whole.fits);
 }
 
 -- the configuration of entries is that of the first

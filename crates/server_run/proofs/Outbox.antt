@@ -1,4 +1,5 @@
 -- Laws of what an outbox has of the lines of a run's entries.
+use Rattle.entry_step.specs.Start.{first_start}
 use Rattle.std.proofs.Common.{◌≡◌, ◌⊎◌, ℕ, ◌+◌, ◌-◌, ◌≤◌, zero, suc, List, [], ◌++◌, length, take, drop, reverse, refl, sym, ap, ◌∙◌, subst, arith, ◌∷◌, inl, inr}
 use Rattle.std.proofs.lemmas.List.{length-take, reverse-append}
 use Rattle.std.specs.Prelude.{Option, Some, None}
@@ -20,7 +21,6 @@ use Rattle.server_run.specs.Replayed.{conf_of_run, replay_under, replayed, run_l
 use Rattle.server_run.specs.Statuses.{Extent, no_lines, all_lines, front_lines, course_of, IsCourse, EndsPrinted}
 use Rattle.server_run.specs.Outbox.{LinesAre, SizeIs}
 use Rattle.book.proofs.Growing.{all_front, lines_newer, drop_append}
-use Rattle.trigger_state.specs.Stages.{first_stage}
 
 -- ---- what a run leaves
 
@@ -28,7 +28,7 @@ lines_are : (conf : Conf) (entries : List Numbered) → conf_of_run entries ≡ 
 unfolding run_lines replayed
 lines_are conf entries is = ap (λ o. lines_of (replay_under o entries)) (sym is)
 
-counts_are : (conf : Conf) (entries : List Numbered) (tally : Tally) → conf_of_run entries ≡ Some conf → tally ≡ tally_of (replay (first_stage conf) (log_of entries)) → counts_with (length entries) tally ≡ run_counts entries
+counts_are : (conf : Conf) (entries : List Numbered) (tally : Tally) → conf_of_run entries ≡ Some conf → tally ≡ tally_of (replay (first_start conf) (log_of entries)) → counts_with (length entries) tally ≡ run_counts entries
 unfolding run_counts replayed
 counts_are conf entries tally is same = ap (counts_with (length entries)) (same ∙ ap (λ o. tally_of (replay_under o entries)) (sym is))
 
@@ -38,8 +38,8 @@ pub lines_left : (conf : Conf) (entries : List Numbered) (sink now : SinkTells) 
 lines_left conf entries sink now e is left = subst (λ l. LinesAre e sink now (drop sink.held l)) (lines_are conf entries is) left
 
 -- and their counts
-pub counts_left : (conf : Conf) (entries : List Numbered) (counts : Counts) → conf_of_run entries ≡ Some conf → counts ≡ counts_with (length entries) (tally_of (replay (first_stage conf) (log_of entries))) → counts ≡ run_counts entries
-counts_left conf entries counts is same = same ∙ counts_are conf entries (tally_of (replay (first_stage conf) (log_of entries))) is refl
+pub counts_left : (conf : Conf) (entries : List Numbered) (counts : Counts) → conf_of_run entries ≡ Some conf → counts ≡ counts_with (length entries) (tally_of (replay (first_start conf) (log_of entries))) → counts ≡ run_counts entries
+counts_left conf entries counts is same = same ∙ counts_are conf entries (tally_of (replay (first_start conf) (log_of entries))) is refl
 
 -- lines of more entries begin with those of fewer
 prefix_log : (a rest : List Numbered) → log_of (a ++ rest) ≡ reverse rest ++ log_of a

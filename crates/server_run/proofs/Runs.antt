@@ -19,6 +19,7 @@ use Rattle.config_templates.specs.Flat.{flat_of}
 use Rattle.config_templates.specs.Places.{Flaw, refuse}
 use Rattle.config_templates.specs.Places.Flaw.{refused}
 use Rattle.zbx_types.specs.declared.causes.Cause.{Cause}
+use Rattle.entry_step.specs.Start.{first_start}
 use Rattle.entry_step.specs.Log.{log_of, IsFull, Fits}
 use Rattle.intake_journal.specs.Settled.{KeepsAsOneOf}
 use Rattle.intake_journal.specs.declared.format.Group.{Group}
@@ -280,7 +281,7 @@ module _ {D : Type 0} (tells : D → DiskTells) (words : List (List ℕ)) (sourc
           accepted = begun.accepted;
           enough = omega (arith, enough, ap (λ (l : List ℕ). length l) (kept_lines kept same));
           whole = subst (λ es. IsFull (log_of es)) (sym f.entries_are) sound.full;
-          fits = subst (λ es. Fits conf (log_of es)) (sym f.entries_are) sound.fits;
+          fits = subst (λ es. Fits (first_start conf) (log_of es)) (sym f.entries_are) sound.fits;
           finished =
               subst (λ (i : Intake). Finished (limits_by o.plan) conf (numbered_of begun.groups) i entries o.plan.turns (Journals (KeepsAsOneOf (tells old)) (tells old) (tells new)) wire wire' (course_of s).ending) begun.intake_is
               (subst (λ n. Finished (limits_by o.plan) conf (numbered_of begun.groups) made.intake entries n (Journals (KeepsAsOneOf (tells old)) (tells old) (tells new)) wire wire' (course_of s).ending) o.turns_are

@@ -1,5 +1,5 @@
 -- How far the taking of events has come, and what of their entries was sent.
-use Rattle.trigger_state.specs.Stages.{first_stage}
+use Rattle.entry_step.specs.Start.{first_start}
 use Rattle.std.specs.Prelude.{◌≡◌, ◌≢◌, ◌⊎◌, ◌≤◌, ◌<◌, ◌+◌, ℕ, List, ◌++◌, length, drop, true, false, None, Result, Ok, Err, ⊤}
 use mathlib.Core.List.{IsPrefix}
 use Rattle.zbx_types.specs.declared.conf.Conf.{Conf}
@@ -159,4 +159,4 @@ pub record HasGone {D O : Type 0} (tells : D → DiskTells) (shows : O → SinkT
   pub lines : course.began ≡ true → LinesAre (course_of course.status).out outbox (shows course.outbox)
       (drop outbox.held (log_lines conf (log_of course.entries)))
   pub counts_are : course.status ≡ status.Ok → course.counts ≡ counts_with (length course.entries)
-      (tally_of (replay (first_stage conf) (log_of course.entries)))
+      (tally_of (replay (first_start conf) (log_of course.entries)))

@@ -1,4 +1,5 @@
 -- The lines of a run's entries, which depend on the entries alone: the first holds the configuration.
+use Rattle.entry_step.specs.Start.{first_start}
 use Rattle.std.specs.Prelude.{ℕ, List, [], ◌∷◌, Option, Some, None}
 use Rattle.std.specs.Result.{result_ok}
 use Rattle.zbx_types.specs.declared.conf.Conf.{Conf}
@@ -10,7 +11,6 @@ use Rattle.config_templates.specs.Flat.{flat_of}
 use Rattle.entry_step.specs.Log.{log_of}
 use Rattle.entry_step.specs.Records.{replay}
 use Rattle.event_text.specs.Lines.{lines_of}
-use Rattle.trigger_state.specs.Stages.{first_stage}
 
 -- the configuration that an entry holds
 abbrev pub conf_in : Entry → Option Conf
@@ -26,7 +26,7 @@ conf_of_run (e ∷ rest) = conf_in e.entry
 -- the records of one thread that replays the entries in the order of their numbers
 abbrev pub replay_under : Option Conf → List Numbered → List Rec
 replay_under None entries = []
-replay_under (Some conf) entries = replay (first_stage conf) (log_of entries)
+replay_under (Some conf) entries = replay (first_start conf) (log_of entries)
 
 -- the records of entries, under the configuration that the first one brings
 unfoldable pub replayed : List Numbered → List Rec

@@ -8,6 +8,7 @@ use Rattle.outside.specs.Causes.{Rose}
 use Rattle.outside.specs.Disk.{DiskTells, LeavesOnly}
 use Rattle.outside.specs.Tells.{SinkTells, WireTells}
 use Rattle.outside.specs.declared.event.WireEvent.{WireEvent}
+use Rattle.entry_step.specs.Start.{first_start}
 use Rattle.entry_step.specs.Log.{log_of, IsFull, Fits}
 use Rattle.intake_front.specs.Intake.{Limits, Intake, start}
 use Rattle.intake_front.specs.Served.{served}
@@ -122,7 +123,7 @@ pub record Followed (words : List (List ℕ)) (source file : Option (List ℕ)) 
   pub accepted : IsAccepted conf groups
   pub enough : held ≤ length (opening_lines conf groups)
   pub whole : IsFull (log_of entries)
-  pub fits : Fits conf (log_of entries)
+  pub fits : Fits (first_start conf) (log_of entries)
   pub finished : Finished (limits_by plan) conf (numbered_of groups) (opening_intake conf groups) entries plan.turns
       did wire wire' (course_of s).ending
 

@@ -1,5 +1,6 @@
 //! The course of a run over its book, from its opening to its last line.
 
+ghost use Rattle.entry_step.specs.Start.{first_start};
 ghost use Rattle.trigger_state.specs.Stages.{first_stage};
 ghost use Rattle.std.specs.Prelude.{◌≡◌, ◌⊎◌, ◌<◌, ◌++◌, List, IsTrue, IfOk, true, false, drop, length};
 ghost use Rattle.zbx_types.specs.declared.entries.Numbered.{Numbered};
@@ -233,7 +234,7 @@ fn finish<S: StartName, N: RunName, O: Sink>(
         (drop S.outbox.held (log_lines S.conf (log_of entries))) }
     ensures outbox { result.status ≡ Status.OutboxFault → Rose S.outbox.faults (O.tells result.outbox).faults }
     ensures counts { result.status ≡ Status.Ok → result.tally ≡ tally_of
-        (replay (first_stage S.conf) (log_of (S.kept ++ head.sent))) }
+        (replay (first_start S.conf) (log_of (S.kept ++ head.sent))) }
 {
     let _since = book.faults();
     match book.finish(alloc, prepared.ready(), head) {
@@ -286,7 +287,7 @@ fn close<S: StartName, N: RunName, D: Disk, O: Sink>(
         (drop S.outbox.held (log_lines S.conf (log_of front.intake.entries))) }
     ensures outbox { result.status ≡ Status.OutboxFault → Rose S.outbox.faults (O.tells result.outbox).faults }
     ensures counts { result.status ≡ Status.Ok → result.counts ≡ counts_with (length front.intake.entries)
-        (tally_of (replay (first_stage S.conf) (log_of front.intake.entries))) }
+        (tally_of (replay (first_start S.conf) (log_of front.intake.entries))) }
 {
     let Written {
         status,

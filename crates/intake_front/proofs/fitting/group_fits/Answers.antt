@@ -4,6 +4,7 @@ use Rattle.entry_step.specs.Log.{Fits}
 use Rattle.intake_front.specs.Misfit.{reached, log_with, FitsBehind}
 use Rattle.intake_front.proofs.Misfits.{step_fits, step_reached, step_misfits, split_more, take_next}
 use Rattle.intake_front.proofs.fitting.group_fits.Goals as goal
+use Rattle.entry_step.specs.Start.{first_start}
 
 pub returns-then-not-entry_fits : goal.returns-then-not-entry_fits
 returns-then-not-entry_fits c = record {
@@ -15,7 +16,7 @@ returns-then-not-entry_fits c = record {
       let so_far = c.loop-entry.invariant log is fits in
       let split = split_more es i e c.loop-entry-test.true c.entry-item.is in
       step_misfits conf log (take i es) (drop (i + 1) es) e (λ behind. absurd (true≢false (sym (c.if-not-entry_fits.ensures.1 (subst (λ o. FitsBehind conf o e) (sym so_far.1) behind)))))
-      (subst (λ (l : List Entry). Fits conf (log_with log l)) split all);
+      (subst (λ (l : List Entry). Fits (first_start conf) (log_with log l)) split all);
 }
 
 pub loop-entry-preserved : goal.loop-entry-preserved
@@ -27,6 +28,6 @@ loop-entry-preserved c log is fits =
     let so_far = c.loop-entry.invariant log is fits in
     let step = take_next es i e c.loop-entry-test.true c.entry-item.is in
     let behind = subst (λ o. FitsBehind conf o e) so_far.1 (c.if-not-entry_fits.ensures.0 refl) in (
-      subst (λ (l : List Entry). Fits conf (log_with log l)) (sym step) (step_fits conf log (take i es) e so_far.0 behind),
+      subst (λ (l : List Entry). Fits (first_start conf) (log_with log l)) (sym step) (step_fits conf log (take i es) e so_far.0 behind),
       ap Some c.moment.ensures ∙ sym (step_reached log (take i es) e) ∙ ap (λ (l : List Entry). reached (log_with log l)) (sym step),
     )

@@ -1,3 +1,4 @@
+use Rattle.entry_step.specs.Start.{first_start}
 use Rattle.std.proofs.Common.{◌++◌, ◌∙◌, [], length, replicate, ap, sym, subst}
 use Rattle.std.specs.Prelude.{All}
 use Rattle.std.proofs.lemmas.List.Elements.{All-nil}
@@ -7,7 +8,7 @@ use Rattle.syncer_gate.specs.Gate.{Gate}
 use Rattle.book.specs.Entries.{IsWholeLog}
 use Rattle.book.proofs.Claiming.{new_going, holds_at}
 use Rattle.book.proofs.progress.Progress.new.Goals as goal
-use Rattle.trigger_state.specs.Stages.{Stage, first_stage}
+use Rattle.trigger_state.specs.Stages.{Stage}
 
 pub invariant_of-result : goal.invariant_of-result
 invariant_of-result g c =
@@ -19,5 +20,5 @@ invariant_of-result g c =
           (c.in_ok-offer.ensures.ok ∙ ap (λ (x : Gate). record x { marks = x.marks ++ replicate c.len-count.result Pending }) c.new-claims.ensures ∙ ap (λ k. record { first = 1; marks = replicate k Pending; next = 1 }) count)
           c.in_ok-offer.ensures.step
           (c.in_ok-made.ensures ∙ ap (λ k. replicate k []) count),
-      subst (All (λ cells. Holds (first_stage g.S.StartName.conf) cells [])) (sym c.new-2.ensures.items) (All-nil (λ cells. Holds (first_stage g.S.StartName.conf) cells [])),
+      subst (All (λ cells. Holds (first_start g.S.StartName.conf) cells [])) (sym c.new-2.ensures.items) (All-nil (λ cells. Holds (first_start g.S.StartName.conf) cells [])),
     )
