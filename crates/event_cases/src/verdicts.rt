@@ -1,0 +1,278 @@
+//! Verdicts on triggers, and what stays open behind records.
+
+use crate::parts::{
+    Links, add_number, configuration, number, numbers, problem, split, tags, trigger,
+};
+use std::alloc::Global;
+use trigger_state::{Open, Opens, TriggerCells, Verdict, verdict};
+use zbx_types::{
+    Cause2, Conf, EventId, Fix, Many, Moment, OutOfMemory, Rec, RecoveryMode, Text, Trigger,
+    depths_fall, masters,
+};
+
+fn recovery(word: &str) -> RecoveryMode {
+    match word {
+        "recovery_expression" => RecoveryMode::RecoveryExpression,
+        "none" => RecoveryMode::Nothing,
+        _ => RecoveryMode::Expression,
+    }
+}
+
+/// A trigger, as `RECOVERY:DEPENDS:DEPTH:TAG`; one with a closing tag makes several problems.
+fn closing(alloc: Global, word: &str) -> Result<Trigger, OutOfMemory> {
+    let (mode, rest) = split(word, ':');
+    let (depends, rest) = split(rest, ':');
+    let (depth, tag) = split(rest, ':');
+    let depends = numbers(alloc, depends)?;
+    let close_tag = Text::of(alloc, tag)?;
+    let links = Links {
+        host: 1,
+        call_items: Many::new(alloc),
+        depends,
+        depth: number(depth),
+    };
+    Ok(trigger(alloc, links, Many::new(alloc), recovery(mode), close_tag))
+}
+
+/// A configuration of such triggers.
+fn with_triggers(alloc: Global, text: &str) -> Result<Conf, OutOfMemory> {
+    let mut made = Many::new(alloc);
+    for word in text.split_whitespace() {
+        made.push(closing(alloc, word)?)?;
+    }
+    let none = Many::new(alloc);
+    Ok(configuration(
+        alloc,
+        Many::new(alloc),
+        Many::new(alloc),
+        made,
+        none,
+        Many::new(alloc),
+    ))
+}
+
+fn at(sec: u32) -> Moment {
+    Moment { sec, ns: 0 }
+}
+
+/// An event, as `3-1`.
+fn event(word: &str) -> EventId {
+    let (first, trigger) = split(word, '-');
+    EventId {
+        number: number(first) as u64,
+        trigger: number(trigger),
+    }
+}
+
+fn ran(alloc: Global, event: EventId, text: &str) -> Result<Rec, OutOfMemory> {
+    let (action, step) = split(text, ' ');
+    let action = Text::of(alloc, action)?;
+    Ok(Rec::Step {
+        event,
+        action,
+        step: number(step),
+        now: at(100),
+    })
+}
+
+/// A record, as `problem 3-1 svc=b`, `recovery 3-1` or `step 3-1 mail 2`.
+fn record(alloc: Global, words: &str) -> Result<Rec, OutOfMemory> {
+    let (kind, rest) = split(words, ' ');
+    let (of, rest) = split(rest, ' ');
+    match kind {
+        "problem" => problem(alloc, event(of), "", rest),
+        "step" => ran(alloc, event(of), rest),
+        _ => Ok(Rec::Recovery {
+            event: event(of),
+            by: 9,
+            now: at(100),
+            cause: Cause2::Expression,
+        }),
+    }
+}
+
+fn take(
+    alloc: Global,
+    conf: &Conf,
+    cells: &mut TriggerCells,
+    words: &str,
+) -> Result<(), OutOfMemory> {
+    let record = record(alloc, words)?;
+    let taken = cells.absorb(alloc, conf, &record);
+    drop(record);
+    taken
+}
+
+/// Takes records, with commas between.
+fn take_all(
+    alloc: Global,
+    conf: &Conf,
+    cells: &mut TriggerCells,
+    text: &str,
+) -> Result<(), OutOfMemory> {
+    for words in text.split(',') {
+        if !words.is_empty() {
+            take(alloc, conf, cells, words)?;
+        }
+    }
+    Ok(())
+}
+
+/// What is open behind records, with commas between.
+fn behind(alloc: Global, conf: &Conf, text: &str) -> Result<TriggerCells, OutOfMemory> {
+    let mut cells = TriggerCells::new(alloc, conf)?;
+    match take_all(alloc, conf, &mut cells, text) {
+        Ok(()) => Ok(cells),
+        Err(OutOfMemory) => {
+            drop(cells);
+            Err(OutOfMemory)
+        }
+    }
+}
+
+fn said(alloc: Global, made: &Verdict) -> Result<String, OutOfMemory> {
+    match made {
+        Verdict::Nothing => Ok(String::from_str(alloc, "nothing")?),
+        Verdict::New => Ok(String::from_str(alloc, "new")?),
+        Verdict::Close(events) => {
+            let mut text = String::from_str(alloc, "close")?;
+            for event in events.as_slice() {
+                add_number(alloc, &mut text, event.number)?;
+            }
+            Ok(text)
+        }
+    }
+}
+
+/// The verdict that is asked for as `TRIGGER P R value TAGS`, or with `tick` in place of `value`: P and R are the values of
+/// the expressions, and anything but a number stands for none.
+fn judged(
+    alloc: Global,
+    conf: &Conf,
+    cells: &TriggerCells,
+    asked: &str,
+) -> Result<Verdict, OutOfMemory> {
+    let (id, rest) = split(asked, ' ');
+    let (p, rest) = split(rest, ' ');
+    let (r, rest) = split(rest, ' ');
+    let (at, words) = split(rest, ' ');
+    let tags = tags(alloc, words)?;
+    if !depths_fall(conf) {
+        return Ok(Verdict::Nothing);
+    }
+    verdict(
+        alloc,
+        conf,
+        cells,
+        number(id),
+        Fix::read(p.as_bytes()),
+        Fix::read(r.as_bytes()),
+        tags.as_slice(),
+        at == "value",
+    )
+}
+
+fn judged_behind(alloc: Global, conf: &Conf, text: &str) -> Result<Verdict, OutOfMemory> {
+    let (records, asked) = split(text, ';');
+    let cells = behind(alloc, conf, records)?;
+    let made = judged(alloc, conf, &cells, asked);
+    drop(cells);
+    made
+}
+
+/// The verdict in `TRIGGERS;RECORDS;ASKED`.
+fn verdict_of(alloc: Global, input: &str) -> Result<String, OutOfMemory> {
+    let (words, rest) = split(input, ';');
+    let conf = with_triggers(alloc, words)?;
+    let made = judged_behind(alloc, &conf, rest);
+    drop(conf);
+    said(alloc, &made?)
+}
+
+fn masters_in(alloc: Global, conf: &Conf, id: u32) -> Result<Many<u32>, OutOfMemory> {
+    if !depths_fall(conf) {
+        return Ok(Many::new(alloc));
+    }
+    masters(alloc, conf, id)
+}
+
+/// The masters in `TRIGGERS;ID`.
+fn masters_of(alloc: Global, input: &str) -> Result<String, OutOfMemory> {
+    let (words, id) = split(input, ';');
+    let conf = with_triggers(alloc, words)?;
+    let made = masters_in(alloc, &conf, number(id));
+    drop(conf);
+    let mut text = String::new(alloc);
+    for id in made?.as_slice() {
+        add_number(alloc, &mut text, *id as u64)?;
+    }
+    Ok(text)
+}
+
+/// The number of the first of some open problems, its depth, and the numbers of the steps that stand with it.
+fn first_of(alloc: Global, open: &[Open]) -> Result<String, OutOfMemory> {
+    let Some(first) = open.first() else {
+        return Ok(String::from_str(alloc, "none")?);
+    };
+    let number = first.problem.event().number;
+    let mut text = format!(in alloc; "{number} depth {} steps", first.depth)?;
+    for one in first.steps.as_slice() {
+        if let Rec::Step { step, .. } = one {
+            add_number(alloc, &mut text, *step as u64)?;
+        }
+    }
+    Ok(text)
+}
+
+fn open_behind(alloc: Global, conf: &Conf, text: &str) -> Result<String, OutOfMemory> {
+    let (records, id) = split(text, ';');
+    let cells = behind(alloc, conf, records)?;
+    let made = first_of(alloc, cells.open(number(id)));
+    drop(cells);
+    made
+}
+
+/// The first open problem in `TRIGGERS;RECORDS;TRIGGER`.
+fn open_of(alloc: Global, input: &str) -> Result<String, OutOfMemory> {
+    let (words, rest) = split(input, ';');
+    let conf = with_triggers(alloc, words)?;
+    let made = open_behind(alloc, &conf, rest);
+    drop(conf);
+    made
+}
+
+/// The first Tick behind those at some moments, as `100/5` for 100 seconds and 5 nanoseconds.
+fn first_tick(alloc: Global, text: &str) -> Result<String, OutOfMemory> {
+    let conf = with_triggers(alloc, "")?;
+    let cells = TriggerCells::new(alloc, &conf);
+    drop(conf);
+    let mut cells = cells?;
+    for word in text.split_whitespace() {
+        let (sec, ns) = split(word, '/');
+        cells.ticked(Moment {
+            sec: number(sec),
+            ns: number(ns),
+        });
+    }
+    let first = cells.first_tick();
+    drop(cells);
+    match first {
+        None => Ok(String::from_str(alloc, "none")?),
+        Some(first) => Ok(format!(in alloc; "{}/{}", first.sec, first.ns)?),
+    }
+}
+
+/// What a case of verdicts comes to.
+pub(crate) fn answer(
+    alloc: Global,
+    kind: &str,
+    input: &str,
+) -> Result<Option<String>, OutOfMemory> {
+    match kind {
+        "verdict" => Ok(Some(verdict_of(alloc, input)?)),
+        "masters" => Ok(Some(masters_of(alloc, input)?)),
+        "open" => Ok(Some(open_of(alloc, input)?)),
+        "first tick" => Ok(Some(first_tick(alloc, input)?)),
+        _ => Ok(None),
+    }
+}

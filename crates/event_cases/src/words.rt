@@ -1,0 +1,135 @@
+//! The words of the command line, and the statuses of a run.
+
+use server_words::{Counts, Mode, Plan, PlanError, Status, plan, printed};
+use std::alloc::Global;
+use std::convert::AsStr;
+use zbx_types::{Cause, Many, OutOfMemory, Text};
+
+/// The words of a line, between its blanks.
+fn words_of(alloc: Global, line: &str) -> Result<Many<Text>, OutOfMemory> {
+    let mut made = Many::new(alloc);
+    for word in line.split(' ') {
+        if !word.is_empty() {
+            made.push(Text::of(alloc, word)?)?;
+        }
+    }
+    Ok(made)
+}
+
+/// What a line of words asks for: mode, paths, outbox and numbers.
+fn asked(alloc: Global, line: &str) -> Result<String, OutOfMemory> {
+    match plan(alloc, words_of(alloc, line)?.as_slice()) {
+        Ok(plan) => {
+            let made = plan_line(alloc, &plan);
+            drop(plan);
+            made
+        }
+        Err(PlanError::Usage) => Ok(String::from_str(alloc, "Usage")?),
+        Err(PlanError::OutOfMemory) => Err(OutOfMemory),
+    }
+}
+
+fn mode_of(plan: &Plan) -> &'static str {
+    match plan.mode {
+        Mode::Feed => "feed",
+        Mode::Serve => "serve",
+        Mode::Workload => "workload",
+    }
+}
+
+fn shown(text: &Option<Text>) -> &str {
+    match text {
+        Some(text) => text.as_str(),
+        None => "(none)",
+    }
+}
+
+fn plan_line(alloc: Global, plan: &Plan) -> Result<String, OutOfMemory> {
+    Ok(format!(in alloc;
+        "{} config {} script {} listen {} journal {} outbox {} {} {} {} {} {}",
+        mode_of(plan),
+        shown(&plan.config),
+        shown(&plan.script),
+        shown(&plan.listen),
+        shown(&plan.journal),
+        plan.outbox.as_str(),
+        plan.syncers,
+        plan.turns,
+        plan.max_entries,
+        plan.number,
+        plan.values
+    )?)
+}
+
+/// The status with an exit number, and 103 for a refusal without a place.
+fn status_of(alloc: Global, number: u32) -> Result<Status, OutOfMemory> {
+    Ok(match number {
+        0 => Status::Ok,
+        2 => Status::Usage,
+        3 => Status::ConfigRefused {
+            path: Text::of(alloc, "/hosts/0/items/0/key")?,
+            cause: Cause::BadKey { at: 5 },
+        },
+        4 => Status::PatternRefused {
+            path: Text::of(alloc, "/a")?,
+        },
+        26 => Status::PatternTooLarge {
+            path: Text::of(alloc, "/a")?,
+        },
+        5 => Status::SourceFault,
+        6 => Status::NotOurs,
+        7 => Status::Damaged { at: 9 },
+        8 => Status::ConfigDiffers { at: 10 },
+        9 => Status::OutboxAhead {
+            held: 35,
+            lines: 34,
+        },
+        10 => Status::DiskFault,
+        11 => Status::OutboxFault,
+        12 => Status::PrintFault,
+        13 => Status::WireFault,
+        14 => Status::Full {
+            entries: 4_000_001,
+            bytes: 18_446_744_073_709_551_615,
+        },
+        15 => Status::TurnLimit,
+        16 => Status::OutOfMemory,
+        _ => Status::ConfigRefused {
+            path: Text::of(alloc, "/hosts/0/items/0/key")?,
+            cause: Cause::Duplicate,
+        },
+    })
+}
+
+/// The exit number of a status and its printed line, over some counts, its line feed as `$`.
+fn said(alloc: Global, number: u32) -> Result<String, OutOfMemory> {
+    let status = status_of(alloc, number)?;
+    let counts = Counts {
+        entries: 3,
+        problems: 1,
+        recoveries: 0,
+        messages: 0,
+        bytes: 34,
+    };
+    let exit = status.exit();
+    let line = printed(alloc, &status, &counts);
+    drop(status);
+    let line = line?;
+    match line.as_str().strip_suffix('\n') {
+        Some(front) => Ok(format!(in alloc; "{exit} {front}$")?),
+        None => Ok(format!(in alloc; "{exit} {}", line.as_str())?),
+    }
+}
+
+/// What a case of words or of statuses comes to.
+pub(crate) fn answer(
+    alloc: Global,
+    kind: &str,
+    input: &str,
+) -> Result<Option<String>, OutOfMemory> {
+    match kind {
+        "words" => Ok(Some(asked(alloc, input)?)),
+        "status" => Ok(Some(said(alloc, input.parse().unwrap_or(103))?)),
+        _ => Ok(None),
+    }
+}
