@@ -103,3 +103,11 @@ class Exits(unittest.TestCase):
         for number, status, _, restart in rows:
             if number not in ("0", "12"):
                 self.assertEqual(restart == "no", number in listed, f"{number} {status}")
+
+
+class Limits(unittest.TestCase):
+    def test_the_limits_of_the_unit_are_those_that_the_page_gives_figures_for(self):
+        unit, page = held(f"{TOP}/contrib/gifteldu.service"), held(f"{TOP}/docs/SIZING.md")
+        for name in ("LimitNOFILE", "MemoryMax"):
+            value = re.search(rf"(?m)^{name}=(\S+)$", unit)[1]
+            self.assertIn(f"`{name}={value}`", page)

@@ -207,6 +207,12 @@ class Flaws(unittest.TestCase):
         self.assertEqual((status, found), (1, []))
         self.assertEqual(errors, "problems: 1 lines are no records, the first at byte 34\n")
 
+    def test_zero_bytes_behind_the_last_line_are_told(self):
+        status, found, errors = told(self.LINES + b"R|3-1|4|13" + b"\0" * 40)
+        self.assertEqual((status, len(found)), (1, 1))
+        self.assertEqual(errors, "problems: 1 lines are no records, the first at byte 34\n")
+        self.assertEqual(told(self.LINES + b"R|3-1|4|13")[::2], (0, ""))
+
     def test_each_line_is_looked_at_where_that_is_asked(self):
         for line in (b"hello", b"P|4-1|1.0|3|0|h|t|n", b"P|4-1|1.000000000|6|0|h|t|n", b"R|3-1|4|130.000000000|x", b"S|3-1|a|x|1.000000000", b"P|4-1|1.000000000|3|0|h|t|n|tag", b"M|3-1|a|1|r|s|b\\x"):
             status, found, errors = told(self.LINES + line + b"\n" + self.LINES.replace(b"3-1", b"9-1"), "--check")

@@ -1,7 +1,5 @@
 -- What entries store of an item, and what its steps remember.
 use Rattle.std.specs.Prelude.{ℕ, List, [], ◌∷◌, Option, Some, None}
-use Rattle.std.specs.Option.{option_map_or}
-use Rattle.zbx_types.specs.Ids.{at_id}
 use Rattle.zbx_types.specs.declared.conf.Conf.{Conf}
 use Rattle.zbx_types.specs.declared.entries.Entry.{Entry}
 use Rattle.zbx_types.specs.declared.entries.Entry.TheVariants.{Config, Value, Tick}
@@ -12,7 +10,7 @@ use Rattle.value_cache.specs.Histories.{placed}
 use Rattle.preprocess.specs.Ways.{memory_at}
 use Rattle.preprocess.specs.Visits.{visits_of}
 use Rattle.preprocess.specs.Draft.{visit_at, stored_at, marks_after}
-use Rattle.preprocess.specs.Cells.{no_marks}
+use Rattle.entry_step.specs.Start.{Start}
 use Rattle.preprocess.specs.declared.visit.Visit.{Visit}
 
 -- the visits of an entry, where the steps of the items remember this: a value comes to its item, and to those below it
