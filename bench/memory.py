@@ -32,7 +32,7 @@ import time
 TOP = os.path.dirname(os.path.dirname(os.path.realpath(__file__)))
 sys.dont_write_bytecode = True
 sys.path.insert(0, f"{TOP}/tools")
-from served import framed, free_port, held, journal_of
+from served import framed, free_port, held, journal_of, program_at
 
 HEAD, TAIL = b'{"request":"sender data","data":[', b"]}"
 ELEMENTS = {
@@ -177,7 +177,7 @@ def main():
     parser.add_argument("--only", default=",".join([*CASES, *JOURNALS]))
     parser.add_argument("--mib", type=int, default=16)
     words = parser.parse_args()
-    program = os.path.realpath(words.program)
+    program = program_at(words.program)
     for name in words.only.split(","):
         with tempfile.TemporaryDirectory(dir=words.folder) as folder:
             if name in JOURNALS:

@@ -25,6 +25,14 @@ CONFIGURATION = {
 }
 
 
+def program_at(path):
+    """The whole path of a program; where none is there, that is told, and nothing is tried."""
+    found = os.path.realpath(path)
+    if not os.path.isfile(found) or not os.access(found, os.X_OK):
+        raise SystemExit(f"there is no program {path}")
+    return found
+
+
 def framed(data):
     """The frame of these bytes."""
     return b"ZBXD\x01" + struct.pack("<II", len(data), 0) + data

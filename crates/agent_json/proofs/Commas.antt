@@ -1,8 +1,10 @@
 -- What is still to be told of items.
-use Rattle.std.proofs.Common.{◌≡◌, ℕ, ◌+◌, ◌<◌, ◌≤◌, List, [], ◌∷◌, ◌++◌, Bool, true, false, cond, length, drop, get_or, map, filter, refl, sym, ap, ap₂, ◌∙◌, append_assoc, append-nil, length-append, arith}
+use Rattle.std.proofs.Common.{◌≡◌, ℕ, ◌+◌, ◌<◌, ◌≤◌, List, [], ◌∷◌, ◌++◌, Bool, true, false, cond, length, drop, get_or, map, codes, filter, refl, sym, ap, ap₂, ◌∙◌, append_assoc, append-nil, length-append, arith}
 use Rattle.std.proofs.lemmas.List.{drop_more}
+use Rattle.std.specs.Fmt.{decimal}
 use Rattle.zbx_types.specs.Frames.{longest_data}
 use Rattle.zbx_types.specs.declared.items.Item.{Item}
+use Rattle.json_text.specs.Written.{in_quotes}
 use Rattle.json_text.proofs.WrittenLemmas.{drop_end}
 use Rattle.agent_json.specs.Checks.{is_check, check_text, behind_commas, between_commas, told_of, is_first_behind, told}
 
@@ -20,10 +22,11 @@ told-behind host (item ∷ items) = by (is_check host item) (told-behind host it
 
 pub told_all : (host : ℕ) (items : List Item) → told host true items ≡ between_commas (texts_of host items)
 told_all host [] = refl
-told_all host (item ∷ items) = by (is_check host item) where
-  by : (b : Bool) → cond b (check_text item) [] ++ told host (cond b false true) items ≡ between_commas (map check_text (cond b (item ∷ filter (is_check host) items) (filter (is_check host) items)))
-  by true = ap (λ (l : List ℕ). check_text item ++ l) (told-behind host items)
-  by false = told_all host items
+told_all host (item ∷ items) = by (is_check host item) (told_all host items) where
+  by : (b : Bool) → told host true items ≡ between_commas (texts_of host items)
+      → cond b (check_text item) [] ++ told host (cond b false true) items ≡ between_commas (map check_text (cond b (item ∷ filter (is_check host) items) (filter (is_check host) items)))
+  by true rest = ap (λ (l : List ℕ). check_text item ++ l) (told-behind host items)
+  by false rest = rest
 
 module _ (host : ℕ) (whole body new : List ℕ) (first next : Bool) (items : List Item) (i : ℕ) (item : Item) where
   -- one item more
@@ -47,3 +50,18 @@ pub told_whole : (host : ℕ) (whole body : List ℕ) (first : Bool) (items : Li
 told_whole host whole body first items i h so_far =
     let none : told host first (drop i items) ≡ [] = ap (told host first) (drop_end items i h) in
     sym (append-nil body) ∙ ap (λ (l : List ℕ). body ++ l) (sym none) ∙ so_far
+
+-- the pieces of an item's text, one behind the other
+pub check_added : (item : Item) (old keyed quoted delayed counted new : List ℕ)
+    → keyed ≡ old ++ codes "{\"key\":" → quoted ≡ keyed ++ in_quotes item.key → delayed ≡ quoted ++ codes ",\"delay\":" → counted ≡ delayed ++ decimal item.delay
+    → new ≡ counted ++ codes ",\"lastlogsize\":0,\"mtime\":0}" → new ≡ old ++ check_text item
+check_added item old keyed quoted delayed counted new a b c d e =
+    let k = codes "{\"key\":" in
+    let q = in_quotes item.key in
+    let l = codes ",\"delay\":" in
+    let n = decimal item.delay in
+    let z = codes ",\"lastlogsize\":0,\"mtime\":0}" in
+    let after_key = b ∙ ap (λ (t : List ℕ). t ++ q) a ∙ append_assoc old k q in
+    let after_name = c ∙ ap (λ (t : List ℕ). t ++ l) after_key ∙ append_assoc old (k ++ q) l in
+    let after_delay = d ∙ ap (λ (t : List ℕ). t ++ n) after_name ∙ append_assoc old (k ++ q ++ l) n in
+    e ∙ ap (λ (t : List ℕ). t ++ z) after_delay ∙ append_assoc old (k ++ q ++ l ++ n) z

@@ -1,5 +1,5 @@
 -- What the agent of a host is told, in a frame or not.
-use Rattle.std.proofs.Common.{◌≡◌, ℕ, ◌<◌, ◌≤◌, List, ◌++◌, Bool, true, false, Option, Some, None, length, codes, refl, sym, ap, ◌∙◌, arith, absurd, length-append}
+use Rattle.std.proofs.Common.{◌≡◌, ℕ, ◌<◌, ◌≤◌, List, ◌++◌, Bool, true, false, Option, Some, None, length, codes, refl, sym, ap, ◌∙◌, arith, append_assoc, length-append}
 use Rattle.std.specs.Prelude.{nat_le}
 use Rattle.std.proofs.lemmas.Bool.Decides.{nat_tests}
 use Rattle.zbx_types.specs.Frames.{frame, longest_data}
@@ -11,7 +11,11 @@ use Rattle.agent_json.proofs.Commas.{told_all}
 pub told_listed : (conf : Conf) (host : ℕ) (lead made body : List ℕ) → lead ≡ codes "{\"response\":\"success\",\"data\":[" → made ≡ lead ++ told host true conf.items
     → body ≡ made ++ codes "]}" → body ≡ checks_text conf host
 unfolding checks_text checks_of
-told_listed conf host lead made body l m b = rw (b, m, l, told_all) refl
+told_listed conf host lead made body l m b =
+    let begun = codes "{\"response\":\"success\",\"data\":[" in
+    let items = told host true conf.items in
+    b ∙ ap (λ (t : List ℕ). t ++ codes "]}") (m ∙ ap (λ (t : List ℕ). t ++ items) l) ∙ append_assoc begun items (codes "]}")
+    ∙ ap (λ (t : List ℕ). begun ++ (t ++ codes "]}")) (told_all host conf.items)
 
 over : (body : List ℕ) → longest_data < length body → framed_within body ≡ None
 over body h = let no_room : nat_le (length body) longest_data ≡ false = grind (arith, nat_tests) in rw no_room refl

@@ -50,7 +50,8 @@ fn put_check(alloc: Global, body: &mut Bytes, item: &Item) -> Result<(), OutOfMe
     put_quoted(alloc, body, &item.key)?;
     body.extend(b",\"delay\":")?;
     body.push_decimal(u64::from(item.delay))?;
-    body.extend(b",\"lastlogsize\":0,\"mtime\":0}")
+    body.extend(b",\"lastlogsize\":0,\"mtime\":0}")?;
+    Ok(())
 }
 
 /// Adds what the agent of a host is told of an item, and whether the next one that it is told of would be the first.

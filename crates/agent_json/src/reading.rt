@@ -12,6 +12,7 @@ use zbx_types::{Many, OutOfMemory, Text};
 impl Element for AgentAsked {
     ghost of = { agent_asked_of };
 
+    #[tactic(auto, unfolding(crate::specs::Requests::agent_asked_of))]
     fn read(
         alloc: Global,
         reader: &mut Reader<'_>,

@@ -44,7 +44,7 @@ refiled_in now lanes new ready waiting new_ready new_waiting place filed room in
         let key : slice_index new_ready r ≡ slice_index ready r = ap (λ (l : List ℕ). get_or l r 0) re.ready_is ∙ get_or-set_other ready place r re.key 0 there_other in
         let moment : slice_index new_waiting r ≡ slice_index waiting r = ap (λ (l : List ℕ). get_or l r 0) re.waiting_is ∙ get_or-set_other waiting place r re.moment 0 there_other in
         let old : IsFiled now (slice_index_or lanes r no_lane) (slice_index ready r) (slice_index waiting r) =
-            filed.filed r (omega (arith, ap length re.ready_is, length-set ready place re.key)) in
+        filed.filed r (omega (arith, ap length re.ready_is, length-set ready place re.key)) in
         subst (λ (l : Laned). IsFiled now l (slice_index new_ready r) (slice_index new_waiting r)) (sym (others r there_other))
         (subst (λ (k : ℕ). IsFiled now (slice_index_or lanes r no_lane) k (slice_index new_waiting r)) (sym key)
         (subst (λ (m : ℕ). IsFiled now (slice_index_or lanes r no_lane) (slice_index ready r) m) (sym moment) old))
@@ -138,9 +138,9 @@ least_is_due lanes homes ready waiting now place note lane filed at_home rest in
           least = λ s inner is_due_there. elim (filed.filed s (omega (arith, filed.room))) [
             | inl other ↦ omega (arith, least s (omega (arith, filed.room)), other.1, due.1)
             | inr more ↦ elim more [
-                | inl waits ↦ absurd (omega (arith, rest s (omega (arith, filed.room, filed.size)), waits.2, is_due_there.due))
-                | inr neither ↦ absurd (neither.0 is_due_there.idle)
-              ]
+              | inl waits ↦ absurd (omega (arith, rest s (omega (arith, filed.room, filed.size)), waits.2, is_due_there.due))
+              | inr neither ↦ absurd (neither.0 is_due_there.idle)
+            ]
           ];
         })
     go (inr (inl waits)) = absurd (omega (arith, waits.1))
@@ -237,11 +237,11 @@ pub home_settled : (homes : List ℕ) (lanes : List Laned) (place : ℕ) (old : 
 home_settled homes lanes place old ok now there read at_home = λ r k inner below. elim (cases_eq r place) [
   | inl here ↦
       let same : slice_index_or (slice_set lanes place (settled old ok now)) r no_lane ≡ settled old ok now =
-          ap (λ (i : ℕ). get_or (slice_set lanes place (settled old ok now)) i no_lane) here ∙ get_or-set_same lanes place (settled old ok now) no_lane there in
+      ap (λ (i : ℕ). get_or (slice_set lanes place (settled old ok now)) i no_lane) here ∙ get_or-set_same lanes place (settled old ok now) no_lane there in
       let below' : k < length (settled old ok now).left = subst (λ (l : Laned). k < length l.left) same below in
       let old_home : (j : ℕ) → j < length old.left → IsAtHome homes r (slice_index old.left j) = λ j less.
-          subst (λ (l : Laned). IsAtHome homes r (slice_index l.left j)) (sym (read ∙ ap (λ (i : ℕ). get_or lanes i no_lane) (sym here)))
-          (at_home r j (omega (arith, here)) (subst (λ (l : Laned). j < length l.left) (read ∙ ap (λ (i : ℕ). get_or lanes i no_lane) (sym here)) less)) in
+      subst (λ (l : Laned). IsAtHome homes r (slice_index l.left j)) (sym (read ∙ ap (λ (i : ℕ). get_or lanes i no_lane) (sym here)))
+      (at_home r j (omega (arith, here)) (subst (λ (l : Laned). j < length l.left) (read ∙ ap (λ (i : ℕ). get_or lanes i no_lane) (sym here)) less)) in
       subst (λ (l : Laned). IsAtHome homes r (slice_index l.left k)) (sym same) (rest_home homes r old.left old.failed old.limit old.interval old.is_open old.due ok now old_home k below')
   | inr other ↦
       let same : slice_index_or (slice_set lanes place (settled old ok now)) r no_lane ≡ slice_index_or lanes r no_lane = get_or-set_other lanes place r (settled old ok now) no_lane other in
@@ -259,9 +259,11 @@ pub none_filed : (lanes : List Laned) (ready waiting : List ℕ) → ready ≡ r
 none_filed lanes ready waiting first second = record {
   size = ap length second ∙ length-replicate (length ready) none;
   room = omega arith;
-  filed = λ r there. inr (inr (no_idle,
-      ap (λ (l : List ℕ). get_or l r 0) first ∙ get_or-replicate (length ready) r none 0 there,
-      ap (λ (l : List ℕ). get_or l r 0) second ∙ get_or-replicate (length ready) r none 0 there));
+  filed = λ r there. inr (inr (
+    no_idle,
+    ap (λ (l : List ℕ). get_or l r 0) first ∙ get_or-replicate (length ready) r none 0 there,
+    ap (λ (l : List ℕ). get_or l r 0) second ∙ get_or-replicate (length ready) r none 0 there,
+  ));
 }
 
 -- one lane more

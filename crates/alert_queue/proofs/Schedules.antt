@@ -132,14 +132,14 @@ tried_moves table queue now n r may = elim (cases_eq (home queue n) r) [
   | inl here ↦
       let test : (home queue n == home queue n) ≡ true = eq-eqb (home queue n) (home queue n) refl in
       let at_home : Moves table queue.homes (home queue n) (Take now (Try n)) [] (lane_at queue (home queue n)) (lane_at (happens queue (Take now (Try n))) (home queue n)) =
-          inr (inl (record {
-            is = lane_same (moved queue now) (home queue n) (opened (lane_at queue (home queue n))) may.first.there;
-            idle = may.due.idle;
-            none = refl;
-            begun = ap (λ (b : Bool). cond b 1 0) test;
-            closed = refl;
-            tried = λ m. ap (λ (k : ℕ). cond (k == m) 1 0) (sym may.first.first);
-          })) in
+      inr (inl (record {
+        is = lane_same (moved queue now) (home queue n) (opened (lane_at queue (home queue n))) may.first.there;
+        idle = may.due.idle;
+        none = refl;
+        begun = ap (λ (b : Bool). cond b 1 0) test;
+        closed = refl;
+        tried = λ m. ap (λ (k : ℕ). cond (k == m) 1 0) (sym may.first.first);
+      })) in
       subst (λ (k : ℕ). Moves table queue.homes k (Take now (Try n)) [] (lane_at queue k) (lane_at (happens queue (Take now (Try n))) k)) here at_home
   | inr there ↦
       inl (record {
@@ -158,17 +158,17 @@ ended_moves table queue n ok now r may told = elim (cases_eq (home queue n) r) [
       let test : (home queue n == home queue n) ≡ true = eq-eqb (home queue n) (home queue n) refl in
       let lane = lane_at queue (home queue n) in
       let at_home : Moves table queue.homes (home queue n) (End n ok now) (made_by queue (End n ok now)) lane (lane_at (happens queue (End n ok now)) (home queue n)) =
-          inr (inr (record {
-            ok = ok;
-            now = (moved queue now).now;
-            is = lane_same (moved queue now) (home queue n) (settled lane ok (moved queue now).now) may.first.there;
-            tried = may.tried;
-            told = told ∙ ap (λ (k : ℕ). table k lane.failed) (sym may.first.first);
-            makes = marked_here queue.homes (home queue n) n (mark_of lane ok) refl ∙ ap (λ (k : ℕ). marked k (mark_of lane ok)) (sym may.first.first);
-            begun = refl;
-            closed = ap (λ (b : Bool). cond b 1 0) test;
-            untried = λ m. refl;
-          })) in
+      inr (inr (record {
+        ok = ok;
+        now = (moved queue now).now;
+        is = lane_same (moved queue now) (home queue n) (settled lane ok (moved queue now).now) may.first.there;
+        tried = may.tried;
+        told = told ∙ ap (λ (k : ℕ). table k lane.failed) (sym may.first.first);
+        makes = marked_here queue.homes (home queue n) n (mark_of lane ok) refl ∙ ap (λ (k : ℕ). marked k (mark_of lane ok)) (sym may.first.first);
+        begun = refl;
+        closed = ap (λ (b : Bool). cond b 1 0) test;
+        untried = λ m. refl;
+      })) in
       subst (λ (k : ℕ). Moves table queue.homes k (End n ok now) (made_by queue (End n ok now)) (lane_at queue k) (lane_at (happens queue (End n ok now)) k)) here at_home
   | inr there ↦
       inl (record {
@@ -214,8 +214,8 @@ goes_on table queue e all may told r there =
     elim (moves table queue e r may told) [
       | inl stays ↦ subst (Goes table) (sym stays.same) goes
       | inr more ↦ elim more [
-          | inl opens ↦ let next : Goes table (opened (lane_at queue r)) = record { fewer = goes.fewer; failures = goes.failures; rising = goes.rising } in subst (Goes table) (sym opens.is) next
-          | inr closes ↦ subst (Goes table) (sym closes.is) (settles table (lane_at queue r) closes.ok closes.now goes closes.tried.some closes.told).goes
+        | inl opens ↦ let next : Goes table (opened (lane_at queue r)) = record { fewer = goes.fewer; failures = goes.failures; rising = goes.rising } in subst (Goes table) (sym opens.is) next
+        | inr closes ↦ subst (Goes table) (sym closes.is) (settles table (lane_at queue r) closes.ok closes.now goes closes.tried.some closes.told).goes
       ]
     ]
 
@@ -229,11 +229,11 @@ one_answer table queue e r goes may told =
     elim (moves table queue e r may told) [
       | inl stays ↦ ap (λ (l : Laned). marks ++ answer table l) stays.same ∙ ap (λ (ms : List NoteMark). ms ++ answer table lane) stays.none
       | inr more ↦ elim more [
-          | inl opens ↦ ap (λ (l : Laned). marks ++ answer table l) opens.is ∙ ap (λ (ms : List NoteMark). ms ++ answer table lane) opens.none
-          | inr closes ↦
-              ap (λ (l : Laned). marks ++ answer table l) closes.is
-              ∙ ap (λ (ms : List NoteMark). ms ++ answer table (settled lane closes.ok closes.now)) closes.makes
-              ∙ (settles table lane closes.ok closes.now goes closes.tried.some closes.told).answers
+        | inl opens ↦ ap (λ (l : Laned). marks ++ answer table l) opens.is ∙ ap (λ (ms : List NoteMark). ms ++ answer table lane) opens.none
+        | inr closes ↦
+            ap (λ (l : Laned). marks ++ answer table l) closes.is
+            ∙ ap (λ (ms : List NoteMark). ms ++ answer table (settled lane closes.ok closes.now)) closes.makes
+            ∙ (settles table lane closes.ok closes.now goes closes.tried.some closes.told).answers
       ]
     ]
 
@@ -325,7 +325,7 @@ all_limits table queue (e ∷ es) all allowed n there b covers =
     let same : home next n ≡ r = ap (λ (hs : List ℕ). home_in hs n) (same_homes queue e) in
     let inside : home next n < length next.lanes = omega (arith, same, same_length queue e) in
     let rest : (k : ℕ) → Covers (lane_at next r) n k → count_tries n es ≤ k =
-        λ k cover. all_limits table next es (goes_on table queue e all allowed.0 allowed.1) allowed.2 n inside k (subst (λ (h : ℕ). Covers (lane_at next h) n k) (sym same) cover) in
+    λ k cover. all_limits table next es (goes_on table queue e all allowed.0 allowed.1) allowed.2 n inside k (subst (λ (h : ℕ). Covers (lane_at next h) n k) (sym same) cover) in
     limit_step table queue e n (count_tries n es) b (all r there) (moves table queue e r allowed.0 allowed.1) rest covers
 
 settled_closed : (lane : Laned) (ok : Bool) (now : ℕ) → open_tries (settled lane ok now) ≡ 0
@@ -338,13 +338,13 @@ one_open table queue e r may told =
     elim (moves table queue e r may told) [
       | inl stays ↦ omega (arith, stays.begun, stays.closed, ap open_tries stays.same)
       | inr more ↦ elim more [
-          | inl opens ↦
-              let shut : open_tries lane ≡ 0 = ap (λ (t : Bool). cond t 1 0) opens.idle.free in
-              omega (arith, opens.begun, opens.closed, ap open_tries opens.is)
-          | inr closes ↦
-              let was : open_tries lane ≡ 1 = ap (λ (t : Bool). cond t 1 0) closes.tried.tried in
-              omega (arith, closes.begun, closes.closed, ap open_tries closes.is, settled_closed lane closes.ok closes.now)
-        ]
+        | inl opens ↦
+            let shut : open_tries lane ≡ 0 = ap (λ (t : Bool). cond t 1 0) opens.idle.free in
+            omega (arith, opens.begun, opens.closed, ap open_tries opens.is)
+        | inr closes ↦
+            let was : open_tries lane ≡ 1 = ap (λ (t : Bool). cond t 1 0) closes.tried.tried in
+            omega (arith, closes.begun, closes.closed, ap open_tries closes.is, settled_closed lane closes.ok closes.now)
+      ]
     ]
 
 all_open : (table : ℕ → ℕ → Bool) (queue : Queued) (es : List Event) → AreAllowed table queue es → (r : ℕ)
@@ -354,7 +354,7 @@ all_open table queue (e ∷ es) allowed r =
     let next = happens queue e in
     let rest = all_open table next es allowed.2 r in
     let rest' : count_begun queue.homes r es + open_tries (lane_at next r) ≡ count_ended queue.homes r es + open_tries (lane_at (run next es) r) =
-        subst (λ (hs : List ℕ). count_begun hs r es + open_tries (lane_at next r) ≡ count_ended hs r es + open_tries (lane_at (run next es) r)) (same_homes queue e) rest in
+    subst (λ (hs : List ℕ). count_begun hs r es + open_tries (lane_at next r) ≡ count_ended hs r es + open_tries (lane_at (run next es) r)) (same_homes queue e) rest in
     omega (arith, rest', one_open table queue e r allowed.0 allowed.1)
 
 fresh_goes : (table : ℕ → ℕ → Bool) (queue : Queued) → AreFresh queue → AllGo table queue

@@ -62,19 +62,19 @@ raised size nodes at tree more =
           let other_left : 2 * k ≢ up = λ e. left (sym e) in
           let other_right : 2 * k + 1 ≢ up = λ e. right (sym e) in
           let below : min (slice_index new (2 * k)) (slice_index new (2 * k + 1)) ≡ min (slice_index nodes (2 * k)) (slice_index nodes (2 * k + 1)) =
-              ap (λ (n : ℕ). min n (get_or new (2 * k + 1) 0)) (get_or-set_other nodes up (2 * k) key 0 other_left)
-              ∙ ap (λ (n : ℕ). min (slice_index nodes (2 * k)) n) (get_or-set_other nodes up (2 * k + 1) key 0 other_right) in
+          ap (λ (n : ℕ). min n (get_or new (2 * k + 1) 0)) (get_or-set_other nodes up (2 * k) key 0 other_left)
+          ∙ ap (λ (n : ℕ). min (slice_index nodes (2 * k)) n) (get_or-set_other nodes up (2 * k + 1) key 0 other_right) in
           elim (cases_lt k up) [
             | inl less ↦
                 let here : k ≢ up = omega arith in
                 get_or-set_other nodes up k key 0 here ∙ tree.lesser k low high (omega arith) (omega arith) ∙ sym below
             | inr not_less ↦ elim (cases_lt up k) [
-                | inl greater ↦
-                    let here : k ≢ up = omega arith in
-                    get_or-set_other nodes up k key 0 here ∙ tree.lesser k low high (omega arith) (omega arith) ∙ sym below
-                | inr not_greater ↦
-                    let is : k ≡ up = omega arith in
-                    subst (λ (n : ℕ). slice_index new n ≡ min (slice_index nodes (2 * n)) (slice_index nodes (2 * n + 1))) (sym is) (get_or-set_same nodes up key 0 inside) ∙ sym below
+              | inl greater ↦
+                  let here : k ≢ up = omega arith in
+                  get_or-set_other nodes up k key 0 here ∙ tree.lesser k low high (omega arith) (omega arith) ∙ sym below
+              | inr not_greater ↦
+                  let is : k ≡ up = omega arith in
+                  subst (λ (n : ℕ). slice_index new n ≡ min (slice_index nodes (2 * n)) (slice_index nodes (2 * n + 1))) (sym is) (get_or-set_same nodes up key 0 inside) ∙ sym below
             ]
           ];
     }

@@ -11,13 +11,16 @@ notes_of r n (home ∷ homes) [] = []
 notes_of r n (home ∷ homes) (mark ∷ marked) =
     if not mark && (home == r) then n ∷ notes_of r (n + 1) homes marked else notes_of r (n + 1) homes marked
 
--- lanes into which the notes from this one on went that have no mark, each behind the others of its recipient
+-- lanes with a note more, behind the others of its recipient; one that has a mark is left out
+abbrev pub joined : List Laned → ℕ → ℕ → Bool → List Laned
+joined lanes n home true = lanes
+joined lanes n home false = slice_set lanes home (with_note (slice_index_or lanes home no_lane) n)
+
+-- lanes with the notes from this one on that have no mark
 abbrev pub filled : List Laned → ℕ → List ℕ → List Bool → List Laned
 filled lanes n [] marked = lanes
 filled lanes n (home ∷ homes) [] = lanes
-filled lanes n (home ∷ homes) (true ∷ marked) = filled lanes (n + 1) homes marked
-filled lanes n (home ∷ homes) (false ∷ marked) =
-    filled (slice_set lanes home (with_note (slice_index_or lanes home no_lane) n)) (n + 1) homes marked
+filled lanes n (home ∷ homes) (mark ∷ marked) = filled (joined lanes n home mark) (n + 1) homes marked
 
 -- the kind of a recipient's notes
 abbrev pub kind_at : List Kind → ℕ → Kind

@@ -24,13 +24,7 @@ fn keys(lane: &Lane, now: u64) -> (u64, u64)
 }
 
 /// Files a lane anew.
-pub(crate) fn refile(
-    lane: &Lane,
-    place: usize,
-    ready: &mut Least,
-    waiting: &mut Least,
-    now: u64,
-)
+pub(crate) fn refile(lane: &Lane, place: usize, ready: &mut Least, waiting: &mut Least, now: u64)
     requires ready { place < length ready.old }
     requires waiting { place < length waiting.old }
     ensures { AreRefiled now lane.now place ready.old waiting.old ready.new waiting.new }

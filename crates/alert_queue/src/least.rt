@@ -52,7 +52,11 @@ fn find(nodes: &[u64], size: usize) -> usize
 {
     let mut at = 1;
     while at < size {
-        at = if nodes[2 * at] == nodes[at] { 2 * at } else { 2 * at + 1 };
+        at = if nodes[2 * at] == nodes[at] {
+            2 * at
+        } else {
+            2 * at + 1
+        };
     }
     at - size
 }

@@ -68,7 +68,11 @@ fn next_of(
     if at < NONE {
         return Taken::Later { at: moment_of(at) };
     }
-    if left > 0 { Taken::Busy } else { Taken::Nothing }
+    if left > 0 {
+        Taken::Busy
+    } else {
+        Taken::Nothing
+    }
 }
 
 /// A try of a note begins.
@@ -178,6 +182,7 @@ fn has_open(lanes: &[Lane], homes: &[u32], note: u32) -> bool
 impl Queue {
     /// The queue of the notes that have no mark, at moment 0. Each note's recipient is told, from note 1 on, and whether the
     /// note has a mark; and for each recipient how its notes are tried.
+    #[tactic(auto, using(crate::proofs::Fillings::all_there, crate::proofs::Fillings::none_left, crate::proofs::Fillings::lanes_fit, crate::proofs::Fillings::keys_none, crate::proofs::Fillings::keys_too, crate::proofs::Fillings::room_for, crate::proofs::Fillings::kept_new, crate::proofs::Fillings::is_new, crate::proofs::Fillings::is_fresh))]
     pub fn new(
         alloc: Global,
         homes: &[u32],
@@ -224,7 +229,12 @@ impl Queue {
     {
         self.now = self.now.max(now);
         let now = self.now;
-        file_due(self.lanes.as_slice(), &mut self.ready, &mut self.waiting, now);
+        file_due(
+            self.lanes.as_slice(),
+            &mut self.ready,
+            &mut self.waiting,
+            now,
+        );
         let taken = next_of(
             self.lanes.as_slice(),
             self.homes.as_slice(),

@@ -45,7 +45,7 @@ pub(crate) struct Progress<S: StartName> {
 
 impl<S: StartName> Model for Progress<S> {
     ghost use Rattle.std.specs.Prelude.{[], All};
-    ghost use Rattle.trigger_state.specs.Stages.{first_stage};
+    ghost use Rattle.entry_step.specs.Start.{first_start};
     ghost use Rattle.entry_step.specs.Represents.{Holds};
     ghost use Rattle.book.specs.Progress.{ProgressView, IsGoing};
 

@@ -1,25 +1,14 @@
 //! What actions do about a problem, and the lines of records.
 
-use crate::parts::{add_word, matching, number, one, split};
+use crate::parts::{add_word, matching, moment, number, one, split};
 use crate::suppression::maintained;
 use case_rows::bytes_of;
-use escalations::{due, recovered};
+use escalations::{due, first, recovered};
 use event_text::{line, lines};
 use std::alloc::Global;
 use std::convert::AsStr;
 use std::mem::replace;
-use zbx_types::{
-    Action, Bytes, Conf, EventId, Many, Moment, Operation, OutOfMemory, Rec, Sending, Text,
-};
-
-/// A moment, as `540/5` for 540 seconds and 5 nanoseconds.
-fn moment(word: &str) -> Moment {
-    let (sec, ns) = split(word, '/');
-    Moment {
-        sec: number(sec),
-        ns: number(ns),
-    }
-}
+use zbx_types::{Action, Bytes, Conf, EventId, Many, Operation, OutOfMemory, Rec, Sending, Text};
 
 /// Whom a message is for: nobody where the text is empty.
 fn recipients(alloc: Global, text: &str) -> Result<Many<Text>, OutOfMemory> {
@@ -168,6 +157,7 @@ fn made_of(
     let (steps, at) = split(text, ';');
     let steps = all_ran(alloc, steps)?;
     match kind {
+        "first" => first(alloc, conf, problem, moment(at)),
         "due" => due(alloc, conf, problem, steps.as_slice(), moment(at)),
         _ => recovered(alloc, conf, problem, steps.as_slice(), moment(at)),
     }
@@ -228,7 +218,7 @@ pub(crate) fn answer(
     input: &str,
 ) -> Result<Option<String>, OutOfMemory> {
     match kind {
-        "due" | "recovered" => Ok(Some(told(alloc, kind, input)?)),
+        "first" | "due" | "recovered" => Ok(Some(told(alloc, kind, input)?)),
         "failure" => Ok(Some(failure_line(alloc, input)?)),
         _ => Ok(None),
     }

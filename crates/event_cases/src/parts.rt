@@ -16,6 +16,15 @@ pub(crate) fn number(word: &str) -> u32 {
     word.parse().unwrap_or(0)
 }
 
+/// A moment, as `540/5` for 540 seconds and 5 nanoseconds.
+pub(crate) fn moment(word: &str) -> Moment {
+    let (sec, ns) = split(word, '/');
+    Moment {
+        sec: number(sec),
+        ns: number(ns) % 1_000_000_000,
+    }
+}
+
 /// So many times a number.
 fn add_times(numbers: &mut Many<u32>, number: u32, times: u32) -> Result<(), OutOfMemory> {
     for _time in 0..times {

@@ -1,10 +1,12 @@
 //! Verdicts on triggers, and what stays open behind records.
 
+ghost use Rattle.std.specs.Prelude.{◌≡◌, Some};
+
 use crate::parts::{
-    Links, add_number, configuration, number, numbers, problem, split, tags, trigger,
+    Links, add_number, configuration, moment, number, numbers, problem, split, tags, trigger,
 };
 use std::alloc::Global;
-use trigger_state::{Open, Opens, TriggerCells, Verdict, verdict};
+use trigger_state::{InForce, Open, Opens, TriggerCells, Verdict, verdict};
 use zbx_types::{
     Cause2, Conf, EventId, Fix, Many, Moment, OutOfMemory, Rec, RecoveryMode, Text, Trigger,
     depths_fall, masters,
@@ -93,12 +95,12 @@ fn record(alloc: Global, words: &str) -> Result<Rec, OutOfMemory> {
 
 fn take(
     alloc: Global,
-    conf: &Conf,
+    stage: &InForce,
     cells: &mut TriggerCells,
     words: &str,
 ) -> Result<(), OutOfMemory> {
     let record = record(alloc, words)?;
-    let taken = cells.absorb(alloc, conf, &record);
+    let taken = cells.absorb(alloc, stage, &record);
     drop(record);
     taken
 }
@@ -106,22 +108,22 @@ fn take(
 /// Takes records, with commas between.
 fn take_all(
     alloc: Global,
-    conf: &Conf,
+    stage: &InForce,
     cells: &mut TriggerCells,
     text: &str,
 ) -> Result<(), OutOfMemory> {
     for words in text.split(',') {
         if !words.is_empty() {
-            take(alloc, conf, cells, words)?;
+            take(alloc, stage, cells, words)?;
         }
     }
     Ok(())
 }
 
 /// What is open behind records, with commas between.
-fn behind(alloc: Global, conf: &Conf, text: &str) -> Result<TriggerCells, OutOfMemory> {
-    let mut cells = TriggerCells::new(alloc, conf)?;
-    match take_all(alloc, conf, &mut cells, text) {
+fn behind(alloc: Global, stage: &InForce, text: &str) -> Result<TriggerCells, OutOfMemory> {
+    let mut cells = TriggerCells::new(alloc, stage.conf())?;
+    match take_all(alloc, stage, &mut cells, text) {
         Ok(()) => Ok(cells),
         Err(OutOfMemory) => {
             drop(cells);
@@ -142,6 +144,18 @@ fn said(alloc: Global, made: &Verdict) -> Result<String, OutOfMemory> {
             Ok(text)
         }
     }
+}
+
+/// The number whose millionths are those of a number: this one.
+fn taken_back(number: Fix) -> Option<Fix>
+    ensures { result ≡ Some number }
+{
+    Fix::of_raw(number.raw())
+}
+
+/// The value of an expression, and none where a word writes no number.
+fn value_of(word: &str) -> Option<Fix> {
+    Fix::read(word.as_bytes()).and_then(taken_back)
 }
 
 /// The verdict that is asked for as `TRIGGER P R value TAGS`, or with `tick` in place of `value`: P and R are the values of
@@ -165,17 +179,17 @@ fn judged(
         conf,
         cells,
         number(id),
-        Fix::read(p.as_bytes()),
-        Fix::read(r.as_bytes()),
+        value_of(p),
+        value_of(r),
         tags.as_slice(),
         at == "value",
     )
 }
 
-fn judged_behind(alloc: Global, conf: &Conf, text: &str) -> Result<Verdict, OutOfMemory> {
+fn judged_behind(alloc: Global, stage: &InForce, text: &str) -> Result<Verdict, OutOfMemory> {
     let (records, asked) = split(text, ';');
-    let cells = behind(alloc, conf, records)?;
-    let made = judged(alloc, conf, &cells, asked);
+    let cells = behind(alloc, stage, records)?;
+    let made = judged(alloc, stage.conf(), &cells, asked);
     drop(cells);
     made
 }
@@ -183,9 +197,9 @@ fn judged_behind(alloc: Global, conf: &Conf, text: &str) -> Result<Verdict, OutO
 /// The verdict in `TRIGGERS;RECORDS;ASKED`.
 fn verdict_of(alloc: Global, input: &str) -> Result<String, OutOfMemory> {
     let (words, rest) = split(input, ';');
-    let conf = with_triggers(alloc, words)?;
-    let made = judged_behind(alloc, &conf, rest);
-    drop(conf);
+    let stage = InForce::first(with_triggers(alloc, words)?);
+    let made = judged_behind(alloc, &stage, rest);
+    drop(stage);
     said(alloc, &made?)
 }
 
@@ -209,13 +223,13 @@ fn masters_of(alloc: Global, input: &str) -> Result<String, OutOfMemory> {
     Ok(text)
 }
 
-/// The number of the first of some open problems, its depth, and the numbers of the steps that stand with it.
+/// The number of the first of some open problems, its rank, and the numbers of the steps that stand with it.
 fn first_of(alloc: Global, open: &[Open]) -> Result<String, OutOfMemory> {
     let Some(first) = open.first() else {
         return Ok(String::from_str(alloc, "none")?);
     };
     let number = first.problem.event().number;
-    let mut text = format!(in alloc; "{number} depth {} steps", first.depth)?;
+    let mut text = format!(in alloc; "{number} rank {} steps", first.rank)?;
     for one in first.steps.as_slice() {
         if let Rec::Step { step, .. } = one {
             add_number(alloc, &mut text, *step as u64)?;
@@ -224,9 +238,9 @@ fn first_of(alloc: Global, open: &[Open]) -> Result<String, OutOfMemory> {
     Ok(text)
 }
 
-fn open_behind(alloc: Global, conf: &Conf, text: &str) -> Result<String, OutOfMemory> {
+fn open_behind(alloc: Global, stage: &InForce, text: &str) -> Result<String, OutOfMemory> {
     let (records, id) = split(text, ';');
-    let cells = behind(alloc, conf, records)?;
+    let cells = behind(alloc, stage, records)?;
     let made = first_of(alloc, cells.open(number(id)));
     drop(cells);
     made
@@ -235,9 +249,9 @@ fn open_behind(alloc: Global, conf: &Conf, text: &str) -> Result<String, OutOfMe
 /// The first open problem in `TRIGGERS;RECORDS;TRIGGER`.
 fn open_of(alloc: Global, input: &str) -> Result<String, OutOfMemory> {
     let (words, rest) = split(input, ';');
-    let conf = with_triggers(alloc, words)?;
-    let made = open_behind(alloc, &conf, rest);
-    drop(conf);
+    let stage = InForce::first(with_triggers(alloc, words)?);
+    let made = open_behind(alloc, &stage, rest);
+    drop(stage);
     made
 }
 
@@ -248,11 +262,7 @@ fn first_tick(alloc: Global, text: &str) -> Result<String, OutOfMemory> {
     drop(conf);
     let mut cells = cells?;
     for word in text.split_whitespace() {
-        let (sec, ns) = split(word, '/');
-        cells.ticked(Moment {
-            sec: number(sec),
-            ns: number(ns),
-        });
+        cells.ticked(moment(word));
     }
     let first = cells.first_tick();
     drop(cells);

@@ -34,6 +34,7 @@ fn mode_of(plan: &Plan) -> &'static str {
         Mode::Feed => "feed",
         Mode::Serve => "serve",
         Mode::Workload => "workload",
+        Mode::Alerts => "alerts",
     }
 }
 
@@ -94,6 +95,12 @@ fn status_of(alloc: Global, number: u32) -> Result<Status, OutOfMemory> {
         },
         15 => Status::TurnLimit,
         16 => Status::OutOfMemory,
+        22 => Status::BadLine { at: 34 },
+        23 => Status::MarksAhead {
+            marks: 2,
+            messages: 1,
+        },
+        24 => Status::LinesTooLong,
         _ => Status::ConfigRefused {
             path: Text::of(alloc, "/hosts/0/items/0/key")?,
             cause: Cause::Duplicate,

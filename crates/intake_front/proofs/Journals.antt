@@ -12,7 +12,7 @@ use Rattle.intake_journal.specs.Kept.{kept, groups_of}
 use Rattle.intake_journal.specs.Block.{opened_bytes, placed, count_all, added_all, KeepsNoneOrAll}
 use Rattle.intake_journal.specs.Settled.{Journaled}
 use Rattle.intake_journal.specs.declared.format.Group.{Group}
-use Rattle.intake_journal.proofs.Moments.{if_some, told_of, started}
+use Rattle.gated_file.proofs.Moments.{if_some, told_of, started}
 use Rattle.intake_journal.proofs.Adding.{told_too}
 use Rattle.intake_front.specs.Intake.{numbered_from, with_group}
 use Rattle.intake_front.specs.Fronted.{numbered_of, Keeps, KeepsEither, HasJournaled, IsKept, all_of}

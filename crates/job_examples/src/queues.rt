@@ -17,7 +17,12 @@ fn a_note_that_failed_waits_for_its_moment_and_holds_up_its_recipient_alone(
         limit: 3,
         interval: 10,
     };
-    let mut queue = Queue::new(rt.alloc(), &[0, 1, 0], &[false, false, false], &[kind, kind])?;
+    let mut queue = Queue::new(
+        rt.alloc(),
+        &[0, 1, 0],
+        &[false, false, false],
+        &[kind, kind],
+    )?;
     assert_eq!(rt; queue.take(at(100)), Taken::Try { note: 1 });
     assert_eq!(rt; queue.done(1, false, at(100)), None);
     assert_eq!(rt; queue.take(at(100)), Taken::Try { note: 2 });

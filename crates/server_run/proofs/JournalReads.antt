@@ -11,7 +11,7 @@ use Rattle.intake_journal.specs.Kept.{magic, first_gate, group_behind, with_grou
 use Rattle.intake_journal.specs.Kept.{Kept}
 use Rattle.intake_journal.specs.Kept.Kept.{Fresh, NotOurs, Damaged, Groups}
 use Rattle.intake_journal.specs.Next.{ReadsNext}
-use Rattle.intake_journal.specs.Moments.{IsAsBefore}
+use Rattle.gated_file.specs.Moments.{IsAsBefore}
 use Rattle.intake_journal.specs.Opened.{left_of, IsOpened}
 use Rattle.intake_journal.specs.Settled.{Journaled, onto, count_entries}
 use Rattle.intake_journal.specs.declared.format.Group.{Group}
@@ -21,7 +21,7 @@ use Rattle.intake_journal.specs.declared.state.JournalError.TheVariants as cause
 use Rattle.intake_journal.proofs.Adding.{fresh}
 use Rattle.intake_journal.proofs.Behind.{group_lacks}
 use Rattle.intake_journal.proofs.Fronts.{onto-push, onto-groups, kept_long, count_entries-push}
-use Rattle.intake_journal.proofs.Moments.{if_some, told_of}
+use Rattle.gated_file.proofs.Moments.{if_some, told_of}
 use Rattle.server_run.specs.declared.numbering.Numbering.{Numbering}
 use Rattle.server_run.specs.Recovered.{journal_bytes, IsNumbered, IsReadSoFar, IsReadThrough, IsRecovered, StopsReading, status_for}
 

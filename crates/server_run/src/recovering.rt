@@ -2,7 +2,7 @@
 
 ghost use Rattle.std.specs.Prelude.{◌≡◌, ◌≤◌, IfOk, IfErr};
 ghost use Rattle.intake_journal.specs.Kept.{first_gate, longest_journal};
-ghost use Rattle.intake_journal.specs.Moments.{IsAsBefore};
+ghost use Rattle.gated_file.specs.Moments.{IsAsBefore};
 ghost use Rattle.intake_journal.specs.declared.state.State.TheVariants.{Reading};
 ghost use Rattle.server_run.specs.Recovered.{IsRecovered, IsUnread, IsReadThrough, StopsReading, GoesOn, status_for};
 

@@ -4,9 +4,7 @@ ghost use Rattle.std.specs.Prelude.{◌≡◌, [], IfOk, IsErrOf, Some, None, op
 ghost use Rattle.clap.specs.Words.{found_of, first_of, one_of, rows_of};
 ghost use Rattle.server_words.specs.Words.{IsWithin, plan_of, alerts_plan_of, plan_for, plan_in, plan_with, mode_of, is_mode_of, number_of, within, number_in, numbers_in, has_needed};
 
-use crate::command::{
-    MOST_ATTEMPTS, MOST_ENTRIES, MOST_SYNCERS, MOST_TURNS, MOST_VALUES, command,
-};
+use crate::command::{MOST_ATTEMPTS, MOST_ENTRIES, MOST_SYNCERS, MOST_TURNS, MOST_VALUES, command};
 use crate::words::{Call, Mode, Plan, PlanError};
 use clap::ArgMatches;
 use clap::error::ErrorKind;

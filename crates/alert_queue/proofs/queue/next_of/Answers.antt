@@ -1,4 +1,4 @@
-use Rattle.std.proofs.Common.{◌≡◌, ◌<◌, arith}
+use Rattle.std.proofs.Common.{◌≡◌, ◌∙◌, ◌<◌, arith}
 use Rattle.alert_queue.proofs.Filings.{least_is_due, least_moment, is_busy}
 use Rattle.alert_queue.proofs.queue.next_of.Goals as goal
 
@@ -9,8 +9,8 @@ returns-then-key-lt-NONE c =
 
 pub returns-then-at-lt-NONE : goal.returns-then-at-lt-NONE
 returns-then-at-lt-NONE c =
-    least_moment c.args.lanes.now c.args.homes.now c.args.ready.now c.args.waiting.now c.args.now c.place-place.result c.place-place-2.result c.key-at.result
-    c.requires.filed c.requires.rest c.place-place.ensures.least (omega (arith, c.key.ensures)) c.place-place-2.ensures.inside c.place-place-2.ensures.least c.key-at.ensures (omega arith)
+    least_moment c.args.lanes.now c.args.homes.now c.args.ready.now c.args.waiting.now c.args.now c.place-place.result c.place-place-2.result c.moment_of.result
+    c.requires.filed c.requires.rest c.place-place.ensures.least (omega (arith, c.key.ensures)) c.place-place-2.ensures.inside c.place-place-2.ensures.least (c.moment_of.ensures ∙ c.key-at.ensures) (omega (arith, c.moment_of.ensures))
 
 pub returns-then-left-gt0 : goal.returns-then-left-gt0
 returns-then-left-gt0 c =

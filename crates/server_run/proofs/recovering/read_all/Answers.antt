@@ -5,7 +5,7 @@ use Rattle.intake_journal.specs.declared.format.Group.{Group}
 use Rattle.server_run.specs.Recovered.{StopsReading}
 use Rattle.intake_journal.specs.Next.{ReadsNext}
 use Rattle.intake_journal.specs.Settled.{Journaled}
-use Rattle.intake_journal.proofs.Before.{reads_both}
+use Rattle.gated_file.proofs.Before.{reads_both}
 use Rattle.server_run.proofs.JournalReads.{begins_reading, reads_more, reads_all, stops}
 use Rattle.server_run.proofs.recovering.read_all.Goals as goal
 

@@ -1,5 +1,5 @@
 use Rattle.std.proofs.Common.{◌≡◌, ◌≤◌}
-use Rattle.intake_journal.specs.Moments.{IsAsBefore}
+use Rattle.gated_file.specs.Moments.{IsAsBefore}
 use Rattle.intake_journal.specs.declared.state.State.TheVariants.{Reading}
 use Rattle.server_run.specs.Recovered.{IsReadSoFar}
 use Rattle.server_run.proofs.recovering.read_all.Given as goal
