@@ -179,7 +179,7 @@ fn told(alloc: Global, kind: &str, input: &str) -> Result<String, OutOfMemory> {
     lines_of(alloc, made?.as_slice())
 }
 
-/// The text that a word writes, as `a%0Ab`.
+/// The text that a word writes, as `a%0ab`.
 fn text_of(alloc: Global, word: &str) -> Result<Text, OutOfMemory> {
     let bytes = bytes_of(alloc, word)?;
     Ok(Text::from_utf8(alloc, bytes.as_slice())?.unwrap_or(Text::new(alloc)))

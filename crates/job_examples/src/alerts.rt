@@ -43,6 +43,45 @@ fn put_hex(line: &mut Text, bytes: &[u8]) -> Result<(), OutOfMemory> {
     Ok(())
 }
 
+/// An exit, the bytes of a progress, and what was printed.
+fn reported(
+    alloc: Global,
+    exit: u8,
+    progress: &[u8],
+    printed: &[u8],
+) -> Result<Text, OutOfMemory> {
+    let mut report = Text::new(alloc);
+    report.push_decimal(u64::from(exit))?;
+    report.push_str(" ")?;
+    put_hex(&mut report, progress)?;
+    report.push_str(" ")?;
+    if let Some(printed) = Text::from_utf8(alloc, printed)? {
+        report.push_str(printed.as_str())?;
+    }
+    Ok(report)
+}
+
+/// What a call over these words, outbox and progress comes to, where these runs fail.
+fn called(
+    alloc: Global,
+    words: &[Text],
+    outbox: Bytes,
+    progress: Bytes,
+    fails: Many<u64>,
+) -> Result<Text, OutOfMemory> {
+    let mut spawner = MemSpawner::new(alloc, fails);
+    let mut lines = MemSource::new(outbox, Many::new(alloc));
+    let disk = MemDisk::new(alloc, progress, Many::new(alloc));
+    let mut print = MemSink::new(Bytes::new(alloc), Many::new(alloc));
+    let ended = run_alerts(alloc, words, &mut lines, disk, &mut spawner, &mut print);
+    reported(
+        alloc,
+        ended.status.exit(),
+        ended.progress.bytes().as_slice(),
+        print.bytes().as_slice(),
+    )
+}
+
 /// What a call over an outbox and a progress prints, its exit, and the progress then, where these runs fail.
 fn alerted(
     alloc: Global,
@@ -51,29 +90,10 @@ fn alerted(
     fails: &[u64],
 ) -> Result<Text, OutOfMemory> {
     let words = words(alloc)?;
-    let mut spawner = MemSpawner::new(alloc, numbers(alloc, fails)?);
     let outbox = Bytes::of(alloc, outbox.as_bytes())?;
-    let mut lines = MemSource::new(outbox, Many::new(alloc));
     let progress = Bytes::of(alloc, progress)?;
-    let disk = MemDisk::new(alloc, progress, Many::new(alloc));
-    let mut print = MemSink::new(Bytes::new(alloc), Many::new(alloc));
-    let ended = run_alerts(
-        alloc,
-        words.as_slice(),
-        &mut lines,
-        disk,
-        &mut spawner,
-        &mut print,
-    );
-    let mut report = Text::new(alloc);
-    report.push_decimal(u64::from(ended.status.exit()))?;
-    report.push_str(" ")?;
-    put_hex(&mut report, ended.progress.bytes().as_slice())?;
-    report.push_str(" ")?;
-    if let Some(printed) = Text::from_utf8(alloc, print.bytes().as_slice())? {
-        report.push_str(printed.as_str())?;
-    }
-    Ok(report)
+    let fails = numbers(alloc, fails)?;
+    called(alloc, words.as_slice(), outbox, progress, fails)
 }
 
 /// Four messages among other lines, the last of which isn't ended.

@@ -9,6 +9,7 @@ use Rattle.intake_front.specs.Fronted.{Fronted}
 use Rattle.intake_journal.specs.Settled.{KeepsAsOneOf}
 use Rattle.server_words.proofs.Ranges.{plan_within}
 use Rattle.server_words.specs.Words.{plan_of}
+use Rattle.server_words.specs.declared.words.Call.TheVariants.{Run}
 use Rattle.server_words.specs.declared.words.Plan.{Plan}
 use Rattle.server_words.specs.declared.status.Counts.{Counts}
 use Rattle.server_words.specs.declared.status.Status.{Status}
@@ -134,7 +135,7 @@ module _ (words : List (List ℕ)) (before after : Objects) (print print' : Sink
   }
     where
       some_entries : (plan : Plan) → plan_of words ≡ Some plan → 0 < plan.max_entries
-      some_entries plan is = let within = plan_within words plan is in omega (arith, within.entries.0)
+      some_entries plan is = let within = plan_within Run words plan is in omega (arith, within.entries.0)
 
       disk_of : ended ≡ status.DiskFault → Rose before.disk.faults after.disk.faults
       disk_of is = either_way began

@@ -31,7 +31,6 @@ pub(crate) fn run(
 }
 
 /// How a call for alerts over these objects ended.
-#[tactic(auto, using(crate::proofs::Untold::alerts_too))]
 pub(crate) fn status_of<S: Source + Drop, D: Disk + Drop, W: Spawner + Drop, P: Sink + Drop>(
     alloc: Global,
     words: &[Text],

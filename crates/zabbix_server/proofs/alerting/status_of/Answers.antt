@@ -1,0 +1,17 @@
+-- The status is that of the call for alerts, of which its clauses are true.
+use Rattle.server_jobs.specs.Alerts.{Around}
+use Rattle.zabbix_server.proofs.Untold.{alerts_too}
+use Rattle.zabbix_server.proofs.alerting.status_of.Goals as goal
+
+pub returns : goal.returns
+returns g c =
+    let r = c.run_alerts in
+    let around : Around = record {
+      lines = g.S.Source.left c.args.lines;
+      faults = g.S.Source.faults c.args.lines;
+      faults' = g.S.Source.faults r.new.lines;
+      disk = g.D.Disk.tells c.args.progress;
+      disk' = g.D.Disk.tells r.result.progress;
+      spawner = g.W.Spawner.tells c.args.spawner;
+      spawner' = g.W.Spawner.tells r.new.spawner;
+    } in alerts_too c.args.words.now around r.result.status r.result.marks (g.P.Sink.tells c.args.printer) (g.P.Sink.tells r.new.print) r.ensures.comes r.ensures.printed
