@@ -21,8 +21,17 @@ enum Call {
     Held,
 }
 
-/// Calls, and what each tells: the number of the entry that was sent or taken, 0 where none was, or a number of slots.
-type Case<'a> = (usize, &'a [(Call, u64)]);
+/// The call of a name.
+fn call_of(name: &str) -> Call {
+    match name {
+        "push" => Call::Push,
+        "take" => Call::Take,
+        "take_known" => Call::TakeKnown,
+        "take_beside" => Call::TakeBeside,
+        "free" => Call::Free,
+        _ => Call::Held,
+    }
+}
 
 /// The head of a ring, at which Ticks go in, and the number of the next one.
 #[derive(Drop)]
@@ -41,6 +50,11 @@ impl<S: StartName, N: RunName> Model for Ticks<S, N> {
     ghost view = { λ t. t.next };
 
     ghost invariant = { λ t. IsWholeLog S.conf (S.kept ++ t.head.sent) × (0 < length S.kept) × (t.next ≡ length (S.kept ++ t.head.sent) + 1) × (moment_from 0 (log_of (S.kept ++ t.head.sent)) ≡ 0) };
+}
+
+/// The number that a text writes, and 0 where it writes none.
+fn number(text: &str) -> u64 {
+    text.parse().unwrap_or(0)
 }
 
 fn tick(number: u64) -> Numbered
@@ -101,87 +115,57 @@ fn told<S: StartName, N: RunName>(
     }
 }
 
-/// Whether calls tell what is expected, of a ring behind a configuration.
-fn tell<S: StartName, N: RunName>(ring: Ring<S>, calls: &[(Call, u64)]) -> bool
-    requires ring { ring.id ≡ N.ring }
-    requires kept { S.kept ≡ record { number = 1; entry = Config 0 [] } ∷ [] }
-{
-    let (head, mut end) = ring.named::<N>();
-    let mut ticks = Ticks { head, next: 2 };
-    for (call, expected) in calls {
-        if told(&mut ticks, &mut end, *call) != *expected {
+/// Whether calls tell what is expected: each is a name and, behind `=`, the number of the entry that is sent or taken, 0 where
+/// none is, or a number of slots.
+fn tell_all<S: StartName, N: RunName>(
+    ticks: &mut Ticks<S, N>,
+    end: &mut RingEnd<S, N>,
+    calls: &str,
+) -> bool {
+    for part in calls.split_whitespace() {
+        let (name, expected) = part.split_once('=').unwrap_or((part, ""));
+        if told(ticks, end, call_of(name)) != number(expected) {
             return false;
         }
     }
     true
 }
 
-fn hold<S: StartName>(alloc: Global, cases: &[Case]) -> Result<bool, OutOfMemory>
+/// The same of a ring behind a configuration.
+fn tell<S: StartName, N: RunName>(ring: Ring<S>, calls: &str) -> bool
+    requires ring { ring.id ≡ N.ring }
+    requires kept { S.kept ≡ record { number = 1; entry = Config 0 [] } ∷ [] }
+{
+    let (head, mut end) = ring.named::<N>();
+    let mut ticks = Ticks { head, next: 2 };
+    tell_all(&mut ticks, &mut end, calls)
+}
+
+/// Whether the calls of each line tell what is expected, of a ring with as many slots as stand before them.
+fn hold<S: StartName>(alloc: Global, cases: &str) -> Result<bool, OutOfMemory>
     requires { S.kept ≡ record { number = 1; entry = Config 0 [] } ∷ [] }
 {
-    for (capacity, calls) in cases {
-        let ring = Ring::<S>::new(alloc, *capacity)?;
-        if !tell::<S, Brand>(ring, *calls) {
+    for line in cases.split('\n') {
+        let (capacity, calls) = line.split_once(": ").unwrap_or((line, ""));
+        let ring = Ring::<S>::new(alloc, number(capacity) as usize)?;
+        if !tell::<S, Brand>(ring, calls) {
             return Ok(false);
         }
     }
     Ok(true)
 }
 
+fn cases() -> &'static str {
+    "2: push=2 push=3 push=0 take=2 push=4 push=0 take=3 take=4 take=0\n\
+    2: free=2 held=0 take_known=0 push=2 free=1 held=1 push=3 free=0 held=2 take_known=2 free=1 take_known=3 held=0 free=2\n\
+    1: push=2 take=2 push=3 push=0 take=3 take=0 push=4 take_beside=4 take_beside=0\n\
+    0: push=0 take=0 free=0"
+}
+
 #[test]
 fn entries_come_out_once_in_their_order(rt: HostRuntime) -> Result<(), Fail> {
-    let alloc = rt.alloc();
-    let cases: [Case; 4] = [
-        (
-            2,
-            &[
-                (Call::Push, 2),
-                (Call::Push, 3),
-                (Call::Push, 0),
-                (Call::Take, 2),
-                (Call::Push, 4),
-                (Call::Push, 0),
-                (Call::Take, 3),
-                (Call::Take, 4),
-                (Call::Take, 0),
-            ],
-        ),
-        (
-            2,
-            &[
-                (Call::Free, 2),
-                (Call::Held, 0),
-                (Call::TakeKnown, 0),
-                (Call::Push, 2),
-                (Call::Free, 1),
-                (Call::Held, 1),
-                (Call::Push, 3),
-                (Call::Free, 0),
-                (Call::Held, 2),
-                (Call::TakeKnown, 2),
-                (Call::Free, 1),
-                (Call::TakeKnown, 3),
-                (Call::Held, 0),
-                (Call::Free, 2),
-            ],
-        ),
-        (
-            1,
-            &[
-                (Call::Push, 2),
-                (Call::Take, 2),
-                (Call::Push, 3),
-                (Call::Push, 0),
-                (Call::Take, 3),
-                (Call::Take, 0),
-                (Call::Push, 4),
-                (Call::TakeBeside, 4),
-                (Call::TakeBeside, 0),
-            ],
-        ),
-        (0, &[(Call::Push, 0), (Call::Take, 0), (Call::Free, 0)]),
-    ];
-    assert!(rt; hold::<Brand>(alloc, &cases)?);
+    let holds = hold::<Brand>(rt.alloc(), cases())?;
+    assert!(rt; holds);
     Ok(())
 }
 
@@ -246,7 +230,7 @@ fn cross_behind<S: StartName + Send + Sync, R: Threads>(
 
 #[test]
 fn entries_cross_threads(rt: HostRuntime) -> Result<(), Fail> {
-    let alloc = rt.alloc();
-    assert!(rt; cross_behind::<Brand, _>(&rt, alloc)?);
+    let crossed = cross_behind::<Brand, _>(&rt, rt.alloc())?;
+    assert!(rt; crossed);
     Ok(())
 }

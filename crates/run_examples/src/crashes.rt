@@ -1,9 +1,14 @@
+//! What a run finds that goes on behind another one: one that was stopped where its disk failed, or by a crash.
+
 ghost use Rattle.std.specs.Prelude.{◌≡◌};
 ghost use Rattle.outside.specs.Disk.{silent, silent_lawful};
 
-use crate::runs::{Found, Over, none_fails, only, plain_config, run_behind, run_beside, sink};
+use crate::rows::{Row, number, row_of};
+use crate::runs::{Over, TestWire, beside, ports_of, run, setup_behind, setup_of, told_of};
 use outside::{Disk, Failed, MemDisk, OpenGate};
 use std::alloc::Global;
+use std::convert::AsStr;
+use std::mem::replace;
 use std::sync::Wait;
 use std::test::Fail;
 use std::thread::Threads;
@@ -81,7 +86,8 @@ impl CrashDisk {
         ensures { self.new.faults ≡ self.old.faults }
     {
         let bytes = Bytes::of(self.alloc, self.disk.bytes().as_slice())?;
-        self.left = MemDisk::new(self.alloc, bytes, Many::new(self.alloc));
+        let left = MemDisk::new(self.alloc, bytes, Many::new(self.alloc));
+        drop(replace(&mut self.left, left));
         Ok(())
     }
 }
@@ -130,11 +136,6 @@ impl Disk for CrashDisk {
         self.faults = self.faults.saturating_add(1);
         Err(Failed)
     }
-}
-
-/// Three connections bring the values 10, 1 and 7.
-fn three_frames() -> &'static str {
-    "100.000000000 open 1\n100.000000000 open 2\n100.000000000 open 3\n100.000000000 frame 1 {\"request\":\"sender data\",\"data\":[{\"host\":\"h\",\"key\":\"k\",\"value\":\"10\"}]}\n100.000000000 frame 2 {\"request\":\"sender data\",\"data\":[{\"host\":\"h\",\"key\":\"k\",\"value\":\"1\"}]}\n100.000000000 frame 3 {\"request\":\"sender data\",\"data\":[{\"host\":\"h\",\"key\":\"k\",\"value\":\"7\"}]}\n100.000000000 closed\n"
 }
 
 /// The lines of the first ones of these values.
@@ -187,7 +188,7 @@ fn answered(sent: &[(u64, Bytes)]) -> usize {
 }
 
 /// Whether a run has begun, and has so many values at least, with their lines.
-fn has(over: &Over<MemDisk>, least: usize) -> bool {
+fn has(over: &Over<TestWire, MemDisk>, least: usize) -> bool {
     match values_in(over.ended.entries.as_slice()) {
         Some(count) => {
             over.ended.began
@@ -209,94 +210,62 @@ enum Went {
     Lost,
 }
 
-/// How a run went, beside a run behind what a crash left of it.
-fn judged(crashed: &Over<CrashDisk>, behind: &Over<MemDisk>) -> Went {
-    if !has(behind, answered(crashed.wire.wire.sent().as_slice())) {
-        return Went::Lost;
-    }
-    if crashed.ended.disk.faults == 0 {
-        Went::Through
-    } else {
-        Went::Kept
+/// How a run went, where the one behind it had what was answered, or hadn't, and the disk failed so often.
+fn judged(has_all: bool, faults: u64) -> Went {
+    match (has_all, faults) {
+        (false, _) => Went::Lost,
+        (true, 0) => Went::Through,
+        (true, _) => Went::Kept,
     }
 }
 
-/// Runs behind what a crash left.
-fn run_again(alloc: Global, crashed: &Over<CrashDisk>) -> Result<Went, OutOfMemory> {
-    let behind = run_behind(
-        alloc,
-        "--mode feed --config c --script s",
-        plain_config(),
-        "100.000000000 closed\n",
-        Found {
-            journal: crashed.ended.disk.left.bytes().as_slice(),
-            outbox: crashed.ended.outbox.bytes().as_slice(),
-        },
-        none_fails(),
-    )?;
-    Ok(judged(crashed, &behind))
-}
-
-/// The words of a run over a script beside four syncers, or with none.
-fn words(beside: bool) -> &'static str {
-    if beside {
-        "--mode feed --config c --script s --syncers 4"
-    } else {
-        "--mode feed --config c --script s --syncers 0"
-    }
-}
-
-/// In which way a run takes three values: beside syncers or alone, and whether they all stand ready.
-#[derive(Clone, Copy)]
-struct Way {
-    beside: bool,
-    ready: bool,
-}
-
-/// Runs over three values up to the disk's call of this number, which fails.
+/// Runs over three values, in the way that a line of parts says, up to the disk's call of this number, which fails.
 fn run_up_to<R: Threads + Wait + Sync>(
     rt: &R,
     alloc: Global,
-    way: Way,
+    parts: &str,
     torn: Torn,
     call: u64,
-) -> Result<Over<CrashDisk>, OutOfMemory> {
-    let fails = only(alloc, call)?;
-    let outbox = sink(alloc, &[], 0)?;
+) -> Result<Over<TestWire, CrashDisk>, OutOfMemory> {
+    let setup = setup_of(alloc, parts, call)?;
+    let (ports, journal, fails) = ports_of(alloc, setup);
+    drop(journal);
     let disk = CrashDisk::new(alloc, fails, torn);
-    run_beside(
-        rt,
-        alloc,
-        words(way.beside),
-        three_frames(),
-        way.ready,
-        disk,
-        outbox,
-        &OpenGate,
-    )
+    Ok(beside(rt, alloc, ports, disk, &OpenGate))
 }
 
 /// Runs up to a call of the disk, and then behind what a crash leaves there.
 fn crashed_at<R: Threads + Wait + Sync>(
     rt: &R,
     alloc: Global,
-    way: Way,
+    parts: &str,
     torn: Torn,
     call: u64,
 ) -> Result<Went, OutOfMemory> {
-    let crashed = run_up_to(rt, alloc, way, torn, call)?;
-    run_again(alloc, &crashed)
+    let crashed = run_up_to(rt, alloc, parts, torn, call)?;
+    let answered = answered(crashed.wire.wire.sent().as_slice());
+    let faults = crashed.ended.disk.faults;
+    let setup = setup_behind(
+        alloc,
+        crashed.ended.disk.left.bytes().as_slice(),
+        crashed.ended.outbox.bytes().as_slice(),
+    );
+    drop(crashed);
+    let behind = run(alloc, setup?);
+    let has_all = has(&behind, answered);
+    drop(behind);
+    Ok(judged(has_all, faults))
 }
 
 /// How many calls of the disk a run has, where each crash at one of them left all that was answered.
 fn calls_kept<R: Threads + Wait + Sync>(
     rt: &R,
     alloc: Global,
-    way: Way,
+    parts: &str,
     torn: Torn,
 ) -> Result<Option<u64>, OutOfMemory> {
     for before in 0..100u64 {
-        match crashed_at(rt, alloc, way, torn, before + 1)? {
+        match crashed_at(rt, alloc, parts, torn, before + 1)? {
             Went::Through => return Ok(Some(before)),
             Went::Kept => {}
             Went::Lost => return Ok(None),
@@ -305,30 +274,164 @@ fn calls_kept<R: Threads + Wait + Sync>(
     Ok(None)
 }
 
-#[test]
-fn each_file_that_a_crash_leaves_has_what_was_answered(rt: HostRuntime) -> Result<(), Fail> {
-    let alloc = rt.alloc();
-    for torn in [
-        Torn::Nothing,
-        Torn::Front,
-        Torn::Back,
-        Torn::Whole,
-        Torn::Filled(1),
-        Torn::Filled(2),
-    ] {
-        for beside in [false, true] {
-            // An append has four calls: one of the three values, or one for each of them.
-            let together = Way {
-                beside,
-                ready: true,
-            };
-            assert!(rt; calls_kept(&rt, alloc, together, torn)? == Some(18));
-            let apart = Way {
-                beside,
-                ready: false,
-            };
-            assert!(rt; calls_kept(&rt, alloc, apart, torn)? == Some(26));
+/// What a crash leaves, by a name.
+fn torn_of(name: &str) -> Option<Torn> {
+    match name {
+        "nothing" => Some(Torn::Nothing),
+        "front" => Some(Torn::Front),
+        "back" => Some(Torn::Back),
+        "whole" => Some(Torn::Whole),
+        "filled with 1" => Some(Torn::Filled(1)),
+        "filled with 2" => Some(Torn::Filled(2)),
+        _ => None,
+    }
+}
+
+/// The report of a restart behind all of the one frame.
+fn whole_report() -> &'static str {
+    "Ok begun C1T2V3\nP|3-1|100.000000000|3|0|h|hot|hot\nstatus: Ok; entries: 3; problems: 1; recoveries: 0; messages: 0; outbox bytes: 34\n"
+}
+
+/// That of a restart behind none of it.
+fn tick_report() -> &'static str {
+    "Ok begun C1T2\nstatus: Ok; entries: 2; problems: 0; recoveries: 0; messages: 0; outbox bytes: 0\n"
+}
+
+/// Which of these a report is.
+fn name_of(report: &str) -> &'static str {
+    if report == whole_report() {
+        "whole"
+    } else if report == tick_report() {
+        "tick"
+    } else {
+        "another"
+    }
+}
+
+/// Runs over the one frame, where the disk's call of this number fails, and then behind what is left, the outbox cut to so
+/// many bytes. Whether the first run answered its value, and which report the second one has.
+fn run_twice(alloc: Global, disk: u64, held: usize) -> Result<(bool, &'static str), OutOfMemory> {
+    let first = run(alloc, setup_of(alloc, "script=one", disk)?);
+    let has_answered = 0 < answered(first.wire.wire.sent().as_slice());
+    let outbox = first.ended.outbox.bytes().as_slice();
+    let setup = setup_behind(
+        alloc,
+        first.ended.disk.bytes().as_slice(),
+        outbox.get(..held).unwrap_or(outbox),
+    );
+    drop(first);
+    let told = told_of(alloc, setup?)?;
+    Ok((has_answered, name_of(told.as_str())))
+}
+
+/// Whether a restart has the answered value, whichever call of the disk failed: the first call where it hasn't, and 0 where
+/// there is none.
+fn lost_at(alloc: Global) -> Result<u64, OutOfMemory> {
+    for disk in 1..30u64 {
+        match run_twice(alloc, disk, 1_000)? {
+            (_, "whole") | (false, "tick") => {}
+            _ => return Ok(disk),
         }
+    }
+    Ok(0)
+}
+
+fn refused_together_report() -> &'static str {
+    "DiskFault begun C1T2 2:1 1:2\n2 {\"response\":\"success\",\"info\":\"processed: 0; failed: 0; total: 0; seconds spent: 0.000000\"}\n1 {\"response\":\"success\",\"info\":\"processed: 0; failed: 1; total: 1; seconds spent: 0.000000\"}\nstatus: DiskFault\n"
+}
+
+/// How many calls of the disk end a run that has begun where they fail, and how many of these refuse its first value.
+fn refused(alloc: Global, parts: &str) -> Result<(u32, u32), OutOfMemory> {
+    let mut all = 0u32;
+    let mut first = 0u32;
+    for disk in 1..41u64 {
+        let told = told_of(alloc, setup_of(alloc, parts, disk)?)?;
+        if told.as_str().starts_with("DiskFault begun") {
+            all = all.saturating_add(1);
+        }
+        if told.as_str() == refused_together_report() {
+            first = first.saturating_add(1);
+        }
+    }
+    Ok((all, first))
+}
+
+/// What comes of a case.
+fn answer<R: Threads + Wait + Sync>(
+    rt: &R,
+    alloc: Global,
+    row: Row<'_>,
+) -> Result<String, OutOfMemory> {
+    match torn_of(row.kind) {
+        Some(torn) => {
+            let calls = calls_kept(rt, alloc, row.input, torn)?;
+            Ok(format!(in alloc; "{calls:?}")?)
+        }
+        None => answer_of_restarts(alloc, row),
+    }
+}
+
+fn answer_of_restarts(alloc: Global, row: Row<'_>) -> Result<String, OutOfMemory> {
+    match row.kind {
+        "held" => {
+            let twice = run_twice(alloc, 0, number(row.input) as usize)?;
+            Ok(format!(in alloc; "{twice:?}")?)
+        }
+        "lost at" => Ok(format!(in alloc; "{}", lost_at(alloc)?)?),
+        _ => Ok(format!(in alloc; "{:?}", refused(alloc, row.input)?)?),
+    }
+}
+
+/// A restart writes the lines that are missing, and has the answered value whichever call of the disk failed.
+///
+/// Where events are committed together one append has four calls: that of the Tick, and that of all values, or one for each
+/// value. At most 128 events are committed together: the first event brings the Tick, which ends its commit, and behind it
+/// stand 127 events in one commit, or 128 and one more; the event that closes the wire journals nothing.
+///
+/// Each file that a crash leaves has what was answered: what it held at its last sync, and of each piece that was to be
+/// written since nothing, its front, its back, all, or another byte in place of each of its own. An append has four calls:
+/// one of the three values, or one for each of them.
+fn cases() -> &'static str {
+    "held | (true, \"whole\") | 0\n\
+    held | (true, \"whole\") | 10\n\
+    held | (true, \"whole\") | 34\n\
+    lost at | 0\n\
+    refused | (8, 4) | script=many ready=yes\n\
+    refused | (20, 4) | script=many ready=no\n\
+    refused | (8, 0) | values=64 ready=yes\n\
+    refused | (12, 0) | values=65 ready=yes\n\
+    nothing | Some(18) | script=three syncers=0 ready=yes\n\
+    nothing | Some(26) | script=three syncers=0 ready=no\n\
+    nothing | Some(18) | script=three syncers=4 ready=yes\n\
+    nothing | Some(26) | script=three syncers=4 ready=no\n\
+    front | Some(18) | script=three syncers=0 ready=yes\n\
+    front | Some(26) | script=three syncers=0 ready=no\n\
+    front | Some(18) | script=three syncers=4 ready=yes\n\
+    front | Some(26) | script=three syncers=4 ready=no\n\
+    back | Some(18) | script=three syncers=0 ready=yes\n\
+    back | Some(26) | script=three syncers=0 ready=no\n\
+    back | Some(18) | script=three syncers=4 ready=yes\n\
+    back | Some(26) | script=three syncers=4 ready=no\n\
+    whole | Some(18) | script=three syncers=0 ready=yes\n\
+    whole | Some(26) | script=three syncers=0 ready=no\n\
+    whole | Some(18) | script=three syncers=4 ready=yes\n\
+    whole | Some(26) | script=three syncers=4 ready=no\n\
+    filled with 1 | Some(18) | script=three syncers=0 ready=yes\n\
+    filled with 1 | Some(26) | script=three syncers=0 ready=no\n\
+    filled with 1 | Some(18) | script=three syncers=4 ready=yes\n\
+    filled with 1 | Some(26) | script=three syncers=4 ready=no\n\
+    filled with 2 | Some(18) | script=three syncers=0 ready=yes\n\
+    filled with 2 | Some(26) | script=three syncers=0 ready=no\n\
+    filled with 2 | Some(18) | script=three syncers=4 ready=yes\n\
+    filled with 2 | Some(26) | script=three syncers=4 ready=no"
+}
+
+#[test]
+fn a_run_behind_another_has_what_was_answered(rt: HostRuntime) -> Result<(), Fail> {
+    for line in cases().split('\n') {
+        let row = row_of(line);
+        let told = answer(&rt, rt.alloc(), row)?;
+        assert_eq!(rt; told.as_str(), row.wanted, "{line}");
     }
     Ok(())
 }

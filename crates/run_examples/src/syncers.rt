@@ -1,254 +1,448 @@
-ghost use Rattle.std.specs.Prelude.{◌≤◌};
+//! Runs beside history syncers, over workloads.
 
-use crate::runs::{one_frame, only, run_beside, sink, words_of};
-use outside::{Gate, HoldGate, MemSink, OpenGate, RamDisk, WorkWire, work_source};
-use server_run::{Ended, run_single, run_syncers};
+use crate::rows::number;
+use crate::runs::{Over, Ports, alone, beside, ports_of, put_words, setup_of, status_name};
+use outside::{
+    Failed, HoldGate, MemSink, RamDisk, Trouble, Wire, WireEvent, WorkWire, work_source,
+};
 use server_words::Status;
 use std::alloc::Global;
 use std::convert::AsStr;
 use std::sync::Wait;
 use std::test::Fail;
-use std::thread::Threads;
-use zbx_types::{Bytes, OutOfMemory};
+use std::thread::{Threads, yield_now};
+use zbx_types::{Bytes, Many, OutOfMemory, Text};
 
-/// A run that has ended, with the printer that it had.
+/// Where a wire sees that another syncer came beside the one that is held.
+trait Meeting {
+    /// Lets other threads run until one has come, for so many turns at most, and answers whether it has.
+    fn has_come(&self, turns: u64) -> bool;
+}
+
+/// That of a gate.
 #[derive(Drop)]
-struct Over {
-    ended: Ended<RamDisk, MemSink>,
-    print: MemSink,
+struct AtGate<'a> {
+    gate: &'a HoldGate,
 }
 
-impl Over {
-    fn outbox(&self) -> &[u8] {
-        self.ended.outbox.bytes().as_slice()
-    }
-
-    fn printed(&self) -> &[u8] {
-        self.print.bytes().as_slice()
-    }
-}
-
-/// How many values a small workload has, and how many a large one.
-const FEW: u64 = 2_000;
-
-const MANY: u64 = 200_000;
-
-/// The words of a workload beside so many syncers.
-fn words(values: u64, syncers: u32) -> &'static str {
-    match (values, syncers) {
-        (MANY, 0) => "--mode workload --number 7 --values 200000 --syncers 0",
-        (MANY, _) => "--mode workload --number 7 --values 200000 --syncers 4",
-        (_, 0) => "--mode workload --number 7 --values 2000 --syncers 0",
-        (_, 1) => "--mode workload --number 7 --values 2000 --syncers 1",
-        (_, 4) => "--mode workload --number 7 --values 2000 --syncers 4",
-        _ => "--mode workload --number 7 --values 2000 --syncers 8",
+impl<'a> Meeting for AtGate<'a> {
+    fn has_come(&self, turns: u64) -> bool {
+        for _ in 0..turns {
+            if self.gate.ended_by_other() {
+                return true;
+            }
+            yield_now();
+        }
+        false
     }
 }
 
-/// Runs over a workload on one thread.
-fn run_work(alloc: Global, values: u64) -> Result<Over, OutOfMemory>
-    requires { (1 ≤ values) × (values ≤ 1000000) }
-{
-    let words = words_of(alloc, words(values, 0))?;
-    let mut config = work_source(alloc, 7, values)?;
-    let mut wire = WorkWire::new(alloc, 7, values);
-    let disk = RamDisk::new(alloc);
-    let outbox = sink(alloc, &[], 0)?;
-    let mut print = sink(alloc, &[], 0)?;
-    let ended = run_single(
-        alloc,
-        words.as_slice(),
-        &mut config,
-        &mut wire,
-        disk,
-        outbox,
-        &mut print,
-    );
-    Ok(Over { ended, print })
-}
-
-/// Runs over a workload beside so many syncers.
-fn run_work_beside<R: Threads + Wait + Sync, G: Gate + Sync>(
-    rt: &R,
-    alloc: Global,
-    values: u64,
-    syncers: u32,
-    outbox: MemSink,
-    gate: &G,
-) -> Result<Over, OutOfMemory>
-    requires { (1 ≤ values) × (values ≤ 1000000) }
-{
-    let words = words_of(alloc, words(values, syncers))?;
-    let mut config = work_source(alloc, 7, values)?;
-    let mut wire = WorkWire::new(alloc, 7, values);
-    let disk = RamDisk::new(alloc);
-    let mut print = sink(alloc, &[], 0)?;
-    let ended = run_syncers(
-        rt,
-        alloc,
-        words.as_slice(),
-        &mut config,
-        &mut wire,
-        disk,
-        outbox,
-        &mut print,
-        gate,
-    );
-    Ok(Over { ended, print })
-}
-
-#[test]
-fn syncers_write_what_one_thread_writes(rt: HostRuntime) -> Result<(), Fail> {
-    let alloc = rt.alloc();
-    let alone = run_work(alloc, FEW)?;
-    assert!(rt; alone.ended.status == Status::Ok);
-    assert!(rt; !alone.outbox().is_empty());
-    for syncers in [0u32, 1, 4, 8] {
-        let outbox = sink(alloc, &[], 0)?;
-        let over = run_work_beside(&rt, alloc, FEW, syncers, outbox, &OpenGate)?;
-        assert!(rt; over.outbox() == alone.outbox(), "{syncers} syncers");
-        assert!(rt; over.printed() == alone.printed(), "{syncers} syncers");
-    }
-    Ok(())
+/// A wire that may wait for syncers: before its first event so that all of them have come, and before its third until another
+/// one has come beside the one that is held, as far as `TURNS` turns go.
+#[derive(Drop)]
+struct PatientWire<W, M> {
+    wire: W,
+    meeting: M,
+    patient: bool,
+    asked: u64,
+    /// Whether another one had come when the third event was given.
+    met: bool,
 }
 
 /// The turns of a hold that another syncer is to end.
 const TURNS: u64 = 100_000_000;
 
-/// How a workload went beside four syncers, of which the first one that came with an entry behind the Tick was held.
-#[derive(Clone, Copy)]
-struct Held {
-    ended_by_other: bool,
-    calls: u64,
-    entries: u64,
-    is_same: bool,
+/// The turns in which all syncers come.
+const COMING: u64 = 100_000;
+
+impl<W: Wire, M: Meeting> Wire for PatientWire<W, M> {
+    ghost tells = { λ w. W.tells w.wire };
+
+    fn faults(&self) -> u64 {
+        self.wire.faults()
+    }
+
+    fn unsent(&self) -> u64 {
+        self.wire.unsent()
+    }
+
+    fn ready(&self) -> bool {
+        self.wire.ready()
+    }
+
+    fn next(&mut self, alloc: Global) -> Result<WireEvent, Trouble> {
+        self.asked = self.asked.saturating_add(1);
+        if self.patient && self.asked == 1 {
+            let _ = self.meeting.has_come(COMING);
+        }
+        if self.patient && self.asked == 3 {
+            self.met = self.meeting.has_come(TURNS);
+        }
+        self.wire.next(alloc)
+    }
+
+    fn send(&mut self, conn: u64, bytes: &[u8]) -> Result<(), Failed> {
+        self.wire.send(conn, bytes)
+    }
+
+    fn close(&mut self, conn: u64) {
+        self.wire.close(conn);
+    }
 }
 
-fn hold_one<R: Threads + Wait + Sync>(
-    rt: &R,
-    alloc: Global,
+/// A run over a workload of the number 7.
+#[derive(Clone, Copy)]
+struct Asked {
     values: u64,
-) -> Result<Held, OutOfMemory>
-    requires { (1 ≤ values) × (values ≤ 1000000) }
-{
-    let alone = run_work(alloc, values)?;
-    let gate = HoldGate::new(2, TURNS);
-    let outbox = sink(alloc, &[], 0)?;
-    let over = run_work_beside(rt, alloc, values, 4, outbox, &gate)?;
-    Ok(Held {
-        ended_by_other: gate.ended_by_other(),
-        calls: gate.calls(),
-        entries: over.ended.entries.as_slice().len() as u64,
-        is_same: over.outbox() == alone.outbox(),
+    syncers: u64,
+    /// The gate holds the first syncer that comes with an entry behind this one, for so many turns.
+    after: u64,
+    turns: u64,
+    /// The calls of the outbox that fail.
+    first: u64,
+    last: u64,
+    /// How many orders there are to be at least, where that is told.
+    orders: u64,
+    /// Fewer entries than these are to be taken, where that is told.
+    below: u64,
+    patient: bool,
+}
+
+impl Asked {
+    /// Sets one part.
+    fn set(&mut self, name: &str, number: u64) {
+        match name {
+            "syncers" => self.syncers = number,
+            "after" => self.after = number,
+            "turns" => self.turns = number,
+            "first" => self.first = number,
+            "last" => self.last = number,
+            "orders" => self.orders = number,
+            "below" => self.below = number,
+            _ => self.patient = number == 1,
+        }
+    }
+}
+
+/// What a line of parts asks for, of a workload of so many values. A gate holds nobody where no entry is named.
+fn asked_by(values: u64, parts: &str) -> Asked {
+    let mut asked = Asked {
+        values,
+        syncers: 0,
+        after: u64::MAX,
+        turns: 0,
+        first: 0,
+        last: 0,
+        orders: 0,
+        below: 0,
+        patient: false,
+    };
+    for part in parts.split_whitespace() {
+        let (name, value) = part.split_once('=').unwrap_or((part, ""));
+        asked.set(name, number(value));
+    }
+    asked
+}
+
+/// The words of a run.
+fn words_of(alloc: Global, asked: Asked) -> Result<Many<Text>, OutOfMemory> {
+    let text = format!(in alloc;
+        "--mode workload --number 7 --values {} --syncers {}",
+        asked.values, asked.syncers
+    )?;
+    let mut words = Many::new(alloc);
+    put_words(alloc, &mut words, text.as_str())?;
+    Ok(words)
+}
+
+/// The numbers from `first` on up to `last`. There is no call of the number 0.
+fn from_to(alloc: Global, first: u64, last: u64) -> Result<Many<u64>, OutOfMemory> {
+    let mut numbers = Many::new(alloc);
+    numbers.push(first)?;
+    for number in first..last {
+        numbers.push(number + 1)?;
+    }
+    Ok(numbers)
+}
+
+/// The ports of a run over a workload, the outbox's calls from `first` on up to `last` failing.
+fn work_ports<'a>(
+    alloc: Global,
+    asked: Asked,
+    gate: &'a HoldGate,
+    first: u64,
+    last: u64,
+) -> Result<Ports<PatientWire<WorkWire, AtGate<'a>>>, OutOfMemory> {
+    let values = asked.values.clamp(1, 1_000_000);
+    let words = words_of(alloc, asked)?;
+    let fails = from_to(alloc, first, last)?;
+    let config = work_source(alloc, 7, values)?;
+    Ok(Ports {
+        words,
+        config,
+        wire: PatientWire {
+            wire: WorkWire::new(alloc, 7, values),
+            meeting: AtGate { gate },
+            patient: asked.patient,
+            asked: 0,
+            met: false,
+        },
+        outbox: MemSink::new(Bytes::new(alloc), fails),
+        print: MemSink::new(Bytes::new(alloc), Many::new(alloc)),
     })
 }
 
-#[test]
-fn entries_are_worked_out_beside_a_syncer_that_is_held(rt: HostRuntime) -> Result<(), Fail> {
-    let alloc = rt.alloc();
-    let few = hold_one(&rt, alloc, FEW)?;
-    assert!(rt; few.ended_by_other && few.is_same);
-    // All entries but the first go out in orders of at most 64, and none is left to the end of the run.
-    assert_eq!(rt; few.entries, 2_002);
-    assert!(rt; few.calls >= 32);
-    let many = hold_one(&rt, alloc, MANY)?;
-    assert!(rt; many.ended_by_other && many.is_same);
-    assert_eq!(rt; many.entries, 200_028);
-    assert!(rt; many.calls >= 3_126);
+/// What a run wrote and printed.
+#[derive(Drop)]
+struct Output {
+    outbox: Bytes,
+    printed: Bytes,
+}
+
+/// What a run over a workload on one thread writes and prints.
+fn output_alone(alloc: Global, values: u64) -> Result<Output, OutOfMemory> {
+    let gate = HoldGate::new(u64::MAX, 0);
+    let ports = work_ports(alloc, asked_by(values, ""), &gate, 0, 0)?;
+    let over = alone(alloc, ports, RamDisk::new(alloc));
+    let output = output_of(alloc, over.ended.outbox.bytes(), over.print.bytes());
+    drop(over);
+    output
+}
+
+fn output_of(alloc: Global, outbox: &Bytes, printed: &Bytes) -> Result<Output, OutOfMemory> {
+    let outbox = Bytes::of(alloc, outbox.as_slice())?;
+    let printed = Bytes::of(alloc, printed.as_slice())?;
+    Ok(Output { outbox, printed })
+}
+
+/// How the lines of a run stand to those of the run on one thread.
+fn relation(outbox: &[u8], alone: &[u8]) -> &'static str {
+    if outbox.is_empty() {
+        "none"
+    } else if outbox == alone {
+        "same"
+    } else if alone.starts_with(outbox) {
+        "front"
+    } else {
+        "others"
+    }
+}
+
+/// How a run ended, how its lines stand to those of the run on one thread, and where it ended well whether it printed
+/// another line.
+fn put_end(
+    told: &mut Text,
+    status: &Status,
+    over: &Output,
+    alone: &Output,
+) -> Result<(), OutOfMemory> {
+    told.push_str(status_name(status))?;
+    told.push_str(", ")?;
+    told.push_str(relation(over.outbox.as_slice(), alone.outbox.as_slice()))?;
+    if *status == Status::Ok && over.printed.as_slice() != alone.printed.as_slice() {
+        told.push_str(", another line")?;
+    }
     Ok(())
+}
+
+/// What is asked of a run's entries and of the orders in which they went out.
+fn put_counts(
+    told: &mut Text,
+    asked: Asked,
+    gate: &HoldGate,
+    entries: u64,
+    met: bool,
+) -> Result<(), OutOfMemory> {
+    if 0 < asked.orders {
+        told.push_str(", entries ")?;
+        told.push_decimal(entries)?;
+        if asked.orders <= gate.calls() {
+            told.push_str(", orders enough")?;
+        }
+        if gate.ended_by_other() {
+            told.push_str(", ended by another")?;
+        }
+    }
+    if entries < asked.below {
+        told.push_str(", fewer entries")?;
+    }
+    if met {
+        told.push_str(", beside another")?;
+    }
+    Ok(())
+}
+
+/// Adds what is told of a run beside syncers.
+fn put_run(
+    alloc: Global,
+    told: &mut Text,
+    asked: Asked,
+    gate: &HoldGate,
+    over: &Over<PatientWire<WorkWire, AtGate<'_>>, RamDisk>,
+    alone: &Output,
+) -> Result<(), OutOfMemory> {
+    let output = output_of(alloc, over.ended.outbox.bytes(), over.print.bytes())?;
+    put_end(told, &over.ended.status, &output, alone)?;
+    let entries = over.ended.entries.as_slice().len() as u64;
+    put_counts(told, asked, gate, entries, over.wire.met)
+}
+
+/// What is told of a run beside syncers, and beside one on one thread.
+fn tell_run<R: Threads + Wait + Sync>(
+    rt: &R,
+    alloc: Global,
+    asked: Asked,
+    alone: &Output,
+) -> Result<Text, OutOfMemory> {
+    let gate = HoldGate::new(asked.after, asked.turns);
+    let ports = work_ports(alloc, asked, &gate, asked.first, asked.last)?;
+    let over = beside(rt, alloc, ports, RamDisk::new(alloc), &gate);
+    let mut told = Text::new(alloc);
+    let put = put_run(alloc, &mut told, asked, &gate, &over, alone);
+    drop(over);
+    put?;
+    Ok(told)
+}
+
+/// Whether a text is one of these, with ` or ` between them.
+fn is_one_of(told: &str, wanted: &str) -> bool {
+    for one in wanted.split(" or ") {
+        if one == told {
+            return true;
+        }
+    }
+    false
+}
+
+/// Adds the line of a case and what it came to, where it isn't one of what is wanted.
+fn put_differing(
+    differing: &mut Text,
+    line: &str,
+    told: &str,
+    wanted: &str,
+) -> Result<(), OutOfMemory> {
+    if is_one_of(told, wanted) {
+        return Ok(());
+    }
+    differing.push_str(line)?;
+    differing.push_str(": ")?;
+    differing.push_str(told)?;
+    differing.push_str("\n")
+}
+
+/// The lines of cases that come to something else, with what they came to, beside a run on one thread.
+fn differing_from<R: Threads + Wait + Sync>(
+    rt: &R,
+    alloc: Global,
+    values: u64,
+    cases: &str,
+    alone: &Output,
+) -> Result<Text, OutOfMemory> {
+    let mut differing = Text::new(alloc);
+    for line in cases.split('\n') {
+        let (wanted, parts) = line.split_once(" | ").unwrap_or((line, ""));
+        let told = tell_run(rt, alloc, asked_by(values, parts), alone)?;
+        put_differing(&mut differing, line, told.as_str(), wanted)?;
+    }
+    Ok(differing)
+}
+
+/// The same over a workload of so many values.
+fn differing<R: Threads + Wait + Sync>(
+    rt: &R,
+    alloc: Global,
+    values: u64,
+    cases: &str,
+) -> Result<Text, OutOfMemory> {
+    let alone = output_alone(alloc, values)?;
+    differing_from(rt, alloc, values, cases, &alone)
+}
+
+/// Syncers write what one thread writes, also where one is held: the entries behind the Tick are worked out beside the one
+/// that is held first, and all but the first entry go out in orders of at most 64. Whoever takes an order wakes another
+/// syncer, which takes the next one though no more events come. An outbox that fails holds the first lines.
+fn few_cases() -> &'static str {
+    "Ok, same | syncers=0\n\
+    Ok, same | syncers=1\n\
+    Ok, same | syncers=4\n\
+    Ok, same | syncers=8\n\
+    Ok, same, entries 2002, orders enough, ended by another | syncers=4 after=2 turns=100000000 orders=32\n\
+    Ok, same, beside another | syncers=4 after=2 turns=100000000 patient=1\n\
+    Ok, same | syncers=8 after=66 turns=100000\n\
+    Ok, same | syncers=8 after=1143 turns=100000\n\
+    Ok, same | syncers=8 after=1074 turns=100000\n\
+    Ok, same | syncers=8 after=967 turns=100000\n\
+    Ok, same | syncers=8 after=946 turns=100000\n\
+    Ok, same | syncers=8 after=1783 turns=100000\n\
+    Ok, same | syncers=8 after=994 turns=100000\n\
+    Ok, same | syncers=8 after=727 turns=100000\n\
+    Ok, same | syncers=8 after=226 turns=100000\n\
+    Ok, same | syncers=8 after=1623 turns=100000\n\
+    Ok, same | syncers=8 after=514 turns=100000\n\
+    Ok, same | syncers=8 after=1287 turns=100000\n\
+    Ok, same | syncers=8 after=1906 turns=100000\n\
+    Ok, same | syncers=8 after=663 turns=100000\n\
+    Ok, same | syncers=8 after=1634 turns=100000\n\
+    Ok, same | syncers=8 after=647 turns=100000\n\
+    Ok, same | syncers=8 after=1986 turns=100000\n\
+    Ok, same | syncers=8 after=903 turns=100000\n\
+    Ok, same | syncers=8 after=354 turns=100000\n\
+    Ok, same | syncers=8 after=807 turns=100000\n\
+    OutboxFault, none or OutboxFault, front or OutboxFault, same | syncers=4 first=1 last=1\n\
+    OutboxFault, none | syncers=4 first=1 last=100\n\
+    OutboxFault, front or OutboxFault, same or Ok, same | syncers=4 first=2 last=2\n\
+    OutboxFault, front or OutboxFault, same or Ok, same | syncers=4 first=2 last=100\n\
+    OutboxFault, front or OutboxFault, same or Ok, same | syncers=4 first=3 last=3\n\
+    OutboxFault, front or OutboxFault, same or Ok, same | syncers=4 first=4 last=4\n\
+    OutboxFault, front or OutboxFault, same or Ok, same | syncers=4 first=4 last=100\n\
+    OutboxFault, front or OutboxFault, same or Ok, same | syncers=4 first=5 last=5\n\
+    OutboxFault, front or OutboxFault, same or Ok, same | syncers=4 first=6 last=6\n\
+    OutboxFault, front or OutboxFault, same or Ok, same | syncers=4 first=8 last=8"
+}
+
+#[test]
+fn syncers_write_what_one_thread_writes(rt: HostRuntime) -> Result<(), Fail> {
+    let differing = differing(&rt, rt.alloc(), 2_000, few_cases())?;
+    assert_eq!(rt; differing.as_str(), "");
+    Ok(())
+}
+
+/// The same of many values; and no more entries are taken once the outbox failed.
+fn many_cases() -> &'static str {
+    "Ok, same, entries 200028, orders enough, ended by another | syncers=4 after=2 turns=100000000 orders=3126\n\
+    OutboxFault, none, fewer entries | syncers=4 first=1 last=100 below=100000"
+}
+
+#[test]
+fn many_values_go_through_the_syncers(rt: HostRuntime) -> Result<(), Fail> {
+    let differing = differing(&rt, rt.alloc(), 200_000, many_cases())?;
+    assert_eq!(rt; differing.as_str(), "");
+    Ok(())
+}
+
+/// How many orders the two entries of one frame go out in, which conflict; whether another syncer came beside the one that a
+/// gate would hold behind them; and the outbox.
+fn tell_conflict<R: Threads + Wait + Sync>(rt: &R, alloc: Global) -> Result<String, OutOfMemory> {
+    let (ports, journal, fails) = ports_of(alloc, setup_of(alloc, "script=one syncers=4", 0)?);
+    drop((journal, fails));
+    let gate = HoldGate::new(3, TURNS);
+    let over = beside(rt, alloc, ports, RamDisk::new(alloc), &gate);
+    let outbox = Bytes::of(alloc, over.ended.outbox.bytes().as_slice());
+    drop(over);
+    Ok(format!(in alloc;
+        "{} {} {}",
+        (1..=2).contains(&gate.calls()),
+        gate.ended_by_other(),
+        str::from_utf8(outbox?.as_slice()).unwrap_or("?")
+    )?)
 }
 
 #[test]
 fn entries_that_conflict_go_out_one_after_the_other(rt: HostRuntime) -> Result<(), Fail> {
-    let alloc = rt.alloc();
-    let gate = HoldGate::new(3, TURNS);
-    let words = "--mode feed --config c --script s --syncers 4";
-    let outbox = sink(alloc, &[], 0)?;
-    let disk = RamDisk::new(alloc);
-    let over = run_beside(&rt, alloc, words, one_frame(), false, disk, outbox, &gate)?;
-    assert!(rt; (1..=2).contains(&gate.calls()));
-    assert!(rt; !gate.ended_by_other());
-    assert!(rt;
-        over.ended.outbox.bytes().as_slice() == b"P|3-1|100.000000000|3|0|h|hot|hot\n".as_slice()
+    let told = tell_conflict(&rt, rt.alloc())?;
+    assert_eq!(rt;
+        told.as_str(),
+        "true false P|3-1|100.000000000|3|0|h|hot|hot\n"
     );
-    Ok(())
-}
-
-#[test]
-fn a_syncer_may_be_held_anywhere(rt: HostRuntime) -> Result<(), Fail> {
-    let alloc = rt.alloc();
-    let alone = run_work(alloc, FEW)?;
-    let mut after = 7u64;
-    for time in 1..21u64 {
-        after = after.wrapping_mul(1_103).wrapping_add(12_345) % FEW;
-        let gate = HoldGate::new(after, 100_000);
-        let outbox = sink(alloc, &[], 0)?;
-        let over = run_work_beside(&rt, alloc, FEW, 8, outbox, &gate)?;
-        assert!(rt;
-            over.outbox() == alone.outbox(),
-            "time {time}, held behind {after}"
-        );
-        assert!(rt;
-            over.printed() == alone.printed(),
-            "time {time}, held behind {after}"
-        );
-    }
-    Ok(())
-}
-
-/// An outbox that fails at its calls from `first` on up to `last`.
-fn failing(alloc: Global, first: u64, last: u64) -> Result<MemSink, OutOfMemory> {
-    let mut numbers = only(alloc, first)?;
-    for number in first..last {
-        numbers.push(number + 1)?;
-    }
-    Ok(MemSink::new(Bytes::new(alloc), numbers))
-}
-
-#[test]
-fn an_outbox_that_fails_holds_the_first_lines(rt: HostRuntime) -> Result<(), Fail> {
-    let alloc = rt.alloc();
-    let alone = run_work(alloc, FEW)?;
-    for (first, last) in [
-        (1u64, 1u64),
-        (1, 100),
-        (2, 2),
-        (2, 100),
-        (3, 3),
-        (4, 4),
-        (4, 100),
-        (5, 5),
-        (6, 6),
-        (8, 8),
-    ] {
-        let outbox = failing(alloc, first, last)?;
-        let over = run_work_beside(&rt, alloc, FEW, 4, outbox, &OpenGate)?;
-        let failed = over.ended.status == Status::OutboxFault;
-        let whole = over.ended.status == Status::Ok && over.outbox() == alone.outbox();
-        assert!(rt; failed || first > 1 && whole, "calls {first} to {last}");
-        assert!(rt;
-            alone.outbox().starts_with(over.outbox()),
-            "calls {first} to {last}"
-        );
-        assert!(rt;
-            !over.outbox().is_empty() || first == 1,
-            "calls {first} to {last}"
-        );
-        assert!(rt;
-            over.outbox().is_empty() || last != 100 || first > 1,
-            "calls {first} to {last}"
-        );
-    }
-    Ok(())
-}
-
-#[test]
-fn no_more_entries_are_taken_once_the_outbox_failed(rt: HostRuntime) -> Result<(), Fail> {
-    let alloc = rt.alloc();
-    let outbox = failing(alloc, 1, 100)?;
-    let over = run_work_beside(&rt, alloc, MANY, 4, outbox, &OpenGate)?;
-    assert!(rt; over.ended.status == Status::OutboxFault);
-    assert!(rt; over.outbox().is_empty());
-    assert!(rt; over.ended.entries.as_slice().len() < 100_000);
     Ok(())
 }
