@@ -19,59 +19,136 @@ fn free_address(rt: &HostRuntime) -> io::Result<Text> {
     Ok(Text::from(format!(in rt.alloc(); "{address}")?))
 }
 
-/// Sends in two pieces, then bytes that nobody reads, and answers how many bytes it got up to the end.
-fn ask(rt: &HostRuntime, address: &str) -> io::Result<u64> {
-    let mut stream = TcpStream::connect(rt, address)?;
+/// Sends in two pieces, then bytes that nobody reads, and answers how many bytes come up to the end.
+fn send_all(rt: &HostRuntime, stream: &mut TcpStream) -> io::Result<u64> {
     stream.write_all(b"hello ")?;
     thread::sleep(rt, Duration::from_millis(50));
     stream.write_all(b"world")?;
     thread::sleep(rt, Duration::from_millis(50));
     stream.write_all(&[b'x'; 30_000])?;
-    io::copy(&mut stream, &mut io::sink())
+    io::copy(stream, &mut io::sink())
 }
 
-/// What a wire told up to the first Quiet or error: the latest connection that opened, how many bytes came, and how many
-/// connections ended. Where at least as many bytes came as are stated, it sends the reply and closes the connection.
-fn told(
+/// The same over a connection of its own.
+fn ask(rt: &HostRuntime, address: &str) -> io::Result<u64> {
+    let mut stream = TcpStream::connect(rt, address)?;
+    let got = send_all(rt, &mut stream);
+    drop(stream);
+    got
+}
+
+/// What a wire told: the latest connection that opened, how many bytes came, and how many connections ended.
+type Told = (u64, usize, u64);
+
+/// Takes an event into what was told: whether it is one of these kinds. Where at least as many bytes have come as are stated,
+/// the wire sends the reply and closes the connection.
+fn take(
     wire: &mut MioWire<&HostRuntime>,
-    alloc: Global,
+    told: &mut Told,
+    event: &WireEvent,
     length: usize,
     reply: &[u8],
-) -> (u64, usize, u64) {
-    let (mut opened, mut came, mut ended) = (0, 0usize, 0u64);
+) -> bool {
+    match event {
+        WireEvent::Opened { conn, .. } => told.0 = *conn,
+        WireEvent::Piece { conn, bytes, .. } => {
+            told.1 = told.1.saturating_add(bytes.len());
+            if length <= told.1 {
+                let _ = wire.send(*conn, reply);
+                wire.close(*conn);
+            }
+        }
+        WireEvent::Ended { .. } => told.2 = told.2.saturating_add(1),
+        _ => return false,
+    }
+    true
+}
+
+/// What a wire told up to the first Quiet or error.
+fn told(wire: &mut MioWire<&HostRuntime>, alloc: Global, length: usize, reply: &[u8]) -> Told {
+    let mut told = (0, 0, 0);
     for _ in 0..1_000 {
-        match wire.next(alloc) {
-            Ok(WireEvent::Opened { conn, .. }) => opened = conn,
-            Ok(WireEvent::Piece { conn, bytes, .. }) => {
-                came = came.saturating_add(bytes.len());
-                if length <= came {
-                    let _ = wire.send(conn, reply);
-                    wire.close(conn);
+        match wire.next(alloc).ok() {
+            Some(event) => {
+                let goes_on = take(wire, &mut told, &event, length, reply);
+                drop(event);
+                if !goes_on {
+                    break;
                 }
             }
-            Ok(WireEvent::Ended { .. }) => ended = ended.saturating_add(1),
-            _ => break,
+            None => break,
         }
     }
-    (opened, came, ended)
+    told
 }
 
 /// How many bytes of a long reply a client reads, and what the wire has left of it then.
-fn read_reply<R: Threads>(rt: &HostRuntime, threads: &R, reply: &[u8]) -> Result<String, Fail> {
-    let address = free_address(rt)?;
-    let mut wire = MioWire::listen(rt, rt.alloc(), &address)?;
+fn read_reply<R: Threads>(
+    rt: &HostRuntime,
+    threads: &R,
+    wire: &mut MioWire<&HostRuntime>,
+    address: &str,
+    reply: &[u8],
+) -> (u64, u64, usize) {
     let (_, got) = thread::join(
         threads,
-        || told(&mut wire, rt.alloc(), 11, reply),
-        || ask(rt, address.as_str()).unwrap_or(0),
+        || told(wire, rt.alloc(), 11, reply),
+        || ask(rt, address).unwrap_or(0),
     );
-    Ok(format!(in rt.alloc(); "{} {} {}", got, wire.unsent(), wire.connections())?)
+    (got, wire.unsent(), wire.connections())
 }
 
-/// The same of a reply of 1,048,576 bytes.
-fn reply_wholly<R: Threads>(rt: &HostRuntime, threads: &R) -> Result<String, Fail> {
+/// Adds the same of a reply of 1,048,576 bytes.
+fn put_reply<R: Threads>(
+    rt: &HostRuntime,
+    threads: &R,
+    told: &mut Text,
+    address: &Text,
+) -> Result<(), OutOfMemory> {
     let reply = Vec::from_elem(rt.alloc(), b'r', 1 << 20)?;
-    read_reply(rt, threads, reply.as_slice())
+    let mut wire = MioWire::listen(rt, rt.alloc(), address)?;
+    let read = read_reply(rt, threads, &mut wire, address.as_str(), reply.as_slice());
+    drop(wire);
+    drop(reply);
+    let shown = format!(in rt.alloc(); "{read:?}")?;
+    told.push_str(shown.as_str())
+}
+
+/// Answers the pieces among the next two events, and may close their connections.
+fn reply_to_piece(wire: &mut MioWire<&HostRuntime>, alloc: Global, closes: bool) {
+    for _ in 0..2 {
+        match wire.next(alloc).ok() {
+            Some(event) => {
+                if let WireEvent::Piece { conn, .. } = &event {
+                    let _ = wire.send(*conn, b"reply");
+                    if closes {
+                        wire.close(*conn);
+                    }
+                }
+                drop(event);
+            }
+            None => {}
+        }
+    }
+}
+
+/// A client that has sent three bytes.
+fn client_of(rt: &HostRuntime, address: &str) -> io::Result<TcpStream> {
+    let mut client = TcpStream::connect(rt, address)?;
+    let sent = client.write_all(b"abc");
+    match sent {
+        Ok(()) => Ok(client),
+        Err(error) => {
+            drop(client);
+            Err(error)
+        }
+    }
+}
+
+/// How many bytes of a short reply a client gets.
+fn got(client: &mut TcpStream) -> usize {
+    let mut reply = [0; 8];
+    client.read(&mut reply).unwrap_or(0)
 }
 
 /// A client that has sent three bytes before the wire looks: what is told behind its reply, and the five bytes that it gets,
@@ -79,93 +156,115 @@ fn reply_wholly<R: Threads>(rt: &HostRuntime, threads: &R) -> Result<String, Fai
 fn answered_at_once(
     rt: &HostRuntime,
     wire: &mut MioWire<&HostRuntime>,
-    address: &str,
-) -> io::Result<((u64, usize, u64), usize)> {
-    let mut client = TcpStream::connect(rt, address)?;
-    client.write_all(b"abc")?;
-    for _ in 0..2 {
-        if let Ok(WireEvent::Piece { conn, .. }) = wire.next(rt.alloc()) {
-            let _ = wire.send(conn, b"reply");
-            wire.close(conn);
-        }
-    }
-    let mut reply = [0; 8];
-    let got = client.read(&mut reply)?;
+    mut client: TcpStream,
+) -> (Told, usize) {
+    reply_to_piece(wire, rt.alloc(), true);
+    let got = got(&mut client);
     drop(client);
     let events = told(wire, rt.alloc(), usize::MAX, b"");
-    Ok((events, if wire.connections() == 0 { got } else { 0 }))
+    (events, if wire.connections() == 0 { got } else { 0 })
 }
 
 /// A client that sends three bytes and no more, and the five that it gets.
 fn half_closed(
     rt: &HostRuntime,
     wire: &mut MioWire<&HostRuntime>,
-    address: &str,
-) -> io::Result<((u64, usize, u64), usize)> {
-    let mut client = TcpStream::connect(rt, address)?;
-    client.write_all(b"abc")?;
-    client.shutdown(Shutdown::Write)?;
+    mut client: TcpStream,
+) -> (Told, usize) {
+    let is_shut = client.shutdown(Shutdown::Write).ok().is_some();
     let events = told(wire, rt.alloc(), usize::MAX, b"");
     let _ = wire.send(events.0, b"reply");
     wire.close(events.0);
-    let mut reply = [0; 8];
-    Ok((events, client.read(&mut reply)?))
+    let got = got(&mut client);
+    drop(client);
+    (events, if is_shut { got } else { 0 })
 }
 
-/// As many clients, and what was told of them, with how many connections are there.
+/// A client of either kind, and what comes of it.
+fn visit_by(
+    rt: &HostRuntime,
+    wire: &mut MioWire<&HostRuntime>,
+    address: &str,
+    is_half: bool,
+) -> (Told, usize) {
+    match client_of(rt, address) {
+        Ok(client) if is_half => half_closed(rt, wire, client),
+        Ok(client) => answered_at_once(rt, wire, client),
+        Err(error) => {
+            drop(error);
+            ((0, 0, 0), 0)
+        }
+    }
+}
+
+/// As many clients.
+fn crowd_of(rt: &HostRuntime, address: &str, size: u32) -> io::Result<Vec<TcpStream>> {
+    let mut clients = Vec::new(rt.alloc());
+    for _ in 0..size {
+        clients.push(TcpStream::connect(rt, address)?)?;
+    }
+    Ok(clients)
+}
+
+/// What is told of as many clients, with how many connections are there.
 fn crowd(
     rt: &HostRuntime,
     wire: &mut MioWire<&HostRuntime>,
     address: &str,
     size: u32,
-) -> io::Result<((u64, usize, u64), usize)> {
-    let mut clients = Vec::new(rt.alloc());
-    for _ in 0..size {
-        clients.push(TcpStream::connect(rt, address)?)?;
-    }
-    Ok((told(wire, rt.alloc(), usize::MAX, b""), wire.connections()))
+) -> (Told, usize) {
+    let clients = crowd_of(rt, address, size);
+    let events = told(wire, rt.alloc(), usize::MAX, b"");
+    drop(clients);
+    (events, wire.connections())
 }
 
-/// A client that comes behind others, and what is told of it, with how many connections are there then.
-fn follow(
-    rt: &HostRuntime,
-    wire: &mut MioWire<&HostRuntime>,
-    address: &str,
-) -> io::Result<((u64, usize, u64), usize)> {
-    let client = TcpStream::connect(rt, address)?;
-    let events = told(wire, rt.alloc(), usize::MAX, b"");
-    drop(client);
-    Ok((events, wire.connections()))
+/// Whether a reply to a connection that isn't there fails.
+fn is_unknown(wire: &mut MioWire<&HostRuntime>) -> bool {
+    wire.send(7_000, b"reply").is_err() && wire.unsent() == 1
 }
 
 /// What a client that is answered at once, half a client, a crowd, a client in its place, and one that takes the place of one
 /// that has ended come to.
-fn visits(
-    rt: &HostRuntime,
-    address: &Text,
-) -> Result<[((u64, usize, u64), usize); 5], OutOfMemory> {
-    let mut wire = MioWire::listen(rt, rt.alloc(), address)?;
-    let none = ((0, 0, 0), 0);
-    let at_once = answered_at_once(rt, &mut wire, address.as_str()).unwrap_or(none);
-    let half = half_closed(rt, &mut wire, address.as_str()).unwrap_or(none);
-    let crowd_of = crowd(rt, &mut wire, address.as_str(), 130).unwrap_or(none);
-    let unknown = usize::from(wire.send(7_000, b"reply").is_err() && wire.unsent() == 1);
-    let after = told(&mut wire, rt.alloc(), usize::MAX, b"");
-    let behind = follow(rt, &mut wire, address.as_str()).unwrap_or(none);
-    Ok([at_once, half, crowd_of, (after, unknown), behind])
+fn visits(rt: &HostRuntime, wire: &mut MioWire<&HostRuntime>, address: &str) -> [(Told, usize); 5] {
+    let at_once = visit_by(rt, wire, address, false);
+    let half = visit_by(rt, wire, address, true);
+    let crowd_of = crowd(rt, wire, address, 130);
+    let unknown = usize::from(is_unknown(wire));
+    let after = told(wire, rt.alloc(), usize::MAX, b"");
+    let behind = crowd(rt, wire, address, 1);
+    [at_once, half, crowd_of, (after, unknown), behind]
 }
 
-/// The same at a free address.
-fn visit(rt: &HostRuntime) -> Result<String, Fail> {
-    let address = free_address(rt)?;
-    Ok(format!(in rt.alloc(); "{:?}", visits(rt, &address)?)?)
+/// Adds the same.
+fn put_visits(rt: &HostRuntime, told: &mut Text, address: &Text) -> Result<(), OutOfMemory> {
+    let mut wire = MioWire::listen(rt, rt.alloc(), address)?;
+    let seen = visits(rt, &mut wire, address.as_str());
+    drop(wire);
+    let shown = format!(in rt.alloc(); "{seen:?}")?;
+    told.push_str(shown.as_str())
+}
+
+/// Whether a call of `next` tells of a lost connection: whether it is this one.
+fn next_lost(wire: &mut MioWire<&HostRuntime>, alloc: Global, lost: u64) -> Option<bool> {
+    match wire.next(alloc).ok() {
+        Some(event) => {
+            let is_lost = match &event {
+                WireEvent::Broke { conn, .. } => Some(*conn == lost),
+                _ => None,
+            };
+            drop(event);
+            is_lost
+        }
+        None => None,
+    }
 }
 
 /// Whether a wire tells in one of its next calls that this connection is lost.
 fn is_lost(wire: &mut MioWire<&HostRuntime>, alloc: Global, lost: u64) -> bool {
     for _ in 0..50 {
-        if let Ok(WireEvent::Broke { conn, .. }) = wire.next(alloc) {
-            return conn == lost;
+        if let Some(is_lost) = next_lost(wire, alloc, lost) {
+            return is_lost;
         }
     }
     false
@@ -176,63 +275,97 @@ fn is_lost(wire: &mut MioWire<&HostRuntime>, alloc: Global, lost: u64) -> bool {
 fn leave_unread(
     rt: &HostRuntime,
     wire: &mut MioWire<&HostRuntime>,
-    address: &str,
-) -> io::Result<(bool, usize)> {
-    let mut client = TcpStream::connect(rt, address)?;
-    client.write_all(b"abc")?;
-    for _ in 0..2 {
-        if let Ok(WireEvent::Piece { conn, .. }) = wire.next(rt.alloc()) {
-            let _ = wire.send(conn, b"reply");
-        }
-    }
+    client: TcpStream,
+) -> (bool, usize) {
+    reply_to_piece(wire, rt.alloc(), false);
     thread::sleep(rt, Duration::from_millis(50));
     drop(client);
     let lost = is_lost(wire, rt.alloc(), 1);
-    Ok((lost, wire.connections()))
+    (lost, wire.connections())
 }
 
-/// The same at a free address.
-fn reset(rt: &HostRuntime) -> Result<String, Fail> {
-    let address = free_address(rt)?;
-    let mut wire = MioWire::listen(rt, rt.alloc(), &address)?;
-    let seen = leave_unread(rt, &mut wire, address.as_str()).unwrap_or((false, 99));
-    Ok(format!(in rt.alloc(); "{seen:?}")?)
-}
-
-/// How many calls of `next` have failed, of one call at a wire on an address that is none.
-fn deaf(rt: &HostRuntime) -> Result<u64, OutOfMemory> {
-    let address = Text::of(rt.alloc(), "nowhere")?;
-    let mut wire = MioWire::listen(rt, rt.alloc(), &address)?;
-    let _ = wire.next(rt.alloc());
-    Ok(wire.faults())
-}
-
-/// What comes of a case.
-fn answer<R: Threads>(rt: &HostRuntime, threads: &R, kind: &str) -> Result<String, Fail> {
-    match kind {
-        "a client reads its whole reply" => reply_wholly(rt, threads),
-        "an ended connection gets its reply, and its place goes to a newcomer" => visit(rt),
-        "a connection that is reset is lost" => reset(rt),
-        "a wire without a socket fails at its first call" => {
-            Ok(format!(in rt.alloc(); "{}", deaf(rt)?)?)
+/// Adds the same.
+fn put_reset(rt: &HostRuntime, told: &mut Text, address: &Text) -> Result<(), OutOfMemory> {
+    let mut wire = MioWire::listen(rt, rt.alloc(), address)?;
+    let seen = match client_of(rt, address.as_str()) {
+        Ok(client) => leave_unread(rt, &mut wire, client),
+        Err(error) => {
+            drop(error);
+            (false, 99)
         }
-        _ => Ok(String::from_str(rt.alloc(), "no such kind")?),
+    };
+    drop(wire);
+    let shown = format!(in rt.alloc(); "{seen:?}")?;
+    told.push_str(shown.as_str())
+}
+
+/// Adds how many calls of `next` have failed, of one call at a wire on an address that is none.
+fn put_deaf(rt: &HostRuntime, told: &mut Text, address: &Text) -> Result<(), OutOfMemory> {
+    let mut wire = MioWire::listen(rt, rt.alloc(), address)?;
+    drop(wire.next(rt.alloc()));
+    let faults = wire.faults();
+    drop(wire);
+    told.push_decimal(faults)
+}
+
+/// Adds what comes of a case at an address.
+fn put_case<R: Threads>(
+    rt: &HostRuntime,
+    threads: &R,
+    told: &mut Text,
+    kind: &str,
+    address: &Text,
+) -> Result<(), OutOfMemory> {
+    match kind {
+        "a client reads its whole reply" => put_reply(rt, threads, told, address),
+        "an ended connection gets its reply, and its place goes to a newcomer" => {
+            put_visits(rt, told, address)
+        }
+        "a connection that is reset is lost" => put_reset(rt, told, address),
+        "a wire without a socket fails at its first call" => put_deaf(rt, told, address),
+        _ => told.push_str("no such kind"),
+    }
+}
+
+/// An address that is none, or a free one.
+fn address_of(rt: &HostRuntime, address: &str) -> io::Result<Text> {
+    if address.is_empty() {
+        return free_address(rt);
+    }
+    Ok(Text::from(format!(in rt.alloc(); "{address}")?))
+}
+
+/// What comes of a case at an address, and a free one where it is empty.
+fn answer<R: Threads>(
+    rt: &HostRuntime,
+    threads: &R,
+    kind: &str,
+    address: &Text,
+) -> Result<Text, OutOfMemory> {
+    let mut told = Text::new(rt.alloc());
+    match put_case(rt, threads, &mut told, kind, address) {
+        Ok(()) => Ok(told),
+        Err(OutOfMemory) => {
+            drop(told);
+            Err(OutOfMemory)
+        }
     }
 }
 
 fn cases() -> &'static str {
-    "a client reads its whole reply | 1048576 0 0\n\
+    "a client reads its whole reply | (1048576, 0, 0)\n\
     an ended connection gets its reply, and its place goes to a newcomer | \
     [((0, 0, 0), 5), ((2, 3, 1), 5), ((130, 0, 0), 128), ((0, 0, 128), 1), ((131, 0, 0), 128)]\n\
     a connection that is reset is lost | (true, 0)\n\
-    a wire without a socket fails at its first call | 1"
+    a wire without a socket fails at its first call | 1 | nowhere"
 }
 
 #[test]
 fn a_wire_over_sockets_tells_what_comes(rt: HostRuntime) -> Result<(), Fail> {
     for line in cases().split('\n') {
         let row = row_of(line);
-        let told = answer(&rt, &rt, row.kind)?;
+        let address = address_of(&rt, row.input)?;
+        let told = answer(&rt, &rt, row.kind, &address)?;
         assert_eq!(rt; told.as_str(), row.wanted, "{line}");
     }
     Ok(())
