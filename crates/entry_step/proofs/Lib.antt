@@ -10,6 +10,7 @@ pub mod Phases
 pub mod Represented
 pub mod Orders
 pub mod Meeting
+pub mod Making
 pub mod Replays
 pub mod Feet
 pub mod Naming

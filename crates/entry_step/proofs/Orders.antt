@@ -16,7 +16,6 @@ use Rattle.zbx_types.specs.declared.rules.Rule.{Rule}
 use Rattle.footprint.specs.Feet.{under_of, is_of, over_of, reach_by, is_reached, feet_of}
 use Rattle.entry_step.specs.Each.{Each, In, EachPair}
 use Rattle.zbx_types.specs.Entries.{moment_of}
-use Rattle.entry_step.specs.Log.{}
 use Rattle.prep_steps.specs.declared.memory.StepMemory.{StepMemory}
 use Rattle.preprocess.specs.Ways.{memory_at}
 use Rattle.preprocess.specs.Draft.{visit_at, stored_at, stored_of as stored_by, marks_after, failures_of}
@@ -39,7 +38,7 @@ use Rattle.entry_step.proofs.Covered.{phase_lands, phase_same}
 use Rattle.zbx_types.proofs.RowLemmas.{at_suc}
 use Rattle.entry_step.proofs.Represented.{calls_touched, own_touched, absent_after, stays_tidy, failures_land, records_are, after_is}
 use Rattle.entry_step.specs.Occasions.{occasion_of}
-use Rattle.entry_step.specs.Start.{Start, fresh, first_start}
+use Rattle.entry_step.specs.Start.{Start, first_start}
 
 trigger_touched : (conf : Conf) (now item time : ℕ) (value : List ℕ) (id : ℕ) → has_id ((feet_of conf).triggers item) id ≡ true → touches conf (Value now item time value) (TriggerKey id) ≡ true
 unfolding touches

@@ -15,6 +15,7 @@ pub mod Cells
 pub mod Represents
 pub mod Laws
 pub mod Named
+pub mod Making
 pub mod Asked
 pub mod Kept
 pub mod Calls

@@ -1,6 +1,7 @@
 //! The laws of order, over the definitions of what entries make. The functions do nothing: each stands for its clause.
 
 ghost use Rattle.entry_step.specs.Laws.{ConflictIsMeeting, FreshIsGood, AreTidyCells, Locality, Insertion, BatchOnACopy, AppliedPart};
+ghost use Rattle.entry_step.specs.Making.{MakingIsOrder};
 ghost use Rattle.entry_step.specs.Named.{OpenByNames};
 
 /// The crate `footprint` tells two entries to conflict exactly where some cell is in both feet.
@@ -49,4 +50,10 @@ pub fn applied_part()
 /// problems of a trigger are the Problem records with its host's name and its own that no Recovery names at all.
 pub fn open_by_names()
     ensures { OpenByNames }
+{}
+
+/// The order of making is the order of the records: behind a log whose numbers rise, and inside its next entry at each of
+/// the triggers that it evaluates, and behind the last.
+pub fn making_is_order()
+    ensures { MakingIsOrder }
 {}
