@@ -34,6 +34,16 @@ of_both f (Some a) (Some b) = f a b
 abbrev pub compared : (ℤ → ℤ → Bool) → Option ℤ → Option ℤ → Option ℤ
 compared test x y = of_both (λ a b. Some (truth (test a b))) x y
 
+-- a comparison of two numbers holds; no other operator is one
+abbrev pub holds : Op → ℤ → ℤ → Bool
+holds Eq a b = int_eq a b
+holds Ne a b = not (int_eq a b)
+holds Lt a b = int_lt a b
+holds Le a b = int_le a b
+holds Gt a b = int_lt b a
+holds Ge a b = int_le b a
+holds _ a b = false
+
 -- a binary operator over the values of its operands
 unfoldable pub operation : Op → Option ℤ → Option ℤ → Option ℤ
 operation Or x y = or_of x y

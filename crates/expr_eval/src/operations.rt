@@ -1,7 +1,7 @@
 //! Operators over values, of which each may be unknown.
 
 ghost use Rattle.std.specs.Prelude.{◌≡◌, Some};
-ghost use Rattle.expr_eval.specs.Operations.{negation_of, or_of, and_of, operation};
+ghost use Rattle.expr_eval.specs.Operations.{negation_of, or_of, and_of, holds, operation};
 
 use zbx_types::{Fix, Op};
 
@@ -54,24 +54,34 @@ fn and(left: Option<Fix>, right: Option<Fix>) -> Option<Fix>
     }
 }
 
+/// Whether a comparison of two numbers holds, both in millionths. No other operator is one.
+fn holds(op: Op, left: i128, right: i128) -> bool
+    ensures { result ≡ holds op left right }
+{
+    match op {
+        Op::Eq => left == right,
+        Op::Ne => left != right,
+        Op::Lt => left < right,
+        Op::Le => left <= right,
+        Op::Gt => left > right,
+        Op::Ge => left >= right,
+        _ => false,
+    }
+}
+
 /// A binary operator over known operands.
 #[tactic(auto, unfolding(crate::specs::Operations::operation, crate::specs::Operations::or_of, crate::specs::Operations::and_of))]
 fn of_known(op: Op, left: Fix, right: Fix) -> Option<Fix>
     ensures { result ≡ operation op (Some left) (Some right) }
 {
     match op {
-        Op::Or => Some(Fix::truth(left.is_true() || right.is_true())),
-        Op::And => Some(Fix::truth(left.is_true() && right.is_true())),
-        Op::Eq => Some(Fix::truth(left == right)),
-        Op::Ne => Some(Fix::truth(left != right)),
-        Op::Lt => Some(Fix::truth(left < right)),
-        Op::Le => Some(Fix::truth(left <= right)),
-        Op::Gt => Some(Fix::truth(left > right)),
-        Op::Ge => Some(Fix::truth(left >= right)),
+        Op::Or => or(Some(left), Some(right)),
+        Op::And => and(Some(left), Some(right)),
         Op::Add => left.add(right),
         Op::Sub => left.sub(right),
         Op::Mul => left.mul(right),
         Op::Div => left.div(right),
+        _ => Some(Fix::truth(holds(op, left.raw(), right.raw()))),
     }
 }
 

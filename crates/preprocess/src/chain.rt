@@ -118,6 +118,27 @@ fn with_known(outcome: Result<Outcome, OutOfMemory>, parsed: Parsed) -> Result<W
     }
 }
 
+/// What comes of a value that a step lets go no further, and what the steps behind that one remember.
+fn stopped(
+    alloc: Global,
+    outcome: Outcome,
+    marks: Many<StepMemory>,
+    steps: &[StepSpec],
+    memories: &[StepMemory],
+    from: usize,
+) -> Result<Passed, OutOfMemory>
+    ensures outcome { IfOk result (λ passed. passed.outcome ≡ outcome) }
+    ensures marks { IfOk result (λ passed. passed.marks ≡ marks ++ unreached (drop from steps.now) (from + 1) (memory_at memories.now)) }
+{
+    match with_unreached(alloc, marks, steps, memories, from) {
+        Ok(marks) => Ok(Passed { outcome, marks }),
+        Err(OutOfMemory) => {
+            drop(outcome);
+            Err(OutOfMemory)
+        }
+    }
+}
+
 /// A value at all steps, one after the other.
 #[tactic(auto, unfolding(crate::specs::Chain::comes_of, crate::specs::Chain::marks_of))]
 fn pass_steps(
@@ -153,21 +174,9 @@ fn pass_steps(
                 parsed = kept_parsed(&text, &next, known);
                 text = next;
             }
-            Outcome::Discard => {
+            ended => {
                 drop(known);
-                let marks = with_unreached(alloc, marks, steps, memories, index + 1)?;
-                return Ok(Passed {
-                    outcome: Outcome::Discard,
-                    marks,
-                });
-            }
-            Outcome::Fail(why) => {
-                drop(known);
-                let marks = with_unreached(alloc, marks, steps, memories, index + 1)?;
-                return Ok(Passed {
-                    outcome: Outcome::Fail(why),
-                    marks,
-                });
+                return stopped(alloc, ended, marks, steps, memories, index + 1);
             }
         }
     }
