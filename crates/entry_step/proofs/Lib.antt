@@ -9,6 +9,7 @@ pub mod Histories
 pub mod Phases
 pub mod Represented
 pub mod Orders
+pub mod Behind
 pub mod Meeting
 pub mod Making
 pub mod Replays
@@ -34,3 +35,6 @@ pub mod Exchanging
 pub mod Parting
 pub mod Stepped
 pub mod Touching
+pub mod Runs
+pub mod Rising
+pub mod Previous

@@ -42,6 +42,7 @@ use Rattle.entry_step.proofs.Landing.{judged_is, judged_has, evaluated_none}
 use Rattle.entry_step.specs.Log.{last_number, first_tick, IsRising}
 use Rattle.entry_step.specs.Named.{is_named, host_of, AreDistinct, OpenByNames}
 use Rattle.entry_step.specs.Making.{IsAsRecorded, records_upto, MakingIsOrder}
+use Rattle.entry_step.specs.NamedInside.{OpenInside}
 use Rattle.entry_step.proofs.Making.{Once, pairs_filter, Precedes, Earlier, OfProblem, as_recorded}
 use Rattle.std.specs.List.{All}
 use Rattle.std.proofs.lemmas.List.Elements.{All-nil, All-cons}
@@ -151,7 +152,7 @@ once_below ts (suc n) = once_append (by_depth ts n) (level n 1 ts) (once_below t
         let b = level_in n 1 ts x j in
         let e : r.0 ≡ n = same_depth ts (x - 1) r.0 n a.1 b.1 in absurd (omega arith)
 
-once_order : (conf : Conf) → Once (order conf)
+pub once_order : (conf : Conf) → Once (order conf)
 unfolding order
 once_order conf = once_below conf.triggers (above_depths 0 conf.triggers)
 
@@ -510,7 +511,7 @@ failures_quiet conf memory number entry = go (visits_at conf memory number entry
     go [] = (tt, tt)
     go (v ∷ visits) = one v (failures_of conf number visits) (go visits) v.outcome
 
-once_triggers : (conf : Conf) (memory : Memory) (number : ℕ) (entry : Entry) → Once (triggers_at conf memory number entry)
+pub once_triggers : (conf : Conf) (memory : Memory) (number : ℕ) (entry : Entry) → Once (triggers_at conf memory number entry)
 unfolding triggers_at timed_triggers
 once_triggers conf memory number (Config now text) = tt
 once_triggers conf memory number (Tick now) = once_filter (λ id. is_timed_trigger (at_id conf.triggers id)) (order conf) (once_order conf)
@@ -678,3 +679,22 @@ open_by_names conf log rising distinct id trigger is =
     let right = replay_right conf log rising (last_number (first_start conf) log + 1) bound in
     open_by_test (first_stage conf) id (is_named (host_of conf trigger) trigger.name) (replay (first_start conf) log) (tells conf id trigger distinct is (replay (first_start conf) log) right.named)
     (comes_first conf (host_of conf trigger) trigger.name [] (replay (first_start conf) log) (free_none (replay (first_start conf) log)) right.early)
+
+-- Inside an entry
+inside_right : (conf : Conf) (log : List Numbered) (e : Numbered) (ids rest : List ℕ) → IsRising (first_start conf) (e ∷ log) → triggers_at conf (memory_of (first_start conf) log) e.number e.entry ≡ ids ++ rest
+    → (done : List ℕ) × Right conf e.number done (records_upto (first_start conf) log e (replay (first_start conf) log) ids)
+inside_right conf log e ids rest up are =
+    let rs = replay (first_start conf) log in
+    let f = failures_at conf (memory_of (first_start conf) log) e.number e.entry in
+    let q = failures_quiet conf (memory_of (first_start conf) log) e.number e.entry in
+    phase_next conf (occasion_of (first_tick (first_start conf) log) e.number e.entry) (history_of (first_start conf) (e ∷ log)) [] ids (rs ++ f)
+    (right_append conf e.number [] rs f (replay_right conf log up.1 e.number up.0) (quiet_right conf e.number [] f q.0 q.1) (quiet_all conf rs f q.0))
+    (once_front ids rest (subst Once are (once_triggers conf (memory_of (first_start conf) log) e.number e.entry))) (λ x i j. j)
+    (pairs_front (IsAhead conf) ids rest (subst (EachPair (IsAhead conf)) are (rising_triggers conf (memory_of (first_start conf) log) e.number e.entry))) (λ x y i j. absurd i)
+
+pub open_inside : OpenInside
+open_inside conf log e ids rest up distinct are id trigger is =
+    let rs = records_upto (first_start conf) log e (replay (first_start conf) log) ids in
+    let r = inside_right conf log e ids rest up are in
+    open_by_test (first_stage conf) id (is_named (host_of conf trigger) trigger.name) rs (tells conf id trigger distinct is rs (r.1).named)
+    (comes_first conf (host_of conf trigger) trigger.name [] rs (free_none rs) (r.1).early)

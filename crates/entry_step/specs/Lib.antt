@@ -16,6 +16,10 @@ pub mod Represents
 pub mod Laws
 pub mod Named
 pub mod Making
+pub mod Behind
+pub mod NamedInside
+pub mod Rising
+pub mod Previous
 pub mod Asked
 pub mod Kept
 pub mod Calls

@@ -2,7 +2,11 @@
 
 ghost use Rattle.entry_step.specs.Laws.{ConflictIsMeeting, FreshIsGood, AreTidyCells, Locality, Insertion, BatchOnACopy, AppliedPart};
 ghost use Rattle.entry_step.specs.Making.{MakingIsOrder};
+ghost use Rattle.entry_step.specs.Behind.{ReplayBehind, BehindIsGood, HoldsBehind, SuitsBehind};
 ghost use Rattle.entry_step.specs.Named.{OpenByNames};
+ghost use Rattle.entry_step.specs.NamedInside.{OpenInside};
+ghost use Rattle.entry_step.specs.Previous.{PreviousIs, FreshHasMarks};
+ghost use Rattle.entry_step.specs.Rising.{StepsRise, FreshHasSteps};
 
 /// The crate `footprint` tells two entries to conflict exactly where some cell is in both feet.
 pub fn conflict_is_meeting()
@@ -56,4 +60,52 @@ pub fn open_by_names()
 /// the triggers that it evaluates, and behind the last.
 pub fn making_is_order()
     ensures { MakingIsOrder }
+{}
+
+/// What a log leaves is the start of the entries behind it: over that they make what they make behind the log.
+pub fn replay_behind()
+    ensures { ReplayBehind }
+{}
+
+/// Behind a good start, what a log leaves is a good start.
+pub fn behind_is_good()
+    ensures { BehindIsGood }
+{}
+
+/// Cells that hold a log hold, over what the log leaves, an empty one.
+pub fn holds_behind()
+    ensures { HoldsBehind }
+{}
+
+/// Entries that suit a start behind a log suit what that log leaves.
+pub fn suits_behind()
+    ensures { SuitsBehind }
+{}
+
+/// Steps of an action rise: in each log whose numbers rise, behind a start whose records have steps so and under actions
+/// with different names, a step has the number behind the greatest one of its event and action in all records before it.
+/// Of each open problem what is kept of its steps is, of each action, the last one of all records.
+pub fn steps_rise()
+    ensures { StepsRise }
+{}
+
+/// Nothing is recorded before a fresh start, so its records have steps so.
+pub fn fresh_has_steps()
+    ensures { FreshHasSteps }
+{}
+
+/// What a step remembers behind a log is what the last value that marked it left there, as a search of the log finds it.
+pub fn previous_is()
+    ensures { PreviousIs }
+{}
+
+/// A fresh start has a mark for each step of each item, as that search asks for.
+pub fn fresh_has_marks()
+    ensures { FreshHasMarks }
+{}
+
+/// Open problems by the names of their trigger also inside an entry, at each of the triggers that it evaluates and behind
+/// the last: the Problem records with the names of its host and its own that no Recovery among those made so far names.
+pub fn open_inside()
+    ensures { OpenInside }
 {}
