@@ -2,7 +2,7 @@
 use Rattle.std.specs.Prelude.{ℕ, List, Option}
 use Rattle.outside.specs.declared.event.WireEvent.{WireEvent}
 
--- a sink: the bytes that it holds, where it tells them, how many they are, and how many calls of write have failed
+-- a sink: the bytes that it holds, where it tells them, how many they are, and how many of its calls have failed
 pub record SinkTells : Type 0 where
   pub bytes : Option (List ℕ)
   pub held : ℕ

@@ -1,4 +1,5 @@
 pub mod InTurn
 pub mod Longest
+pub mod Rereading
 pub mod Seen
 pub mod Telling

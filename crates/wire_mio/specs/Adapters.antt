@@ -1,15 +1,19 @@
 -- What contracts see of sources, sinks and disks over readers, writers and files.
-use Rattle.std.specs.Prelude.{◌≡◌, ℕ, ◌+◌, ◌-◌, ◌^◌, min, Bool, true, ◌==◌, is_some, List, length, Option, Some, None, Result, Ok, Err, IsErr, if◌then◌else◌}
+use Rattle.std.specs.Prelude.{◌≡◌, ◌≤◌, ◌<◌, ℕ, ◌+◌, ◌-◌, ◌^◌, min, Bool, true, ◌==◌, is_some, List, length, take, drop, Option, IfSome, Some, None, Result, Ok, Err, IsErr, if◌then◌else◌}
+use Rattle.outside.specs.Others.{first_other}
+use Rattle.wire_mio.specs.declared.reread.Compared.{Compared}
+use Rattle.wire_mio.specs.declared.reread.Compared.TheVariants.{Unread, Same, Other}
 
 -- a source: the bytes that are left, where its reader tells, and how often it has failed
 pub record Reading : Type 0 where
   pub left : Option (List ℕ)
   pub faults : ℕ
 
--- a sink: whether it has a writer, the bytes that it holds, where its writer tells, how many there are, and how often it
--- has failed
+-- a sink: whether it has a writer, whether that is this program's alone, the bytes that it holds, where its writer tells,
+-- how many there are, and how often it has failed
 pub record Holding : Type 0 where
   pub has_writer : Bool
+  pub is_alone : Bool
   pub bytes : Option (List ℕ)
   pub held : ℕ
   pub faults : ℕ
@@ -18,6 +22,19 @@ pub record Holding : Type 0 where
 abbrev pub counted : ℕ → Option (List ℕ) → Option (List ℕ)
 counted held None = None
 counted held (Some bytes) = if length bytes == held then Some bytes else None
+
+-- a file of a sink: whether its bytes stay, as those of a pipe don't, and whether its lock was taken
+pub record Added : Type 0 where
+  pub stays : Bool
+  pub has_lock : Bool
+
+-- no other program adds to such a file, where its bytes stay
+abbrev pub is_own : Added → Bool
+is_own file = if file.stays then file.has_lock else true
+
+-- a sink that was opened: it has no writer, or one that is this program's alone
+abbrev pub IsOwn : Holding → Type 0
+IsOwn sink = sink.has_writer ≡ true → sink.is_alone ≡ true
 
 -- a file of a disk: how many calls have failed, and whether it is this program's alone
 pub record Locked : Type 0 where
@@ -54,3 +71,11 @@ risen count = min (count + 1) (2 ^ 64 - 1)
 abbrev pub faults_behind : {T E : Type 0} → ℕ → Result T E → ℕ
 faults_behind faults (Ok answer) = faults
 faults_behind faults (Err cause) = risen faults
+
+-- what one read shows of bytes that are looked for from a place on: nothing, where the writer doesn't tell; how many of
+-- the first ones are there; or where there is another first
+abbrev pub IsCompared : Option (List ℕ) → ℕ → List ℕ → Compared → Type 0
+IsCompared contents at bytes Unread = contents ≡ None
+IsCompared contents at bytes (Same n) = (0 < n) × (n ≤ length bytes) × IfSome contents (λ b. first_other at (take n bytes) (take n (drop at b)) ≡ None)
+IsCompared contents at bytes (Other place) =
+    (at ≤ place) × (place < at + length bytes) × IfSome contents (λ b. first_other at bytes (drop at b) ≡ Some place)

@@ -95,12 +95,17 @@ fn opened<R: Files<File = File>>(rt: &R, path: &str) -> io::Result<File> {
         .write(true)
         .create(true)
         .open(rt, path)?;
+    sync_folder(rt, path)?;
+    Ok(file)
+}
+
+/// Syncs the folder that a path lies in, so that a crash leaves the path's name.
+pub(crate) fn sync_folder<R: Files<File = File>>(rt: &R, path: &str) -> io::Result<()> {
     let folder = match Path::new(path).parent() {
         Some(folder) if !folder.as_str().is_empty() => folder.as_str(),
         _ => ".",
     };
-    File::open(rt, folder)?.sync_all()?;
-    Ok(file)
+    File::open(rt, folder)?.sync_all()
 }
 
 impl<F: Stored> Disk for FileDisk<F> {

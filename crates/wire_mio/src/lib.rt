@@ -5,7 +5,8 @@
 //! tell nothing of content: what a file holds, what a socket delivers and what a terminal shows is trusted.
 //!
 //! [`FileSource`] reads a file, [`FileSink`] adds to one, and [`StdSink`] writes to standard output. A source or a sink
-//! over a reader or writer that tells its bytes tells them too. [`FileDisk`] keeps a journal in a file.
+//! over a reader or writer that tells its bytes tells them too. [`FileDisk`] keeps a journal in a file. The files of a sink
+//! and of a disk are locked, so that no other program has them at the same time.
 //!
 //! [`MioWire`] is a wire over sockets on one thread:
 //!
@@ -50,8 +51,10 @@ mod file_disk;
 mod peer;
 mod piece;
 mod queue;
+mod reread;
 mod room;
 mod sink;
+mod sink_file;
 mod sockets;
 mod source;
 mod standard;
@@ -60,7 +63,9 @@ mod wire;
 mod writer;
 
 pub use file_disk::FileDisk;
+pub use reread::Reread;
 pub use sink::FileSink;
+pub use sink_file::SinkFile;
 pub use source::FileSource;
 pub use standard::StdSink;
 pub use stored::{DiskFile, Stored};

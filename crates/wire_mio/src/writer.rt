@@ -6,34 +6,35 @@ ghost use Rattle.std.specs.Io.KnownBytes.{WriteAppends};
 ghost use Rattle.wire_mio.specs.Adapters.{counted};
 ghost use Rattle.wire_mio.specs.SinkLaws.{counted_held};
 
+use crate::reread::{Reread, find_other};
 use outside::{Failed, Sink};
-use std::io::Write;
 use std::marker::Model;
 
 /// A sink over a writer. Each write is handed on in one call, and nothing is kept back. It tells the bytes that it holds
-/// where its writer tells as many as the sink counts; a file tells none.
+/// where its writer tells as many as the sink counts; a file tells none. Where it is compared it reads its writer in blocks.
 ///
 /// One without a writer, whose file couldn't be opened, fails at every call.
 #[derive(Drop)]
-pub struct WriterSink<W: Write> {
+pub struct WriterSink<W: Reread> {
     writer: Option<W>,
     held: u64,
     faults: u64,
 }
 
-impl<W: Write> Model for WriterSink<W> {
-    ghost use Rattle.std.specs.Option.{option_and_then, is_some};
+impl<W: Reread> Model for WriterSink<W> {
+    ghost use Rattle.std.specs.Prelude.{false};
+    ghost use Rattle.std.specs.Option.{option_and_then, option_map_or, is_some};
     ghost use Rattle.wire_mio.specs.Adapters.{Holding, counted};
 
     ghost Value = { Holding };
 
-    ghost view = { λ s. record { has_writer = is_some s.writer; bytes = counted s.held (option_and_then W.contents s.writer); held = s.held; faults = s.faults } };
+    ghost view = { λ s. record { has_writer = is_some s.writer; is_alone = option_map_or W.is_alone s.writer false; bytes = counted s.held (option_and_then W.contents s.writer); held = s.held; faults = s.faults } };
 }
 
-impl<W: Write> WriterSink<W> {
+impl<W: Reread> WriterSink<W> {
     /// A sink over a writer that holds this many bytes.
     pub fn over(writer: W, held: u64) -> WriterSink<W>
-        ensures { result ≡ record { has_writer = true; bytes = counted held (W.contents writer); held = held; faults = 0 } }
+        ensures { result ≡ record { has_writer = true; is_alone = W.is_alone writer; bytes = counted held (W.contents writer); held = held; faults = 0 } }
     {
         WriterSink {
             writer: Some(writer),
@@ -44,7 +45,7 @@ impl<W: Write> WriterSink<W> {
 
     /// A sink without a writer, at which every call fails.
     pub fn without() -> WriterSink<W>
-        ensures { result ≡ record { has_writer = false; bytes = None; held = 0; faults = 0 } }
+        ensures { result ≡ record { has_writer = false; is_alone = false; bytes = None; held = 0; faults = 0 } }
     {
         WriterSink {
             writer: None,
@@ -54,7 +55,7 @@ impl<W: Write> WriterSink<W> {
     }
 }
 
-impl<W: Write> Sink for WriterSink<W> {
+impl<W: Reread> Sink for WriterSink<W> {
     ghost tells = { λ s. record { bytes = counted s.held s.bytes; held = s.held; faults = s.faults } };
 
     ghost held_is = { λ s. counted_held s.held s.bytes };
@@ -77,11 +78,46 @@ impl<W: Write> Sink for WriterSink<W> {
         self.faults = self.faults.saturating_add(1);
         Err(Failed)
     }
+
+    #[tactic(auto, using(crate::proofs::Rereading::counted_told))]
+    fn differs(&mut self, at: u64, bytes: &[u8]) -> Result<Option<u64>, Failed> {
+        if let Some(writer) = &mut self.writer {
+            if let Ok(found) = find_other(writer, self.held, at, bytes) {
+                return Ok(found);
+            }
+        }
+        self.faults = self.faults.saturating_add(1);
+        Err(Failed)
+    }
+
+    fn cut(&mut self, to: u64) -> Result<(), Failed> {
+        if let Some(writer) = &mut self.writer {
+            if self.held <= to {
+                return Ok(());
+            }
+            if writer.cut(to).is_ok() {
+                self.held = to;
+                return Ok(());
+            }
+        }
+        self.faults = self.faults.saturating_add(1);
+        Err(Failed)
+    }
+
+    fn sync(&mut self) -> Result<(), Failed> {
+        if let Some(writer) = &mut self.writer {
+            if writer.sync().is_ok() {
+                return Ok(());
+            }
+        }
+        self.faults = self.faults.saturating_add(1);
+        Err(Failed)
+    }
 }
 
 /// Hands a piece to a writer in one call, and answers how many of its bytes were taken. It fails where there is no
 /// writer, where the writer does, and where none were taken of a piece that has some.
-fn hand_on<W: Write>(writer: &mut Option<W>, piece: &[u8]) -> Result<usize, Failed>
+fn hand_on<W: Reread>(writer: &mut Option<W>, piece: &[u8]) -> Result<usize, Failed>
     ensures bound { IfOk result (λ count. count ≤ length piece.now) }
     ensures some { IfOk result (λ count. 0 < length piece.now → 0 < count) }
     ensures bytes { WriteAppends (option_and_then W.contents writer.old) (option_and_then W.contents writer.new) result piece.now }
