@@ -27,6 +27,10 @@ abbrev pub reached : List Numbered → Option ℕ
 reached [] = None
 reached (e ∷ log) = Some (moment_of e.entry)
 
+-- a log fits, and its newest entry has this moment; None stands for a log without entries
+abbrev pub HasReached : Conf → List Numbered → Option ℕ → Type 0
+HasReached conf log last = Fits (first_start conf) log × (last ≡ reached log)
+
 -- a log with entries more
 abbrev pub log_with : List Numbered → List Entry → List Numbered
 log_with log entries = reverse (numbered_from (length log + 1) entries) ++ log

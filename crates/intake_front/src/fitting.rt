@@ -1,14 +1,49 @@
 //! Whether the entries that a journal kept fit a configuration.
 
-ghost use Rattle.std.specs.Prelude.{◌≡◌, true, false, IsTrue, ◌↔◌, MatchBool, List};
+ghost use Rattle.std.specs.Prelude.{◌≡◌, true, false, IsTrue, ◌↔◌, MatchBool, List, None};
 ghost use Rattle.entry_step.specs.Log.{Fits, IsFitting, is_config, is_taking};
 ghost use Rattle.zbx_types.specs.Ids.{at_id};
 ghost use Rattle.zbx_types.specs.declared.entries.Numbered.{Numbered};
-ghost use Rattle.intake_front.specs.Misfit.{IsFirstMisfit, FitsBehind, reached, log_with};
+ghost use Rattle.intake_front.specs.Misfit.{IsFirstMisfit, FitsBehind, HasReached, log_with};
 ghost use Rattle.entry_step.specs.Start.{first_start};
 
 use intake_journal::Group;
+use std::marker::Model;
 use zbx_types::{Conf, Entry, Moment, by_id};
+
+/// What judges the groups of a journal one after the other: it knows the moment that those before have reached.
+/// Contracts see that moment, or None in front of the first group.
+#[derive(Drop)]
+pub struct Judge {
+    last: Option<Moment>,
+}
+
+impl Model for Judge {
+    ghost use Rattle.std.specs.Prelude.{ℕ, Option};
+
+    ghost Value = { Option ℕ };
+
+    ghost view = { λ j. j.last };
+}
+
+impl Judge {
+    /// The judge of a journal's first group.
+    pub fn new() -> Judge
+        ensures { result ≡ None }
+    {
+        Judge { last: None }
+    }
+
+    /// Whether the entries of a group fit a configuration behind those of the groups before, all of which fit it. Where
+    /// they do, the judge goes on behind them. Takes no memory.
+    pub fn judge(&mut self, conf: &Conf, group: &Group) -> bool
+        ensures { (log : List Numbered) → HasReached conf.now log self.old
+            → MatchBool result (HasReached conf.now (log_with log group.now.entries) self.new)
+            (¬ (Fits (first_start conf.now) (log_with log group.now.entries))) }
+    {
+        group_fits(conf, &mut self.last, group.entries.as_slice())
+    }
+}
 
 /// The place of the first group whose entries don't fit a configuration, or None where all fit: the first entry alone
 /// is a Config, no moment falls, and each value is of an enabled trapper item and no later than its moment. Whether
@@ -17,9 +52,9 @@ use zbx_types::{Conf, Entry, Moment, by_id};
 pub fn first_misfit(conf: &Conf, kept: &[Group]) -> Option<u64>
     ensures { IsFirstMisfit conf.now kept.now result }
 {
-    let mut last = None;
+    let mut judge = Judge::new();
     for group in kept {
-        if !group_fits(conf, &mut last, group.entries.as_slice()) {
+        if !judge.judge(conf, group) {
             return Some(group.at);
         }
     }
@@ -28,9 +63,9 @@ pub fn first_misfit(conf: &Conf, kept: &[Group]) -> Option<u64>
 
 /// Whether entries fit behind a log that has reached this moment, which goes on to that of the last one.
 fn group_fits(conf: &Conf, last: &mut Option<Moment>, entries: &[Entry]) -> bool
-    ensures fits { (log : List Numbered) → last.old ≡ reached log → Fits (first_start conf.now) log
-        → MatchBool result (Fits (first_start conf.now) (log_with log entries.now)
-        × (last.new ≡ reached (log_with log entries.now))) (¬ (Fits (first_start conf.now) (log_with log entries.now))) }
+    ensures fits { (log : List Numbered) → HasReached conf.now log last.old
+        → MatchBool result (HasReached conf.now (log_with log entries.now) last.new)
+        (¬ (Fits (first_start conf.now) (log_with log entries.now))) }
 {
     for entry in entries {
         if !entry_fits(conf, *last, entry) {

@@ -53,6 +53,6 @@ mod telling;
 
 pub use answer::{Answer, FrontError, Reply, Stop, Unmade};
 pub use collection::Collection;
-pub use fitting::first_misfit;
+pub use fitting::{Judge, first_misfit};
 pub use front::Front;
 pub use refusal::ValueRefusal;

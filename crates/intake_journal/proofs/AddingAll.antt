@@ -16,7 +16,7 @@ use Rattle.gated_file.proofs.Moments.{if_some, told_of}
 use Rattle.intake_journal.proofs.Adding.{groups_closed, told_too}
 use Rattle.intake_journal.proofs.Blocks.{front_with, count_entries-placed}
 
-module _ (disk : DiskTells) (at entries : ℕ) (b : List ℕ) (is : IsDurable disk at entries b) (shut : get_or b at 1 ≢ 1) (groups : List (List Entry))
+module _ (disk : DiskTells) (first at entries : ℕ) (b : List ℕ) (is : IsDurable disk first at entries b) (shut : get_or b at 1 ≢ 1) (groups : List (List Entry))
     (readable : All IsReadable groups) (within : at + length (opened_bytes groups) + 1 ≤ longest_journal) (block : List ℕ) (shape : 1 ∷ block ≡ opened_bytes groups ++ 0 ∷ []) where
   abbrev gs : List Group
   gs = is.groups
@@ -33,13 +33,13 @@ module _ (disk : DiskTells) (at entries : ℕ) (b : List ℕ) (is : IsDurable di
   abbrev all : List Group
   all = gs ++ placed at groups
 
-  is_front : IsFront all longer
-  is_front = subst (λ (n : ℕ). IsFront (gs ++ placed n groups) longer) front_length (front_with gs front groups is.front readable (omega (arith, front_length, within)))
+  is_front : IsFront first all longer
+  is_front = subst (λ (n : ℕ). IsFront first (gs ++ placed n groups) longer) front_length (front_with first gs front groups is.front readable (omega (arith, front_length, within)))
 
   before : groups_of (kept b) ≡ Some gs
   before =
       let split : b ≡ front ++ get_or b at 1 ∷ drop (at + 1) b = sym (take-append-drop at b) ∙ ap (λ (l : List ℕ). front ++ l) (drop_more b at 1 is.gate) in
-      ap (λ (l : List ℕ). groups_of (kept l)) split ∙ groups_closed gs front (get_or b at 1) (drop (at + 1) b) is.front shut
+      ap (λ (l : List ℕ). groups_of (kept l)) split ∙ groups_closed first gs front (get_or b at 1) (drop (at + 1) b) is.front shut
 
   behind_block : (rest : List ℕ) → front ++ 1 ∷ (block ++ rest) ≡ longer ++ 0 ∷ rest
   behind_block rest =
@@ -51,17 +51,17 @@ module _ (disk : DiskTells) (at entries : ℕ) (b : List ℕ) (is : IsDurable di
   counts : (rest : List ℕ) → groups_of (kept (front ++ 1 ∷ (block ++ rest))) ≡ added_all at groups (groups_of (kept b))
   counts rest =
       ap (λ (l : List ℕ). groups_of (kept l)) (behind_block rest)
-      ∙ groups_closed all longer 0 rest is_front (omega arith)
+      ∙ groups_closed first all longer 0 rest is_front (omega arith)
       ∙ ap (λ (o : Option (List Group)). added_all at groups o) (sym before)
 
   -- what a crash leaves keeps the groups before, or these with all of the new ones
   pub around_keeps : (c : List ℕ) → IsAround b at block c → KeepsNoneOrAll (groups_of (kept b)) at groups c
   around_keeps c (inl same) =
       let whole : c ≡ front ++ get_or b at 1 ∷ same.0 = same.1 ∙ ap (λ (l : List ℕ). l ++ same.0) (take_more b at 1 is.gate) ∙ append_assoc front (get_or b at 1 ∷ []) same.0 in
-      inl (ap (λ (l : List ℕ). groups_of (kept l)) whole ∙ groups_closed gs front (get_or b at 1) same.0 is.front shut ∙ sym before)
+      inl (ap (λ (l : List ℕ). groups_of (kept l)) whole ∙ groups_closed first gs front (get_or b at 1) same.0 is.front shut ∙ sym before)
   around_keeps c (inr there) = elim (cases_eq there.0 1) [
     | inl one ↦ inr (ap (λ (l : List ℕ). groups_of (kept l)) (there.2 ∙ ap (λ (n : ℕ). front ++ n ∷ (block ++ there.1)) one) ∙ counts there.1)
-    | inr other ↦ inl (ap (λ (l : List ℕ). groups_of (kept l)) there.2 ∙ groups_closed gs front there.0 (block ++ there.1) is.front other ∙ sym before)
+    | inr other ↦ inl (ap (λ (l : List ℕ). groups_of (kept l)) there.2 ∙ groups_closed first gs front there.0 (block ++ there.1) is.front other ∙ sym before)
   ]
 
   -- at each moment
@@ -83,7 +83,7 @@ module _ (disk : DiskTells) (at entries : ℕ) (b : List ℕ) (is : IsDurable di
   finished_keeps = ap (λ (l : List ℕ). groups_of (kept l)) finished_is ∙ counts (behind b at block is.gate)
 
   -- the journal goes on behind the groups
-  pub finished_settled : (new : DiskTells) → Only finished new → IsDurable new (at + length (opened_bytes groups)) (entries + count_all groups) finished × (get_or finished (at + length (opened_bytes groups)) 1 ≢ 1)
+  pub finished_settled : (new : DiskTells) → Only finished new → IsDurable new first (at + length (opened_bytes groups)) (entries + count_all groups) finished × (get_or finished (at + length (opened_bytes groups)) 1 ≢ 1)
   finished_settled new only =
       let end = at + length (opened_bytes groups) in
       let rest = behind b at block is.gate in
@@ -93,7 +93,7 @@ module _ (disk : DiskTells) (at entries : ℕ) (b : List ℕ) (is : IsDurable di
       let gate : get_or finished end 1 ≡ 0 = ap (λ (l : List ℕ). get_or l end 1) whole ∙ get_or_at longer 0 rest 1 end long in (
         record {
           groups = all;
-          front = subst (IsFront all) (sym head) is_front;
+          front = subst (IsFront first all) (sym head) is_front;
           count = omega (arith, is.count, count_entries-placed gs at groups);
           gate = omega (arith, ap length whole, long, length-append longer (0 ∷ rest));
           durable = only;
@@ -101,11 +101,11 @@ module _ (disk : DiskTells) (at entries : ℕ) (b : List ℕ) (is : IsDurable di
         omega (arith, gate),
       )
 
-module _ (old new : DiskTells) (at entries : ℕ) (groups : List (List Entry))
+module _ (old new : DiskTells) (first at entries : ℕ) (groups : List (List Entry))
     (readable : All IsReadable groups) (within : at + length (opened_bytes groups) + 1 ≤ longest_journal)
-    (ready : IfSome old.bytes (λ b. IsDurable old at entries b × (get_or b at 1 ≢ 1))) (block : List ℕ) (shape : 1 ∷ block ≡ opened_bytes groups ++ 0 ∷ []) where
-  known : (b : List ℕ) → old.bytes ≡ Some b → IsDurable old at entries b × (get_or b at 1 ≢ 1)
-  known b is = told_of old.bytes b (λ f. IsDurable old at entries f × (get_or f at 1 ≢ 1)) is ready
+    (ready : IfSome old.bytes (λ b. IsDurable old first at entries b × (get_or b at 1 ≢ 1))) (block : List ℕ) (shape : 1 ∷ block ≡ opened_bytes groups ++ 0 ∷ []) where
+  known : (b : List ℕ) → old.bytes ≡ Some b → IsDurable old first at entries b × (get_or b at 1 ≢ 1)
+  known b is = told_of old.bytes b (λ f. IsDurable old first at entries f × (get_or f at 1 ≢ 1)) is ready
 
   abbrev Writes : Type 0
   Writes = IfSome old.bytes (λ b. new.bytes ≡ Some (overwritten (overwritten b (at + 1) block) at (1 ∷ [])))
@@ -117,17 +117,17 @@ module _ (old new : DiskTells) (at entries : ℕ) (groups : List (List Entry))
   pub kept_after_all : Writes → IfSome old.bytes (λ b. IfSome new.bytes (λ c. groups_of (kept c) ≡ added_all at groups (groups_of (kept b))))
   kept_after_all writes = if_some old.bytes _ (λ b is.
       let k = known b is in
-      subst (λ (o : Option (List ℕ)). IfSome o (λ c. groups_of (kept c) ≡ added_all at groups (groups_of (kept b)))) (sym (written writes b is)) (finished_keeps old at entries b k.0 k.1 groups readable within block shape))
+      subst (λ (o : Option (List ℕ)). IfSome o (λ c. groups_of (kept c) ≡ added_all at groups (groups_of (kept b)))) (sym (written writes b is)) (finished_keeps old first at entries b k.0 k.1 groups readable within block shape))
 
   -- the journal goes on behind the groups
   pub ready_after_all : Writes → is_some new.bytes ≡ is_some old.bytes → IfSome new.bytes (λ b. Only b new)
-      → IfSome new.bytes (λ b. IsDurable new (at + length (opened_bytes groups)) (entries + count_all groups) b × (get_or b (at + length (opened_bytes groups)) 1 ≢ 1))
+      → IfSome new.bytes (λ b. IsDurable new first (at + length (opened_bytes groups)) (entries + count_all groups) b × (get_or b (at + length (opened_bytes groups)) 1 ≢ 1))
   ready_after_all writes told durable = told_too old.bytes new.bytes _ told (λ b is after new_is.
       let k = known b is in
-      let file = finished old at entries b k.0 k.1 groups readable within block shape in
+      let file = finished old first at entries b k.0 k.1 groups readable within block shape in
       let only : Only file new = told_of new.bytes file (λ f. Only f new) (written writes b is) durable in
-      let done : IfSome (Some file) (λ f. IsDurable new (at + length (opened_bytes groups)) (entries + count_all groups) f × (get_or f (at + length (opened_bytes groups)) 1 ≢ 1)) = finished_settled old at entries b k.0 k.1 groups readable within block shape new only in
-      subst (λ (o : Option (List ℕ)). IfSome o (λ f. IsDurable new (at + length (opened_bytes groups)) (entries + count_all groups) f × (get_or f (at + length (opened_bytes groups)) 1 ≢ 1))) (sym (written writes b is) ∙ new_is) done)
+      let done : IfSome (Some file) (λ f. IsDurable new first (at + length (opened_bytes groups)) (entries + count_all groups) f × (get_or f (at + length (opened_bytes groups)) 1 ≢ 1)) = finished_settled old first at entries b k.0 k.1 groups readable within block shape new only in
+      subst (λ (o : Option (List ℕ)). IfSome o (λ f. IsDurable new first (at + length (opened_bytes groups)) (entries + count_all groups) f × (get_or f (at + length (opened_bytes groups)) 1 ≢ 1))) (sym (written writes b is) ∙ new_is) done)
 
   -- at each moment of it
   pub moments_after_all : IfSome old.bytes (λ b. at < length b → Only b old → LeavesOnly old new (IsAround b at block))
@@ -135,4 +135,4 @@ module _ (old new : DiskTells) (at entries : ℕ) (groups : List (List Entry))
   moments_after_all around = if_some old.bytes _ (λ b is.
       let k = known b is in
       let told = told_of old.bytes b (λ f. at < length f → Only f old → LeavesOnly old new (IsAround f at block)) is around k.0.gate k.0.durable in
-      moments_keep old at entries b k.0 k.1 groups readable within block shape old new told)
+      moments_keep old first at entries b k.0 k.1 groups readable within block shape old new told)

@@ -6,7 +6,7 @@ use Rattle.std.proofs.lemmas.List.{append-nil, take-append-le}
 use Rattle.std.proofs.lemmas.List.Elements.{All-head, All-tail}
 use Rattle.zbx_types.specs.declared.entries.Entry.{Entry}
 use Rattle.intake_journal.specs.Bytes.{entries_bytes, group_bytes}
-use Rattle.intake_journal.specs.Kept.{Kept, Groups, longest_journal, group_behind, with_group, kept_behind, kept_from, groups_of}
+use Rattle.intake_journal.specs.Kept.{Kept, Groups, longest_journal, group_behind, with_group, kept_behind, kept_from, groups_of, first_of}
 use Rattle.intake_journal.specs.Settled.{onto, IsFront, count_entries}
 use Rattle.intake_journal.specs.Block.{opened_bytes, placed, count_all, IsReadable, staged_in}
 use Rattle.intake_journal.specs.declared.format.Group.{Group}
@@ -52,24 +52,26 @@ pub count_all_small : (groups : List (List Entry)) → count_all groups ≤ leng
 count_all_small [] = omega arith
 count_all_small (es ∷ groups) = omega (arith, count_small es, count_all_small groups, opened_length es groups)
 
-keeps_any : (gs : List Group) (front : List ℕ) (groups : List (List Entry)) (gate : ℕ) (rest : List ℕ) → IsFront gs front
-    → kept_from 8 (front ++ (opened_bytes groups ++ gate ∷ rest)) ≡ onto gs (kept_behind 0 (length front) (opened_bytes groups ++ gate ∷ rest))
-keeps_any gs front [] gate rest is = is.keeps gate rest
-keeps_any gs front (es ∷ groups) gate rest is = is.keeps 1 ((group_bytes es ++ opened_bytes groups) ++ gate ∷ rest)
+keeps_any : (first : ℕ) (gs : List Group) (front : List ℕ) (groups : List (List Entry)) (gate : ℕ) (rest : List ℕ) → IsFront first gs front
+    → kept_from first (front ++ (opened_bytes groups ++ gate ∷ rest)) ≡ onto gs (kept_behind 0 (length front) (opened_bytes groups ++ gate ∷ rest))
+keeps_any first gs front [] gate rest is = is.keeps gate rest
+keeps_any first gs front (es ∷ groups) gate rest is = is.keeps 1 ((group_bytes es ++ opened_bytes groups) ++ gate ∷ rest)
 
 -- more groups at the front
-pub front_with : (gs : List Group) (front : List ℕ) (groups : List (List Entry)) → IsFront gs front → All IsReadable groups → length front + length (opened_bytes groups) + 1 ≤ longest_journal
-    → IsFront (gs ++ placed (length front) groups) (front ++ opened_bytes groups)
-front_with gs front groups is readable within = record {
-  ours = take-append-le 8 front (opened_bytes groups) is.long ∙ is.ours;
+pub front_with : (first : ℕ) (gs : List Group) (front : List ℕ) (groups : List (List Entry)) → IsFront first gs front → All IsReadable groups → length front + length (opened_bytes groups) + 1 ≤ longest_journal
+    → IsFront first (gs ++ placed (length front) groups) (front ++ opened_bytes groups)
+front_with first gs front groups is readable within = record {
+  ours = take-append-le 8 front (opened_bytes groups) (omega (arith, is.behind, is.long)) ∙ is.ours;
+  behind = is.behind;
   long = omega (arith, is.long, length-append front (opened_bytes groups));
+  first_is = λ rest. ap first_of (append_assoc front (opened_bytes groups) rest) ∙ is.first_is (opened_bytes groups ++ rest);
   keeps = λ gate rest. keeps gate rest;
 }
   where
-    keeps : (gate : ℕ) (rest : List ℕ) → kept_from 8 ((front ++ opened_bytes groups) ++ gate ∷ rest) ≡ onto (gs ++ placed (length front) groups) (kept_behind 0 (length (front ++ opened_bytes groups)) (gate ∷ rest))
+    keeps : (gate : ℕ) (rest : List ℕ) → kept_from first ((front ++ opened_bytes groups) ++ gate ∷ rest) ≡ onto (gs ++ placed (length front) groups) (kept_behind 0 (length (front ++ opened_bytes groups)) (gate ∷ rest))
     keeps gate rest =
-        ap (λ (l : List ℕ). kept_from 8 l) (append_assoc front (opened_bytes groups) (gate ∷ rest))
-        ∙ keeps_any gs front groups gate rest is
+        ap (λ (l : List ℕ). kept_from first l) (append_assoc front (opened_bytes groups) (gate ∷ rest))
+        ∙ keeps_any first gs front groups gate rest is
         ∙ ap (λ (k : Kept). onto gs k) (block_read (length front) groups gate rest readable within)
         ∙ onto-append gs (placed (length front) groups) (kept_behind 0 (length front + length (opened_bytes groups)) (gate ∷ rest))
         ∙ ap (λ (n : ℕ). onto (gs ++ placed (length front) groups) (kept_behind 0 n (gate ∷ rest))) (sym (length-append front (opened_bytes groups)))

@@ -5,7 +5,7 @@ use Rattle.std.specs.List.{list_all, zip}
 use Rattle.std.proofs.lemmas.Bool.Decides.{nat_tests}
 use Rattle.std.proofs.lemmas.List.{append-nil, take-append-le}
 use Rattle.zbx_types.specs.declared.entries.Entry.{Entry}
-use Rattle.intake_journal.specs.Kept.{Kept, Groups, magic, group_behind, with_group, followed, kept_behind, kept_from, kept}
+use Rattle.intake_journal.specs.Kept.{Kept, Groups, magic, first_gate, first_of, group_behind, with_group, followed, kept_behind, kept_from, kept}
 use Rattle.intake_journal.specs.Settled.{onto, IsFront, count_entries}
 use Rattle.intake_journal.specs.declared.format.Group.{Group}
 
@@ -45,15 +45,17 @@ count_entries-push [] g = omega arith
 count_entries-push (h ∷ gs) g = omega (arith, count_entries-push gs g)
 
 -- the magic alone
-pub front_none : IsFront [] magic
-front_none = record { ours = refl; long = omega arith; keeps = λ gate rest. refl }
+pub front_none : IsFront first_gate [] magic
+front_none = record { ours = refl; behind = omega arith; long = omega arith; first_is = λ rest. refl; keeps = λ gate rest. refl }
 
 -- one group more
-pub front_goes_on : (gs : List Group) (front : List ℕ) (at size : ℕ) (entries : List Entry) (group : List ℕ) → IsFront gs front → at ≡ length front → length group ≡ size + 8
-    → ((gate : ℕ) (rest : List ℕ) → group_behind at (group ++ gate ∷ rest) ≡ Some (size, entries)) → IsFront (gs ++ record { at = at; entries = entries } ∷ []) (front ++ 1 ∷ group)
-front_goes_on gs front at size entries group is at_is long behind = record {
-  ours = take-append-le 8 front (1 ∷ group) is.long ∙ is.ours;
+pub front_goes_on : (first : ℕ) (gs : List Group) (front : List ℕ) (at size : ℕ) (entries : List Entry) (group : List ℕ) → IsFront first gs front → at ≡ length front → length group ≡ size + 8
+    → ((gate : ℕ) (rest : List ℕ) → group_behind at (group ++ gate ∷ rest) ≡ Some (size, entries)) → IsFront first (gs ++ record { at = at; entries = entries } ∷ []) (front ++ 1 ∷ group)
+front_goes_on first gs front at size entries group is at_is long behind = record {
+  ours = take-append-le 8 front (1 ∷ group) (omega (arith, is.behind, is.long)) ∙ is.ours;
+  behind = is.behind;
   long = omega (arith, is.long, length-append front (1 ∷ group));
+  first_is = λ rest. ap first_of (append_assoc front (1 ∷ group) rest) ∙ is.first_is (1 ∷ (group ++ rest));
   keeps = λ gate rest. keeps gate rest;
 }
   where
@@ -63,17 +65,17 @@ front_goes_on gs front at size entries group is at_is long behind = record {
     place : at + (size + 9) ≡ length (front ++ 1 ∷ group)
     place = omega (arith, at_is, long, length-append front (1 ∷ group))
 
-    keeps : (gate : ℕ) (rest : List ℕ) → kept_behind 0 8 (drop 8 ((front ++ 1 ∷ group) ++ gate ∷ rest)) ≡ onto (gs ++ g ∷ []) (kept_behind 0 (length (front ++ 1 ∷ group)) (gate ∷ rest))
+    keeps : (gate : ℕ) (rest : List ℕ) → kept_behind 0 first (drop first ((front ++ 1 ∷ group) ++ gate ∷ rest)) ≡ onto (gs ++ g ∷ []) (kept_behind 0 (length (front ++ 1 ∷ group)) (gate ∷ rest))
     keeps gate rest =
-        ap (λ (l : List ℕ). kept_from 8 l) (append_assoc front (1 ∷ group) (gate ∷ rest))
+        ap (λ (l : List ℕ). kept_from first l) (append_assoc front (1 ∷ group) (gate ∷ rest))
         ∙ is.keeps 1 (group ++ gate ∷ rest)
         ∙ ap (λ (n : ℕ). onto gs (kept_behind 0 n (1 ∷ (group ++ gate ∷ rest)))) (sym at_is)
         ∙ ap (λ (k : Kept). onto gs k) (opened at size entries group (gate ∷ rest) long (behind gate rest) ∙ ap (λ (n : ℕ). with_group g (kept_behind 0 n (gate ∷ rest))) place)
         ∙ onto-push gs g (kept_behind 0 (length (front ++ 1 ∷ group)) (gate ∷ rest))
 
 -- a closed gate behind groups at the front
-pub keeps_closed : (gs : List Group) (front : List ℕ) (gate : ℕ) (rest : List ℕ) → IsFront gs front → gate ≢ 1 → kept_from 8 (front ++ gate ∷ rest) ≡ Groups gs
-keeps_closed gs front gate rest is shut =
+pub keeps_closed : (first : ℕ) (gs : List Group) (front : List ℕ) (gate : ℕ) (rest : List ℕ) → IsFront first gs front → gate ≢ 1 → kept_from first (front ++ gate ∷ rest) ≡ Groups gs
+keeps_closed first gs front gate rest is shut =
     is.keeps gate rest ∙ ap (λ (k : Kept). onto gs k) (closed (length front) gate rest shut) ∙ onto-groups gs [] ∙ ap Groups (append-nil gs)
 
 -- bytes that begin with the magic pass its test
@@ -86,7 +88,7 @@ is_ours file ours =
     ap (λ (l : List ℕ). list_all (λ p. p.0 == p.1) (zip magic l)) split ∙ magic_test (drop 8 file)
 
 -- a file of more than 9 bytes that begins with the magic
-pub kept_long : (file : List ℕ) → 9 < length file → take 8 file ≡ magic → kept file ≡ kept_from 8 file
+pub kept_long : (file : List ℕ) → 9 < length file → take 8 file ≡ magic → kept file ≡ kept_from (first_of file) file
 unfolding kept
 kept_long file long ours =
     let more : nat_le (length file) 9 ≡ false = grind (arith, nat_tests) in

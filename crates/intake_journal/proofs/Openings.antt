@@ -6,7 +6,7 @@ use Rattle.std.proofs.lemmas.Bool.{eqb-true}
 use Rattle.std.proofs.lemmas.Bool.Decides.{nat_tests}
 use Rattle.std.proofs.lemmas.List.{drop_all}
 use Rattle.outside.specs.Disk.{DiskTells, overwritten, Torn, Follows, Only, LeavesOnly}
-use Rattle.intake_journal.specs.Kept.{Kept, magic, group_behind, with_group, followed, kept_behind, kept_from, kept}
+use Rattle.intake_journal.specs.Kept.{Kept, magic, first_gate, group_behind, with_group, followed, kept_behind, kept_from, kept}
 use Rattle.intake_journal.specs.Kept.Kept.{Fresh, NotOurs, Damaged, Groups}
 use Rattle.intake_journal.specs.Opened.{left_of, IsOpened}
 use Rattle.intake_journal.specs.Settled.{KeepsAsOneOf}
@@ -38,10 +38,11 @@ short_keeps disk b image short c less = (b, image, fresh c less ∙ sym (fresh b
 pub anew_is : (b : List ℕ) → length b ≤ 9 → overwritten b 0 (magic ++ 0 ∷ []) ≡ magic ++ 0 ∷ []
 anew_is b short = overwritten_inside b 0 (magic ++ 0 ∷ []) (omega arith) ∙ ap (λ (l : List ℕ). magic ++ 0 ∷ l) (drop_all 9 b short)
 
-pub anew_opened : (disk : DiskTells) (b : List ℕ) → length b ≤ 9 → Only (overwritten b 0 (magic ++ 0 ∷ [])) disk → IsOpened disk b (overwritten b 0 (magic ++ 0 ∷ []))
-anew_opened disk b short only = subst (IsOpened disk b) (sym (anew_is b short)) (record {
+pub anew_opened : (disk : DiskTells) (b : List ℕ) → length b ≤ 9 → Only (overwritten b 0 (magic ++ 0 ∷ [])) disk → IsOpened disk first_gate b (overwritten b 0 (magic ++ 0 ∷ []))
+anew_opened disk b short only = subst (IsOpened disk first_gate b) (sym (anew_is b short)) (record {
   ours = refl;
   gate = omega arith;
+  first_is = refl;
   durable = λ c now. only c now ∙ anew_is b short;
   left = closed 8 0 [] (omega arith) ∙ ap left_of (sym (fresh b short));
 })
@@ -121,12 +122,13 @@ long_not_ours b long test =
     let more : nat_le (length b) 9 ≡ false = grind (arith, nat_tests) in
     rw (more, test) refl
 
-pub long_opened : (disk : DiskTells) (b : List ℕ) → 9 < length b → test_of b ≡ true → Only b disk → IsOpened disk b b
+pub long_opened : (disk : DiskTells) (b : List ℕ) → 9 < length b → test_of b ≡ true → Only b disk → IsOpened disk first_gate b b
 long_opened disk b long test only =
     let ours = front_same magic b (omega (arith, long)) test in
     record {
       ours = ours;
       gate = omega (arith, long);
+      first_is = refl;
       durable = only;
       left = left_same (kept_from 8 b) (behind_journal 0 8 (drop 8 b)) ∙ ap left_of (sym (kept_long b long ours));
     }

@@ -80,14 +80,14 @@ up_to_next at size file inside gate =
     let count : at + (size + 9) ≡ at + suc (size + 8) = omega arith in
     ap (λ (i : ℕ). take i file) count ∙ take-add at (suc (size + 8)) file ∙ ap (λ (x : List ℕ). take at file ++ take (suc (size + 8)) x) (gate_and at file 1 inside gate)
 
-pub next_durable : (disk : DiskTells) (at n size : ℕ) (entries : List Entry) (file : List ℕ) → IsDurable disk at n file → IsFound (Next entries size) at file → IsDurable disk (at + (size + 9)) (n + length entries) file
-next_durable disk at n size entries file is found =
+pub next_durable : (disk : DiskTells) (first at n size : ℕ) (entries : List Entry) (file : List ℕ) → IsDurable disk first at n file → IsFound (Next entries size) at file → IsDurable disk first (at + (size + 9)) (n + length entries) file
+next_durable disk first at n size entries file is found =
     let g : Group = record { at = at; entries = entries } in
     let len : length (take at file) ≡ at = length-take-le at file (omega (arith, is.gate)) in
     record {
       groups = is.groups ++ g ∷ [];
-      front = subst (λ (x : List ℕ). IsFront (is.groups ++ g ∷ []) x) (sym (up_to_next at size file is.gate found.0))
-          (front_goes_on is.groups (take at file) at size entries (piece at size file) is.front (sym len) (piece_len at size entries file found.1) (piece_again at size entries file found.1));
+      front = subst (λ (x : List ℕ). IsFront first (is.groups ++ g ∷ []) x) (sym (up_to_next at size file is.gate found.0))
+          (front_goes_on first is.groups (take at file) at size entries (piece at size file) is.front (sym len) (piece_len at size entries file found.1) (piece_again at size entries file found.1));
       count = ap (λ (k : ℕ). k + length entries) is.count ∙ sym (count_entries-push is.groups g);
       gate = omega (arith, found.1.inside, length-drop (at + 1) file);
       durable = is.durable;
@@ -96,57 +96,57 @@ next_durable disk at n size entries file is found =
 -- ---- what is known of the journal
 
 -- with fewer images
-fewer_durable : (old new : DiskTells) (at n : ℕ) (file : List ℕ) → IsDurable old at n file → AddsNothing old new → IsDurable new at n file
-fewer_durable old new at n file is less = record { groups = is.groups; front = is.front; count = is.count; gate = is.gate; durable = λ c now. is.durable c (less c now) }
+fewer_durable : (old new : DiskTells) (first at n : ℕ) (file : List ℕ) → IsDurable old first at n file → AddsNothing old new → IsDurable new first at n file
+fewer_durable old new first at n file is less = record { groups = is.groups; front = is.front; count = is.count; gate = is.gate; durable = λ c now. is.durable c (less c now) }
 
 -- what is known in a place of the file, with what was found there
-pub told_both : (state : State) (disk : DiskTells) (at n : ℕ) (Q P : List ℕ → Type 0) → IsSettled state disk at n → state ≡ Reading → IfSome disk.bytes Q
-    → ((b : List ℕ) → IsDurable disk at n b → Q b → P b) → IfSome disk.bytes P
-told_both Reading disk at n Q P settled reading q then = if_some disk.bytes P (λ b is. then b (told_of disk.bytes b (IsDurable disk at n) is settled) (told_of disk.bytes b Q is q))
-told_both Ready disk at n Q P settled reading q then = absurd cc
-told_both Broken disk at n Q P settled reading q then = absurd cc
+pub told_both : (state : State) (disk : DiskTells) (first at n : ℕ) (Q P : List ℕ → Type 0) → IsSettled state disk first at n → state ≡ Reading → IfSome disk.bytes Q
+    → ((b : List ℕ) → IsDurable disk first at n b → Q b → P b) → IfSome disk.bytes P
+told_both Reading disk first at n Q P settled reading q then = if_some disk.bytes P (λ b is. then b (told_of disk.bytes b (IsDurable disk first at n) is settled) (told_of disk.bytes b Q is q))
+told_both Ready disk first at n Q P settled reading q then = absurd cc
+told_both Broken disk first at n Q P settled reading q then = absurd cc
 
-settled_reading : (state : State) (disk : DiskTells) (at n : ℕ) → state ≡ Reading → IfSome disk.bytes (IsDurable disk at n) → IsSettled state disk at n
-settled_reading Reading disk at n reading told = told
-settled_reading Ready disk at n reading told = absurd cc
-settled_reading Broken disk at n reading told = absurd cc
+settled_reading : (state : State) (disk : DiskTells) (first at n : ℕ) → state ≡ Reading → IfSome disk.bytes (IsDurable disk first at n) → IsSettled state disk first at n
+settled_reading Reading disk first at n reading told = told
+settled_reading Ready disk first at n reading told = absurd cc
+settled_reading Broken disk first at n reading told = absurd cc
 
 module _ (old new : DiskTells) (before : IsAsBefore old new) where
   told_now : (P : List ℕ → Type 0) → IfSome old.bytes P → IfSome new.bytes P
   told_now P told = subst (λ (o : Option (List ℕ)). IfSome o P) (sym before.same) told
 
   -- it stands where it stood
-  pub settled_still : (state : State) (at n : ℕ) → IsSettled state old at n → state ≡ Reading → IsSettled state new at n
-  settled_still state at n settled reading =
-      settled_reading state new at n reading (told_now (IsDurable new at n)
-      (told_both state old at n (λ _. ⊤) (IsDurable new at n) settled reading (all old.bytes) (λ b is _. fewer_durable old new at n b is before.no_others)))
+  pub settled_still : (state : State) (first at n : ℕ) → IsSettled state old first at n → state ≡ Reading → IsSettled state new first at n
+  settled_still state first at n settled reading =
+      settled_reading state new first at n reading (told_now (IsDurable new first at n)
+      (told_both state old first at n (λ _. ⊤) (IsDurable new first at n) settled reading (all old.bytes) (λ b is _. fewer_durable old new first at n b is before.no_others)))
     where
       all : (o : Option (List ℕ)) → IfSome o (λ _. ⊤)
       all None = tt
       all (Some b) = tt
 
   -- behind one group more
-  pub settled_next : (state : State) (at n size : ℕ) (entries : List Entry) → IsSettled state old at n → state ≡ Reading → IfSome old.bytes (IsFound (Next entries size) at)
-      → IsSettled state new (at + (size + 9)) (n + length entries)
-  settled_next state at n size entries settled reading found =
-      settled_reading state new (at + (size + 9)) (n + length entries) reading (told_now (IsDurable new (at + (size + 9)) (n + length entries))
-      (told_both state old at n (IsFound (Next entries size) at) (IsDurable new (at + (size + 9)) (n + length entries)) settled reading found
-      (λ b is f. fewer_durable old new (at + (size + 9)) (n + length entries) b (next_durable old at n size entries b is f) before.no_others)))
+  pub settled_next : (state : State) (first at n size : ℕ) (entries : List Entry) → IsSettled state old first at n → state ≡ Reading → IfSome old.bytes (IsFound (Next entries size) at)
+      → IsSettled state new first (at + (size + 9)) (n + length entries)
+  settled_next state first at n size entries settled reading found =
+      settled_reading state new first (at + (size + 9)) (n + length entries) reading (told_now (IsDurable new first (at + (size + 9)) (n + length entries))
+      (told_both state old first at n (IsFound (Next entries size) at) (IsDurable new first (at + (size + 9)) (n + length entries)) settled reading found
+      (λ b is f. fewer_durable old new first (at + (size + 9)) (n + length entries) b (next_durable old first at n size entries b is f) before.no_others)))
 
   -- at the end
-  pub settled_end : (state : State) (at n : ℕ) → IsSettled state old at n → state ≡ Reading → IfSome old.bytes (IsFound End at) → IsSettled Ready new at n
-  settled_end state at n settled reading found =
-      told_now (λ b. IsDurable new at n b × (get_or b at 1 ≢ 1))
-      (told_both state old at n (IsFound End at) (λ b. IsDurable new at n b × (get_or b at 1 ≢ 1)) settled reading found
-      (λ b is shut. (fewer_durable old new at n b is before.no_others, λ open'. shut (get_or_default b at 0 1 is.gate ∙ open'))))
+  pub settled_end : (state : State) (first at n : ℕ) → IsSettled state old first at n → state ≡ Reading → IfSome old.bytes (IsFound End at) → IsSettled Ready new first at n
+  settled_end state first at n settled reading found =
+      told_now (λ b. IsDurable new first at n b × (get_or b at 1 ≢ 1))
+      (told_both state old first at n (IsFound End at) (λ b. IsDurable new first at n b × (get_or b at 1 ≢ 1)) settled reading found
+      (λ b is shut. (fewer_durable old new first at n b is before.no_others, λ open'. shut (get_or_default b at 0 1 is.gate ∙ open'))))
 
 -- a ready journal has nothing left to read
-pub ready_kept : (state : State) (disk : DiskTells) (at n : ℕ) → IsSettled state disk at n → state ≡ Ready → IfSome disk.bytes (λ b. kept_from at b ≡ Groups [])
-ready_kept Ready disk at n settled ready = if_some disk.bytes _ (λ b is.
-    let known = told_of disk.bytes b (λ f. IsDurable disk at n f × (get_or f at 1 ≢ 1)) is settled in
+pub ready_kept : (state : State) (disk : DiskTells) (first at n : ℕ) → IsSettled state disk first at n → state ≡ Ready → IfSome disk.bytes (λ b. kept_from at b ≡ Groups [])
+ready_kept Ready disk first at n settled ready = if_some disk.bytes _ (λ b is.
+    let known = told_of disk.bytes b (λ f. IsDurable disk first at n f × (get_or f at 1 ≢ 1)) is settled in
     end_kept at b known.0.gate (λ open'. known.1 (get_or_default b at 1 0 known.0.gate ∙ open')))
-ready_kept Reading disk at n settled ready = absurd cc
-ready_kept Broken disk at n settled ready = absurd cc
+ready_kept Reading disk first at n settled ready = absurd cc
+ready_kept Broken disk first at n settled ready = absurd cc
 
 -- ---- equal journals, changed alike
 

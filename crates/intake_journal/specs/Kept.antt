@@ -20,6 +20,10 @@ magic = codes "ZTSJRN01"
 abbrev pub first_gate : ℕ
 first_gate = 8
 
+-- the place of a file's first gate
+abbrev pub first_of : List ℕ → ℕ
+first_of file = first_gate
+
 -- the most bytes of a journal
 abbrev pub longest_journal : ℕ
 longest_journal = 1073741824
@@ -60,7 +64,7 @@ kept_from at file = kept_behind 0 at (drop at file)
 unfoldable pub kept : List ℕ → Kept
 kept file =
     if nat_le (length file) 9 then Fresh
-    else if list_all (λ p. p.0 == p.1) (zip magic file) then kept_from first_gate file
+    else if list_all (λ p. p.0 == p.1) (zip magic file) then kept_from (first_of file) file
     else NotOurs
 
 -- the groups that a file keeps, where it is a journal without damage; a fresh one keeps none

@@ -1,7 +1,7 @@
 -- What is known of a file that was opened as a journal.
 use Rattle.std.specs.Prelude.{◌≡◌, ℕ, ◌<◌, List, [], length, take, Result, Ok, Err}
 use Rattle.outside.specs.Disk.{DiskTells, Only}
-use Rattle.intake_journal.specs.Kept.{Kept, magic, first_gate, kept_from, kept}
+use Rattle.intake_journal.specs.Kept.{Kept, magic, first_of, kept_from, kept}
 use Rattle.intake_journal.specs.Settled.{Journaled}
 use Rattle.intake_journal.specs.declared.state.JournalError.{JournalError}
 use Rattle.intake_journal.specs.Kept.Kept.{Fresh, NotOurs, Damaged, Groups}
@@ -13,12 +13,13 @@ left_of NotOurs = NotOurs
 left_of (Damaged at) = Damaged at
 left_of (Groups gs) = Groups gs
 
--- a file that was opened: it begins as a journal with a gate, all of it is durable, and what it keeps is what the file kept before
-pub record IsOpened (disk : DiskTells) (before now : List ℕ) : Type 0 where
+-- a file that was opened: it begins as a journal with its first gate at this place, all of it is durable, and what it keeps is what the file kept before
+pub record IsOpened (disk : DiskTells) (first : ℕ) (before now : List ℕ) : Type 0 where
   pub ours : take 8 now ≡ magic
-  pub gate : first_gate < length now
+  pub gate : first < length now
+  pub first_is : first_of now ≡ first
   pub durable : Only now disk
-  pub left : kept_from first_gate now ≡ left_of (kept before)
+  pub left : kept_from first now ≡ left_of (kept before)
 
 -- the disk that an opening gives back, in the journal or beside the error
 abbrev pub disk_of : {D : Type 0} → Result (Journaled D) (D × JournalError) → D

@@ -1,14 +1,15 @@
 -- What is known of a journal and its disk between two calls.
 use Rattle.std.specs.Prelude.{◌≡◌, ◌≢◌, ℕ, ◌+◌, ◌*◌, ◌^◌, ◌<◌, ◌≤◌, ⊤, List, [], ◌∷◌, ◌++◌, length, take, get_or, IfSome}
 use Rattle.outside.specs.Disk.{DiskTells, Only}
-use Rattle.intake_journal.specs.Kept.{Kept, magic, longest_journal, with_group, kept_behind, kept_from, kept}
+use Rattle.intake_journal.specs.Kept.{Kept, magic, first_of, longest_journal, with_group, kept_behind, kept_from, kept}
 use Rattle.intake_journal.specs.declared.format.Group.{Group}
 use Rattle.intake_journal.specs.declared.state.State.{State}
 use Rattle.intake_journal.specs.declared.state.State.TheVariants.{Reading, Ready, Broken}
 
--- what contracts see of a journal: its disk, the place of the gate behind what was read or written, how many entries stand before it, its limits and its state
+-- what contracts see of a journal: its disk, the place of its first gate and that of the gate behind what was read or written, how many entries stand before it, its limits and its state
 pub record Journaled (D : Type 0) : Type 0 where
   pub disk : D
+  pub first : ℕ
   pub at : ℕ
   pub entries : ℕ
   pub max_entries : ℕ
@@ -20,30 +21,32 @@ abbrev pub onto : List Group → Kept → Kept
 onto [] rest = rest
 onto (g ∷ gs) rest = with_group g (onto gs rest)
 
--- the magic and these groups, each behind an open gate, whatever stands behind them
-pub record IsFront (groups : List Group) (front : List ℕ) : Type 0 where
+-- the magic and these groups, each behind an open gate, the first of which has this place, whatever stands behind them
+pub record IsFront (first : ℕ) (groups : List Group) (front : List ℕ) : Type 0 where
   pub ours : take 8 front ≡ magic
-  pub long : 8 ≤ length front
-  pub keeps : (gate : ℕ) (rest : List ℕ) → kept_from 8 (front ++ gate ∷ rest) ≡ onto groups (kept_behind 0 (length front) (gate ∷ rest))
+  pub behind : 8 ≤ first
+  pub long : first ≤ length front
+  pub first_is : (rest : List ℕ) → first_of (front ++ rest) ≡ first
+  pub keeps : (gate : ℕ) (rest : List ℕ) → kept_from first (front ++ gate ∷ rest) ≡ onto groups (kept_behind 0 (length front) (gate ∷ rest))
 
 -- how many entries groups have
 abbrev pub count_entries : List Group → ℕ
 count_entries [] = 0
 count_entries (g ∷ gs) = length g.entries + count_entries gs
 
--- groups of so many entries stand before a gate at this place, and all of the bytes is durable
-pub record IsDurable (disk : DiskTells) (at entries : ℕ) (bytes : List ℕ) : Type 0 where
+-- groups of so many entries stand between the first gate and a gate, at these places, and all of the bytes is durable
+pub record IsDurable (disk : DiskTells) (first at entries : ℕ) (bytes : List ℕ) : Type 0 where
   pub groups : List Group
-  pub front : IsFront groups (take at bytes)
+  pub front : IsFront first groups (take at bytes)
   pub count : entries ≡ count_entries groups
   pub gate : at < length bytes
   pub durable : Only bytes disk
 
 -- what a journal in this state knows of its disk, where the disk tells: the gate of a ready journal isn't open
-abbrev pub IsSettled : State → DiskTells → ℕ → ℕ → Type 0
-IsSettled Reading disk at entries = IfSome disk.bytes (IsDurable disk at entries)
-IsSettled Ready disk at entries = IfSome disk.bytes (λ b. IsDurable disk at entries b × (get_or b at 1 ≢ 1))
-IsSettled Broken disk at entries = ⊤
+abbrev pub IsSettled : State → DiskTells → ℕ → ℕ → ℕ → Type 0
+IsSettled Reading disk first at entries = IfSome disk.bytes (IsDurable disk first at entries)
+IsSettled Ready disk first at entries = IfSome disk.bytes (λ b. IsDurable disk first at entries b × (get_or b at 1 ≢ 1))
+IsSettled Broken disk first at entries = ⊤
 
 -- the place, the count and the limit of a journal are small
 abbrev pub IsWithin : ℕ → ℕ → ℕ → Type 0

@@ -24,11 +24,12 @@ use std::alloc::Global;
 use std::marker::Model;
 use zbx_types::{Entry, OutOfMemory};
 
-/// A journal on a disk. Contracts see its disk, the place of the gate behind what was read or added, how many entries
-/// stand before it, its limits and its state.
+/// A journal on a disk. Contracts see its disk, the place of its first gate and that of the gate behind what was read or
+/// added, how many entries stand before that one, its limits and its state.
 #[derive(Drop)]
 pub struct Journal<D: Disk> {
     pub(crate) disk: D,
+    pub(crate) first: u64,
     pub(crate) at: u64,
     pub(crate) entries: u64,
     pub(crate) max_entries: u64,
@@ -43,9 +44,9 @@ impl<D: Disk> Model for Journal<D> {
 
     ghost Value = { Journaled D };
 
-    ghost view = { λ j. record { disk = j.disk; at = j.at; entries = j.entries; max_entries = j.max_entries; max_bytes = j.max_bytes; state = j.state } };
+    ghost view = { λ j. record { disk = j.disk; first = j.first; at = j.at; entries = j.entries; max_entries = j.max_entries; max_bytes = j.max_bytes; state = j.state } };
 
-    ghost invariant = { λ j. IsWithin j.at j.entries j.max_bytes × IsSettled j.state (D.tells j.disk) j.at j.entries × IsReadAhead j.state j.ahead (D.tells j.disk).bytes };
+    ghost invariant = { λ j. IsWithin j.at j.entries j.max_bytes × IsSettled j.state (D.tells j.disk) j.first j.at j.entries × IsReadAhead j.state j.ahead (D.tells j.disk).bytes };
 }
 
 impl<D: Disk> Journal<D> {
@@ -64,8 +65,8 @@ impl<D: Disk> Journal<D> {
         requires { max_bytes ≤ longest_journal }
 
         // What is left to read is what the file kept, all of it durable.
-        ensures begins { IfOk result (λ j. (j.at ≡ first_gate) × (j.entries ≡ 0) × (j.max_entries ≡ max_entries) × (j.max_bytes ≡ max_bytes) × (j.state ≡ Reading)) }
-        ensures opened { IfOk result (λ j. IfSome (D.tells disk).bytes (λ b. IfSome (D.tells j.disk).bytes (λ c. IsOpened (D.tells j.disk) b c))) }
+        ensures begins { IfOk result (λ j. (j.first ≡ first_gate) × (j.at ≡ j.first) × (j.entries ≡ 0) × (j.max_entries ≡ max_entries) × (j.max_bytes ≡ max_bytes) × (j.state ≡ Reading)) }
+        ensures opened { IfOk result (λ j. IfSome (D.tells disk).bytes (λ b. IfSome (D.tells j.disk).bytes (λ c. IsOpened (D.tells j.disk) j.first b c))) }
 
         ensures ours { IfOk result (λ _. IfSome (D.tells disk).bytes (λ b. kept b ≢ NotOurs)) }
         ensures not_ours { IfErr result (λ e. e.1 ≡ cause.NotOurs → IfSome (D.tells disk).bytes (λ b. kept b ≡ NotOurs)) }
@@ -81,6 +82,7 @@ impl<D: Disk> Journal<D> {
         match prepare(&mut disk) {
             Ok(true) => Ok(Journal {
                 disk,
+                first: FIRST_GATE,
                 at: FIRST_GATE,
                 entries: 0,
                 max_entries,
@@ -196,6 +198,7 @@ impl<D: Disk> Journal<D> {
         ensures cause { HasCause (D.tells self.old.disk).faults (D.tells self.new.disk).faults result }
         ensures state { OnOk result (self.new.state ≡ Ready) }
         ensures state_broken { OnErr result (self.new.state ≡ Broken) }
+        ensures first { self.new.first ≡ self.old.first }
         ensures limits { (self.new.max_entries ≡ self.old.max_entries) × (self.new.max_bytes ≡ self.old.max_bytes) }
     {
         match keep(&mut self.disk, self.at, block.behind_gate()) {
@@ -240,6 +243,7 @@ impl<D: Disk> Journal<D> {
         ensures broken { self.old.state ≡ Broken → (result ≡ Err error.DiskFault) × (self.new ≡ self.old) }
         ensures state { result ≢ Err error.DiskFault → self.new.state ≡ Ready }
         ensures state_broken { result ≡ Err error.DiskFault → self.new.state ≡ Broken }
+        ensures first { self.new.first ≡ self.old.first }
         ensures limits { (self.new.max_entries ≡ self.old.max_entries) × (self.new.max_bytes ≡ self.old.max_bytes) }
         ensures no_memory { result ≢ Err error.OutOfMemory }
     {
@@ -283,6 +287,7 @@ impl<D: Disk> Journal<D> {
         ensures broken { self.old.state ≡ Broken → (result ≡ Err error.DiskFault) × (self.new ≡ self.old) }
         ensures state { result ≢ Err error.DiskFault → self.new.state ≡ Ready }
         ensures state_broken { result ≡ Err error.DiskFault → self.new.state ≡ Broken }
+        ensures first { self.new.first ≡ self.old.first }
         ensures limits { (self.new.max_entries ≡ self.old.max_entries) × (self.new.max_bytes ≡ self.old.max_bytes) }
     {
         if self.state == State::Broken {

@@ -4,7 +4,7 @@ ghost use Rattle.std.specs.Prelude.{◌≡◌, ◌≢◌, ◌≤◌, ◌<◌, �
 ghost use Rattle.std.specs.List.{list_all, zip};
 ghost use Rattle.outside.specs.Causes.{HasCause};
 ghost use Rattle.outside.specs.Disk.{Only, LeavesOnly, overwritten};
-ghost use Rattle.intake_journal.specs.Kept.{magic, kept};
+ghost use Rattle.intake_journal.specs.Kept.{magic, first_gate, kept};
 ghost use Rattle.intake_journal.specs.Kept.Kept.{NotOurs};
 ghost use Rattle.gated_file.specs.Moments.{IsAsBefore};
 ghost use Rattle.intake_journal.specs.Opened.{IsOpened};
@@ -54,7 +54,7 @@ fn is_journal<D: Disk>(disk: &mut D) -> Result<bool, Failed>
 
 /// Makes a file durable, makes a journal of it where it is short, and says whether it is one.
 pub(crate) fn prepare<D: Disk>(disk: &mut D) -> Result<bool, Failed>
-    ensures opened { IfOk result (λ ours. IfSome (D.tells disk.old).bytes (λ b. IfSome (D.tells disk.new).bytes (λ c. ours ≡ true → IsOpened (D.tells disk.new) b c))) }
+    ensures opened { IfOk result (λ ours. IfSome (D.tells disk.old).bytes (λ b. IfSome (D.tells disk.new).bytes (λ c. ours ≡ true → IsOpened (D.tells disk.new) first_gate b c))) }
     ensures ours { IfOk result (λ ours. IfSome (D.tells disk.old).bytes (λ b. ours ≡ true → kept b ≢ NotOurs)) }
     ensures not_ours { IfOk result (λ ours. IfSome (D.tells disk.old).bytes (λ b. ours ≡ false → kept b ≡ NotOurs)) }
     ensures told { is_some (D.tells disk.new).bytes ≡ is_some (D.tells disk.old).bytes }

@@ -8,24 +8,24 @@ use Rattle.entry_step.specs.Start.{first_start}
 
 pub returns-then-not-entry_fits : goal.returns-then-not-entry_fits
 returns-then-not-entry_fits c = record {
-  fits = λ log is fits all.
+  fits = λ log stood all.
       let conf = c.args.conf.now in
       let es = c.args.entries.now in
       let i = c.loop-entry.entry-index in
       let e = c.entry-item.result in
-      let so_far = c.loop-entry.invariant log is fits in
+      let so_far = c.loop-entry.invariant log stood in
       let split = split_more es i e c.loop-entry-test.true c.entry-item.is in
       step_misfits conf log (take i es) (drop (i + 1) es) e (λ behind. absurd (true≢false (sym (c.if-not-entry_fits.ensures.1 (subst (λ o. FitsBehind conf o e) (sym so_far.1) behind)))))
       (subst (λ (l : List Entry). Fits (first_start conf) (log_with log l)) split all);
 }
 
 pub loop-entry-preserved : goal.loop-entry-preserved
-loop-entry-preserved c log is fits =
+loop-entry-preserved c log stood =
     let conf = c.args.conf.now in
     let es = c.args.entries.now in
     let i = c.loop-entry.entry-index in
     let e = c.entry-item.result in
-    let so_far = c.loop-entry.invariant log is fits in
+    let so_far = c.loop-entry.invariant log stood in
     let step = take_next es i e c.loop-entry-test.true c.entry-item.is in
     let behind = subst (λ o. FitsBehind conf o e) so_far.1 (c.if-not-entry_fits.ensures.0 refl) in (
       subst (λ (l : List Entry). Fits (first_start conf) (log_with log l)) (sym step) (step_fits conf log (take i es) e so_far.0 behind),

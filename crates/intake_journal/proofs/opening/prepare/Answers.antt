@@ -3,7 +3,7 @@ use Rattle.std.specs.Prelude.{◌==◌}
 use Rattle.std.specs.List.{list_all, zip}
 use Rattle.std.proofs.lemmas.Result.{IfOk-weaker}
 use Rattle.outside.specs.Disk.{overwritten, Only, LeavesOnly}
-use Rattle.intake_journal.specs.Kept.{magic}
+use Rattle.intake_journal.specs.Kept.{magic, first_gate}
 use Rattle.intake_journal.specs.Opened.{IsOpened}
 use Rattle.intake_journal.specs.Settled.{KeepsAsOneOf}
 use Rattle.gated_file.proofs.Moments.{if_some, told_of, started, stays}
@@ -64,8 +64,8 @@ returns-then-branch-le9-clause-opened g c = if_some (g.D.Disk.tells c.args.disk.
     let d3 = tells c.make_anew.new.disk in
     let made : d3.bytes ≡ Some file = told_of d2.bytes b (λ l. d3.bytes ≡ Some (overwritten l 0 (magic ++ 0 ∷ []))) told c.in_ok-make_anew.ensures.made in
     let durable = told_of d3.bytes file (λ l. Only l d3) made c.in_ok-make_anew.ensures.durable in
-    let opened : IfSome (Some file) (λ f. true ≡ true → IsOpened d3 b f) = λ _. anew_opened d3 b short durable in
-    subst (λ (o : Option (List ℕ)). IfSome o (λ f. true ≡ true → IsOpened d3 b f)) (sym made) opened)
+    let opened : IfSome (Some file) (λ f. true ≡ true → IsOpened d3 first_gate b f) = λ _. anew_opened d3 b short durable in
+    subst (λ (o : Option (List ℕ)). IfSome o (λ f. true ≡ true → IsOpened d3 first_gate b f)) (sym made) opened)
 
 pub returns-clause-any_moment : goal.returns-clause-any_moment
 returns-clause-any_moment g c = if_some (g.D.Disk.tells c.args.disk.now).bytes _ (λ b is.
@@ -111,5 +111,5 @@ returns-clause-opened g c = IfOk-weaker c.is_journal.result _ _ (λ ours is_ours
     let d3 = tells c.is_journal.new.disk in
     let only : Only b d3 = λ f now. told_of d0.bytes b (λ l. Only l d1) is c.in_ok-sync.ensures.durable f (c.len.ensures.crash f (c.is_journal.ensures.before.no_others f now)) in
     let told_then : d3.bytes ≡ Some b = c.is_journal.ensures.before.same ∙ told in
-    let opened : IfSome (Some b) (λ f. ours ≡ true → IsOpened d3 b f) = λ yes. long_opened d3 b long (sym test ∙ yes) only in
-    subst (λ (o : Option (List ℕ)). IfSome o (λ f. ours ≡ true → IsOpened d3 b f)) (sym told_then) opened)) c.is_journal.ensures.ours
+    let opened : IfSome (Some b) (λ f. ours ≡ true → IsOpened d3 first_gate b f) = λ yes. long_opened d3 b long (sym test ∙ yes) only in
+    subst (λ (o : Option (List ℕ)). IfSome o (λ f. ours ≡ true → IsOpened d3 first_gate b f)) (sym told_then) opened)) c.is_journal.ensures.ours

@@ -20,8 +20,8 @@ returns-in-Ok-clause-kept g c =
     room_within j.at j.entries j.max_entries j.max_bytes groups (subst (λ v. passes_with_all v groups ≡ false) (sym c.self.view_is) c.requires.room) c.self.invariant.0.2 in
     let readable = c.behind_gate.ensures.readable in
     let shape = c.behind_gate.ensures.shape in
-    let ready = ready_of j.state old j.at j.entries read going c.self.invariant.1 in
-    let done = kept_after_all old new j.at j.entries groups readable within ready c.behind_gate.result.now shape c.in-Ok.ensures.kept in
+    let ready = ready_of j.state old j.first j.at j.entries read going c.self.invariant.1 in
+    let done = kept_after_all old new j.first j.at j.entries groups readable within ready c.behind_gate.result.now shape c.in-Ok.ensures.kept in
     subst (λ v. IfSome (tells v.disk).bytes (λ b. IfSome new.bytes (λ f. groups_of (kept f) ≡ added_all v.at groups (groups_of (kept b))))) c.self.view_is done
 
 -- behind the groups the journal is as before them
@@ -35,14 +35,14 @@ invariant_of-self g c =
     room_within j.at j.entries j.max_entries j.max_bytes groups (subst (λ v. passes_with_all v groups ≡ false) (sym c.self.view_is) c.requires.room) c.self.invariant.0.2 in
     let readable = c.behind_gate.ensures.readable in
     let shape = c.behind_gate.ensures.shape in
-    let ready = ready_of j.state old j.at j.entries read going c.self.invariant.1 in
-    let done = ready_after_all old new j.at j.entries groups readable within ready c.behind_gate.result.now shape c.in-Ok.ensures.kept c.keep.ensures.told c.in-Ok.ensures.durable in
+    let ready = ready_of j.state old j.first j.at j.entries read going c.self.invariant.1 in
+    let done = ready_after_all old new j.first j.at j.entries groups readable within ready c.behind_gate.result.now shape c.in-Ok.ensures.kept c.keep.ensures.told c.in-Ok.ensures.durable in
     let place : j.at + length (opened_bytes groups) ≡ j.at + (c.size.result - 1) = omega (arith, c.size.ensures.value) in
     let small : IsWithin (j.at + (c.size.result - 1)) (j.entries + c.entries.result) j.max_bytes =
     (omega (arith, within, place), omega (arith, c.self.invariant.0.1, count_all_small groups, c.entries.ensures.value, place), c.self.invariant.0.2) in
-    let settled = settled_of j.state new _ _ read done in
-    let counted = subst (λ (n : ℕ). IsSettled j.state new (j.at + length (opened_bytes groups)) (j.entries + n)) (sym c.entries.ensures.value) settled in
-    (small, subst (λ (n : ℕ). IsSettled j.state new n (j.entries + c.entries.result)) place counted, λ e. absurd (read e))
+    let settled = settled_of j.state new j.first _ _ read done in
+    let counted = subst (λ (n : ℕ). IsSettled j.state new j.first (j.at + length (opened_bytes groups)) (j.entries + n)) (sym c.entries.ensures.value) settled in
+    (small, subst (λ (n : ℕ). IsSettled j.state new j.first n (j.entries + c.entries.result)) place counted, λ e. absurd (read e))
 
 pub returns-in-Ok-clause-any_moment : goal.returns-in-Ok-clause-any_moment
 returns-in-Ok-clause-any_moment g c =
@@ -54,8 +54,8 @@ returns-in-Ok-clause-any_moment g c =
     room_within j.at j.entries j.max_entries j.max_bytes groups (subst (λ v. passes_with_all v groups ≡ false) (sym c.self.view_is) c.requires.room) c.self.invariant.0.2 in
     let readable = c.behind_gate.ensures.readable in
     let shape = c.behind_gate.ensures.shape in
-    let ready = ready_of j.state old j.at j.entries read going c.self.invariant.1 in
-    let around = moments_after_all old new j.at j.entries groups readable within ready c.behind_gate.result.now shape c.keep.ensures.any_moment in
+    let ready = ready_of j.state old j.first j.at j.entries read going c.self.invariant.1 in
+    let around = moments_after_all old new j.first j.at j.entries groups readable within ready c.behind_gate.result.now shape c.keep.ensures.any_moment in
     subst (λ v. IfSome (tells v.disk).bytes (λ b. LeavesOnly (tells v.disk) new (KeepsNoneOrAll (groups_of (kept b)) v.at groups))) c.self.view_is around
 
 pub returns-in-Err-clause-any_moment : goal.returns-in-Err-clause-any_moment
@@ -68,6 +68,6 @@ returns-in-Err-clause-any_moment g c =
     room_within j.at j.entries j.max_entries j.max_bytes groups (subst (λ v. passes_with_all v groups ≡ false) (sym c.self.view_is) c.requires.room) c.self.invariant.0.2 in
     let readable = c.behind_gate.ensures.readable in
     let shape = c.behind_gate.ensures.shape in
-    let ready = ready_of j.state old j.at j.entries read going c.self.invariant.1 in
-    let around = moments_after_all old new j.at j.entries groups readable within ready c.behind_gate.result.now shape c.keep.ensures.any_moment in
+    let ready = ready_of j.state old j.first j.at j.entries read going c.self.invariant.1 in
+    let around = moments_after_all old new j.first j.at j.entries groups readable within ready c.behind_gate.result.now shape c.keep.ensures.any_moment in
     subst (λ v. IfSome (tells v.disk).bytes (λ b. LeavesOnly (tells v.disk) new (KeepsNoneOrAll (groups_of (kept b)) v.at groups))) c.self.view_is around
