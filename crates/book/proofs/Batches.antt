@@ -9,7 +9,6 @@ use Rattle.std.proofs.Math.Seq.{drop-cons}
 use Rattle.syncer_gate.proofs.AnyLemmas.{has_at, get_any}
 use Rattle.zbx_types.specs.Ids.{at_id, ids_from}
 use Rattle.zbx_types.specs.Masters.{has_id}
-use Rattle.zbx_types.specs.declared.conf.Conf.{Conf}
 use Rattle.zbx_types.specs.declared.entries.Entry.TheVariants.{Tick}
 use Rattle.zbx_types.specs.declared.entries.Numbered.{Numbered}
 use Rattle.zbx_types.specs.declared.entries.Rec.{Rec}
@@ -28,9 +27,9 @@ use Rattle.syncer_gate.specs.Core.{Core, Claim, happens, core_of}
 use Rattle.syncer_gate.proofs.Claimed.{ids_alike}
 use Rattle.syncer_gate.proofs.Opened.{RiseFrom, rise_above, rise_not, held_has, held_rise}
 use Rattle.book.specs.Schedule.{batch_in, keeping}
-use Rattle.book.specs.Progress.{made_at, entries_with, entry_at, AreHere, AreWithin, IsKept}
+use Rattle.book.specs.Progress.{made_at, entries_with, entry_at, AreHere, IsAmong, AreWithin, IsKept}
 use Rattle.book.proofs.Places.{filter_cong}
-use Rattle.trigger_state.specs.Stages.{first_stage}
+use Rattle.trigger_state.specs.Stages.{Stage}
 
 abbrev pub blank : Numbered
 blank = record { number = 0; entry = Tick 0 }
@@ -53,16 +52,16 @@ numbers_above k (x ∷ xs) y off (inr i) =
     let r = numbers_above (k + 1) xs y t i in omega arith
 
 -- the numbers are of entries that are there, by membership
-abbrev pub AreAmong : List Numbered → List ℕ → Type 0
-AreAmong entries numbers = (n : ℕ) → has_id numbers n ≡ true → (0 < n) × (n ≤ length entries)
+abbrev pub AreAmong : ℕ → List Numbered → List ℕ → Type 0
+AreAmong before entries numbers = (n : ℕ) → has_id numbers n ≡ true → IsAmong before (length entries) n
 
-pub all_among : (entries : List Numbered) (numbers : List ℕ) → AreAmong entries numbers → AreWithin entries numbers
-all_among entries numbers among k d l = subst (λ n. (0 < n) × (n ≤ length entries)) (sym (get_or_default_zero numbers k d l)) (among (get_or numbers k 0) (has_at numbers k l))
+pub all_among : (before : ℕ) (entries : List Numbered) (numbers : List ℕ) → AreAmong before entries numbers → AreWithin before entries numbers
+all_among before entries numbers among k d l = subst (IsAmong before (length entries)) (sym (get_or_default_zero numbers k d l)) (among (get_or numbers k 0) (has_at numbers k l))
 
-pub within_ones : (entries es : List Numbered) (numbers : List ℕ) → map (λ (e : Numbered). e.number) es ≡ numbers → AreWithin entries numbers → All (λ e. (0 < e.number) × (e.number ≤ length entries)) es
-within_ones entries es numbers is within k d l =
-    let within_map = subst (AreWithin entries) (sym is) within in
-    subst (λ n. (0 < n) × (n ≤ length entries)) (get_or-map (λ (e : Numbered). e.number) es k d 0 l) (within_map k 0 (omega (arith, length-map es (λ (e : Numbered). e.number))))
+pub within_ones : (before : ℕ) (entries es : List Numbered) (numbers : List ℕ) → map (λ (e : Numbered). e.number) es ≡ numbers → AreWithin before entries numbers → All (λ e. IsAmong before (length entries) e.number) es
+within_ones before entries es numbers is within k d l =
+    let within_map = subst (AreWithin before entries) (sym is) within in
+    subst (IsAmong before (length entries)) (get_or-map (λ (e : Numbered). e.number) es k d 0 l) (within_map k 0 (omega (arith, length-map es (λ (e : Numbered). e.number))))
 
 -- the entries with rising numbers are those at their places
 shifted : (k : ℕ) (x : Numbered) (xs : List Numbered) (ns : List ℕ) → RiseFrom (k + 1) ns → map (λ m. get_or xs (m - (k + 1)) blank) ns ≡ map (λ m. get_or (x ∷ xs) (m - k) blank) ns
@@ -119,9 +118,9 @@ with_at k (x ∷ xs) (n ∷ ns) off rise within =
         rw none (longer up all ∙ shifted k x xs (n ∷ ns) up)
 
 -- an open batch's entries, which are those with its numbers
-pub open_within : (conf : Conf) (id f n : ℕ) (marks : List Mark) → has_id (held_by id f marks) n ≡ true → n < f + length marks
-open_within conf id f n [] h = absurd (cc)
-open_within conf id f n (m ∷ marks) h = go (is_taken id m) h (open_within conf id (f + 1) n marks)
+pub open_within : (id f n : ℕ) (marks : List Mark) → has_id (held_by id f marks) n ≡ true → n < f + length marks
+open_within id f n [] h = absurd (cc)
+open_within id f n (m ∷ marks) h = go (is_taken id m) h (open_within id (f + 1) n marks)
   where
     go : (b : Bool) → has_id (cond b (f ∷ held_by id (f + 1) marks) (held_by id (f + 1) marks)) n ≡ true → (has_id (held_by id (f + 1) marks) n ≡ true → n < (f + 1) + length marks) → n < f + length (m ∷ marks)
     go true h ih = here (f == n) refl h
@@ -154,16 +153,16 @@ claimed_entries entries core id numbers log fresh =
     go y false = sym (fresh y.number)
 
 -- entries that are the ones here
-pub here_at : (entries es : List Numbered) → AreHere entries es → map (entry_at entries) (map (λ (e : Numbered). e.number) es) ≡ es
-here_at entries [] here = refl
-here_at entries (e ∷ es) here = ap₂ (λ x xs. x ∷ xs) here.0 (here_at entries es here.1)
+pub here_at : (before : ℕ) (entries es : List Numbered) → AreHere before entries es → map (entry_at before entries) (map (λ (e : Numbered). e.number) es) ≡ es
+here_at before entries [] here = refl
+here_at before entries (e ∷ es) here = ap₂ (λ x xs. x ∷ xs) here.0 (here_at before entries es here.1)
 
-pub at_here : (entries es : List Numbered) → map (entry_at entries) (map (λ (e : Numbered). e.number) es) ≡ es → AreHere entries es
-at_here entries [] is = tt
-at_here entries (e ∷ es) is =
-    let a : entry_at entries e.number ≡ e = cc in
-    let b : map (entry_at entries) (map (λ (x : Numbered). x.number) es) ≡ es = cc in
-    (a, at_here entries es b)
+pub at_here : (before : ℕ) (entries es : List Numbered) → map (entry_at before entries) (map (λ (e : Numbered). e.number) es) ≡ es → AreHere before entries es
+at_here before entries [] is = tt
+at_here before entries (e ∷ es) is =
+    let a : entry_at before entries e.number ≡ e = cc in
+    let b : map (entry_at before entries) (map (λ (x : Numbered). x.number) es) ≡ es = cc in
+    (a, at_here before entries es b)
 
 -- what is kept of a number depends on what was kept of it alone
 pub keeping_at : (a b : ℕ → List Rec) (es : List Numbered) (lists : List (List Rec)) (n : ℕ) → a n ≡ b n → keeping a es lists n ≡ keeping b es lists n
@@ -173,17 +172,25 @@ keeping_at a b (e ∷ es) (rs ∷ lists) n same =
     keeping_at (λ m. cond (m == e.number) rs (a m)) (λ m. cond (m == e.number) rs (b m)) es lists n (ap (cond (n == e.number) rs) same)
 
 -- one row of records comes into its place
-pub set_made : (made : List (List Rec)) (k n : ℕ) (rs : List Rec) → 0 < k → k ≤ length made → 0 < n → made_at (set made (k - 1) rs) n ≡ cond (n == k) rs (made_at made n)
-set_made made k n rs some within l = go (n == k) refl
+pub set_made : (before : ℕ) (made : List (List Rec)) (k n : ℕ) (rs : List Rec) → IsAmong before (length made) k → before < n
+    → made_at before (set made (k - (before + 1)) rs) n ≡ cond (n == k) rs (made_at before made n)
+set_made before made k n rs within l = go (n == k) refl
   where
-    go : (b : Bool) → (n == k) ≡ b → made_at (set made (k - 1) rs) n ≡ cond b rs (made_at made n)
+    some : before < k
+    some = within.0
+
+    few : k ≤ before + length made
+    few = within.1
+
+    go : (b : Bool) → (n == k) ≡ b → made_at before (set made (k - (before + 1)) rs) n ≡ cond b rs (made_at before made n)
     go true q =
         let z = eqb-true n k q in
-        ap (λ j. get_or (set made (k - 1) rs) (j - 1) []) z ∙ get_or-set_same made (k - 1) rs [] (omega arith)
+        ap (λ j. get_or (set made (k - (before + 1)) rs) (j - (before + 1)) []) z ∙ get_or-set_same made (k - (before + 1)) rs [] (let a = some in let b = few in omega arith)
     go false q =
         let o : (n ≡ k → ⊥) = (λ s. let t = eq-eqb n k s in cc) in
-        let ne : (n - 1 ≡ k - 1 → ⊥) = (λ s. absurd (o (omega arith))) in
-        get_or-set_other made (k - 1) (n - 1) rs [] ne
+        let a = some in
+        let ne : (n - (before + 1) ≡ k - (before + 1) → ⊥) = (λ s. absurd (o (omega arith))) in
+        get_or-set_other made (k - (before + 1)) (n - (before + 1)) rs [] ne
 
 -- the entry at a place has its number
 pub number_from : (k i : ℕ) (entries : List Numbered) → map (λ (e : Numbered). e.number) entries ≡ ids_from k entries → i < length entries → (get_or entries i blank).number ≡ k + i
@@ -193,14 +200,14 @@ number_from k (suc i) (x ∷ xs) off l =
     let t : map (λ (e : Numbered). e.number) xs ≡ ids_from (k + 1) xs = cc in
     number_from (k + 1) i xs t (omega arith) ∙ omega arith
 
-pub number_at : (n : ℕ) (entries : List Numbered) → map (λ (e : Numbered). e.number) entries ≡ ids_from 1 entries → 0 < n → n ≤ length entries → (entry_at entries n).number ≡ n
-number_at n entries off some within = number_from 1 (n - 1) entries off (omega arith) ∙ omega arith
+pub number_at : (before n : ℕ) (entries : List Numbered) → map (λ (e : Numbered). e.number) entries ≡ ids_from (before + 1) entries → IsAmong before (length entries) n → (entry_at before entries n).number ≡ n
+number_at before n entries off within = let a = within.0 in let b = within.1 in number_from (before + 1) (n - (before + 1)) entries off (omega arith) ∙ omega arith
 
-pub numbers_at : (entries : List Numbered) (numbers : List ℕ) → map (λ (e : Numbered). e.number) entries ≡ ids_from 1 entries → AreAmong entries numbers → map (λ (e : Numbered). e.number) (map (entry_at entries) numbers) ≡ numbers
-numbers_at entries [] off within = refl
-numbers_at entries (n ∷ ns) off within =
+pub numbers_at : (before : ℕ) (entries : List Numbered) (numbers : List ℕ) → map (λ (e : Numbered). e.number) entries ≡ ids_from (before + 1) entries → AreAmong before entries numbers → map (λ (e : Numbered). e.number) (map (entry_at before entries) numbers) ≡ numbers
+numbers_at before entries [] off within = refl
+numbers_at before entries (n ∷ ns) off within =
     let w = within n (has_in (n ∷ ns) n (inl refl)) in
-    ap₂ (λ m ms. m ∷ ms) (number_at n entries off w.0 w.1) (numbers_at entries ns off (λ m h. within m (or_later (n == m) (has_id ns m) h)))
+    ap₂ (λ m ms. m ∷ ms) (number_at before n entries off w) (numbers_at before entries ns off (λ m h. within m (or_later (n == m) (has_id ns m) h)))
   where
     or_later : (a b : Bool) → b ≡ true → (a || b) ≡ true
     or_later true b e = refl
@@ -225,11 +232,11 @@ same_copy {A} xs ys id copy true l e same = go copy e same
     go None q s = sym (at_alike xs ys id l (sym q))
     go (Some x) q s = sym s
 
-pub same_part : (conf : Conf) (held other : CellsView) (c d : Cells) (es : List Numbered) (part : PartView) → Represents (first_stage conf) held c → Represents (first_stage conf) other d → IsPartOf conf es other part → IsSame held part → IsPartOf conf es held part
-same_part conf held other c d es part represented was of same = record {
-  cells = λ id. same_copy held.items other.items id (cell_in part id) (any_touches conf es (ItemKey id)) (represented.items ∙ sym was.items) (of.cells id) (same.cells id);
-  marks = λ id. same_copy held.memories other.memories id (marks_in part id) (any_touches conf es (ItemKey id)) (represented.memories ∙ sym was.memories) (of.marks id) (same.marks id);
-  problems = λ id. same_copy held.problems other.problems id (problems_in part id) (any_touches conf es (TriggerKey id)) (represented.triggers ∙ sym was.triggers) (of.problems id) (same.problems id);
+pub same_part : (stage : Stage) (held other : CellsView) (c d : Cells) (es : List Numbered) (part : PartView) → Represents stage held c → Represents stage other d → IsPartOf stage.conf es other part → IsSame held part → IsPartOf stage.conf es held part
+same_part stage held other c d es part represented was of same = record {
+  cells = λ id. same_copy held.items other.items id (cell_in part id) (any_touches stage.conf es (ItemKey id)) (represented.items ∙ sym was.items) (of.cells id) (same.cells id);
+  marks = λ id. same_copy held.memories other.memories id (marks_in part id) (any_touches stage.conf es (ItemKey id)) (represented.memories ∙ sym was.memories) (of.marks id) (same.marks id);
+  problems = λ id. same_copy held.problems other.problems id (problems_in part id) (any_touches stage.conf es (TriggerKey id)) (represented.triggers ∙ sym was.triggers) (of.problems id) (same.problems id);
   tick = same.tick;
 }
 
@@ -239,27 +246,27 @@ copied o None b e = tt
 copied o (Some x) true e = sym e
 copied o (Some x) false e = let q : Some x ≡ None = e in absurd (cc)
 
-pub part_same : (conf : Conf) (held : CellsView) (es : List Numbered) (part : PartView) → IsPartOf conf es held part → IsSame held part
-part_same conf held es part of = record {
-  cells = λ id. copied (at_id held.items id) (cell_in part id) (any_touches conf es (ItemKey id)) (of.cells id);
-  marks = λ id. copied (at_id held.memories id) (marks_in part id) (any_touches conf es (ItemKey id)) (of.marks id);
-  problems = λ id. copied (at_id held.problems id) (problems_in part id) (any_touches conf es (TriggerKey id)) (of.problems id);
+pub part_same : (stage : Stage) (held : CellsView) (es : List Numbered) (part : PartView) → IsPartOf stage.conf es held part → IsSame held part
+part_same stage held es part of = record {
+  cells = λ id. copied (at_id held.items id) (cell_in part id) (any_touches stage.conf es (ItemKey id)) (of.cells id);
+  marks = λ id. copied (at_id held.memories id) (marks_in part id) (any_touches stage.conf es (ItemKey id)) (of.marks id);
+  problems = λ id. copied (at_id held.problems id) (problems_in part id) (any_touches stage.conf es (TriggerKey id)) (of.problems id);
   tick = of.tick;
 }
 
 -- one more row comes into its place
-pub keep_more : (made next : List (List Rec)) (es : List Numbered) (place n : ℕ) (d : Numbered) (rs : List Rec) (rest lists : List (List Rec)) → place < length es → next ≡ set made ((get_or es place d).number - 1) rs
-    → 0 < (get_or es place d).number → (get_or es place d).number ≤ length made → 0 < n → lists ≡ rs ∷ rest
-    → keeping (made_at next) (drop (place + 1) es) rest n ≡ keeping (made_at made) (drop place es) lists n
-keep_more made next es place n d rs rest lists l is some within big split =
+pub keep_more : (before : ℕ) (made next : List (List Rec)) (es : List Numbered) (place n : ℕ) (d : Numbered) (rs : List Rec) (rest lists : List (List Rec)) → place < length es → next ≡ set made ((get_or es place d).number - (before + 1)) rs
+    → IsAmong before (length made) (get_or es place d).number → before < n → lists ≡ rs ∷ rest
+    → keeping (made_at before next) (drop (place + 1) es) rest n ≡ keeping (made_at before made) (drop place es) lists n
+keep_more before made next es place n d rs rest lists l is within big split =
     let e = get_or es place d in
     let a : drop place es ≡ e ∷ drop (place + 1) es = drop-cons es place d l ∙ rw add-one refl in
-    keeping_at (made_at next) (λ m. cond (m == e.number) rs (made_at made m)) (drop (place + 1) es) rest n (ap (λ ms. made_at ms n) is ∙ set_made made e.number n rs some within big)
-    ∙ sym (ap (λ ls. keeping (made_at made) (drop place es) ls n) split ∙ ap (λ xs. keeping (made_at made) xs (rs ∷ rest) n) a)
+    keeping_at (made_at before next) (λ m. cond (m == e.number) rs (made_at before made m)) (drop (place + 1) es) rest n (ap (λ ms. made_at before ms n) is ∙ set_made before made e.number n rs within big)
+    ∙ sym (ap (λ ls. keeping (made_at before made) (drop place es) ls n) split ∙ ap (λ xs. keeping (made_at before made) xs (rs ∷ rest) n) a)
 
 -- a read is the entry with a number
-pub read_at : (entries : List Numbered) (n : ℕ) (e : Numbered) → 0 < n → n ≤ length entries → e ≡ get_or entries (n - 1) e → e ≡ entry_at entries n
-read_at entries n e some within is = is ∙ get_any entries (n - 1) e blank (omega arith)
+pub read_at : (before : ℕ) (entries : List Numbered) (n place : ℕ) (e : Numbered) → IsAmong before (length entries) n → place ≡ n - (before + 1) → e ≡ get_or entries place e → e ≡ entry_at before entries n
+read_at before entries n place e within at is = let a = within.0 in let b = within.1 in is ∙ ap (λ k. get_or entries k e) at ∙ get_any entries (n - (before + 1)) e blank (omega arith)
 
 -- a row of cells more, if there is room
 pub all_pushed : {A : Type 0} (P : A → Type 0) (xs next : List A) (x : A) (b : Bool) → next ≡ cond b (xs ++ x ∷ []) xs → All P xs → P x → All P next
@@ -282,8 +289,8 @@ front (o ∷ old) (x ∷ new) rest known count e l =
     let t : new ++ rest ≡ old ++ known = cc in
     ap₂ (λ z zs. z ∷ zs) h (front old new rest known count t (omega arith))
 
-pub more_came : (kept old new rest known : List Numbered) (count : ℕ) → new ++ rest ≡ old ++ known → length new ≡ length old + count → kept ++ new ≡ (kept ++ old) ++ take count known
-more_came kept old new rest known count e l = ap (λ xs. kept ++ xs) (front old new rest known count e l) ∙ sym (append_assoc kept old (take count known))
+pub more_came : (old new rest known : List Numbered) (count : ℕ) → new ++ rest ≡ old ++ known → length new ≡ length old + count → new ≡ old ++ take count known
+more_came old new rest known count e l = front old new rest known count e l
 
 -- a row of cells less
 pub all_popped : {A : Type 0} (P : A → Type 0) (xs next : List A) (x : A) → xs ≡ next ++ x ∷ [] → All P xs → All P next × P x

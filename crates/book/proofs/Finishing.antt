@@ -1,5 +1,4 @@
 -- All entries are worked out, one after another.
-use Rattle.entry_step.specs.Start.{first_start}
 use Rattle.std.proofs.Common.{◌≡◌, ◌<◌, ◌≤◌, ◌+◌, ◌-◌, ◌∙◌, ℕ, zero, suc, Bool, true, false, cond, not, ◌||◌, List, [], ◌∷◌, length, map, get_or, set, take, drop, append_assoc, ◌++◌, length-set, Option, Some, reverse, refl, sym, ap, subst, arith}
 use Rattle.std.specs.Prelude.{nat_lt, IfSome}
 use Rattle.std.specs.List.{list_any}
@@ -12,7 +11,6 @@ use Rattle.entry_step.specs.Records.{replay}
 use Rattle.book.proofs.Batches.{blank, number_from}
 use Rattle.std.proofs.lemmas.Bool.{or_parts, le-ltb}
 use mathlib.Core.Path.{fun_ext}
-use Rattle.zbx_types.specs.declared.conf.Conf.{Conf}
 use Rattle.zbx_types.specs.declared.entries.Numbered.{Numbered}
 use Rattle.footprint.specs.Feet.{feet_of}
 use Rattle.syncer_gate.specs.declared.marks.Mark.{Mark}
@@ -24,7 +22,8 @@ use Rattle.syncer_gate.specs.Core.{Core, passes, Holds, core_of}
 use Rattle.book.specs.Schedule.{is_applied, Worked}
 use Rattle.book.specs.Progress.{ProgressView, worked_of, IsGoing, HasClaimed, IsSingle, IsOneMore}
 use Rattle.book.proofs.Scheduled.{IsConsistent, order_of, same_done}
-use Rattle.book.proofs.Going.{whole_numbers, stands_of, gate_going}
+use Rattle.book.proofs.Going.{stands_of, gate_going}
+use Rattle.entry_step.specs.Start.{Start}
 
 passed_reopened : (late early : Mark) → passes (reopened late) (reopened early) ≡ true → passes late early ≡ true
 passed_reopened Pending early p = let q : passes Pending (reopened early) ≡ true = p in absurd (never early q)
@@ -67,20 +66,20 @@ core_reopened entries gate = ap over (fun_ext (λ n. go (nat_lt n gate.first) (n
     go true k = refl
     go false k = get_or-map reopened gate.marks k Pending
 
-stands_reopened : (conf : Conf) (w : Worked) → IsConsistent conf w → IsConsistent conf (record w { core = reopened_core w.core })
+stands_reopened : (from : Start) (w : Worked) → IsConsistent from w → IsConsistent from (record w { core = reopened_core w.core })
 unfolding reopened_core
-stands_reopened conf w stands = record {
+stands_reopened from w stands = record {
   holds = record {
     order = λ y e yi ei l p. stands.holds.order y e yi ei l (passed_reopened (w.core.status e.number) (w.core.status y.number) p);
     known = λ n q. stands.holds.known n (pending_reopened (w.core.status n) q);
   };
   rises = stands.rises;
-  done = same_done conf w.core.log w.core.status (λ n. reopened (w.core.status n)) w.cells w.made (λ n. applied_still (w.core.status n)) stands.done;
+  done = same_done from w.core.log w.core.status (λ n. reopened (w.core.status n)) w.cells w.made (λ n. applied_still (w.core.status n)) stands.done;
 }
 
-pub reopened_going : (conf : Conf) (p : ProgressView) (gate : Gate) → IsGoing conf p → gate ≡ record p.gate { marks = map reopened p.gate.marks } → IsGoing conf (record p { gate = gate })
-reopened_going conf p gate going is =
-    gate_going conf p going gate (reopened_core (core_of p.entries p.gate)) (stands_reopened conf (worked_of p going.cells) (stands_of conf p going))
+pub reopened_going : (from : Start) (p : ProgressView) (gate : Gate) → IsGoing from p → gate ≡ record p.gate { marks = map reopened p.gate.marks } → IsGoing from (record p { gate = gate })
+reopened_going from p gate going is =
+    gate_going from p going gate (reopened_core (core_of p.entries p.gate)) (stands_reopened from (worked_of from.number p going.cells) (stands_of from p going))
     (ap (λ (g : Gate). g.first) is, ap (λ (g : Gate). length g.marks) is ∙ length-map p.gate.marks reopened)
     (ap (core_of p.entries) is ∙ core_reopened p.entries p.gate)
 
@@ -170,13 +169,13 @@ single_of [] some few = absurd (omega arith)
 single_of (n ∷ []) some few = (n, refl)
 single_of (n ∷ m ∷ ns) some few = absurd (omega arith)
 
-pub one_more : (conf : Conf) (p : ProgressView) (gate after : Gate) (taken : Option Batch) (batch : Batch) → HasClaimed conf p gate batch → taken ≡ Some batch → IfSome taken (λ b. (0 < length b.numbers) × (length b.numbers ≤ 1)) → after ≡ with_ended batch.id Applied gate
+pub one_more : (from : Start) (p : ProgressView) (gate after : Gate) (taken : Option Batch) (batch : Batch) → HasClaimed from p gate batch → taken ≡ Some batch → IfSome taken (λ b. (0 < length b.numbers) × (length b.numbers ≤ 1)) → after ≡ with_ended batch.id Applied gate
     → IsOneMore p.gate.marks after.marks
-one_more conf p gate after taken batch claim is few ends =
+one_more from p gate after taken batch claim is few ends =
     let f = subst (λ (o : Option Batch). IfSome o (λ b. (0 < length b.numbers) × (length b.numbers ≤ 1))) is few in
     let s = single_of batch.numbers f.0 f.1 in
     let one = claim.single s.0 s.1 in
-    record { place = s.0 - 1; inside = one.inside; pending = one.pending; after = ap (λ (g : Gate). g.marks) ends ∙ one.after }
+    record { place = s.0 - (from.number + 1); inside = one.inside; pending = one.pending; after = ap (λ (g : Gate). g.marks) ends ∙ one.after }
 
 -- the work so far: so many entries were looked for
 pub record IsLeft (start entries : List Numbered) (first marks : List Mark) (count : ℕ) : Type 0 where
@@ -216,7 +215,7 @@ left_none start entries first marks count i left all l =
     unapplied_none marks i (omega arith) (omega arith)
 
 -- the records of an applied entry are those of its place in the replay
-taken_more : (xs : List Numbered) (k : ℕ) (d : Numbered) → k < length xs → take (k + 1) xs ≡ take k xs ++ get_or xs k d ∷ []
+pub taken_more : (xs : List Numbered) (k : ℕ) (d : Numbered) → k < length xs → take (k + 1) xs ≡ take k xs ++ get_or xs k d ∷ []
 taken_more xs k d l = let z : k + 1 ≡ suc k = omega arith in ap (λ j. take j xs) z ∙ take-suc xs k d l
 
 split_place : (xs : List Numbered) (k : ℕ) (d : Numbered) → k < length xs → xs ≡ take k xs ++ get_or xs k d ∷ drop (k + 1) xs
@@ -224,13 +223,13 @@ split_place xs k d l =
     let z : k + 1 ≡ suc k = omega arith in
     sym (take-append-drop k xs) ∙ ap (λ ys. take k xs ++ ys) (drop-cons xs k d l ∙ ap (λ j. get_or xs k d ∷ drop j xs) (sym z))
 
-pub records_next : (conf : Conf) (p : ProgressView) → IsGoing conf p → (place : ℕ) → place < length p.entries → get_or p.gate.marks place Pending ≡ Applied
-    → replay (first_start conf) (log_of (take (place + 1) p.entries)) ≡ replay (first_start conf) (log_of (take place p.entries)) ++ get_or p.made place []
-records_next conf p going place l applied =
-    ap (λ es. replay (first_start conf) (reverse es)) (taken_more p.entries place blank l)
-    ∙ ap (replay (first_start conf)) (reverse-append (take place p.entries) (e ∷ []))
-    ∙ ap (λ rs. replay (first_start conf) older ++ rs) (sym (going.facts.kept newer older e split is_one))
-    ∙ ap (λ k. replay (first_start conf) older ++ get_or p.made k []) at
+pub records_next : (from : Start) (p : ProgressView) → IsGoing from p → (place : ℕ) → place < length p.entries → get_or p.gate.marks place Pending ≡ Applied
+    → replay from (log_of (take (place + 1) p.entries)) ≡ replay from (log_of (take place p.entries)) ++ get_or p.made place []
+records_next from p going place l applied =
+    ap (λ es. replay from (reverse es)) (taken_more p.entries place blank l)
+    ∙ ap (replay from) (reverse-append (take place p.entries) (e ∷ []))
+    ∙ ap (λ rs. replay from older ++ rs) (sym (going.facts.kept newer older e split is_one))
+    ∙ ap (λ k. replay from older ++ get_or p.made k []) at
   where
     e : Numbered
     e = get_or p.entries place blank
@@ -241,10 +240,10 @@ records_next conf p going place l applied =
     newer : List Numbered
     newer = reverse (drop (place + 1) p.entries)
 
-    number : e.number ≡ 1 + place
-    number = number_from 1 place p.entries (whole_numbers conf p.entries going.whole) l
+    number : e.number ≡ (from.number + 1) + place
+    number = number_from (from.number + 1) place p.entries going.whole.numbers l
 
-    at : e.number - 1 ≡ place
+    at : e.number - (from.number + 1) ≡ place
     at = let n = number in omega arith
 
     split : reverse p.entries ≡ newer ++ e ∷ older

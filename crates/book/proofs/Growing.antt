@@ -1,5 +1,4 @@
 -- Laws of the lines of a log, and of sinks that grow by them.
-use Rattle.entry_step.specs.Start.{first_start}
 use Rattle.std.proofs.Common.{◌≡◌, ℕ, zero, suc, ◌+◌, ◌-◌, ◌<◌, ◌≤◌, ◌^◌, min, List, [], ◌∷◌, ◌++◌, length, take, drop, reverse, refl, sym, ap, ◌∙◌, subst, append_assoc, append-nil, length-append, arith}
 use Rattle.std.specs.Io.KnownBytes.{Keeps}
 use Rattle.std.proofs.KnownBytes.{Appends-nil, Appends-trans, Appends-kept}
@@ -7,33 +6,39 @@ use Rattle.std.proofs.Math.Seq.{take-append_seam, take-append-add}
 use Rattle.std.specs.Prelude.{Result, Ok, Err, OnOk}
 use Rattle.std.proofs.lemmas.List.{drop-append-le, drop_all, length-take, take-append-drop}
 use Rattle.std.proofs.lemmas.Grind.{flat_map-append}
-use Rattle.zbx_types.specs.declared.conf.Conf.{Conf}
 use Rattle.zbx_types.specs.declared.entries.Numbered.{Numbered}
 use Rattle.zbx_types.specs.declared.entries.Rec.{Rec}
 use Rattle.outside.specs.Tells.{SinkTells}
 use Rattle.outside.specs.declared.event.Failed.{Failed}
 use Rattle.event_text.specs.Lines.{lines_of, line_of}
+use Rattle.entry_step.specs.Behind.{behind}
 use Rattle.entry_step.specs.Records.{replay, out_of}
+use Rattle.entry_step.proofs.Behind.{replay_behind}
 use Rattle.book.specs.declared.tally.Tally.{Tally}
 use Rattle.book.specs.Tally.{tally_of}
 use Rattle.book.specs.Outgoing.{Grew, GrewByFront, Writes, log_lines}
+use Rattle.entry_step.specs.Start.{Start}
 
 -- ---- the lines of a log
 
 pub lines_of-append : (a b : List Rec) → lines_of (a ++ b) ≡ lines_of a ++ lines_of b
 lines_of-append a b = flat_map-append line_of a b
 
+-- the lines of newer entries stand behind those of the log before them
+pub lines_behind : (start : Start) (newer older : List Numbered) → log_lines start (newer ++ older) ≡ log_lines start older ++ log_lines (behind start older) newer
+lines_behind start newer older = ap lines_of (replay_behind start newer older) ∙ lines_of-append (replay start older) (replay (behind start older) newer)
+
 -- the lines of a log with one more entry
-pub lines_next : (conf : Conf) (log : List Numbered) (e : Numbered) → log_lines conf (e ∷ log) ≡ log_lines conf log ++ lines_of (out_of (first_start conf) log e e.entry (replay (first_start conf) log))
-lines_next conf log e = lines_of-append (replay (first_start conf) log) (out_of (first_start conf) log e e.entry (replay (first_start conf) log))
+pub lines_next : (from : Start) (log : List Numbered) (e : Numbered) → log_lines from (e ∷ log) ≡ log_lines from log ++ lines_of (out_of from log e e.entry (from.records ++ replay from log))
+lines_next from log e = lines_of-append (replay from log) (out_of from log e e.entry (from.records ++ replay from log))
 
 -- newer entries add lines behind those of the log before them
-pub lines_newer : (conf : Conf) (newer log : List Numbered) → (more : List ℕ) × (log_lines conf (newer ++ log) ≡ log_lines conf log ++ more)
-lines_newer conf [] log = ([], sym (append-nil (log_lines conf log)))
-lines_newer conf (e ∷ newer) log =
-    let before = lines_newer conf newer log in
-    let here = lines_of (out_of (first_start conf) (newer ++ log) e e.entry (replay (first_start conf) (newer ++ log))) in
-    (before.0 ++ here, lines_next conf (newer ++ log) e ∙ ap (λ l. l ++ here) before.1 ∙ append_assoc (log_lines conf log) before.0 here)
+pub lines_newer : (from : Start) (newer log : List Numbered) → (more : List ℕ) × (log_lines from (newer ++ log) ≡ log_lines from log ++ more)
+lines_newer from [] log = ([], sym (append-nil (log_lines from log)))
+lines_newer from (e ∷ newer) log =
+    let before = lines_newer from newer log in
+    let here = lines_of (out_of from (newer ++ log) e e.entry (from.records ++ replay from (newer ++ log))) in
+    (before.0 ++ here, lines_next from (newer ++ log) e ∙ ap (λ l. l ++ here) before.1 ∙ append_assoc (log_lines from log) before.0 here)
 
 -- what is lacking of lines, with more lines
 pub lacking : (held : ℕ) (before more all : List ℕ) → held ≤ length before → before ++ more ≡ all → drop held before ++ more ≡ drop held all
@@ -57,8 +62,8 @@ pub tally_size : (rs : List Rec) (tally : Tally) → tally ≡ tally_of rs → t
 unfolding tally_of
 tally_size rs tally is = ap (λ (t : Tally). t.bytes) is
 
-pub tally_bytes : (conf : Conf) (log : List Numbered) (tally : Tally) → tally ≡ tally_of (replay (first_start conf) log) → tally.bytes ≡ min (length (log_lines conf log)) 18446744073709551615
-tally_bytes conf log tally is = tally_size (replay (first_start conf) log) tally is
+pub tally_bytes : (from : Start) (log : List Numbered) (tally : Tally) → tally ≡ tally_of (replay from log) → tally.bytes ≡ min (length (log_lines from log)) 18446744073709551615
+tally_bytes from log tally is = tally_size (replay from log) tally is
 
 -- what is said of an Ok
 pub on_ok : {T E : Type 0} (r : Result T E) (P Q : Type 0) → (P → Q) → OnOk r P → OnOk r Q

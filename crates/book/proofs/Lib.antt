@@ -11,3 +11,4 @@ pub mod Going
 pub mod Batches
 pub mod Claiming
 pub mod Finishing
+pub mod Replaying

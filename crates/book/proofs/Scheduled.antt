@@ -4,7 +4,6 @@ use mathlib.Core.Path.{fun_ext}
 use mathlib.Core.List.{reverse-cons}
 use Rattle.std.proofs.lemmas.List.Concat.{flat_map-append}
 use Rattle.zbx_types.specs.Masters.{has_id}
-use Rattle.zbx_types.specs.declared.conf.Conf.{Conf}
 use Rattle.zbx_types.specs.declared.entries.Numbered.{Numbered}
 use Rattle.zbx_types.specs.declared.entries.Rec.{Rec}
 use Rattle.footprint.specs.Feet.{feet_of}
@@ -12,8 +11,8 @@ use Rattle.entry_step.specs.Each.{Each, In, EachPair}
 use Rattle.entry_step.specs.Log.{Suits}
 use Rattle.entry_step.specs.Parts.{AllCome}
 use Rattle.entry_step.specs.Records.{out_of, replay}
-use Rattle.entry_step.specs.Cells.{Cells, AreCellsOf}
-use Rattle.entry_step.specs.Laws.{Apart}
+use Rattle.entry_step.specs.Cells.{Cells, look, AreCellsOf}
+use Rattle.entry_step.specs.Laws.{IsGood, Apart}
 use Rattle.entry_step.proofs.Members.{each_from}
 use Rattle.entry_step.proofs.Meeting.{conflict_is_meeting}
 use Rattle.syncer_gate.specs.declared.marks.Mark.{Mark}
@@ -25,18 +24,17 @@ use Rattle.book.specs.Schedule.{is_applied, Worked, batch_in, worked, begin_work
 use Rattle.book.proofs.Places.{Rises, is_in, in_of, in_reverse, of_reverse, in_filter, of_filter, pairs_filter, pairs_reverse}
 use Rattle.book.proofs.Working.{Done, also_all, all_in, all_out, all_done}
 use Rattle.book.proofs.Coming.{all_come}
-use Rattle.trigger_state.specs.Stages.{first_stage}
-use Rattle.entry_step.specs.Start.{first_start}
+use Rattle.entry_step.specs.Start.{Start}
 
 -- the numbers of the entries that are applied
 abbrev pub applied_by : (ℕ → Mark) → ℕ → Bool
 applied_by status n = is_applied (status n)
 
 -- what holds behind each step
-pub record IsConsistent (conf : Conf) (w : Worked) : Type 0 where
-  pub holds : Holds (feet_of conf) w.core
+pub record IsConsistent (from : Start) (w : Worked) : Type 0 where
+  pub holds : Holds (feet_of from.stage.conf) w.core
   pub rises : Rises w.core.log
-  pub done : Done conf w.core.log (applied_by w.core.status) w.cells w.made
+  pub done : Done from w.core.log (applied_by w.core.status) w.cells w.made
 
 -- marks
 applied_passes : (late early : Mark) → is_applied late ≡ true → is_applied early ≡ false → passes late early ≡ true
@@ -76,14 +74,14 @@ given_applied id mark = go (is_taken id mark) refl
     go false e = refl
 
 -- no entry that is applied conflicts with an older one that isn't
-pub order_of : (conf : Conf) (s : Core) → Holds (feet_of conf) s → (y e : Numbered) → In y s.log → In e s.log → y.number < e.number
-    → applied_by s.status e.number ≡ true → applied_by s.status y.number ≡ false → Apart conf y e
-order_of conf s holds y e i j l d w = (conflict_is_meeting conf y e).0 (holds.order y e (is_in s.log y i) (is_in s.log e j) l (applied_passes (s.status e.number) (s.status y.number) d w))
+pub order_of : (from : Start) (s : Core) → Holds (feet_of from.stage.conf) s → (y e : Numbered) → In y s.log → In e s.log → y.number < e.number
+    → applied_by s.status e.number ≡ true → applied_by s.status y.number ≡ false → Apart from.stage.conf y e
+order_of from s holds y e i j l d w = (conflict_is_meeting from.stage.conf y e).0 (holds.order y e (is_in s.log y i) (is_in s.log e j) l (applied_passes (s.status e.number) (s.status y.number) d w))
 
 -- where no entry becomes applied, and none is added, cells and records stay as they are
-pub same_done : (conf : Conf) (log : List Numbered) (status other : ℕ → Mark) (cells : Cells) (made : ℕ → List Rec) → ((n : ℕ) → is_applied (other n) ≡ is_applied (status n))
-    → Done conf log (applied_by status) cells made → Done conf log (applied_by other) cells made
-same_done conf log status other cells made same holds = subst (λ done. Done conf log done cells made) (sym (fun_ext same)) holds
+pub same_done : (from : Start) (log : List Numbered) (status other : ℕ → Mark) (cells : Cells) (made : ℕ → List Rec) → ((n : ℕ) → is_applied (other n) ≡ is_applied (status n))
+    → Done from log (applied_by status) cells made → Done from log (applied_by other) cells made
+same_done from log status other cells made same holds = subst (λ done. Done from log done cells made) (sym (fun_ext same)) holds
 
 claimed_applied : (s : Core) (id : ℕ) (numbers : List ℕ) → ((n : ℕ) → has_id numbers n ≡ true → s.status n ≡ Pending) → (n : ℕ)
     → is_applied (cond (has_id numbers n) (Taken id) (s.status n)) ≡ is_applied (s.status n)
@@ -93,22 +91,22 @@ claimed_applied s id numbers pending n = go (has_id numbers n) refl
     go true e = sym (ap is_applied (pending n e))
     go false e = refl
 
-module _ (conf : Conf) (w : Worked) (stands : IsConsistent conf w) where
+module _ (from : Start) (good : IsGood from) (w : Worked) (stands : IsConsistent from w) where
   -- a new entry isn't applied
-  new_waits : (e : Numbered) → IsAllowed (feet_of conf) w.core (Offer e) → is_applied (w.core.status e.number) ≡ false
+  new_waits : (e : Numbered) → IsAllowed (feet_of from.stage.conf) w.core (Offer e) → is_applied (w.core.status e.number) ≡ false
   new_waits e above = pending_waits (w.core.status e.number) (go (is_pending (w.core.status e.number)) refl)
     where
       go : (b : Bool) → is_pending (w.core.status e.number) ≡ b → b ≡ true
       go true q = refl
       go false q = let k = stands.holds.known e.number q in let l = above k.0 k.1 in let z = k.2 in absurd (omega arith)
 
-  offered : (e : Numbered) → IsAllowed (feet_of conf) w.core (Offer e) → IsConsistent conf (worked conf w (Offer e))
+  offered : (e : Numbered) → IsAllowed (feet_of from.stage.conf) w.core (Offer e) → IsConsistent from (worked from.stage w (Offer e))
   offered e above = record {
     holds = next;
     rises = (each_from (λ y. y.number < e.number) w.core.log (λ y i. above y (is_in w.core.log y i)), stands.rises);
     done = record {
-      order = order_of conf (happens w.core (Offer e)) next;
-      stand = subst (AreCellsOf (first_start conf) w.cells) (ap (λ b. cond b (e ∷ part) part) (sym (new_waits e above))) stands.done.stand;
+      order = order_of from (happens w.core (Offer e)) next;
+      stand = subst (AreCellsOf from w.cells) (ap (λ b. cond b (e ∷ part) part) (sym (new_waits e above))) stands.done.stand;
       kept = kept;
     };
   }
@@ -116,10 +114,10 @@ module _ (conf : Conf) (w : Worked) (stands : IsConsistent conf w) where
       part : List Numbered
       part = filter (λ x. applied_by w.core.status x.number) w.core.log
 
-      next : Holds (feet_of conf) (happens w.core (Offer e))
-      next = each_step (feet_of conf) w.core (Offer e) stands.holds above
+      next : Holds (feet_of from.stage.conf) (happens w.core (Offer e))
+      next = each_step (feet_of from.stage.conf) w.core (Offer e) stands.holds above
 
-      kept : (newer older : List Numbered) (x : Numbered) → e ∷ w.core.log ≡ newer ++ x ∷ older → applied_by w.core.status x.number ≡ true → w.made x.number ≡ out_of (first_start conf) older x x.entry (replay (first_start conf) older)
+      kept : (newer older : List Numbered) (x : Numbered) → e ∷ w.core.log ≡ newer ++ x ∷ older → applied_by w.core.status x.number ≡ true → w.made x.number ≡ out_of from older x x.entry (from.records ++ replay from older)
       kept [] older x split d = let q : e ≡ x = cc in let f = new_waits e above in let g : is_applied (w.core.status e.number) ≡ true = ap (λ z. applied_by w.core.status z.number) q ∙ d in absurd (cc)
       kept (z ∷ newer) older x split d = let q : w.core.log ≡ newer ++ x ∷ older = cc in stands.done.kept newer older x q d
 
@@ -144,10 +142,10 @@ module _ (conf : Conf) (w : Worked) (stands : IsConsistent conf w) where
           (λ x i q. let r : is_taken id (w.core.status n) ≡ true = ap (λ m. is_taken id (w.core.status m)) (sym q) ∙ (of_batch id x i).1 in cc)
 
   -- what isn't applied and isn't in a batch conflicts with no later entry of it
-  batch_free : (id : ℕ) (y x : Numbered) → In y w.core.log → In x (batch_in w.core id) → y.number < x.number → applied_by w.core.status y.number ≡ false → (In y (batch_in w.core id) → ⊥) → Apart conf y x
+  batch_free : (id : ℕ) (y x : Numbered) → In y w.core.log → In x (batch_in w.core id) → y.number < x.number → applied_by w.core.status y.number ≡ false → (In y (batch_in w.core id) → ⊥) → Apart from.stage.conf y x
   batch_free id y x i j l waits out =
       let r = of_batch id x j in
-      (conflict_is_meeting conf y x).0
+      (conflict_is_meeting from.stage.conf y x).0
       (stands.holds.order y x (is_in w.core.log y i) (is_in w.core.log x r.0) l (taken_passes id (w.core.status x.number) (w.core.status y.number) r.1 waits (go (is_taken id (w.core.status y.number)) refl)))
     where
       go : (b : Bool) → is_taken id (w.core.status y.number) ≡ b → b ≡ false
@@ -161,12 +159,12 @@ module _ (conf : Conf) (w : Worked) (stands : IsConsistent conf w) where
   batch_waits : (id : ℕ) (x : Numbered) → In x (batch_in w.core id) → applied_by w.core.status x.number ≡ false
   batch_waits id x i = taken_waits id (w.core.status x.number) (of_batch id x i).1
 
-  applied : (id : ℕ) → IsConsistent conf (worked conf w (Apply id))
+  applied : (id : ℕ) → IsConsistent from (worked from.stage w (Apply id))
   applied id = record {
-    holds = each_step (feet_of conf) w.core (Apply id) stands.holds tt;
+    holds = each_step (feet_of from.stage.conf) w.core (Apply id) stands.holds tt;
     rises = stands.rises;
-    done = subst (λ done. Done conf w.core.log done (worked conf w (Apply id)).cells (worked conf w (Apply id)).made) (fun_ext (applied_all id)) (
-        all_done conf w.core.log stands.rises (batch_in w.core id) (applied_by w.core.status) w.cells w.made stands.done
+    done = subst (λ done. Done from w.core.log done (worked from.stage w (Apply id)).cells (worked from.stage w (Apply id)).made) (fun_ext (applied_all id)) (
+        all_done from good w.core.log stands.rises (batch_in w.core id) (applied_by w.core.status) w.cells w.made stands.done
         (λ x i. (of_batch id x i).0)
         (batch_waits id)
         (batch_rises id)
@@ -174,59 +172,59 @@ module _ (conf : Conf) (w : Worked) (stands : IsConsistent conf w) where
   }
 
   -- each of a batch's entries, as those before it are worked out, comes after what the cells have seen
-  pub batch_comes : Suits (first_start conf) w.core.log → (id : ℕ) → AllCome (first_stage conf) w.cells (batch_in w.core id)
+  pub batch_comes : Suits from w.core.log → (id : ℕ) → AllCome from.stage w.cells (batch_in w.core id)
   batch_comes suits id =
-      all_come conf w.core.log stands.rises suits (batch_in w.core id) (applied_by w.core.status) w.cells w.made stands.done
+      all_come from good w.core.log stands.rises suits (batch_in w.core id) (applied_by w.core.status) w.cells w.made stands.done
       (λ x i. (of_batch id x i).0)
       (batch_waits id)
       (batch_rises id)
       (batch_free id)
 
-  pub stepped : (step : Step) → IsAllowed (feet_of conf) w.core step → IsConsistent conf (worked conf w step)
+  pub stepped : (step : Step) → IsAllowed (feet_of from.stage.conf) w.core step → IsConsistent from (worked from.stage w step)
   stepped (Offer e) allowed = offered e allowed
   stepped (Claim id numbers) allowed = record {
-    holds = each_step (feet_of conf) w.core (Claim id numbers) stands.holds allowed;
+    holds = each_step (feet_of from.stage.conf) w.core (Claim id numbers) stands.holds allowed;
     rises = stands.rises;
-    done = same_done conf w.core.log w.core.status (λ n. cond (has_id numbers n) (Taken id) (w.core.status n)) w.cells w.made (claimed_applied w.core id numbers allowed.pending) stands.done;
+    done = same_done from w.core.log w.core.status (λ n. cond (has_id numbers n) (Taken id) (w.core.status n)) w.cells w.made (claimed_applied w.core id numbers allowed.pending) stands.done;
   }
   stepped (Apply id) allowed = applied id
   stepped (GiveBack id) allowed = record {
-    holds = each_step (feet_of conf) w.core (GiveBack id) stands.holds allowed;
+    holds = each_step (feet_of from.stage.conf) w.core (GiveBack id) stands.holds allowed;
     rises = stands.rises;
-    done = same_done conf w.core.log w.core.status (λ n. ended id Pending (w.core.status n)) w.cells w.made (λ n. given_applied id (w.core.status n)) stands.done;
+    done = same_done from w.core.log w.core.status (λ n. ended id Pending (w.core.status n)) w.cells w.made (λ n. given_applied id (w.core.status n)) stands.done;
   }
 
-all_stepped : (conf : Conf) (steps : List Step) (w : Worked) → AreAllowed (feet_of conf) w.core steps → IsConsistent conf w → IsConsistent conf (worked_all conf w steps)
-all_stepped conf [] w allowed stands = stands
-all_stepped conf (step ∷ steps) w allowed stands = all_stepped conf steps (worked conf w step) (still step allowed.1) (stepped conf w stands step allowed.0)
+all_stepped : (from : Start) → IsGood from → (steps : List Step) (w : Worked) → AreAllowed (feet_of from.stage.conf) w.core steps → IsConsistent from w → IsConsistent from (worked_all from.stage w steps)
+all_stepped from good [] w allowed stands = stands
+all_stepped from good (step ∷ steps) w allowed stands = all_stepped from good steps (worked from.stage w step) (still step allowed.1) (stepped from good w stands step allowed.0)
   where
-    still : (step : Step) → AreAllowed (feet_of conf) (happens w.core step) steps → AreAllowed (feet_of conf) (worked conf w step).core steps
+    still : (step : Step) → AreAllowed (feet_of from.stage.conf) (happens w.core step) steps → AreAllowed (feet_of from.stage.conf) (worked from.stage w step).core steps
     still (Offer e) a = a
     still (Claim id numbers) a = a
     still (Apply id) a = a
     still (GiveBack id) a = a
 
-pub begins : (conf : Conf) → IsConsistent conf (begin_worked conf)
+pub begins : (from : Start) → IsConsistent from (begin_worked from)
 unfolding AreCellsOf
-begins conf = record {
+begins from = record {
   holds = record { order = λ y e i. absurd i; known = λ n q. absurd (cc) };
   rises = tt;
-  done = record { order = λ y e i. absurd i; stand = refl; kept = λ newer older e split d. absurd (cc) };
+  done = record { order = λ y e i. absurd i; stand = ap (look from []) (sym (append-nil from.records)); kept = λ newer older e split d. absurd (cc) };
 }
 
-pub stands_all : (conf : Conf) (steps : List Step) → AreAllowed (feet_of conf) start steps → IsConsistent conf (worked_all conf (begin_worked conf) steps)
-stands_all conf steps allowed = all_stepped conf steps (begin_worked conf) allowed (begins conf)
+pub stands_all : (from : Start) (steps : List Step) → IsGood from → AreAllowed (feet_of from.stage.conf) start steps → IsConsistent from (worked_all from.stage (begin_worked from) steps)
+stands_all from steps good allowed = all_stepped from good steps (begin_worked from) allowed (begins from)
 
 pub every_schedule_holds : EveryScheduleFacts
-every_schedule_holds conf steps allowed = let s = stands_all conf steps allowed in record { order = s.holds.order; stand = s.done.stand; kept = s.done.kept }
+every_schedule_holds from steps good allowed = let s = stands_all from steps good allowed in record { order = s.holds.order; stand = s.done.stand; kept = s.done.kept }
 
 -- the records kept of entries that are all done
-collected : (conf : Conf) (w : Worked) → Facts conf w → (newer older : List Numbered) → w.core.log ≡ newer ++ older → Each (λ e. has_applied w e ≡ true) older → records_kept w older ≡ replay (first_start conf) older
-collected conf w facts newer [] split done = refl
-collected conf w facts newer (e ∷ older) split done =
+collected : (from : Start) (w : Worked) → Facts from w → (newer older : List Numbered) → w.core.log ≡ newer ++ older → Each (λ e. has_applied w e ≡ true) older → records_kept w older ≡ replay from older
+collected from w facts newer [] split done = refl
+collected from w facts newer (e ∷ older) split done =
     ap (flat_map (λ x. w.made x.number)) (reverse-cons e older)
     ∙ flat_map-append (λ x. w.made x.number) (reverse older) (e ∷ [])
-    ∙ ap₂ (λ xs ys. xs ++ ys) (collected conf w facts (newer ++ e ∷ []) older (split ∙ sym (append_assoc newer (e ∷ []) older)) done.1) (append-nil (w.made e.number) ∙ facts.kept newer older e split done.0)
+    ∙ ap₂ (λ xs ys. xs ++ ys) (collected from w facts (newer ++ e ∷ []) older (split ∙ sym (append_assoc newer (e ∷ []) older)) done.1) (append-nil (w.made e.number) ∙ facts.kept newer older e split done.0)
 
 pub at_frontier : AtFrontier
-at_frontier conf steps allowed newer older split done = collected conf (worked_all conf (begin_worked conf) steps) (every_schedule_holds conf steps allowed) newer older split done
+at_frontier from steps good allowed newer older split done = collected from (worked_all from.stage (begin_worked from) steps) (every_schedule_holds from steps good allowed) newer older split done

@@ -1,25 +1,23 @@
 -- The entries of a batch are worked out one after another.
-use Rattle.entry_step.specs.Start.{first_start}
 use Rattle.std.proofs.Common.{◌≡◌, ◌<◌, ◌⊎◌, inl, inr, ℕ, ◌==◌, Bool, true, false, cond, List, [], ◌∷◌, ◌++◌, filter, refl, sym, ◌∙◌, ap, ap₂, subst, eqb-true, eq-eqb, ne_eqb, arith}
-use Rattle.zbx_types.specs.declared.conf.Conf.{Conf}
 use Rattle.zbx_types.specs.declared.entries.Numbered.{Numbered}
 use Rattle.zbx_types.specs.declared.entries.Rec.{Rec}
 use Rattle.entry_step.specs.Each.{Each, In, EachPair}
 use Rattle.entry_step.specs.Records.{out_of, replay}
 use Rattle.entry_step.specs.Cells.{Cells, records, after, look, AreCellsOf}
-use Rattle.entry_step.specs.Laws.{Apart, InPlace, cells_done, records_done, PassedApart}
+use Rattle.entry_step.specs.Laws.{IsGood, Apart, InPlace, cells_done, records_done, PassedApart}
 use Rattle.entry_step.proofs.Members.{each_from, each_at, each_filter, filter-append}
-use Rattle.entry_step.proofs.Orders.{first_good, insertion, applied_part}
+use Rattle.entry_step.proofs.Orders.{insertion, applied_part}
 use Rattle.book.specs.Schedule.{keeping}
 use Rattle.book.proofs.Places.{Rises, in_left, in_right, filter_cong, split_at, older_below, newer_above, same_entry}
-use Rattle.trigger_state.specs.Stages.{first_stage}
+use Rattle.entry_step.specs.Start.{Start}
 
 -- The cells and records of the entries of a log that are done, by a test of numbers: no entry is done that conflicts with an
 -- older one that isn't
-pub record Done (conf : Conf) (log : List Numbered) (done : ℕ → Bool) (cells : Cells) (made : ℕ → List Rec) : Type 0 where
-  pub order : (y e : Numbered) → In y log → In e log → y.number < e.number → done e.number ≡ true → done y.number ≡ false → Apart conf y e
-  pub stand : AreCellsOf (first_start conf) cells (filter (λ e. done e.number) log)
-  pub kept : (newer older : List Numbered) (e : Numbered) → log ≡ newer ++ e ∷ older → done e.number ≡ true → made e.number ≡ out_of (first_start conf) older e e.entry (replay (first_start conf) older)
+pub record Done (from : Start) (log : List Numbered) (done : ℕ → Bool) (cells : Cells) (made : ℕ → List Rec) : Type 0 where
+  pub order : (y e : Numbered) → In y log → In e log → y.number < e.number → done e.number ≡ true → done y.number ≡ false → Apart from.stage.conf y e
+  pub stand : AreCellsOf from cells (filter (λ e. done e.number) log)
+  pub kept : (newer older : List Numbered) (e : Numbered) → log ≡ newer ++ e ∷ older → done e.number ≡ true → made e.number ≡ out_of from older e e.entry (from.records ++ replay from older)
 
 -- one more number
 abbrev pub also : (ℕ → Bool) → ℕ → ℕ → Bool
@@ -74,9 +72,9 @@ abbrev pub kept_also : (ℕ → List Rec) → ℕ → List Rec → ℕ → List 
 kept_also made k rs n = cond (n == k) rs (made n)
 
 -- what the search finds in a log stands for it
-look_stands : (conf : Conf) (log : List Numbered) → AreCellsOf (first_start conf) (look (first_start conf) log (replay (first_start conf) log)) log
+look_stands : (from : Start) (log : List Numbered) → AreCellsOf from (look from log (from.records ++ replay from log)) log
 unfolding AreCellsOf
-look_stands conf log = refl
+look_stands from log = refl
 
 -- what isn't done behind the first of some entries isn't that one, nor one of lower number than all of them
 pub not_among : (x : Numbered) (es : List Numbered) (y : Numbered) → Each (λ later. x.number < later.number) es → y.number < x.number → In y (x ∷ es) → ⊥
@@ -90,10 +88,10 @@ still_out done x es y w out (inr i) = out i
 pub later_waits : (done : ℕ → Bool) (x : Numbered) (es : List Numbered) → Each (λ later. x.number < later.number) es → ((z : Numbered) → In z (x ∷ es) → done z.number ≡ false) → (z : Numbered) → In z es → also done x.number z.number ≡ false
 later_waits done x es rising waits z i = also_other done x.number z.number (λ q. let l = each_at (λ w. x.number < w.number) es rising z i in omega arith) ∙ waits z (inr i)
 
-module _ (conf : Conf) (log : List Numbered) (rises : Rises log) where
+module _ (from : Start) (good : IsGood from) (log : List Numbered) (rises : Rises log) where
   -- one entry that isn't done, and conflicts with no older one that isn't
-  module _ (done : ℕ → Bool) (cells : Cells) (made : ℕ → List Rec) (holds : Done conf log done cells made) (x : Numbered) (here : In x log) (waits : done x.number ≡ false)
-      (free : (y : Numbered) → In y log → y.number < x.number → done y.number ≡ false → Apart conf y x) where
+  module _ (done : ℕ → Bool) (cells : Cells) (made : ℕ → List Rec) (holds : Done from log done cells made) (x : Numbered) (here : In x log) (waits : done x.number ≡ false)
+      (free : (y : Numbered) → In y log → y.number < x.number → done y.number ≡ false → Apart from.stage.conf y x) where
     rises_at : (newer older : List Numbered) → log ≡ newer ++ x ∷ older → Rises (newer ++ x ∷ older)
     rises_at newer older split = subst Rises split rises
 
@@ -104,12 +102,12 @@ module _ (conf : Conf) (log : List Numbered) (rises : Rises log) where
     in_newer newer older split y i = subst (In y) (sym split) (in_left newer (x ∷ older) y i)
 
     -- no newer one that is done conflicts with it, so it joins in its place
-    in_place : (newer older : List Numbered) → log ≡ newer ++ x ∷ older → InPlace (first_start conf) (filter (λ e. done e.number) newer) x (filter (λ e. done e.number) older) cells
-    in_place newer older split = (insertion (first_start conf) (filter (λ e. done e.number) newer) x (filter (λ e. done e.number) older) (first_good conf) apart).1 cells (subst (AreCellsOf (first_start conf) cells) before holds.stand)
+    in_place : (newer older : List Numbered) → log ≡ newer ++ x ∷ older → InPlace from (filter (λ e. done e.number) newer) x (filter (λ e. done e.number) older) cells
+    in_place newer older split = (insertion from (filter (λ e. done e.number) newer) x (filter (λ e. done e.number) older) good apart).1 cells (subst (AreCellsOf from cells) before holds.stand)
       where
-        apart : Each (λ a. Apart conf x a) (filter (λ e. done e.number) newer)
+        apart : Each (λ a. Apart from.stage.conf x a) (filter (λ e. done e.number) newer)
         apart =
-            each_filter (λ a. Apart conf x a) (λ e. done e.number) newer
+            each_filter (λ a. Apart from.stage.conf x a) (λ e. done e.number) newer
             (λ a i e. holds.order x a here (in_newer newer older split a i) (newer_above newer x older (rises_at newer older split) a i) e waits)
 
         before : filter (λ e. done e.number) log ≡ filter (λ e. done e.number) newer ++ filter (λ e. done e.number) older
@@ -119,27 +117,27 @@ module _ (conf : Conf) (log : List Numbered) (rises : Rises log) where
             ∙ ap (λ b. filter (λ e. done e.number) newer ++ cond b (x ∷ filter (λ e. done e.number) older) (filter (λ e. done e.number) older)) waits
 
     -- its records are those of its place in the whole log
-    its_records : (newer older : List Numbered) → log ≡ newer ++ x ∷ older → records (first_stage conf) cells x ≡ out_of (first_start conf) older x x.entry (replay (first_start conf) older)
+    its_records : (newer older : List Numbered) → log ≡ newer ++ x ∷ older → records from.stage cells x ≡ out_of from older x x.entry (from.records ++ replay from older)
     its_records newer older split =
         (in_place newer older split).its_records
-        ∙ sym ((insertion (first_start conf) [] x part (first_good conf) tt).1 there (look_stands conf part)).its_records
-        ∙ applied_part (first_start conf) (λ e. done e.number) older x (first_good conf) pairs apart there (look_stands conf part)
+        ∙ sym ((insertion from [] x part good tt).1 there (look_stands from part)).its_records
+        ∙ applied_part from (λ e. done e.number) older x good pairs apart there (look_stands from part)
       where
         part : List Numbered
         part = filter (λ e. done e.number) older
 
         there : Cells
-        there = look (first_start conf) part (replay (first_start conf) part)
+        there = look from part (from.records ++ replay from part)
 
-        apart : Each (λ y. done y.number ≡ false → Apart conf y x) older
+        apart : Each (λ y. done y.number ≡ false → Apart from.stage.conf y x) older
         apart =
-            each_from (λ y. done y.number ≡ false → Apart conf y x) older
+            each_from (λ y. done y.number ≡ false → Apart from.stage.conf y x) older
             (λ y i e. free y (in_older newer older split y i) (older_below newer x older (rises_at newer older split) y i) e)
 
-        pairs_in : (xs : List Numbered) → ((y : Numbered) → In y xs → In y log) → Rises xs → EachPair (PassedApart conf (λ e. done e.number)) xs
+        pairs_in : (xs : List Numbered) → ((y : Numbered) → In y xs → In y log) → Rises xs → EachPair (PassedApart from.stage.conf (λ e. done e.number)) xs
         pairs_in [] inside r = tt
         pairs_in (e ∷ xs) inside r = (
-          each_from (PassedApart conf (λ e. done e.number) e) xs (λ y i d w. holds.order y e (inside y (inr i)) (inside e (inl refl)) (each_at (λ z. z.number < e.number) xs r.0 y i) d w),
+          each_from (PassedApart from.stage.conf (λ e. done e.number) e) xs (λ y i d w. holds.order y e (inside y (inr i)) (inside e (inl refl)) (each_at (λ z. z.number < e.number) xs r.0 y i) d w),
           pairs_in xs (λ y i. inside y (inr i)) r.1,
         )
 
@@ -147,17 +145,17 @@ module _ (conf : Conf) (log : List Numbered) (rises : Rises log) where
         rises_behind [] r = r.1
         rises_behind (z ∷ newer) r = rises_behind newer r.1
 
-        pairs : EachPair (PassedApart conf (λ e. done e.number)) older
+        pairs : EachPair (PassedApart from.stage.conf (λ e. done e.number)) older
         pairs = pairs_in older (in_older newer older split) (rises_behind newer (rises_at newer older split))
 
     abbrev next : ℕ → Bool
     next = also done x.number
 
-    order_next : (y e : Numbered) → In y log → In e log → y.number < e.number → next e.number ≡ true → next y.number ≡ false → Apart conf y e
+    order_next : (y e : Numbered) → In y log → In e log → y.number < e.number → next e.number ≡ true → next y.number ≡ false → Apart from.stage.conf y e
     order_next y e i j l d w = go (also_cases done x.number e.number d)
       where
-        go : (e.number ≡ x.number) ⊎ (done e.number ≡ true) → Apart conf y e
-        go (inl q) = subst (Apart conf y) (sym (same_entry log rises e x j here q)) (free y i (subst (λ n. y.number < n) q l) (not_also done x.number y.number w))
+        go : (e.number ≡ x.number) ⊎ (done e.number ≡ true) → Apart from.stage.conf y e
+        go (inl q) = subst (Apart from.stage.conf y) (sym (same_entry log rises e x j here q)) (free y i (subst (λ n. y.number < n) q l) (not_also done x.number y.number w))
         go (inr t) = holds.order y e i j l t (not_also done x.number y.number w)
 
     part_next : (newer older : List Numbered) → log ≡ newer ++ x ∷ older → filter (λ e. done e.number) newer ++ x ∷ filter (λ e. done e.number) older ≡ filter (λ e. next e.number) log
@@ -169,29 +167,29 @@ module _ (conf : Conf) (log : List Numbered) (rises : Rises log) where
         (filter_cong (λ e. next e.number) (λ e. done e.number) newer (λ y i. also_other done x.number y.number (λ q. let l = newer_above newer x older (rises_at newer older split) y i in omega arith)))
         (filter_cong (λ e. next e.number) (λ e. done e.number) older (λ y i. also_other done x.number y.number (λ q. let l = older_below newer x older (rises_at newer older split) y i in omega arith))))
 
-    stand_next : AreCellsOf (first_start conf) (after (first_stage conf) cells x) (filter (λ e. next e.number) log)
-    stand_next = let r = split_at log x here in subst (AreCellsOf (first_start conf) (after (first_stage conf) cells x)) (part_next r.0 r.1 r.2) (in_place r.0 r.1 r.2).stand
+    stand_next : AreCellsOf from (after from.stage cells x) (filter (λ e. next e.number) log)
+    stand_next = let r = split_at log x here in subst (AreCellsOf from (after from.stage cells x)) (part_next r.0 r.1 r.2) (in_place r.0 r.1 r.2).stand
 
-    kept_next : (newer older : List Numbered) (e : Numbered) → log ≡ newer ++ e ∷ older → next e.number ≡ true → kept_also made x.number (records (first_stage conf) cells x) e.number ≡ out_of (first_start conf) older e e.entry (replay (first_start conf) older)
+    kept_next : (newer older : List Numbered) (e : Numbered) → log ≡ newer ++ e ∷ older → next e.number ≡ true → kept_also made x.number (records from.stage cells x) e.number ≡ out_of from older e e.entry (from.records ++ replay from older)
     kept_next newer older e split d = go (e.number == x.number) refl d
       where
-        go : (b : Bool) → (e.number == x.number) ≡ b → cond b true (done e.number) ≡ true → cond b (records (first_stage conf) cells x) (made e.number) ≡ out_of (first_start conf) older e e.entry (replay (first_start conf) older)
+        go : (b : Bool) → (e.number == x.number) ≡ b → cond b true (done e.number) ≡ true → cond b (records from.stage cells x) (made e.number) ≡ out_of from older e e.entry (from.records ++ replay from older)
         go true q t =
             let s : e ≡ x = same_entry log rises e x (subst (In e) (sym split) (in_right newer (e ∷ older) e (inl refl))) here (eqb-true e.number x.number q) in
-            its_records newer older (split ∙ ap (λ z. newer ++ z ∷ older) s) ∙ ap (λ z. out_of (first_start conf) older z z.entry (replay (first_start conf) older)) (sym s)
+            its_records newer older (split ∙ ap (λ z. newer ++ z ∷ older) s) ∙ ap (λ z. out_of from older z z.entry (from.records ++ replay from older)) (sym s)
         go false q t = holds.kept newer older e split t
 
-    pub one_done : Done conf log (also done x.number) (after (first_stage conf) cells x) (kept_also made x.number (records (first_stage conf) cells x))
+    pub one_done : Done from log (also done x.number) (after from.stage cells x) (kept_also made x.number (records from.stage cells x))
     one_done = record { order = order_next; stand = stand_next; kept = kept_next }
 
   -- a batch of such entries, the oldest first
-  pub all_done : (es : List Numbered) (done : ℕ → Bool) (cells : Cells) (made : ℕ → List Rec) → Done conf log done cells made
+  pub all_done : (es : List Numbered) (done : ℕ → Bool) (cells : Cells) (made : ℕ → List Rec) → Done from log done cells made
       → ((x : Numbered) → In x es → In x log) → ((x : Numbered) → In x es → done x.number ≡ false) → EachPair (λ x later. x.number < later.number) es
-      → ((y x : Numbered) → In y log → In x es → y.number < x.number → done y.number ≡ false → (In y es → ⊥) → Apart conf y x)
-      → Done conf log (also_all done es) (cells_done (first_stage conf) cells es) (keeping made es (records_done (first_stage conf) cells es))
+      → ((y x : Numbered) → In y log → In x es → y.number < x.number → done y.number ≡ false → (In y es → ⊥) → Apart from.stage.conf y x)
+      → Done from log (also_all done es) (cells_done from.stage cells es) (keeping made es (records_done from.stage cells es))
   all_done [] done cells made holds inside waits rising free = holds
   all_done (x ∷ es) done cells made holds inside waits rising free =
-      all_done es (also done x.number) (after (first_stage conf) cells x) (kept_also made x.number (records (first_stage conf) cells x))
+      all_done es (also done x.number) (after from.stage cells x) (kept_also made x.number (records from.stage cells x))
       (one_done done cells made holds x (inside x (inl refl)) (waits x (inl refl)) (λ y i l w. free y x i (inl refl) l w (not_among x es y rising.0 l)))
       (λ z i. inside z (inr i))
       (later_waits done x es rising.0 waits)

@@ -1,7 +1,6 @@
 -- The book: the work on the entries of a ring, and the lines that go out of it.
-use Rattle.entry_step.specs.Start.{first_start}
+use Rattle.entry_step.specs.Start.{Start}
 use Rattle.std.specs.Prelude.{◌≡◌, ◌≢◌, ◌≤◌, ◌<◌, ℕ, List, ◌++◌, length, take, drop, get_or}
-use Rattle.zbx_types.specs.declared.conf.Conf.{Conf}
 use Rattle.zbx_types.specs.declared.entries.Numbered.{Numbered}
 use Rattle.zbx_types.specs.declared.entries.Rec.{Rec}
 use Rattle.outside.specs.Tells.{SinkTells}
@@ -16,9 +15,9 @@ use Rattle.book.specs.Tally.{tally_of}
 use Rattle.book.specs.Outgoing.{Grew, log_lines}
 use Rattle.book.specs.Progress.{ProgressView}
 
--- The entries in the order of their numbers, where each stands, the cells, and the records kept of each entry; of how
--- many entries from the first on the lines were made, and what their records count; what the outbox tells, and the
--- lines that it doesn't have yet.
+-- The entries that came out of the ring, in the order of their numbers, where each stands, the cells, and the records
+-- kept of each of them; of how many of them from the first on the lines were made, and what the records of these and of
+-- the entries before them count; what the outbox tells, and the lines that it doesn't have yet.
 pub record BookView : Type 0 where
   pub entries : List Numbered
   pub gate : Gate
@@ -46,23 +45,27 @@ abbrev pub IsFrontier : List Mark → List Numbered → ℕ → Type 0
 IsFrontier marks entries n =
     (n ≤ length entries) × AreApplied marks n × (n < length entries → get_or marks n Pending ≢ Applied)
 
--- the lines of the first entries
-abbrev pub lines_upto : Conf → List Numbered → ℕ → List ℕ
-lines_upto conf entries n = log_lines conf (log_of (take n entries))
+-- the entries with which a run began, and the first of those behind them, as many as this
+abbrev pub upto : List Numbered → List Numbered → ℕ → List Numbered
+upto kept entries n = kept ++ take n entries
+
+-- the lines of these entries
+abbrev pub lines_upto : Start → List Numbered → List Numbered → ℕ → List ℕ
+lines_upto start kept entries n = log_lines start (log_of (upto kept entries n))
 
 -- these lines are what an outbox has grown by since its opening, and what isn't written yet
 abbrev pub AreOut : SinkTells → SinkTells → List ℕ → List ℕ → Type 0
 AreOut start sink unwritten lines = (sent : List ℕ) × Grew start sink sent × (lines ≡ sent ++ unwritten)
 
--- What holds of a book at all times. Its entries are those with which the run began, and those that came out of the
--- ring. Its lines and counts are those of the entries before its frontier, which are applied. Of the lines the outbox
+-- What holds of a book at all times. Its entries are those that came out of the ring. Its lines and counts are those
+-- of the entries with which the run began and of its own before its frontier, which are applied. Of the lines the outbox
 -- held some at the opening; the others it has got since, or they aren't written yet.
-pub record IsBook (conf : Conf) (kept : List Numbered) (start : SinkTells) (received entries : List Numbered)
+pub record IsBook (start : Start) (kept : List Numbered) (outbox : SinkTells) (received entries : List Numbered)
     (marks : List Mark) (frontier : ℕ) (tally : Tally) (sink : SinkTells) (unwritten : List ℕ) : Type 0 where
-  pub received_is : entries ≡ kept ++ received
+  pub received_is : entries ≡ received
   pub within : frontier ≤ length entries
   pub applied : AreApplied marks frontier
-  pub tally_is : tally ≡ tally_of (replay (first_start conf) (log_of (take frontier entries)))
-  pub enough : start.held ≤ length (lines_upto conf entries frontier)
-  pub out : AreOut start sink unwritten (drop start.held (lines_upto conf entries frontier))
-  pub later : start.faults ≤ sink.faults
+  pub tally_is : tally ≡ tally_of (replay start (log_of (upto kept entries frontier)))
+  pub enough : outbox.held ≤ length (lines_upto start kept entries frontier)
+  pub out : AreOut outbox sink unwritten (drop outbox.held (lines_upto start kept entries frontier))
+  pub later : outbox.faults ≤ sink.faults

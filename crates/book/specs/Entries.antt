@@ -1,15 +1,25 @@
 -- The entries that go through a ring.
-use Rattle.std.specs.Prelude.{pos, List, []}
+use Rattle.std.specs.Prelude.{◌≡◌, ◌+◌, pos, ℕ, List, [], map}
+use Rattle.zbx_types.specs.Ids.{ids_from}
 use Rattle.zbx_types.specs.declared.conf.Conf.{Conf}
 use Rattle.zbx_types.specs.declared.entries.Numbered.{Numbered}
-use Rattle.entry_step.specs.Log.{log_of, IsFull, Fits}
-use Rattle.entry_step.specs.Start.{first_start}
+use Rattle.entry_step.specs.Behind.{behind}
+use Rattle.entry_step.specs.Log.{log_of, Suits}
+use Rattle.entry_step.specs.Start.{Start}
 
--- entries in the order of their numbers are a whole log: their numbers are 1, 2, 3 and so on, and they fit the
--- configuration
-pub record IsWholeLog (conf : Conf) (entries : List Numbered) : Type 0 where
-  pub full : IsFull (log_of entries)
-  pub fits : Fits (first_start conf) (log_of entries)
+-- the numbers of entries are those behind this one, one by one
+abbrev pub AreNumbered : ℕ → List Numbered → Type 0
+AreNumbered number entries = map (λ e. e.number) entries ≡ ids_from (number + 1) entries
+
+-- entries in the order of their numbers are a whole log behind a start: their numbers follow that of the start one by
+-- one, and they suit it
+pub record IsWholeLog (from : Start) (entries : List Numbered) : Type 0 where
+  pub numbers : AreNumbered from.number entries
+  pub suits : Suits from (log_of entries)
+
+-- what stands behind the entries with which a run begins
+abbrev pub point : Start → List Numbered → Start
+point start kept = behind start (log_of kept)
 
 -- a configuration of nothing
 abbrev pub no_conf : Conf

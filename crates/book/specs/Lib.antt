@@ -4,4 +4,5 @@ pub mod Entries
 pub mod Ends
 pub mod Schedule
 pub mod Progress
+pub mod Opening
 pub mod Book

@@ -1,17 +1,16 @@
 -- The lines of a log, and how they go to a sink.
-use Rattle.entry_step.specs.Start.{first_start}
+use Rattle.entry_step.specs.Start.{Start}
 use Rattle.std.specs.Prelude.{◌≡◌, ◌+◌, ℕ, List, length, take, None, Result, MatchResult}
 use Rattle.std.specs.Io.KnownBytes.{Appends}
 use Rattle.outside.specs.Tells.{SinkTells}
 use Rattle.outside.specs.declared.event.Failed.{Failed}
-use Rattle.zbx_types.specs.declared.conf.Conf.{Conf}
 use Rattle.zbx_types.specs.declared.entries.Numbered.{Numbered}
 use Rattle.event_text.specs.Lines.{lines_of}
 use Rattle.entry_step.specs.Records.{replay}
 
--- the lines of a log
-abbrev pub log_lines : Conf → List Numbered → List ℕ
-log_lines conf log = lines_of (replay (first_start conf) log)
+-- the lines of a log behind its start
+abbrev pub log_lines : Start → List Numbered → List ℕ
+log_lines start log = lines_of (replay start log)
 
 -- a sink has these bytes more: in what it tells of them, and in their number
 pub record Grew (sink sink' : SinkTells) (more : List ℕ) : Type 0 where

@@ -20,12 +20,11 @@ ghost use Rattle.book.specs.Tally.{tally_of};
 ghost use Rattle.book.specs.Outgoing.{Grew, GrewByFront, log_lines};
 ghost use Rattle.book.specs.Progress.{HasInputs, IsOneMore};
 ghost use Rattle.book.specs.Book.{work_of, AreApplied, IsFrontier, lines_upto};
-ghost use Rattle.trigger_state.specs.Stages.{first_stage};
 
 use crate::alone::work_all;
 use crate::errors::{BookError, FlushError};
 use crate::names::{RunName, StartName};
-use crate::opening::{Begun, begin};
+use crate::opening::{Replayed, begin};
 use crate::order::{Done, Order};
 use crate::outgoing::{add_lines, write_out};
 use crate::progress::Progress;
@@ -36,7 +35,7 @@ use outside::Sink;
 use std::alloc::Global;
 use std::marker::Model;
 use std::sync::ledger::Ledger;
-use zbx_types::{Bytes, Many, Numbered, OutOfMemory};
+use zbx_types::{Bytes, Numbered, OutOfMemory};
 
 /// The entries that came out of a ring behind those with which a run began, and how far the work on them is; and the
 /// lines of those that are worked out with all before them, on their way to the outbox.
@@ -47,7 +46,7 @@ use zbx_types::{Bytes, Many, Numbered, OutOfMemory};
 pub struct Book<S: StartName, N: RunName, O: Sink> {
     progress: Progress<S>,
     ring: RingEnd<S, N>,
-    // Of how many entries the lines were made.
+    // Of how many of its entries the lines were made.
     frontier: usize,
     tally: Tally,
     // Lines that the outbox doesn't have yet.
@@ -62,16 +61,14 @@ impl<S: StartName, N: RunName, O: Sink> Model for Book<S, N, O> {
 
     ghost view = { λ b. record { entries = b.progress.entries; gate = b.progress.gate; cells = b.progress.cells; made = b.progress.made; frontier = b.frontier; tally = b.tally; sink = O.tells b.outbox; unwritten = b.unwritten } };
 
-    ghost invariant = { λ b. IsBook S.conf S.kept S.outbox b.ring.received b.progress.entries b.progress.gate.marks b.frontier b.tally (O.tells b.outbox) b.unwritten };
+    ghost invariant = { λ b. IsBook S.start S.kept S.outbox b.ring.received b.progress.entries b.progress.gate.marks b.frontier b.tally (O.tells b.outbox) b.unwritten };
 }
 
-/// A book at its end: its outbox and its entries, and what the records of these count.
+/// A book at its end: its outbox, and what the records of all entries count, those with which the run began among them.
 #[derive(Drop)]
 pub struct Closed<O> {
     /// The outbox, which has all lines.
     pub outbox: O,
-    /// All entries, in the order of their numbers.
-    pub entries: Many<Numbered>,
     /// How many Problem records there are. A count above 2^64 - 1 stands as 2^64 - 1, here and below.
     pub problems: u64,
     /// How many Recovery records.
@@ -83,8 +80,8 @@ pub struct Closed<O> {
 }
 
 impl<S: StartName, N: RunName, O: Sink> Book<S, N, O> {
-    /// A book of the entries with which a run begins, all of which are worked out, over the end of its ring. Nothing is
-    /// written yet.
+    /// A book behind the entries with which a run begins, over the end of its ring. These are replayed from nothing on;
+    /// no entry came out of the ring, and nothing is written yet.
     ///
     /// # Errors
     ///
@@ -93,31 +90,33 @@ impl<S: StartName, N: RunName, O: Sink> Book<S, N, O> {
     pub fn new(
         alloc: Global,
         ready: &Ready,
-        kept: Many<Numbered>,
+        kept: &[Numbered],
         ring: RingEnd<S, N>,
         outbox: O,
     ) -> Result<Book<S, N, O>, (O, BookError)>
-        requires conf { ready.now ≡ first_stage S.conf }
-        requires kept { kept ≡ S.kept }
-        requires whole { IsWholeLog S.conf kept }
+        requires conf { ready.now ≡ S.start.stage }
+        requires kept { kept.now ≡ S.kept }
+        requires whole { IsWholeLog S.start kept.now }
         requires received { ring.received ≡ [] }
         requires outbox { O.tells outbox ≡ S.outbox }
-        ensures entries { IfOk result (λ book. book.entries ≡ kept) }
-        ensures applied { IfOk result (λ book. (book.frontier ≡ length kept)
-            × AreApplied book.gate.marks (length kept)) }
+        ensures entries { IfOk result (λ book. (book.entries ≡ []) × (book.frontier ≡ 0)) }
         ensures unwritten { IfOk result (λ book. (book.sink ≡ S.outbox)
-            × (book.unwritten ≡ drop S.outbox.held (log_lines S.conf (log_of kept)))) }
-        ensures enough { IfOk result (λ book. S.outbox.held ≤ length (log_lines S.conf (log_of kept))) }
+            × (book.unwritten ≡ drop S.outbox.held (log_lines S.start (log_of kept.now)))) }
+        ensures enough { IfOk result (λ book. S.outbox.held ≤ length (log_lines S.start (log_of kept.now))) }
         ensures back { IfErr result (λ refused. refused.0 ≡ outbox) }
         ensures ahead { IfErr result (λ refused. (held : ℕ) (lines : ℕ) → refused.1 ≡ BookError.OutboxAhead held lines
-            → (held ≡ S.outbox.held) × (lines ≡ length (log_lines S.conf (log_of kept))) × (lines < held)) }
+            → (held ≡ S.outbox.held) × (lines ≡ length (log_lines S.start (log_of kept.now))) × (lines < held)) }
     {
         let held = outbox.held();
+        let count = kept.len();
+        if count > u32::MAX as usize {
+            return Err((outbox, BookError::OutOfMemory));
+        }
         match begin::<S>(alloc, ready, kept, held) {
             Err(OutOfMemory) => Err((outbox, BookError::OutOfMemory)),
             Ok(
-                Begun {
-                    progress,
+                Replayed {
+                    cells,
                     tally,
                     missing,
                 },
@@ -126,11 +125,10 @@ impl<S: StartName, N: RunName, O: Sink> Book<S, N, O> {
                 if lines < held {
                     return Err((outbox, BookError::OutboxAhead { held, lines }));
                 }
-                let frontier = progress.len();
                 Ok(Book {
-                    progress,
+                    progress: Progress::new(alloc, count as u64, cells),
                     ring,
-                    frontier,
+                    frontier: 0,
                     tally,
                     unwritten: missing,
                     outbox,
@@ -168,8 +166,8 @@ impl<S: StartName, N: RunName, O: Sink> Book<S, N, O> {
         head: &mut RingHead<S, N>,
     ) -> Result<u32, OutOfMemory>
         ensures more { IsPrefix self.old.entries self.new.entries }
-        ensures within { IsPrefix self.new.entries (S.kept ++ head.new.sent) }
-        ensures all { OnOk result (self.new.entries ≡ S.kept ++ head.new.sent) }
+        ensures within { IsPrefix self.new.entries head.new.sent }
+        ensures all { OnOk result (self.new.entries ≡ head.new.sent) }
         ensures free { OnOk result (head.new.free ≡ head.new.capacity) }
         ensures head { (head.new.sent ≡ head.old.sent) × (head.new.capacity ≡ head.old.capacity) }
         ensures gate { self.new.gate ≡ record self.old.gate {
@@ -199,13 +197,13 @@ impl<S: StartName, N: RunName, O: Sink> Book<S, N, O> {
         ready: &Ready,
         limit: u32,
     ) -> Result<Option<Order<S>>, OutOfMemory>
-        requires conf { ready.now ≡ first_stage S.conf }
+        requires conf { ready.now ≡ S.start.stage }
         requires limit { 1 ≤ limit }
         ensures batch { IfOk result (λ made. option_map (λ order. order.batch) made ≡ batch_of self.old.gate.next
-            (chosen (feet_of S.conf) self.old.gate self.old.entries limit)) }
+            (chosen (feet_of S.start.stage.conf) self.old.gate self.old.entries limit)) }
         ensures inputs { IfOk result (λ made. IfSome made (λ order. HasInputs (work_of self.old) order)) }
         ensures gate { OnOk result (self.new.gate ≡ claimed self.old.gate
-            (chosen (feet_of S.conf) self.old.gate self.old.entries limit)) }
+            (chosen (feet_of S.start.stage.conf) self.old.gate self.old.entries limit)) }
         ensures rest { (self.new.entries ≡ self.old.entries) × (self.new.cells ≡ self.old.cells)
             × (self.new.made ≡ self.old.made) }
         ensures out { (self.new.frontier ≡ self.old.frontier) × (self.new.tally ≡ self.old.tally)
@@ -228,7 +226,7 @@ impl<S: StartName, N: RunName, O: Sink> Book<S, N, O> {
         done: Done<S>,
         steps: &mut Steps<L>,
     ) -> Result<(), (Done<S>, OutOfMemory)>
-        requires conf { ready.now ≡ first_stage S.conf }
+        requires conf { ready.now ≡ S.start.stage }
         ensures entries { self.new.entries ≡ self.old.entries }
         ensures open { OnOk result (IsOpenBatch self.old.gate done.order.batch
             → self.new.gate ≡ with_ended done.order.batch.id Mark.Applied self.old.gate) }
@@ -263,13 +261,13 @@ impl<S: StartName, N: RunName, O: Sink> Book<S, N, O> {
         ready: &Ready,
         steps: &mut Steps<L>,
     ) -> Result<bool, OutOfMemory>
-        requires conf { ready.now ≡ first_stage S.conf }
+        requires conf { ready.now ≡ S.start.stage }
         ensures entries { self.new.entries ≡ self.old.entries }
         ensures one { IfOk result (λ some. some ≡ true → (id : ℕ)
             × (self.new.gate.marks ≡ (with_ended id Mark.Applied
-            (claimed self.old.gate (chosen (feet_of S.conf) self.old.gate self.old.entries 1))).marks)) }
+            (claimed self.old.gate (chosen (feet_of S.start.stage.conf) self.old.gate self.old.entries 1))).marks)) }
         ensures none { IfOk result (λ some. some ≡ false
-            → (chosen (feet_of S.conf) self.old.gate self.old.entries 1 ≡ []) × (self.new ≡ self.old)) }
+            → (chosen (feet_of S.start.stage.conf) self.old.gate self.old.entries 1 ≡ []) × (self.new ≡ self.old)) }
         ensures more { IfOk result (λ some. some ≡ true → IsOneMore self.old.gate.marks self.new.gate.marks) }
         ensures idle { IfOk result (λ some. some ≡ false → list_any is_open self.old.gate.marks ≡ false
             → list_any is_pending self.old.gate.marks ≡ false) }
@@ -343,7 +341,7 @@ impl<S: StartName, N: RunName, O: Sink> Book<S, N, O> {
     fn told(&self)
         requires { self.now.unwritten ≡ [] }
         ensures { Grew S.outbox self.now.sink (drop S.outbox.held
-            (lines_upto S.conf self.now.entries self.now.frontier)) }
+            (lines_upto S.start S.kept self.now.entries self.now.frontier)) }
     {
         let _ = &self.unwritten;
     }
@@ -360,7 +358,7 @@ impl<S: StartName, N: RunName, O: Sink> Book<S, N, O> {
         ensures frontier { OnOk result (IsFrontier self.new.gate.marks self.new.entries self.new.frontier) }
         ensures all { OnOk result (self.new.unwritten ≡ []) }
         ensures lines { OnOk result (Grew S.outbox self.new.sink
-            (drop S.outbox.held (lines_upto S.conf self.new.entries self.new.frontier))) }
+            (drop S.outbox.held (lines_upto S.start S.kept self.new.entries self.new.frontier))) }
         ensures later { self.old.sink.faults ≤ self.new.sink.faults }
         ensures cause { IsErrOf result FlushError.OutboxFault → Rose self.old.sink.faults self.new.sink.faults }
         ensures unwritten { IsErrOf result FlushError.OutOfMemory → self.new.sink ≡ self.old.sink }
@@ -374,7 +372,7 @@ impl<S: StartName, N: RunName, O: Sink> Book<S, N, O> {
     /// Ends all open batches, and works out all entries, one after another, in the cells themselves: for one thread.
     /// At `Err` some of them are worked out.
     pub fn work_all(&mut self, alloc: Global, ready: &Ready) -> Result<(), OutOfMemory>
-        requires conf { ready.now ≡ first_stage S.conf }
+        requires conf { ready.now ≡ S.start.stage }
         ensures entries { self.new.entries ≡ self.old.entries }
         ensures all { OnOk result (AreApplied self.new.gate.marks (length self.new.entries)) }
         ensures out { (self.new.frontier ≡ self.old.frontier) × (self.new.tally ≡ self.old.tally)
@@ -390,9 +388,9 @@ impl<S: StartName, N: RunName, O: Sink> Book<S, N, O> {
         ready: &Ready,
         head: &mut RingHead<S, N>,
     ) -> Result<(), FlushError>
-        requires conf { ready.now ≡ first_stage S.conf }
-        ensures within { IsPrefix self.new.entries (S.kept ++ head.old.sent) }
-        ensures all { OnOk result (self.new.entries ≡ S.kept ++ head.old.sent) }
+        requires conf { ready.now ≡ S.start.stage }
+        ensures within { IsPrefix self.new.entries head.old.sent }
+        ensures all { OnOk result (self.new.entries ≡ head.old.sent) }
         ensures frontier { OnOk result (self.new.frontier ≡ length self.new.entries) }
         ensures unwritten { OnOk result (self.new.unwritten ≡ []) }
         ensures later { self.old.sink.faults ≤ self.new.sink.faults }
@@ -406,7 +404,7 @@ impl<S: StartName, N: RunName, O: Sink> Book<S, N, O> {
     /// The outbox, which has some of the lines from the front.
     fn into_outbox(self) -> O
         ensures front { (all : List Numbered) → IsPrefix self.entries all
-            → GrewByFront S.outbox (O.tells result) (drop S.outbox.held (log_lines S.conf (log_of all))) }
+            → GrewByFront S.outbox (O.tells result) (drop S.outbox.held (log_lines S.start (log_of (S.kept ++ all)))) }
         ensures sink { O.tells result ≡ self.sink }
     {
         let Book {
@@ -424,15 +422,14 @@ impl<S: StartName, N: RunName, O: Sink> Book<S, N, O> {
     fn close(self) -> Closed<O>
         requires frontier { self.frontier ≡ length self.entries }
         requires unwritten { self.unwritten ≡ [] }
-        ensures entries { result.entries ≡ self.entries }
         ensures lines { Grew S.outbox (O.tells result.outbox)
-            (drop S.outbox.held (log_lines S.conf (log_of self.entries))) }
+            (drop S.outbox.held (log_lines S.start (log_of (S.kept ++ self.entries)))) }
         ensures sink { O.tells result.outbox ≡ self.sink }
-        ensures counts { tally_of (replay (first_start S.conf) (log_of self.entries)) ≡ record
+        ensures counts { tally_of (replay S.start (log_of (S.kept ++ self.entries))) ≡ record
             { problems = result.problems; recoveries = result.recoveries; messages = result.messages; bytes = result.bytes } }
     {
         let Book {
-            progress,
+            progress: _,
             ring: _,
             frontier: _,
             tally,
@@ -441,7 +438,6 @@ impl<S: StartName, N: RunName, O: Sink> Book<S, N, O> {
         } = self;
         Closed {
             outbox,
-            entries: progress.into_entries(),
             problems: tally.problems,
             recoveries: tally.recoveries,
             messages: tally.messages,
@@ -461,14 +457,13 @@ impl<S: StartName, N: RunName, O: Sink> Book<S, N, O> {
         ready: &Ready,
         head: RingHead<S, N>,
     ) -> Result<Closed<O>, (O, FlushError)>
-        requires conf { ready.now ≡ first_stage S.conf }
-        ensures entries { IfOk result (λ closed. closed.entries ≡ S.kept ++ head.sent) }
+        requires conf { ready.now ≡ S.start.stage }
         ensures lines { IfOk result (λ closed. Grew S.outbox (O.tells closed.outbox)
-            (drop S.outbox.held (log_lines S.conf (log_of (S.kept ++ head.sent))))) }
-        ensures counts { IfOk result (λ closed. tally_of (replay (first_start S.conf) (log_of (S.kept ++ head.sent))) ≡ record
+            (drop S.outbox.held (log_lines S.start (log_of (S.kept ++ head.sent))))) }
+        ensures counts { IfOk result (λ closed. tally_of (replay S.start (log_of (S.kept ++ head.sent))) ≡ record
             { problems = closed.problems; recoveries = closed.recoveries; messages = closed.messages; bytes = closed.bytes }) }
         ensures front { IfErr result (λ refused. GrewByFront S.outbox (O.tells refused.0)
-            (drop S.outbox.held (log_lines S.conf (log_of (S.kept ++ head.sent))))) }
+            (drop S.outbox.held (log_lines S.start (log_of (S.kept ++ head.sent))))) }
         ensures later { IfOk result (λ closed. self.sink.faults ≤ (O.tells closed.outbox).faults) }
         ensures later_err { IfErr result (λ refused. self.sink.faults ≤ (O.tells refused.0).faults) }
         ensures cause { IfErr result (λ refused. refused.1 ≡ FlushError.OutboxFault

@@ -1,17 +1,15 @@
 //! What an order needs of the entries and the cells, and what comes of it.
 
-ghost use Rattle.entry_step.specs.Start.{first_start};
 ghost use Rattle.std.specs.Prelude.{◌≡◌, ◌↔◌, ◌≤◌, ◌<◌, [], true, false, length, map, is_some, All, IfOk, IfErr, OnOk, OnErr, IfSome, IfNone};
 ghost use Rattle.footprint.specs.Feet.{feet_of};
 ghost use Rattle.syncer_gate.specs.Gate.{AreOffered, IsOpenBatch, batch_of, claimed};
 ghost use Rattle.syncer_gate.specs.Chosen.{chosen};
 ghost use Rattle.syncer_gate.specs.Marks.{is_open, is_pending};
 ghost use Rattle.std.specs.List.{list_any};
-ghost use Rattle.zbx_types.specs.declared.conf.Conf.{Conf};
-ghost use Rattle.entry_step.specs.Represents.{Holds};
+ghost use Rattle.trigger_state.specs.Stages.{Stage};
 ghost use Rattle.entry_step.specs.Parts.{IsPartOf, IsSame};
-ghost use Rattle.book.specs.Progress.{entry_at, entries_with, AreHere, AreWithin, AreReady, AreOutputs, IsKept, IsWorkedIn, IsClaim};
-ghost use Rattle.trigger_state.specs.Stages.{first_stage};
+ghost use Rattle.book.specs.Entries.{point};
+ghost use Rattle.book.specs.Progress.{entry_at, entries_with, AreHere, IsAmong, AreWithin, IsBlank, AreReady, AreOutputs, IsKept, IsWorkedIn, IsClaim};
 
 use crate::names::StartName;
 use crate::order::{Done, Order};
@@ -22,47 +20,49 @@ use std::sync::ledger::Ledger;
 use syncer_gate::{Batch, Claims};
 use zbx_types::{Many, Numbered, OutOfMemory, Rec, same_entry};
 
+/// Entries in the order of their numbers, and the number before the first of them.
+#[derive(Clone, Copy)]
+pub(crate) struct Listed<'a> {
+    pub(crate) before: u64,
+    pub(crate) entries: &'a [Numbered],
+}
+
 /// The entry with a number.
-#[tactic(auto, using(crate::proofs::Batches::read_at))]
-fn at(entries: &[Numbered], number: u64) -> &Numbered
-    requires { (0 < number) × (number ≤ length entries.now) }
-    ensures { result.now ≡ entry_at entries.now number }
+fn at<'a>(all: Listed<'a>, number: u64) -> &'a Numbered
+    requires { IsAmong all.before (length all.entries.now) number }
+    ensures { result.now ≡ entry_at all.entry.before all.entry.entries.now number }
 {
-    &entries[(number - 1) as usize]
+    &all.entries[(number - (all.before + 1)) as usize]
 }
 
 /// Copies of the entries with these numbers.
-fn copies(
-    alloc: Global,
-    entries: &[Numbered],
-    numbers: &[u64],
-) -> Result<Many<Numbered>, OutOfMemory>
-    requires { AreWithin entries.now numbers.now }
-    ensures { IfOk result (λ made. made ≡ map (entry_at entries.now) numbers.now) }
+fn copies(alloc: Global, all: Listed<'_>, numbers: &[u64]) -> Result<Many<Numbered>, OutOfMemory>
+    requires { AreWithin all.before all.entries.now numbers.now }
+    ensures { IfOk result (λ made. made ≡ map (entry_at all.entry.before all.entry.entries.now) numbers.now) }
 {
     let mut made = Many::new(alloc);
     for number in numbers {
-        made.push(at(entries, *number).copy(alloc)?)?;
+        made.push(at(all, *number).copy(alloc)?)?;
     }
     Ok(made)
 }
 
 /// Whether an entry is the one with its number here.
-fn is_here(entries: &[Numbered], one: &Numbered) -> bool
-    requires within { (0 < one.now.number) × (one.now.number ≤ length entries.now) }
-    ensures { (result ≡ true) ↔ (entry_at entries.now one.now.number ≡ one.now) }
+fn is_here(all: Listed<'_>, one: &Numbered) -> bool
+    requires within { IsAmong all.before (length all.entries.now) one.now.number }
+    ensures { (result ≡ true) ↔ (entry_at all.entry.before all.entry.entries.now one.now.number ≡ one.now) }
 {
-    let own = at(entries, one.number);
+    let own = at(all, one.number);
     own.number == one.number && same_entry(&own.entry, &one.entry)
 }
 
 /// Whether each of these entries is the one with its number here.
-fn are_here(entries: &[Numbered], ones: &[Numbered]) -> bool
-    requires within { All (λ e. (0 < e.number) × (e.number ≤ length entries.now)) ones.now }
-    ensures { (result ≡ true) ↔ AreHere entries.now ones.now }
+fn are_here(all: Listed<'_>, ones: &[Numbered]) -> bool
+    requires within { All (λ e. IsAmong all.before (length all.entries.now) e.number) ones.now }
+    ensures { (result ≡ true) ↔ AreHere all.entry.before all.entry.entries.now ones.now }
 {
     for one in ones {
-        if !is_here(entries, one) {
+        if !is_here(all, one) {
             return false;
         }
     }
@@ -82,30 +82,31 @@ fn inputs_of<S: StartName>(
     alloc: Global,
     ready: &Ready,
     cells: &Cells,
-    entries: &[Numbered],
+    all: Listed<'_>,
     numbers: &[u64],
 ) -> Result<Inputs, OutOfMemory>
-    requires conf { ready.now ≡ first_stage S.conf }
-    requires ready { AreReady S.conf cells.now entries.now numbers.now }
-    ensures entries { IfOk result (λ made. made.entries ≡ entries_with numbers.now entries.now) }
-    ensures part { IfOk result (λ made. IsPartOf S.conf (entries_with numbers.now entries.now) cells.now made.part) }
+    requires conf { ready.now ≡ S.start.stage }
+    requires ready { AreReady all.before S.start.stage cells.now all.entries.now numbers.now }
+    ensures entries { IfOk result (λ made. made.entries ≡ entries_with numbers.now all.entry.entries.now) }
+    ensures part { IfOk result (λ made. IsPartOf S.start.stage.conf (entries_with numbers.now all.entry.entries.now)
+        cells.now made.part) }
 {
-    let entries = copies(alloc, entries, numbers)?;
+    let entries = copies(alloc, all, numbers)?;
     let part = cells.part(alloc, ready, entries.as_slice())?;
     Ok(Inputs { entries, part })
 }
 
 /// Spare cells, or new ones where there are none.
-#[tactic(auto, using(crate::proofs::Claiming::holds_at))]
+#[tactic(auto, using(crate::proofs::Claiming::blank_at))]
 fn scratch_of<S: StartName>(
     alloc: Global,
     ready: &Ready,
     spare: &mut Vec<Cells>,
 ) -> Result<Cells, OutOfMemory>
-    requires conf { ready.now ≡ first_stage S.conf }
-    requires spare { All (λ cells. Holds (first_start S.conf) cells []) spare.old.items }
-    ensures cells { IfOk result (λ cells. Holds (first_start S.conf) cells []) }
-    ensures spare { All (λ cells. Holds (first_start S.conf) cells []) spare.new.items }
+    requires conf { ready.now ≡ S.start.stage }
+    requires spare { All (IsBlank S.start.stage) spare.old.items }
+    ensures cells { IfOk result (IsBlank S.start.stage) }
+    ensures spare { All (IsBlank S.start.stage) spare.new.items }
 {
     match spare.pop() {
         Some(cells) => Ok(cells),
@@ -115,8 +116,8 @@ fn scratch_of<S: StartName>(
 
 /// Keeps spare cells, if there is room.
 pub(crate) fn put_by(spare: &mut Vec<Cells>, scratch: Cells)
-    ensures { (conf : Conf) → All (λ cells. Holds (first_start conf) cells []) spare.old.items → Holds (first_start conf) scratch []
-        → All (λ cells. Holds (first_start conf) cells []) spare.new.items }
+    ensures { (stage : Stage) → All (IsBlank stage) spare.old.items → IsBlank stage scratch
+        → All (IsBlank stage) spare.new.items }
 {
     let _ = spare.push(scratch);
 }
@@ -126,22 +127,22 @@ pub(crate) fn order_of<S: StartName>(
     alloc: Global,
     ready: &Ready,
     cells: &Cells,
-    entries: &[Numbered],
+    all: Listed<'_>,
     spare: &mut Vec<Cells>,
     batch: Batch,
 ) -> Result<Order<S>, (Batch, OutOfMemory)>
-    requires conf { ready.now ≡ first_stage S.conf }
-    requires ready { AreReady S.conf cells.now entries.now batch.numbers }
-    requires spare { All (λ cells. Holds (first_start S.conf) cells []) spare.old.items }
+    requires conf { ready.now ≡ S.start.stage }
+    requires ready { AreReady all.before S.start.stage cells.now all.entries.now batch.numbers }
+    requires spare { All (IsBlank S.start.stage) spare.old.items }
     ensures batch { IfOk result (λ order. order.batch ≡ batch) }
-    ensures entries { IfOk result (λ order. order.entries ≡ entries_with batch.numbers entries.now) }
-    ensures part { IfOk result (λ order. IsPartOf S.conf (entries_with batch.numbers entries.now) cells.now
+    ensures entries { IfOk result (λ order. order.entries ≡ entries_with batch.numbers all.entry.entries.now) }
+    ensures part { IfOk result (λ order. IsPartOf S.start.stage.conf (entries_with batch.numbers all.entry.entries.now) cells.now
         order.part) }
-    ensures spare { All (λ cells. Holds (first_start S.conf) cells []) spare.new.items }
+    ensures spare { All (IsBlank S.start.stage) spare.new.items }
     ensures back { IfErr result (λ refused. refused.0 ≡ batch) }
 {
     let numbers = batch.numbers.as_slice();
-    let inputs = match inputs_of::<S>(alloc, ready, cells, entries, numbers) {
+    let inputs = match inputs_of::<S>(alloc, ready, cells, all, numbers) {
         Ok(inputs) => inputs,
         Err(OutOfMemory) => return Err((batch, OutOfMemory)),
     };
@@ -182,20 +183,20 @@ fn rework<S: StartName, L: Ledger>(
     alloc: Global,
     ready: &Ready,
     cells: &Cells,
-    entries: &[Numbered],
+    all: Listed<'_>,
     numbers: &[u64],
     scratch: &mut Cells,
     steps: &mut Steps<L>,
 ) -> Result<Again, OutOfMemory>
-    requires conf { ready.now ≡ first_stage S.conf }
-    requires ready { AreReady S.conf cells.now entries.now numbers.now }
-    requires scratch { Holds (first_start S.conf) scratch.old [] }
-    ensures entries { IfOk result (λ again. again.entries ≡ entries_with numbers.now entries.now) }
-    ensures made { IfOk result (λ again. AreOutputs S.conf cells.now (entries_with numbers.now entries.now)
+    requires conf { ready.now ≡ S.start.stage }
+    requires ready { AreReady all.before S.start.stage cells.now all.entries.now numbers.now }
+    requires scratch { IsBlank S.start.stage scratch.old }
+    ensures entries { IfOk result (λ again. again.entries ≡ entries_with numbers.now all.entry.entries.now) }
+    ensures made { IfOk result (λ again. AreOutputs S.start.stage cells.now (entries_with numbers.now all.entry.entries.now)
         again.part again.made) }
-    ensures scratch { Holds (first_start S.conf) scratch.new [] }
+    ensures scratch { IsBlank S.start.stage scratch.new }
 {
-    let inputs = inputs_of::<S>(alloc, ready, cells, entries, numbers)?;
+    let inputs = inputs_of::<S>(alloc, ready, cells, all, numbers)?;
     let own = inputs.entries.as_slice();
     let worked = work_out(alloc, ready, scratch, &inputs.part, own, steps)?;
     Ok(Again {
@@ -206,11 +207,11 @@ fn rework<S: StartName, L: Ledger>(
 }
 
 /// Whether entries and copies of cells are what is here.
-fn is_usable(cells: &Cells, entries: &[Numbered], given: &[Numbered], copies: &Part) -> bool
-    requires { All (λ e. (0 < e.number) × (e.number ≤ length entries.now)) given.now }
-    ensures { (result ≡ true) ↔ (AreHere entries.now given.now × IsSame cells.now copies.now) }
+fn is_usable(cells: &Cells, all: Listed<'_>, given: &[Numbered], copies: &Part) -> bool
+    requires { All (λ e. IsAmong all.before (length all.entries.now) e.number) given.now }
+    ensures { (result ≡ true) ↔ (AreHere all.entry.before all.entry.entries.now given.now × IsSame cells.now copies.now) }
 {
-    are_here(entries, given) && cells.same(copies)
+    are_here(all, given) && cells.same(copies)
 }
 
 /// What an order came to, where its inputs are what is here; else what comes of it anew. Where memory is refused it
@@ -219,18 +220,18 @@ pub(crate) fn outputs_of<S: StartName, L: Ledger>(
     alloc: Global,
     ready: &Ready,
     cells: &Cells,
-    entries: &[Numbered],
+    all: Listed<'_>,
     done: Done<S>,
     steps: &mut Steps<L>,
 ) -> Result<Outputs, (Done<S>, OutOfMemory)>
-    requires conf { ready.now ≡ first_stage S.conf }
-    requires ready { AreReady S.conf cells.now entries.now done.order.batch.numbers }
+    requires conf { ready.now ≡ S.start.stage }
+    requires ready { AreReady all.before S.start.stage cells.now all.entries.now done.order.batch.numbers }
     ensures batch { IfOk result (λ made. made.batch ≡ done.order.batch) }
-    ensures entries { IfOk result (λ made. made.entries ≡ entries_with done.order.batch.numbers entries.now) }
-    ensures made { IfOk result (λ made. AreOutputs S.conf cells.now
-        (entries_with done.order.batch.numbers entries.now) made.part made.made) }
-    ensures scratch { IfOk result (λ made. Holds (first_start S.conf) made.scratch []) }
-    ensures uncounted { entries_with done.order.batch.numbers entries.now ≡ done.order.entries
+    ensures entries { IfOk result (λ made. made.entries ≡ entries_with done.order.batch.numbers all.entry.entries.now) }
+    ensures made { IfOk result (λ made. AreOutputs S.start.stage cells.now
+        (entries_with done.order.batch.numbers all.entry.entries.now) made.part made.made) }
+    ensures scratch { IfOk result (λ made. IsBlank S.start.stage made.scratch) }
+    ensures uncounted { entries_with done.order.batch.numbers all.entry.entries.now ≡ done.order.entries
         → IsSame cells.now done.order.part → steps.new ≡ steps.old }
     ensures back { IfErr result (λ refused. refused.0 ≡ done) }
 {
@@ -242,7 +243,7 @@ pub(crate) fn outputs_of<S: StartName, L: Ledger>(
         mut scratch,
         of,
     } = order;
-    if is_usable(cells, entries, given.as_slice(), &copies) {
+    if is_usable(cells, all, given.as_slice(), &copies) {
         return Ok(Outputs {
             batch,
             entries: given,
@@ -252,7 +253,7 @@ pub(crate) fn outputs_of<S: StartName, L: Ledger>(
         });
     }
     let numbers = batch.numbers.as_slice();
-    match rework::<S, L>(alloc, ready, cells, entries, numbers, &mut scratch, steps) {
+    match rework::<S, L>(alloc, ready, cells, all, numbers, &mut scratch, steps) {
         Ok(again) => Ok(Outputs {
             batch,
             entries: again.entries,
@@ -274,15 +275,15 @@ pub(crate) fn outputs_of<S: StartName, L: Ledger>(
 }
 
 /// Puts the records of entries into their places.
-fn keep(made: &mut Vec<Many<Rec>>, entries: &[Numbered], lists: Many<Many<Rec>>)
-    requires within { All (λ e. (0 < e.number) × (e.number ≤ length made.old.items)) entries.now }
+fn keep(made: &mut Vec<Many<Rec>>, before: u64, entries: &[Numbered], lists: Many<Many<Rec>>)
+    requires within { All (λ e. IsAmong before (length made.old.items) e.number) entries.now }
     requires one { length lists ≡ length entries.now }
     ensures size { length made.new.items ≡ length made.old.items }
-    ensures kept { IsKept made.old.items entries.now lists made.new.items }
+    ensures kept { IsKept before made.old.items entries.now lists made.new.items }
 {
     let mut place = 0;
     for list in lists.into_vec() {
-        let at = (entries[place].number - 1) as usize;
+        let at = (entries[place].number - (before + 1)) as usize;
         made[at] = list;
         place += 1;
     }
@@ -293,17 +294,17 @@ fn keep(made: &mut Vec<Many<Rec>>, entries: &[Numbered], lists: Many<Many<Rec>>)
 pub(crate) fn put_in(
     cells: &mut Cells,
     made: &mut Vec<Many<Rec>>,
-    entries: &[Numbered],
+    ones: Listed<'_>,
     part: Part,
     lists: Many<Many<Rec>>,
 )
-    requires within { All (λ e. (0 < e.number) × (e.number ≤ length made.old.items)) entries.now }
-    requires one { length lists ≡ length entries.now }
-    ensures { (conf : Conf) → AreOutputs conf cells.old entries.now part lists
-        → IsWorkedIn conf entries.now cells.old made.old.items cells.new made.new.items }
+    requires within { All (λ e. IsAmong ones.before (length made.old.items) e.number) ones.entries.now }
+    requires one { length lists ≡ length ones.entries.now }
+    ensures { (stage : Stage) → AreOutputs stage cells.old ones.entry.entries.now part lists
+        → IsWorkedIn ones.entry.before stage ones.entry.entries.now cells.old made.old.items cells.new made.new.items }
 {
     cells.put(part);
-    keep(made, entries, lists);
+    keep(made, ones.before, ones.entries, lists);
 }
 
 /// Works out the one entry with this number, in the cells themselves, and keeps its records.
@@ -312,21 +313,21 @@ pub(crate) fn work_in<S: StartName, L: Ledger>(
     ready: &Ready,
     cells: &mut Cells,
     made: &mut Vec<Many<Rec>>,
-    entries: &[Numbered],
+    all: Listed<'_>,
     numbers: &[u64],
     steps: &mut Steps<L>,
 ) -> Result<(), OutOfMemory>
-    requires conf { ready.now ≡ first_stage S.conf }
-    requires ready { AreReady S.conf cells.old entries.now numbers.now }
+    requires conf { ready.now ≡ S.start.stage }
+    requires ready { AreReady all.before S.start.stage cells.old all.entries.now numbers.now }
     requires one { length numbers.now ≡ 1 }
-    requires size { length made.old.items ≡ length entries.now }
-    ensures works { OnOk result (IsWorkedIn S.conf (entries_with numbers.now entries.now) cells.old made.old.items
-        cells.new made.new.items) }
+    requires size { length made.old.items ≡ length all.entries.now }
+    ensures works { OnOk result (IsWorkedIn all.entry.before S.start.stage (entries_with numbers.now all.entry.entries.now)
+        cells.old made.old.items cells.new made.new.items) }
     ensures err { OnErr result ((cells.new ≡ cells.old) × (made.new.items ≡ made.old.items)) }
 {
     let number = numbers[0];
-    let list = step(alloc, ready, cells, at(entries, number), steps)?;
-    made[(number - 1) as usize] = list;
+    let list = step(alloc, ready, cells, at(all, number), steps)?;
+    made[(number - (all.before + 1)) as usize] = list;
     Ok(())
 }
 
@@ -338,14 +339,14 @@ pub(crate) fn take_batch<S: StartName>(
     entries: &[Numbered],
     limit: u32,
 ) -> Result<Option<Batch>, OutOfMemory>
-    requires conf { ready.now ≡ first_stage S.conf }
+    requires conf { ready.now ≡ S.start.stage }
     requires limit { 1 ≤ limit }
     requires offered { AreOffered claims.old entries.now }
     ensures batch { IfOk result (λ taken. taken ≡ batch_of claims.old.next
-        (chosen (feet_of S.conf) claims.old entries.now limit)) }
+        (chosen (feet_of S.start.stage.conf) claims.old entries.now limit)) }
     ensures gate { OnOk result (claims.new ≡ claimed claims.old
-        (chosen (feet_of S.conf) claims.old entries.now limit)) }
-    ensures some { IfOk result (λ taken. IfSome taken (IsClaim S.conf entries.now claims.old claims.new)) }
+        (chosen (feet_of S.start.stage.conf) claims.old entries.now limit)) }
+    ensures some { IfOk result (λ taken. IfSome taken (IsClaim (point S.start S.kept) entries.now claims.old claims.new)) }
     ensures few { IfOk result (λ taken. IfSome taken (λ batch. (0 < length batch.numbers)
         × (length batch.numbers ≤ limit))) }
     ensures none { IfOk result (λ taken. IfNone taken (claims.new ≡ claims.old)) }

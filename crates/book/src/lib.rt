@@ -13,14 +13,15 @@
 //! finished ([`Book::finish`]) they are all out, of the entries with which the run began and of all that went into
 //! the ring.
 //!
-//! A book goes through these states. It is made of the entries that the journal kept, which it works out itself
-//! ([`Book::new`]); an outbox that holds more than their lines is refused. Then any calls may come, from one thread
+//! A book goes through these states. It is made behind the entries that the journal kept, which it replays and doesn't
+//! keep ([`Book::new`]); an outbox that holds more than their lines is refused. Then any calls may come, from one thread
 //! at a time. Where the outbox fails, some lines from the front are out, and the next flush goes on behind them.
 //! Where memory is refused nothing is lost. At the end all open batches are given back, and one thread works out what
 //! is left.
 //!
-//! A run has two names, which stand for contracts alone. [`StartName`] is with what it begins: its configuration, the
-//! entries that its journal kept, which don't go through the ring, and what its outbox told. [`RunName`] is which
+//! A run has two names, which stand for contracts alone. [`StartName`] is with what it begins: what stood before all
+//! entries, with the configuration in force, the entries that its journal kept, which don't go through the ring, and
+//! what its outbox told. [`RunName`] is which
 //! ring is its own. Two ends with the same names are of one ring, so a call that takes both asks for nothing more,
 //! also where one of them comes out of a lock.
 //!
@@ -48,8 +49,8 @@
 //! kept of each entry under its number: where a batch ends with its results, its entries are worked out over the
 //! cells, the oldest first. Whatever is offered, claimed, applied and given back, the cells stand for the applied
 //! entries, and the records kept of each applied entry are those of its place in one thread's replay. Where all
-//! entries up to a place are applied, the records kept of them are that replay. The book's cells and records are such
-//! ones.
+//! entries up to a place are applied, the records kept of them are that replay. The laws speak of a log behind any good
+//! start; the book's cells and records are such ones, over what the kept entries leave.
 //!
 //! [`write_all`], [`add_lines`], [`behind`] and [`Tally`] serve runs of one thread too.
 #![tactic(auto)]

@@ -4,15 +4,18 @@ use std::marker::Brand;
 
 /// With what a run begins. Each call of a program picks it, before the ring is made.
 pub trait StartName {
-    ghost use Rattle.std.specs.Prelude.{List};
-    ghost use Rattle.zbx_types.specs.declared.conf.Conf.{Conf};
+    ghost use Rattle.std.specs.Prelude.{◌≡◌, List};
+    ghost use Rattle.entry_step.specs.Start.{Start, first_start};
     ghost use Rattle.zbx_types.specs.declared.entries.Numbered.{Numbered};
     ghost use Rattle.outside.specs.Tells.{SinkTells};
 
-    /// The configuration, which is the only one.
-    ghost conf: { Conf };
+    /// What stood before all entries, with the configuration in force.
+    ghost start: { Start };
 
-    /// The entries that its journal kept, in the order of their numbers. They don't go through the ring.
+    /// That is nothing, and the configuration is the only one.
+    ghost first: { start ≡ first_start start.stage.conf };
+
+    /// The entries behind it that its journal kept, in the order of their numbers. They don't go through the ring.
     ghost kept: { List Numbered };
 
     /// What its outbox told at the opening.
@@ -20,11 +23,14 @@ pub trait StartName {
 }
 
 impl StartName for Brand {
-    ghost use Rattle.std.specs.Prelude.{[]};
+    ghost use Rattle.std.specs.Prelude.{[], refl};
+    ghost use Rattle.entry_step.specs.Start.{first_start};
     ghost use Rattle.book.specs.Entries.{no_conf};
     ghost use Rattle.book.specs.Outgoing.{no_outbox};
 
-    ghost conf = { no_conf };
+    ghost start = { first_start no_conf };
+
+    ghost first = { refl };
 
     ghost kept = { [] };
 

@@ -1,87 +1,95 @@
-//! The entries with which a run begins are worked out, and their lines made.
+//! The entries with which a run begins are replayed by one thread, one after another, and their lines made.
 
-ghost use Rattle.entry_step.specs.Start.{first_start};
-ghost use Rattle.std.specs.Prelude.{◌≡◌, ◌<◌, length, drop, IfOk};
-ghost use Rattle.entry_step.specs.Log.{log_of};
-ghost use Rattle.entry_step.specs.Records.{replay};
+ghost use Rattle.std.specs.Prelude.{◌≡◌, ◌<◌, [], ◌∷◌, List, IfOk, OnOk};
+ghost use Rattle.zbx_types.specs.declared.entries.Numbered.{Numbered};
+ghost use Rattle.entry_step.specs.Log.{log_of, Suits};
+ghost use Rattle.entry_step.specs.Start.{Start, first_start};
 ghost use Rattle.book.specs.Entries.{IsWholeLog};
-ghost use Rattle.book.specs.Tally.{tally_of};
-ghost use Rattle.book.specs.Outgoing.{log_lines};
-ghost use Rattle.book.specs.Book.{AreApplied};
-ghost use Rattle.trigger_state.specs.Stages.{first_stage};
+ghost use Rattle.book.specs.Opening.{IsReplayed};
 
-use crate::alone::work_all;
 use crate::names::StartName;
 use crate::outgoing::add_behind;
-use crate::progress::Progress;
 use crate::tally::Tally;
-use entry_step::Ready;
+use entry_step::{Cells, Ready, Steps, step};
 use std::alloc::Global;
-use zbx_types::{Bytes, Many, Numbered, OutOfMemory};
+use std::marker::Brand;
+use std::sync::ledger::{Blank, Ledger};
+use zbx_types::{Bytes, Numbered, OutOfMemory};
 
-/// The work on entries that are all worked out, the counts of their records, and those of their lines that an outbox
-/// lacks.
+/// What entries leave that were replayed: the cells behind them, the counts of their records, and those of their lines
+/// that an outbox lacks.
 #[derive(Drop)]
-pub(crate) struct Begun<S: StartName> {
-    pub progress: Progress<S>,
+pub(crate) struct Replayed {
+    pub cells: Cells,
     pub tally: Tally,
     pub missing: Bytes,
 }
 
-/// The work on entries, all of which are worked out.
-fn worked_out<S: StartName>(
+/// Replays the next entry, where the outbox holds so many bytes.
+fn replay_one<L: Ledger>(
     alloc: Global,
     ready: &Ready,
-    kept: Many<Numbered>,
-) -> Result<Progress<S>, OutOfMemory>
-    requires conf { ready.now ≡ first_stage S.conf }
-    requires whole { IsWholeLog S.conf kept }
-    ensures entries { IfOk result (λ made. made.entries ≡ kept) }
-    ensures applied { IfOk result (λ made. AreApplied made.gate.marks (length made.entries)) }
-{
-    let mut progress = Progress::<S>::new(alloc, ready, kept)?;
-    work_all::<S>(alloc, ready, &mut progress)?;
-    Ok(progress)
-}
-
-/// The counts of entries that are all applied, and their lines behind the first bytes of this number.
-fn lines_behind<S: StartName>(
-    alloc: Global,
-    progress: &Progress<S>,
+    entry: &Numbered,
     held: u64,
-) -> Result<(Tally, Bytes), OutOfMemory>
-    requires { AreApplied progress.now.gate.marks (length progress.now.entries) }
-    ensures tally { IfOk result (λ made. made.0 ≡ tally_of (replay (first_start S.conf) (log_of progress.now.entries))) }
-    ensures lines { IfOk result (λ made. made.1 ≡ drop held (log_lines S.conf (log_of progress.now.entries))) }
+    so_far: &mut Replayed,
+    steps: &mut Steps<L>,
+) -> Result<(), OutOfMemory>
+    ensures { OnOk result ((start : Start) (log : List Numbered) → start.stage ≡ ready.now
+        → Suits start (entry.now ∷ log) → IsReplayed start log held so_far.old
+        → IsReplayed start (entry.now ∷ log) held so_far.new) }
 {
-    let mut tally = Tally::new();
-    let mut missing = Bytes::new(alloc);
-    for place in 0..progress.len() {
-        let records = progress.records(place);
-        add_behind(alloc, records, &mut tally, held, &mut missing)?;
-    }
-    Ok((tally, missing))
+    let records = step(alloc, ready, &mut so_far.cells, entry, steps)?;
+    add_behind(
+        alloc,
+        records.as_slice(),
+        &mut so_far.tally,
+        held,
+        &mut so_far.missing,
+    )
 }
 
-/// Works entries out, from the first on, and makes their lines behind the first bytes of this number.
+/// Replays entries, and counts the steps in a ledger of their own.
+fn replay_all<L: Ledger>(
+    alloc: Global,
+    ready: &Ready,
+    kept: &[Numbered],
+    held: u64,
+    so_far: &mut Replayed,
+    blank: Blank,
+) -> Result<(), OutOfMemory>
+    requires name { blank.name ≡ L.name }
+    requires parts { blank.parts ≡ L.parts }
+    requires some { 0 < L.parts }
+    ensures { OnOk result ((start : Start) → start.stage ≡ ready.now → Suits start (log_of kept.now)
+        → IsReplayed start [] held so_far.old → IsReplayed start (log_of kept.now) held so_far.new) }
+{
+    let mut steps = Steps::<L>::new(blank);
+    for entry in kept {
+        replay_one(alloc, ready, entry, held, so_far, &mut steps)?;
+    }
+    Ok(())
+}
+
+/// Replays the entries with which a run begins, from nothing on, and makes their lines behind the first bytes of this
+/// number.
 pub(crate) fn begin<S: StartName>(
     alloc: Global,
     ready: &Ready,
-    kept: Many<Numbered>,
+    kept: &[Numbered],
     held: u64,
-) -> Result<Begun<S>, OutOfMemory>
-    requires conf { ready.now ≡ first_stage S.conf }
-    requires whole { IsWholeLog S.conf kept }
-    ensures entries { IfOk result (λ begun. begun.progress.entries ≡ kept) }
-    ensures applied { IfOk result (λ begun. AreApplied begun.progress.gate.marks (length kept)) }
-    ensures tally { IfOk result (λ begun. begun.tally ≡ tally_of (replay (first_start S.conf) (log_of kept))) }
-    ensures missing { IfOk result (λ begun. begun.missing ≡ drop held (log_lines S.conf (log_of kept))) }
+) -> Result<Replayed, OutOfMemory>
+    requires conf { ready.now ≡ S.start.stage }
+    requires whole { IsWholeLog S.start kept.now }
+    ensures { IfOk result (IsReplayed S.start (log_of kept.now) held) }
 {
-    let progress = worked_out::<S>(alloc, ready, kept)?;
-    let (tally, missing) = lines_behind(alloc, &progress, held)?;
-    Ok(Begun {
-        progress,
+    let cells = Cells::new(alloc, ready.conf())?;
+    let tally = Tally::new();
+    let missing = Bytes::new(alloc);
+    let mut so_far = Replayed {
+        cells,
         tally,
         missing,
-    })
+    };
+    replay_all::<Brand>(alloc, ready, kept, held, &mut so_far, Blank::new(1))?;
+    Ok(so_far)
 }

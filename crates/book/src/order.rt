@@ -2,7 +2,6 @@
 
 ghost use Rattle.std.specs.Prelude.{◌≡◌, get_or, IfOk, IfErr, OnOk};
 ghost use Rattle.entry_step.specs.Parts.{IsCounted};
-ghost use Rattle.trigger_state.specs.Stages.{first_stage};
 
 use crate::names::StartName;
 use entry_step::{Cells, Part, Ready, Steps, WorkedOut, work_out};
@@ -29,7 +28,7 @@ impl<S: StartName> Model for Order<S> {
 
     ghost view = { λ o. record { batch = o.batch; entries = o.entries; part = o.part } };
 
-    ghost invariant = { λ o. IsOrder S.conf o.batch o.entries o.part o.scratch };
+    ghost invariant = { λ o. IsOrder S.start.stage o.batch o.entries o.part o.scratch };
 }
 
 /// An order that was worked out.
@@ -41,7 +40,6 @@ pub struct Done<S: StartName> {
 }
 
 impl<S: StartName> Model for Done<S> {
-    ghost use Rattle.trigger_state.specs.Stages.{first_stage};
     ghost use Rattle.entry_step.specs.Parts.{WorksOut};
     ghost use Rattle.book.specs.Progress.{DoneView};
 
@@ -49,7 +47,7 @@ impl<S: StartName> Model for Done<S> {
 
     ghost view = { λ d. record { order = d.order; part = d.part; made = d.made } };
 
-    ghost invariant = { λ d. WorksOut (first_stage S.conf) d.order.entries d.order.part d.part d.made };
+    ghost invariant = { λ d. WorksOut S.start.stage d.order.entries d.order.part d.part d.made };
 }
 
 impl<S: StartName> Order<S> {
@@ -68,9 +66,9 @@ impl<S: StartName> Order<S> {
         ready: &Ready,
         steps: &mut Steps<L>,
     ) -> Result<Done<S>, (Order<S>, OutOfMemory)>
-        requires conf { ready.now ≡ first_stage S.conf }
+        requires conf { ready.now ≡ S.start.stage }
         ensures done { IfOk result (λ done. done.order ≡ self) }
-        ensures counted { OnOk result (IsCounted (first_stage S.conf) self.entries self.part steps.old steps.new) }
+        ensures counted { OnOk result (IsCounted S.start.stage self.entries self.part steps.old steps.new) }
         ensures back { IfErr result (λ refused. refused.0 ≡ self) }
     {
         let Order {

@@ -1,7 +1,6 @@
 //! How far the work on the entries is: the entries themselves, where each of them stands, the cells, and the records
 //! kept.
 
-ghost use Rattle.entry_step.specs.Start.{first_start};
 ghost use Rattle.std.specs.Prelude.{◌≡◌, ◌≢◌, ◌≤◌, ◌<◌, ◌+◌, ◌++◌, [], ℕ, true, false, length, map, replicate, get_or, is_some, IfOk, IfErr, IfSome, OnOk, OnErr, Some, None, take};
 ghost use Rattle.std.specs.Option.{option_map};
 ghost use Rattle.footprint.specs.Feet.{feet_of};
@@ -12,14 +11,15 @@ ghost use Rattle.syncer_gate.specs.Chosen.{chosen};
 ghost use Rattle.syncer_gate.specs.declared.marks.Mark.{Mark};
 ghost use Rattle.syncer_gate.specs.declared.marks.Mark.TheVariants as Mark;
 ghost use Rattle.std.specs.Vec.{vec_len, vec_capacity};
-ghost use Rattle.book.specs.Entries.{IsWholeLog};
+ghost use Rattle.entry_step.specs.Laws.{IsGood};
+ghost use Rattle.entry_step.specs.Represents.{Holds};
+ghost use Rattle.book.specs.Entries.{IsWholeLog, point};
 ghost use Rattle.book.specs.Progress.{IsGoing, HasInputs, IsOneMore};
 ghost use Rattle.syncer_gate.specs.Marks.{is_open, is_pending, reopened};
 ghost use Rattle.std.specs.List.{list_any};
-ghost use Rattle.trigger_state.specs.Stages.{first_stage};
 
 use crate::inputs::{
-    Outputs, is_open_here, order_of, outputs_of, put_by, put_in, take_batch, work_in,
+    Listed, Outputs, is_open_here, order_of, outputs_of, put_by, put_in, take_batch, work_in,
 };
 use crate::names::{RunName, StartName};
 use crate::order::{Done, Order};
@@ -31,10 +31,13 @@ use std::sync::ledger::Ledger;
 use syncer_gate::Claims;
 use zbx_types::{Many, Numbered, OutOfMemory, Rec};
 
-/// The entries in the order of their numbers, where each of them stands, the cells behind those that are applied, and
-/// the records of these. Some cells before the first entry are spare, for orders to work in.
+/// The entries behind those with which the run began, in the order of their numbers, where each of them stands, the
+/// cells behind those that are applied, and the records of these. Some cells before the first entry are spare, for
+/// orders to work in.
 #[derive(Drop)]
 pub(crate) struct Progress<S: StartName> {
+    // the number before the first of them
+    before: u64,
     entries: Vec<Numbered>,
     claims: Claims,
     cells: Cells,
@@ -44,27 +47,15 @@ pub(crate) struct Progress<S: StartName> {
 }
 
 impl<S: StartName> Model for Progress<S> {
-    ghost use Rattle.std.specs.Prelude.{[], All};
-    ghost use Rattle.entry_step.specs.Start.{first_start};
-    ghost use Rattle.entry_step.specs.Represents.{Holds};
-    ghost use Rattle.book.specs.Progress.{ProgressView, IsGoing};
+    ghost use Rattle.std.specs.Prelude.{◌≡◌, ◌≤◌, All};
+    ghost use Rattle.book.specs.Entries.{point};
+    ghost use Rattle.book.specs.Progress.{ProgressView, IsBlank, IsGoing};
 
     ghost Value = { ProgressView };
 
     ghost view = { λ p. record { entries = p.entries.items; gate = p.claims; cells = p.cells; made = p.made.items } };
 
-    ghost invariant = { λ p. IsGoing S.conf (record { entries = p.entries.items; gate = p.claims; cells = p.cells; made = p.made.items }) × All (λ cells. Holds (first_start S.conf) cells []) p.spare.items };
-}
-
-/// The records of so many entries, of which none is applied.
-fn no_records(alloc: Global, count: usize) -> Result<Vec<Many<Rec>>, OutOfMemory>
-    ensures { IfOk result (λ made. made.items ≡ replicate count []) }
-{
-    let mut made = Vec::new(alloc);
-    for _entry in 0..count {
-        made.push(Many::new(alloc))?;
-    }
-    Ok(made)
+    ghost invariant = { λ p. IsGoing (point S.start S.kept) (record { entries = p.entries.items; gate = p.claims; cells = p.cells; made = p.made.items }) × All (IsBlank S.start.stage) p.spare.items × (p.before ≡ (point S.start S.kept).number) × (p.before ≤ 4294967295) };
 }
 
 /// The records at a place, none where there is no such place.
@@ -79,7 +70,7 @@ fn kept_at(made: &Vec<Many<Rec>>, place: usize) -> &[Rec]
 
 /// Takes so many entries out of the ring, which are known to be there, to places that are there. None of them has
 /// records.
-#[tactic(auto, using(crate::proofs::Batches::more_came))]
+#[tactic(auto, using(crate::proofs::Batches::more_came, crate::proofs::Numbers::came_whole))]
 fn pull_known<S: StartName, N: RunName>(
     alloc: Global,
     entries: &mut Vec<Numbered>,
@@ -88,15 +79,15 @@ fn pull_known<S: StartName, N: RunName>(
     count: usize,
 )
     requires known { count ≤ length ring.old.known }
-    requires received { entries.old.items ≡ S.kept ++ ring.old.received }
-    requires whole { IsWholeLog S.conf entries.old.items }
+    requires received { entries.old.items ≡ ring.old.received }
+    requires whole { IsWholeLog (point S.start S.kept) entries.old.items }
     requires room { vec_len entries.old + count ≤ vec_capacity entries.old }
     requires rows { vec_len made.old + count ≤ vec_capacity made.old }
-    ensures received { entries.new.items ≡ S.kept ++ ring.new.received }
+    ensures received { entries.new.items ≡ ring.new.received }
     ensures fifo { ring.new.received ++ ring.new.known ≡ ring.old.received ++ ring.old.known }
     ensures capacity { ring.new.capacity ≡ ring.old.capacity }
     ensures count { length ring.new.received ≡ length ring.old.received + count }
-    ensures whole { IsWholeLog S.conf entries.new.items }
+    ensures whole { IsWholeLog (point S.start S.kept) entries.new.items }
     ensures more { entries.new.items ≡ entries.old.items ++ take count ring.old.known }
     ensures size { length made.new.items ≡ length made.old.items + count }
     ensures made { (n : ℕ) → get_or made.new.items n [] ≡ get_or made.old.items n [] }
@@ -108,35 +99,28 @@ fn pull_known<S: StartName, N: RunName>(
 }
 
 impl<S: StartName> Progress<S> {
-    /// The work on these entries, of which none is done yet.
-    pub(crate) fn new(
-        alloc: Global,
-        ready: &Ready,
-        entries: Many<Numbered>,
-    ) -> Result<Progress<S>, OutOfMemory>
-        requires conf { ready.now ≡ first_stage S.conf }
-        requires whole { IsWholeLog S.conf entries }
-        ensures entries { IfOk result (λ p. p.entries ≡ entries) }
-        ensures pending { IfOk result (λ p. p.gate ≡ record
-            { first = 1; marks = replicate (length entries) Mark.Pending; next = 1 }) }
+    /// The work behind the entries with which a run begins, of which these cells hold what is left: no entry came yet.
+    pub(crate) fn new(alloc: Global, before: u64, cells: Cells) -> Progress<S>
+        requires before { before ≡ (point S.start S.kept).number }
+        requires few { before ≤ 4294967295 }
+        requires good { IsGood (point S.start S.kept) }
+        requires cells { Holds (point S.start S.kept) cells [] }
+        ensures entries { result.entries ≡ [] }
+        ensures gate { result.gate ≡ record { first = before + 1; marks = []; next = 1 } }
     {
-        let count = entries.len();
-        let entries = entries.into_vec();
-        if count > u32::MAX as usize {
-            return Err(OutOfMemory);
-        }
-        let mut claims = Claims::new(alloc, 1);
-        claims.offer(count as u32)?;
-        let cells = Cells::new(alloc, ready.conf())?;
-        let made = no_records(alloc, count)?;
-        Ok(Progress {
+        let entries = Vec::new(alloc);
+        let claims = Claims::new(alloc, before + 1);
+        let made = Vec::new(alloc);
+        let spare = Vec::new(alloc);
+        Progress {
+            before,
             entries,
             claims,
             cells,
             made,
-            spare: Vec::new(alloc),
+            spare,
             of: PhantomData,
-        })
+        }
     }
 
     /// Takes so many entries out of the ring, which are known to be there. They are pending. At `Err` none was taken.
@@ -147,8 +131,8 @@ impl<S: StartName> Progress<S> {
         count: usize,
     ) -> Result<(), OutOfMemory>
         requires known { count ≤ length ring.old.known }
-        requires received { self.old.entries ≡ S.kept ++ ring.old.received }
-        ensures received { self.new.entries ≡ S.kept ++ ring.new.received }
+        requires received { self.old.entries ≡ ring.old.received }
+        ensures received { self.new.entries ≡ ring.new.received }
         ensures fifo { ring.new.received ++ ring.new.known ≡ ring.old.received ++ ring.old.known }
         ensures capacity { ring.new.capacity ≡ ring.old.capacity }
         ensures count { OnOk result (length ring.new.received ≡ length ring.old.received + count) }
@@ -178,13 +162,13 @@ impl<S: StartName> Progress<S> {
         ready: &Ready,
         limit: u32,
     ) -> Result<Option<Order<S>>, OutOfMemory>
-        requires conf { ready.now ≡ first_stage S.conf }
+        requires conf { ready.now ≡ S.start.stage }
         requires limit { 1 ≤ limit }
         ensures batch { IfOk result (λ made. option_map (λ order. order.batch) made ≡ batch_of self.old.gate.next
-            (chosen (feet_of S.conf) self.old.gate self.old.entries limit)) }
+            (chosen (feet_of S.start.stage.conf) self.old.gate self.old.entries limit)) }
         ensures inputs { IfOk result (λ made. IfSome made (λ order. HasInputs self.old order)) }
         ensures gate { OnOk result (self.new.gate ≡ claimed self.old.gate
-            (chosen (feet_of S.conf) self.old.gate self.old.entries limit)) }
+            (chosen (feet_of S.start.stage.conf) self.old.gate self.old.entries limit)) }
         ensures rest { (self.new.entries ≡ self.old.entries) × (self.new.cells ≡ self.old.cells)
             × (self.new.made ≡ self.old.made) }
         ensures idle { IfOk result (λ made. list_any is_open self.old.gate.marks ≡ false
@@ -196,7 +180,11 @@ impl<S: StartName> Progress<S> {
         match taken {
             None => Ok(None),
             Some(batch) => {
-                match order_of(alloc, ready, &self.cells, all, &mut self.spare, batch) {
+                let listed = Listed {
+                    before: self.before,
+                    entries: all,
+                };
+                match order_of(alloc, ready, &self.cells, listed, &mut self.spare, batch) {
                     Ok(order) => Ok(Some(order)),
                     Err((batch, OutOfMemory)) => {
                         self.claims.give_back(batch);
@@ -217,7 +205,7 @@ impl<S: StartName> Progress<S> {
         done: Done<S>,
         steps: &mut Steps<L>,
     ) -> Result<(), (Done<S>, OutOfMemory)>
-        requires conf { ready.now ≡ first_stage S.conf }
+        requires conf { ready.now ≡ S.start.stage }
         ensures entries { self.new.entries ≡ self.old.entries }
         ensures open { OnOk result (IsOpenBatch self.old.gate done.order.batch
             → self.new.gate ≡ with_ended done.order.batch.id Mark.Applied self.old.gate) }
@@ -229,7 +217,10 @@ impl<S: StartName> Progress<S> {
         if !is_open_here(&self.claims, &done) {
             return Ok(());
         }
-        let all = self.entries.as_slice();
+        let all = Listed {
+            before: self.before,
+            entries: self.entries.as_slice(),
+        };
         let outputs = outputs_of(alloc, ready, &self.cells, all, done, steps)?;
         let Outputs {
             batch,
@@ -238,13 +229,11 @@ impl<S: StartName> Progress<S> {
             made,
             scratch,
         } = outputs;
-        put_in(
-            &mut self.cells,
-            &mut self.made,
-            entries.as_slice(),
-            part,
-            made,
-        );
+        let ones = Listed {
+            before: self.before,
+            entries: entries.as_slice(),
+        };
+        put_in(&mut self.cells, &mut self.made, ones, part, made);
         self.claims.settle(batch);
         put_by(&mut self.spare, scratch);
         Ok(())
@@ -272,13 +261,13 @@ impl<S: StartName> Progress<S> {
         ready: &Ready,
         steps: &mut Steps<L>,
     ) -> Result<bool, OutOfMemory>
-        requires conf { ready.now ≡ first_stage S.conf }
+        requires conf { ready.now ≡ S.start.stage }
         ensures entries { self.new.entries ≡ self.old.entries }
         ensures one { IfOk result (λ some. some ≡ true → (id : ℕ)
             × (self.new.gate.marks ≡ (with_ended id Mark.Applied
-            (claimed self.old.gate (chosen (feet_of S.conf) self.old.gate self.old.entries 1))).marks)) }
+            (claimed self.old.gate (chosen (feet_of S.start.stage.conf) self.old.gate self.old.entries 1))).marks)) }
         ensures none { IfOk result (λ some. some ≡ false
-            → (chosen (feet_of S.conf) self.old.gate self.old.entries 1 ≡ []) × (self.new ≡ self.old)) }
+            → (chosen (feet_of S.start.stage.conf) self.old.gate self.old.entries 1 ≡ []) × (self.new ≡ self.old)) }
         ensures more { IfOk result (λ some. some ≡ true → IsOneMore self.old.gate.marks self.new.gate.marks) }
         ensures idle { IfOk result (λ some. some ≡ false → list_any is_open self.old.gate.marks ≡ false
             → list_any is_pending self.old.gate.marks ≡ false) }
@@ -292,7 +281,11 @@ impl<S: StartName> Progress<S> {
             Some(batch) => {
                 let numbers = batch.numbers.as_slice();
                 let (cells, made) = (&mut self.cells, &mut self.made);
-                match work_in::<S, L>(alloc, ready, cells, made, all, numbers, steps) {
+                let listed = Listed {
+                    before: self.before,
+                    entries: all,
+                };
+                match work_in::<S, L>(alloc, ready, cells, made, listed, numbers, steps) {
                     Ok(()) => {
                         self.claims.settle(batch);
                         Ok(true)
@@ -314,7 +307,7 @@ impl<S: StartName> Progress<S> {
         ready: &Ready,
         steps: &mut Steps<L>,
     ) -> Result<(), OutOfMemory>
-        requires conf { ready.now ≡ first_stage S.conf }
+        requires conf { ready.now ≡ S.start.stage }
         ensures entries { self.new.entries ≡ self.old.entries }
         ensures all { OnOk result ((i : ℕ) → i < length self.new.entries
             → get_or self.new.gate.marks i Mark.Pending ≡ Mark.Applied) }
@@ -355,15 +348,15 @@ impl<S: StartName> Progress<S> {
     pub(crate) fn records(&self, place: usize) -> &[Rec]
         ensures made { result.now ≡ get_or self.now.made place [] }
         ensures next { place < length self.now.entries → get_or self.now.gate.marks place Mark.Pending ≡ Mark.Applied
-            → replay (first_start S.conf) (log_of (take (place + 1) self.now.entries)) ≡ replay (first_start S.conf)
-            (log_of (take place self.now.entries)) ++ result.now }
+            → replay (point S.start S.kept) (log_of (take (place + 1) self.now.entries))
+            ≡ replay (point S.start S.kept) (log_of (take place self.now.entries)) ++ result.now }
     {
         kept_at(&self.made, place)
     }
 
     /// What holds of it at all times.
     pub(crate) fn going(&self)
-        ensures { IsGoing S.conf self.now }
+        ensures { IsGoing (point S.start S.kept) self.now }
     {
         let _ = &self.entries;
     }
@@ -373,12 +366,5 @@ impl<S: StartName> Progress<S> {
         ensures { result ≡ length self.now.entries }
     {
         self.entries.len()
-    }
-
-    /// The entries, at the end.
-    pub(crate) fn into_entries(self) -> Many<Numbered>
-        ensures { result ≡ self.entries }
-    {
-        Many::from_vec(self.entries)
     }
 }

@@ -20,7 +20,7 @@ impl<S: StartName> Protocol<Numbered> for LogRule<S> {
     ghost use Rattle.std.specs.Prelude.{◌++◌, ◌∷◌, []};
     ghost use Rattle.book.specs.Entries.{IsWholeLog};
 
-    ghost allows = { λ before x. IsWholeLog S.conf (S.kept ++ (before ++ x ∷ [])) };
+    ghost allows = { λ before x. IsWholeLog S.start (S.kept ++ (before ++ x ∷ [])) };
 }
 
 /// A ring that nothing was sent through yet, and whose ends have no name. Contracts see by what it is known, and its
@@ -118,7 +118,7 @@ impl<S: StartName, N: RunName> RingHead<S, N> {
     /// Sends an entry, or hands it back where no slot is free. Its number has to follow: with it, the entries that
     /// the run began with and those sent behind them are a whole log. Takes no memory.
     pub fn push(&mut self, entry: Numbered) -> Result<(), Numbered>
-        requires { IsWholeLog S.conf (S.kept ++ (self.old.sent ++ entry ∷ [])) }
+        requires { IsWholeLog S.start (S.kept ++ (self.old.sent ++ entry ∷ [])) }
         ensures sent { OnOk result (self.new.sent ≡ self.old.sent ++ entry ∷ []) }
         ensures room { OnOk result (self.old.free ≤ self.new.free + 1) }
         ensures back { IfErr result (λ back. back ≡ entry) }
@@ -154,8 +154,9 @@ impl<S: StartName, N: RunName> RingEnd<S, N> {
     pub fn take(&mut self) -> Option<Numbered>
         ensures received { IfSome result (λ entry. self.new.received ≡ self.old.received ++ entry ∷ []) }
         ensures known { IfSome result (λ entry. IsPrefix self.old.known (entry ∷ self.new.known)) }
-        ensures number { IfSome result (λ entry. entry.number ≡ length S.kept + length self.new.received) }
-        ensures whole { IfSome result (λ _. IsWholeLog S.conf (S.kept ++ self.new.received)) }
+        ensures number { IfSome result (λ entry. entry.number ≡ S.start.number
+            + (length S.kept + length self.new.received)) }
+        ensures whole { IfSome result (λ _. IsWholeLog S.start (S.kept ++ self.new.received)) }
         ensures none { IfNone result ((self.new.received ≡ self.old.received) × (self.new.known ≡ [])) }
         ensures succeeds { 0 < length self.old.known → IsSome result }
         ensures capacity { self.new.capacity ≡ self.old.capacity }
@@ -180,8 +181,8 @@ impl<S: StartName, N: RunName> RingEnd<S, N> {
         ensures received { self.new.received ≡ self.old.received ++ result ∷ [] }
         ensures known { self.old.known ≡ result ∷ self.new.known }
         ensures fifo { self.new.received ++ self.new.known ≡ self.old.received ++ self.old.known }
-        ensures number { result.number ≡ length S.kept + length self.new.received }
-        ensures whole { IsWholeLog S.conf (S.kept ++ self.new.received) }
+        ensures number { result.number ≡ S.start.number + (length S.kept + length self.new.received) }
+        ensures whole { IsWholeLog S.start (S.kept ++ self.new.received) }
         ensures capacity { self.new.capacity ≡ self.old.capacity }
     {
         self.consumer.pop_known()
@@ -193,8 +194,9 @@ impl<S: StartName, N: RunName> RingEnd<S, N> {
         ensures none { IsNone result ↔ (self.old.received ≡ head.old.sent) }
         ensures received { IfSome result (λ entry. self.new.received ≡ self.old.received ++ entry ∷ []) }
         ensures same { IfNone result (self.new.received ≡ self.old.received) }
-        ensures number { IfSome result (λ entry. entry.number ≡ length S.kept + length self.new.received) }
-        ensures whole { IfSome result (λ _. IsWholeLog S.conf (S.kept ++ self.new.received)) }
+        ensures number { IfSome result (λ entry. entry.number ≡ S.start.number
+            + (length S.kept + length self.new.received)) }
+        ensures whole { IfSome result (λ _. IsWholeLog S.start (S.kept ++ self.new.received)) }
         ensures free { self.new.received ≡ head.new.sent → head.new.free ≡ head.new.capacity }
         ensures end { self.new.capacity ≡ self.old.capacity }
         ensures head { (head.new.sent ≡ head.old.sent) × (head.new.capacity ≡ head.old.capacity) }

@@ -32,15 +32,14 @@ struct Ticks<S: StartName, N: RunName> {
 }
 
 impl<S: StartName, N: RunName> Model for Ticks<S, N> {
-    ghost use Rattle.std.specs.Prelude.{◌≡◌, ◌+◌, ◌<◌, ◌++◌, ℕ, length};
-    ghost use Rattle.entry_step.specs.Log.{log_of, moment_from};
-    ghost use Rattle.book.specs.Entries.{IsWholeLog};
+    ghost use Rattle.std.specs.Prelude.{ℕ};
+    ghost use Rattle.book_examples.specs.Ticks.{HasTicks};
 
     ghost Value = { ℕ };
 
     ghost view = { λ t. t.next };
 
-    ghost invariant = { λ t. IsWholeLog S.conf (S.kept ++ t.head.sent) × (0 < length S.kept) × (t.next ≡ length (S.kept ++ t.head.sent) + 1) × (moment_from 0 (log_of (S.kept ++ t.head.sent)) ≡ 0) };
+    ghost invariant = { λ t. HasTicks S.start S.kept t.head.sent t.next };
 }
 
 fn tick(number: u64) -> Numbered

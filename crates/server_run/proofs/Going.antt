@@ -1,5 +1,5 @@
 -- Laws of the taking of events behind what a run had done.
-use Rattle.entry_step.specs.Start.{first_start}
+use Rattle.entry_step.specs.Start.{Start, first_start}
 use Rattle.std.proofs.Common.{◌≡◌, ◌⊎◌, ⊎_elim, ℕ, ◌+◌, ◌-◌, ◌≤◌, ◌<◌, List, [], ◌++◌, append-nil, refl, sym, ap, ◌∙◌, subst, arith, inl, inr, length, drop, true≢false}
 use Rattle.std.specs.Prelude.{◌≢◌, Option, Some, None, IfSome, Result, Ok, Err, OnOk, true, false}
 use Rattle.std.specs.Option.{option_to_list}
@@ -38,6 +38,7 @@ use Rattle.server_run.specs.Runs.{Finished}
 use Rattle.server_run.specs.Statuses.{at_limit, anywhere, at_refusal, course_of, ended_with, EndsAs, LeftIs, IsCourse, IsUnprinted}
 use Rattle.server_run.specs.Stops.{refusing, Journals}
 use Rattle.server_run.proofs.Events.{ran_grows, ran_none, ran_on, finish_on, finish_with, goes_on_is, no_trouble, ended_sent, limits_kept}
+use Rattle.book.proofs.Numbers.{whole_of}
 use Rattle.server_run.proofs.Logs.{behind_sent, sent_front}
 use Rattle.server_run.proofs.Runs.{finished_refused, is_ending}
 
@@ -77,10 +78,11 @@ module _ (limits : Limits) (k conf : Conf) (same : k ≡ conf) (old new : Intake
   batch_all = behind_sent kept sent old.entries new.entries n is size (ran_grows (refusing limits (refused_group old s)) conf old.entries old new did w w' count s here.lost (ending_of g) here.ran)
 
   -- which are a whole log
-  pub batch_whole : IsWholeLog conf (kept ++ (sent ++ drop n new.entries))
-  batch_whole =
+  pub batch_whole : (begins : Start) → begins ≡ first_start conf → IsWholeLog begins (kept ++ (sent ++ drop n new.entries))
+  batch_whole begins first =
       let i = here.sound sound in
-      subst (IsWholeLog conf) (sym (batch_all ∙ i.2)) (record { full = i.1.full; fits = i.1.fits })
+      subst (λ (b : Start). IsWholeLog b (kept ++ (sent ++ drop n new.entries))) (sym first)
+      (subst (IsWholeLog (first_start conf)) (sym (batch_all ∙ i.2)) (whole_of (first_start conf) _ refl i.1.full i.1.fits))
 
   module _ (t : Result (Unit {0}) OutOfMemory) (sent' : List Numbered) (all : OnOk t (sent' ≡ sent ++ drop n new.entries)) (front : IsPrefix sent' (sent ++ drop n new.entries)) where
     sent_ok : (u : Unit {0}) → t ≡ Ok u → kept ++ sent' ≡ new.entries
@@ -358,21 +360,21 @@ module _ {D : Type 0} (tells : D → DiskTells) where
       subst (λ es. Finished (limits_of old.journal 0) conf es old.intake new.intake.entries turns (doing old.journal.disk new.journal.disk) w w' (course_of s).ending) o.entries_are
       (subst (λ n. Finished (limits_of old.journal 0) conf old.intake.entries old.intake new.intake.entries n (doing old.journal.disk new.journal.disk) w w' (course_of s).ending) sum all)
 
-  module _ {O : Type 0} (shows : O → SinkTells) (conf : Conf) (kept : List Numbered) (outbox : SinkTells) (front : Fronted D) (turns : ℕ) (w w' : WireTells) (course : Course D O) where
+  module _ {O : Type 0} (shows : O → SinkTells) (begins : Start) (kept : List Numbered) (outbox : SinkTells) (front : Fronted D) (turns : ℕ) (w w' : WireTells) (course : Course D O) where
     abbrev Gone : Type 0
-    Gone = HasGone tells shows conf kept outbox front turns w w' course
+    Gone = HasGone tells shows begins kept outbox front turns w w' course
 
     abbrev s : Status
     s = course.status
 
     -- one that got no book
     pub gone_held : course.began ≡ false → course.disk ≡ front.journal.disk → course.entries ≡ front.intake.entries → (error : BookError) → s ≡ book_status error
-        → ((h l : ℕ) → error ≡ refusal.OutboxAhead h l → (h ≡ outbox.held) × (l ≡ length (log_lines conf (log_of kept))) × (l < h)) → Gone
+        → ((h l : ℕ) → error ≡ refusal.OutboxAhead h l → (h ≡ outbox.held) × (l ≡ length (log_lines begins (log_of kept))) × (l < h)) → Gone
     gone_held isnt disk_is entries_are error is ahead = record {
       wire = λ e. absurd (not_wire error (sym is ∙ e));
       fault = λ e. absurd (not_fault error (sym is ∙ e));
       unprinted = subst IsUnprinted (sym is) (own error);
-      held_back = λ f. record { disk_is = disk_is; entries_are = entries_are; why = subst (IsAheadOf conf kept outbox.held) (sym is) (why error ahead) };
+      held_back = λ f. record { disk_is = disk_is; entries_are = entries_are; why = subst (IsAheadOf begins kept outbox.held) (sym is) (why error ahead) };
       enough = λ so. absurd (clash so);
       finished = λ so. absurd (clash so);
       lines = λ so. absurd (clash so);
@@ -398,26 +400,26 @@ module _ {D : Type 0} (tells : D → DiskTells) where
         own (refusal.OutboxAhead h l) = tt
         own refusal.OutOfMemory = tt
 
-        why : (e : BookError) → ((h l : ℕ) → e ≡ refusal.OutboxAhead h l → (h ≡ outbox.held) × (l ≡ length (log_lines conf (log_of kept))) × (l < h)) → IsAheadOf conf kept outbox.held (book_status e)
+        why : (e : BookError) → ((h l : ℕ) → e ≡ refusal.OutboxAhead h l → (h ≡ outbox.held) × (l ≡ length (log_lines begins (log_of kept))) × (l < h)) → IsAheadOf begins kept outbox.held (book_status e)
         why (refusal.OutboxAhead h l) f = f h l refl
         why refusal.OutOfMemory f = tt
 
     -- one that took events
     pub gone_course : (new : Fronted D) (t : Status) → course.began ≡ true → course.disk ≡ new.journal.disk → course.entries ≡ new.intake.entries → IsWorse t s → IsUnprinted t → (t ≡ status.WireFault → Rose w.faults w'.faults)
-        → outbox.held ≤ length (log_lines conf (log_of kept)) → Finished (limits_of front.journal 0) conf kept front.intake new.intake.entries turns (doing front.journal.disk new.journal.disk) w w' (course_of t).ending
-        → (s ≡ status.OutboxFault → Rose outbox.faults (shows course.outbox).faults) → LinesAre (course_of s).out outbox (shows course.outbox) (drop outbox.held (log_lines conf (log_of new.intake.entries)))
-        → (s ≡ status.Ok → course.counts ≡ counts_with (length new.intake.entries) (tally_of (replay (first_start conf) (log_of new.intake.entries)))) → Gone
+        → outbox.held ≤ length (log_lines begins (log_of kept)) → Finished (limits_of front.journal 0) begins.stage.conf kept front.intake new.intake.entries turns (doing front.journal.disk new.journal.disk) w w' (course_of t).ending
+        → (s ≡ status.OutboxFault → Rose outbox.faults (shows course.outbox).faults) → LinesAre (course_of s).out outbox (shows course.outbox) (drop outbox.held (log_lines begins (log_of new.intake.entries)))
+        → (s ≡ status.Ok → course.counts ≡ counts_with (length new.intake.entries) (tally_of (replay begins (log_of new.intake.entries)))) → Gone
     gone_course new t is_so disk_is entries_are worse own wire enough f fault lines counts_are = record {
       wire = wire_worse worse;
       fault = fault;
       unprinted = own_worse worse;
       held_back = λ isnt. absurd (true≢false (sym is_so ∙ isnt));
       enough = λ y. enough;
-      finished = λ y. subst (λ d. Finished (limits_of front.journal 0) conf kept front.intake course.entries turns (doing front.journal.disk d) w w' (course_of s).ending) (sym disk_is)
-          (subst (λ es. Finished (limits_of front.journal 0) conf kept front.intake es turns (doing front.journal.disk new.journal.disk) w w' (course_of s).ending) (sym entries_are)
-          (finished_worse (limits_of front.journal 0) conf kept front.intake new.intake.entries turns (doing front.journal.disk new.journal.disk) w w' t s worse wire f));
-      lines = λ y. subst (λ es. LinesAre (course_of s).out outbox (shows course.outbox) (drop outbox.held (log_lines conf (log_of es)))) (sym entries_are) lines;
-      counts_are = λ is. subst (λ es. course.counts ≡ counts_with (length es) (tally_of (replay (first_start conf) (log_of es)))) (sym entries_are) (counts_are is);
+      finished = λ y. subst (λ d. Finished (limits_of front.journal 0) begins.stage.conf kept front.intake course.entries turns (doing front.journal.disk d) w w' (course_of s).ending) (sym disk_is)
+          (subst (λ es. Finished (limits_of front.journal 0) begins.stage.conf kept front.intake es turns (doing front.journal.disk new.journal.disk) w w' (course_of s).ending) (sym entries_are)
+          (finished_worse (limits_of front.journal 0) begins.stage.conf kept front.intake new.intake.entries turns (doing front.journal.disk new.journal.disk) w w' t s worse wire f));
+      lines = λ y. subst (λ es. LinesAre (course_of s).out outbox (shows course.outbox) (drop outbox.held (log_lines begins (log_of es)))) (sym entries_are) lines;
+      counts_are = λ is. subst (λ es. course.counts ≡ counts_with (length es) (tally_of (replay begins (log_of es)))) (sym entries_are) (counts_are is);
     }
       where
         wire_worse : IsWorse t s → s ≡ status.WireFault → Rose w.faults w'.faults

@@ -113,7 +113,7 @@ left_groups (Damaged at) gs is = absurd (cc)
 left_groups (Groups hs) gs is = ap groups_of is
 
 -- what was read of a file that was opened is what it kept before
-found_opened : (o o' : Option (List ℕ)) (disk : DiskTells) (groups : List Group) → is_some o' ≡ is_some o → IfSome o (λ b. IfSome o' (λ c. IsOpened disk b c))
+found_opened : (o o' : Option (List ℕ)) (disk : DiskTells) (groups : List Group) → is_some o' ≡ is_some o → IfSome o (λ b. IfSome o' (λ c. IsOpened disk first_gate b c))
     → IfSome o' (λ c. kept_from first_gate c ≡ Groups groups) → IfSome o (λ b. groups_of (kept b) ≡ Some groups)
 found_opened None o' disk groups told opened found = tt
 found_opened (Some b) None disk groups told opened found = absurd (true≢false (sym told))
@@ -164,7 +164,7 @@ reads_all tells conf first old new read same r next = record {
 module _ {D : Type 0} (tells : D → DiskTells) where
   -- a journal that was opened and read through
   pub is_recovered : (conf : Conf) (disk : D) (old new : Journaled D) (numbering : Numbering) → is_some (tells old.disk).bytes ≡ is_some (tells disk).bytes
-      → IfSome (tells disk).bytes (λ b. IfSome (tells old.disk).bytes (λ c. IsOpened (tells old.disk) b c)) → IsAsBefore (tells old.disk) (tells new.disk)
+      → IfSome (tells disk).bytes (λ b. IfSome (tells old.disk).bytes (λ c. IsOpened (tells old.disk) first_gate b c)) → IsAsBefore (tells old.disk) (tells new.disk)
       → IsReadThrough tells conf old new numbering → IsRecovered tells conf disk new numbering
   is_recovered conf disk old new numbering told opened before read = record {
     groups = read.groups;
@@ -184,6 +184,6 @@ module _ {D : Type 0} (tells : D → DiskTells) where
   }
     where
       opened_of : (o : Option (List ℕ)) (c : List ℕ) → (tells old.disk).bytes ≡ Some c → is_some (tells old.disk).bytes ≡ is_some o
-          → IfSome o (λ b. IfSome (tells old.disk).bytes (λ c. IsOpened (tells old.disk) b c)) → (b : List ℕ) × IsOpened (tells old.disk) b c
+          → IfSome o (λ b. IfSome (tells old.disk).bytes (λ c. IsOpened (tells old.disk) first_gate b c)) → (b : List ℕ) × IsOpened (tells old.disk) first_gate b c
       opened_of None c is same opened = absurd (true≢false (ap is_some (sym is) ∙ same))
-      opened_of (Some b) c is same opened = (b, told_of (tells old.disk).bytes c (IsOpened (tells old.disk) b) is opened)
+      opened_of (Some b) c is same opened = (b, told_of (tells old.disk).bytes c (IsOpened (tells old.disk) first_gate b) is opened)

@@ -1,78 +1,50 @@
 -- Laws of groups that are numbered and judged one after another.
-use Rattle.std.proofs.Common.{◌≡◌, ◌⊎◌, ℕ, ◌+◌, ◌<◌, ◌≤◌, zero, suc, List, [], ◌∷◌, ◌++◌, length, get_or, Option, Some, None, refl, sym, ap, ◌∙◌, subst, arith, inl, inr, append_assoc, append-nil}
+use Rattle.std.proofs.Common.{◌≡◌, ℕ, ◌+◌, ◌<◌, zero, suc, List, [], ◌∷◌, ◌++◌, length, Option, Some, None, refl, sym, ap, ◌∙◌, subst, arith, append_assoc, append-nil}
 use Rattle.std.specs.Prelude.{All, slice_get}
 use Rattle.std.specs.List.{flat_map}
-use Rattle.std.proofs.lemmas.Bool.{ne_eqb}
 use Rattle.std.proofs.lemmas.List.Concat.{flat_map-cons}
 use Rattle.std.proofs.lemmas.List.Elements.{All-append}
 use Rattle.std.proofs.lemmas.Grind.{flat_map-append}
 use Rattle.zbx_types.specs.declared.conf.Conf.{Conf}
 use Rattle.zbx_types.specs.declared.entries.Entry.{Entry}
 use Rattle.zbx_types.specs.declared.entries.Numbered.{Numbered}
-use Rattle.zbx_types.specs.Entries.{moment_of}
 use Rattle.entry_step.specs.Log.{log_of, Fits}
 use Rattle.intake_journal.specs.declared.format.Group.{Group}
 use Rattle.intake_front.specs.Intake.{numbered_from, with_group}
 use Rattle.intake_front.specs.Fronted.{numbered_of}
-use Rattle.intake_front.specs.Misfit.{GroupsFit, IsFirstMisfit, reached}
+use Rattle.intake_front.specs.Misfit.{GroupsFit, IsFirstMisfit, HasReached, reached, log_with}
 use Rattle.intake_front.proofs.Misfits.{log_group}
 use Rattle.intake_front.proofs.Numbers.{length_numbered, numbered-append}
 use Rattle.server_words.specs.declared.status.Status.{Status}
 use Rattle.server_words.specs.declared.status.Status.TheVariants as status
 use Rattle.server_run.specs.declared.numbering.Numbering.{Numbering}
-use Rattle.server_run.specs.Recovered.{IsNumbered}
+use Rattle.server_run.specs.Recovered.{AreJudged, IsNumbered}
 use Rattle.server_run.specs.Opening.{config_text, first_text, kept_text, IsTextJudged, IsRejectedFor, IsRejected, IsAccepted}
-use Rattle.server_run.proofs.Barring.{fits_prefix, split_same}
-use Rattle.server_run.proofs.Logs.{onto, onto_reverse, fits_front}
 use Rattle.entry_step.specs.Start.{first_start}
 
--- ---- the moment that a log has reached is all that matters to what is behind it
-
-some_moment : (a b : ℕ) → Some a ≡ Some b → a ≡ b
-some_moment a b e = cc
-
-same_step : (conf : Conf) (e : Entry) (n m : ℕ) (a b : List Numbered) → reached a ≡ reached b → Fits (first_start conf) b → Fits (first_start conf) (record { number = n; entry = e } ∷ a) → Fits (first_start conf) (record { number = m; entry = e } ∷ b)
-same_step conf e n m [] [] same fb fits = ((fb.0, fits.0.1), (fb.1, fits.1.1, fits.1.2))
-same_step conf e n m [] (h ∷ b) same fb fits = absurd (cc)
-same_step conf e n m (f ∷ a) [] same fb fits = absurd (cc)
-same_step conf e n m (f ∷ a) (h ∷ b) same fb fits = (
-  (fb.0, fits.0.1 ∙ ne_eqb _ 0 (λ z. absurd (omega (arith, z))) ∙ sym (ne_eqb _ 0 (λ z. absurd (omega (arith, z))))),
-  (fb.1, subst (λ t. t ≤ moment_of e) (some_moment (moment_of f.entry) (moment_of h.entry) same) fits.1.1, fits.1.2),
-)
-
-same_fits : (conf : Conf) (es : List Entry) (n m : ℕ) (a b : List Numbered) → reached a ≡ reached b → Fits (first_start conf) b → Fits (first_start conf) (onto a (numbered_from n es)) → Fits (first_start conf) (onto b (numbered_from m es))
-same_fits conf [] n m a b same fb fits = fb
-same_fits conf (e ∷ es) n m a b same fb fits =
-    let x : Numbered = record { number = n; entry = e } in
-    let y : Numbered = record { number = m; entry = e } in
-    same_fits conf es (n + 1) (m + 1) (x ∷ a) (y ∷ b) refl (same_step conf e n m a b same fb (fits_front conf (x ∷ a) (numbered_from (n + 1) es) fits)) fits
-
-log_next : (groups : List Group) (g : Group) → log_of (numbered_of (groups ++ g ∷ [])) ≡ onto (log_of (numbered_of groups)) (numbered_from (length (log_of (numbered_of groups)) + 1) g.entries)
-log_next groups g = log_group groups g ∙ sym (onto_reverse (log_of (numbered_of groups)) (numbered_from (length (log_of (numbered_of groups)) + 1) g.entries))
-
-fits_beside : (conf : Conf) (a b : List Group) (g : Group) → reached (log_of (numbered_of a)) ≡ reached (log_of (numbered_of b)) → GroupsFit conf b → GroupsFit conf (a ++ g ∷ []) → GroupsFit conf (b ++ g ∷ [])
-fits_beside conf a b g same fb fits =
-    subst (Fits (first_start conf)) (sym (log_next b g)) (same_fits conf g.entries _ _ (log_of (numbered_of a)) (log_of (numbered_of b)) same fb (subst (Fits (first_start conf)) (log_next a g) fits))
-
--- a group is a misfit behind groups that fit where it is one behind others that fit and have reached the same moment
-pub next_misfit : (conf : Conf) (a b : List Group) (g : Group) (o : Option ℕ) → reached (log_of (numbered_of a)) ≡ reached (log_of (numbered_of b)) → GroupsFit conf a → GroupsFit conf b
-    → IsFirstMisfit conf (a ++ g ∷ []) o → IsFirstMisfit conf (b ++ g ∷ []) o
-next_misfit conf a b g None same fa fb fits = fits_beside conf a b g same fb fits
-next_misfit conf a b g (Some at) same fa fb (before, h, rest, is, place, fits, misfits) =
-    (b, g, [], refl, by (split_same a before g h [] rest is), fb, λ all. not_all (fits_beside conf b a g (sym same) fa all))
-  where
-    not_all : GroupsFit conf (a ++ g ∷ []) → ⊥
-    not_all all = misfits (fits_prefix conf (before ++ h ∷ []) rest (subst (GroupsFit conf) (is ∙ sym (append_assoc before (h ∷ []) rest)) all))
-
-    by : (g ≡ h) ⊎ (((more : List Group) × (before ≡ (a ++ g ∷ []) ++ more)) ⊎ ((more : List Group) × (a ≡ (before ++ h ∷ []) ++ more))) → g.at ≡ at
-    by (inl equal) = ap (λ (x : Group). x.at) equal ∙ place
-    by (inr (inl (more, longer))) = absurd (not_all (fits_prefix conf (a ++ g ∷ []) more (subst (GroupsFit conf) longer fits)))
-    by (inr (inr (more, longer))) = absurd (misfits (fits_prefix conf (before ++ h ∷ []) more (subst (GroupsFit conf) longer fa)))
+-- ---- one more group is judged
 
 -- the first misfit stays so with one more group
 pub more_misfit : (conf : Conf) (groups : List Group) (g : Group) (at : ℕ) → IsFirstMisfit conf groups (Some at) → IsFirstMisfit conf (groups ++ g ∷ []) (Some at)
 more_misfit conf groups g at (before, h, rest, is, place, fits, misfits) =
     (before, h, rest ++ g ∷ [], ap (λ l. l ++ g ∷ []) is ∙ append_assoc before (h ∷ rest) (g ∷ []), place, fits, misfits)
+
+-- so does what was judged
+pub judged_still : (conf : Conf) (groups : List Group) (g : Group) (at : ℕ) (last then : Option ℕ) → AreJudged conf groups (Some at) last → AreJudged conf (groups ++ g ∷ []) (Some at) then
+judged_still conf groups g at last then are = record { misfit_is = more_misfit conf groups g at are.misfit_is; goes_on = λ none. absurd cc }
+
+-- a group that fits behind groups that fit
+pub judged_more : (conf : Conf) (groups : List Group) (g : Group) (last : Option ℕ) → HasReached conf (log_with (log_of (numbered_of groups)) g.entries) last → AreJudged conf (groups ++ g ∷ []) None last
+judged_more conf groups g last fits =
+    let same = sym (log_group groups g) in
+    record { misfit_is = subst (Fits (first_start conf)) same fits.0; goes_on = λ none. fits.1 ∙ ap reached same }
+
+-- and one that doesn't
+pub judged_misfit : (conf : Conf) (groups : List Group) (g : Group) (last : Option ℕ) → GroupsFit conf groups → ¬ (Fits (first_start conf) (log_with (log_of (numbered_of groups)) g.entries)) → AreJudged conf (groups ++ g ∷ []) (Some g.at) last
+judged_misfit conf groups g last fits misfits = record {
+  misfit_is = (groups, g, [], refl, refl, fits, λ all. misfits (subst (Fits (first_start conf)) (log_group groups g) all));
+  goes_on = λ none. absurd cc;
+}
 
 -- ---- what one more group adds
 
@@ -84,11 +56,11 @@ numbered_more groups g =
     ap (numbered_from 1) all ∙ numbered-append 1 before g.entries ∙ ap (λ n. numbered_from 1 before ++ numbered_from n g.entries) count
 
 pub numbers_more : (conf : Conf) (groups : List Group) (g : Group) (old new : Numbering) → 0 < length g.entries → IsNumbered conf groups old → new.entries ≡ with_group old.entries g.entries
-    → IsFirstMisfit conf (groups ++ g ∷ []) new.misfit → IsNumbered conf (groups ++ g ∷ []) new
-numbers_more conf groups g old new some are more misfit = record {
+    → AreJudged conf (groups ++ g ∷ []) new.misfit new.judge → IsNumbered conf (groups ++ g ∷ []) new
+numbers_more conf groups g old new some are more judged = record {
   some = All-append (λ (h : Group). 0 < length h.entries) groups (g ∷ []) are.some single;
   entries_are = more ∙ ap (λ (l : List Numbered). with_group l g.entries) are.entries_are ∙ sym (numbered_more groups g);
-  misfit_is = misfit;
+  judged = judged;
 }
   where
     single : All (λ (h : Group). 0 < length h.entries) (g ∷ [])
@@ -152,12 +124,12 @@ pub rejected_misfit : (conf : Conf) (groups : List Group) (n : Numbering) (first
 rejected_misfit conf [] n first rest at are is same misfit = let none : first ∷ rest ≡ [] = sym is ∙ are.entries_are in absurd (cc)
 rejected_misfit conf (g ∷ gs) n first rest at are is same misfit =
     rejected_at conf (g ∷ gs) (kept_text (g ∷ gs)) at (kept_first g gs first rest (are.some 0 g (omega arith)) (sym is ∙ are.entries_are) ∙ text_same conf.text (config_text first.entry) same)
-    (subst (IsFirstMisfit conf (g ∷ gs)) misfit are.misfit_is)
+    (subst (IsFirstMisfit conf (g ∷ gs)) misfit are.judged.misfit_is)
 
 pub accepted_all : (conf : Conf) (groups : List Group) (n : Numbering) (first : Numbered) (rest : List Numbered) → IsNumbered conf groups n → n.entries ≡ first ∷ rest
     → IsTextJudged conf.text (config_text first.entry) None → n.misfit ≡ None → IsAccepted conf groups
 accepted_all conf [] n first rest are is same misfit = tt
 accepted_all conf (g ∷ gs) n first rest are is same misfit = (
   kept_first g gs first rest (are.some 0 g (omega arith)) (sym is ∙ are.entries_are) ∙ text_same conf.text (config_text first.entry) same,
-  subst (IsFirstMisfit conf (g ∷ gs)) misfit are.misfit_is,
+  subst (IsFirstMisfit conf (g ∷ gs)) misfit are.judged.misfit_is,
 )

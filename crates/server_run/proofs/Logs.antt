@@ -5,10 +5,11 @@ use Rattle.std.proofs.lemmas.List.{reverse-append}
 use mathlib.Core.List.{IsPrefix}
 use Rattle.zbx_types.specs.declared.conf.Conf.{Conf}
 use Rattle.zbx_types.specs.declared.entries.Numbered.{Numbered}
-use Rattle.entry_step.specs.Log.{log_of, IsFull, Fits}
+use Rattle.entry_step.specs.Log.{log_of, Fits}
 use Rattle.book.specs.Entries.{IsWholeLog}
 use Rattle.server_run.specs.Replayed.{conf_of_run}
-use Rattle.entry_step.specs.Start.{first_start}
+use Rattle.entry_step.specs.Start.{Start, first_start}
+use Rattle.book.proofs.Numbers.{whole_kept}
 
 -- a log with entries behind it, in the order of their numbers
 abbrev pub onto : List Numbered → List Numbered → List Numbered
@@ -29,20 +30,9 @@ pub fits_front : (conf : Conf) (log es : List Numbered) → Fits (first_start co
 fits_front conf log [] fits = fits
 fits_front conf log (e ∷ es) fits = let longer : Fits (first_start conf) (e ∷ log) = fits_front conf (e ∷ log) es fits in (longer.0.0, longer.1.0)
 
-full_before : (newer log : List Numbered) → IsFull (newer ++ log) → IsFull log
-full_before [] log full = full
-full_before (e ∷ es) log full = full_before es log full.0
-
-fits_before : (conf : Conf) (newer log : List Numbered) → Fits (first_start conf) (newer ++ log) → Fits (first_start conf) log
-fits_before conf [] log fits = fits
-fits_before conf (e ∷ es) log fits = fits_before conf es log (fits.0.0, fits.1.0)
-
 -- the first entries of a whole log are one
-pub whole_front : (conf : Conf) (a b : List Numbered) → IsWholeLog conf (a ++ b) → IsWholeLog conf a
-whole_front conf a b whole = record {
-  full = full_before (reverse b) (reverse a) (subst IsFull (reverse-append a b) whole.full);
-  fits = fits_before conf (reverse b) (reverse a) (subst (Fits (first_start conf)) (reverse-append a b) whole.fits);
-}
+pub whole_front : (start : Start) (a b : List Numbered) → IsWholeLog start (a ++ b) → IsWholeLog start a
+whole_front start a b whole = whole_kept start a b whole
 
 -- the configuration of entries is that of the first
 pub conf_front : (es more : List Numbered) (conf : Conf) → conf_of_run es ≡ Some conf → conf_of_run (es ++ more) ≡ Some conf
@@ -67,8 +57,8 @@ pub sent_front : (kept sent all new : List Numbered) → IsPrefix sent all → k
 sent_front kept sent all new (rest, is) whole = (rest, append_assoc kept sent rest ∙ ap (λ l. kept ++ l) is ∙ whole)
 
 -- the next of entries that are to be sent
-pub next_whole : (conf : Conf) (kept sent : List Numbered) (e : Numbered) (rest all : List Numbered) → sent ++ e ∷ rest ≡ all → IsWholeLog conf (kept ++ all) → IsWholeLog conf (kept ++ (sent ++ e ∷ []))
-next_whole conf kept sent e rest all is whole =
+pub next_whole : (start : Start) (kept sent : List Numbered) (e : Numbered) (rest all : List Numbered) → sent ++ e ∷ rest ≡ all → IsWholeLog start (kept ++ all) → IsWholeLog start (kept ++ (sent ++ e ∷ []))
+next_whole start kept sent e rest all is whole =
     let one : (sent ++ e ∷ []) ++ rest ≡ all = append_assoc sent (e ∷ []) rest ∙ is in
     let same : (kept ++ (sent ++ e ∷ [])) ++ rest ≡ kept ++ all = append_assoc kept (sent ++ e ∷ []) rest ∙ ap (λ l. kept ++ l) one in
-    whole_front conf (kept ++ (sent ++ e ∷ [])) rest (subst (IsWholeLog conf) (sym same) whole)
+    whole_front start (kept ++ (sent ++ e ∷ [])) rest (subst (IsWholeLog start) (sym same) whole)

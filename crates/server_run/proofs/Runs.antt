@@ -219,11 +219,11 @@ module _ {D : Type 0} (tells : D → DiskTells) (words : List (List ℕ)) (sourc
     }
 
     -- the lines of its entries are those of its groups
-    kept_lines : (kept : List Numbered) → kept ≡ made.intake.entries → log_lines conf (log_of kept) ≡ opening_lines conf o.begun.groups
-    kept_lines kept same = ap (λ es. log_lines conf (log_of es)) (same ∙ are)
+    kept_lines : (kept : List Numbered) → kept ≡ made.intake.entries → log_lines (first_start conf) (log_of kept) ≡ opening_lines conf o.begun.groups
+    kept_lines kept same = ap (λ es. log_lines (first_start conf) (log_of es)) (same ∙ are)
 
     -- a run that got no book didn't begin
-    pub unbegun_held : (source_faults source_faults' held : ℕ) (kept : List Numbered) → kept ≡ made.intake.entries → (new : D) (entries : List Numbered) (s : Status) → IsHeldBack conf kept held made new entries s
+    pub unbegun_held : (source_faults source_faults' held : ℕ) (kept : List Numbered) → kept ≡ made.intake.entries → (new : D) (entries : List Numbered) (s : Status) → IsHeldBack (first_start conf) kept held made new entries s
         → Unbegun words source source_faults source_faults' held (tells old) (tells new) entries s
     unbegun_held source_faults source_faults' held kept same new entries s h =
         subst (λ d. Unbegun words source source_faults source_faults' held (tells old) (tells d) entries s) (sym h.disk_is) (record {
@@ -244,19 +244,19 @@ module _ {D : Type 0} (tells : D → DiskTells) (words : List (List ℕ)) (sourc
         found : FoundBy words source (tells old).bytes entries
         found = (o.plan, conf, o.configured, (o.begun.groups, o.begun.found, inr entries_are))
 
-        why : (s : Status) → IsAheadOf conf kept held s → Unopened conf o.plan.max_entries (tells old) (tells made.journal.disk) held s
+        why : (s : Status) → IsAheadOf (first_start conf) kept held s → Unopened conf o.plan.max_entries (tells old) (tells made.journal.disk) held s
         why status.OutOfMemory ahead = tt
         why (status.OutboxAhead told lines) ahead =
             let size : lines ≡ length (opening_lines conf o.begun.groups) = ahead.1 ∙ ap (λ (l : List ℕ). length l) (kept_lines kept same) in
             (o.begun.groups, o.begun.found, (o.begun.accepted, ahead.0, size, omega (arith, ahead.2, ahead.0)))
         why _ none = absurd none
 
-        has : (s : Status) → IsAheadOf conf kept held s → HasBy words source (tells old).bytes s entries
+        has : (s : Status) → IsAheadOf (first_start conf) kept held s → HasBy words source (tells old).bytes s entries
         has status.OutOfMemory ahead = inr found
         has (status.OutboxAhead told lines) ahead = (o.plan, conf, o.configured, (o.begun.groups, o.begun.found, entries_are))
         has _ none = absurd none
 
-        enter : (s : Status) → IsAheadOf conf kept held s → (es : List Numbered) → FoundBy words source (tells old).bytes es → EntersBy words source (tells old).bytes s es
+        enter : (s : Status) → IsAheadOf (first_start conf) kept held s → (es : List Numbered) → FoundBy words source (tells old).bytes es → EntersBy words source (tells old).bytes s es
         enter status.OutOfMemory ahead es is = is
         enter (status.OutboxAhead told lines) ahead es is = is
         enter _ none es is = absurd none
@@ -265,7 +265,7 @@ module _ {D : Type 0} (tells : D → DiskTells) (words : List (List ℕ)) (sourc
         among es is = (o.plan, conf, o.configured, (o.begun.groups, o.begun.found, ⊎_elim (λ kept. inl kept) (λ here. inr (here ∙ are)) is))
 
     -- one that got its book took events
-    pub followed : (held : ℕ) (kept : List Numbered) → kept ≡ made.intake.entries → held ≤ length (log_lines conf (log_of kept)) → (new : D) (entries : List Numbered) (wire wire' : WireTells) (s : Status)
+    pub followed : (held : ℕ) (kept : List Numbered) → kept ≡ made.intake.entries → held ≤ length (log_lines (first_start conf) (log_of kept)) → (new : D) (entries : List Numbered) (wire wire' : WireTells) (s : Status)
         → Finished (limits_of made.journal 0) conf kept made.intake entries turns (Journals (λ c. ⊥) (tells made.journal.disk) (tells new)) wire wire' (course_of s).ending
         → Followed words source (tells old).bytes held (Journals (KeepsAsOneOf (tells old)) (tells old) (tells new)) wire wire' s entries
     followed held kept same enough new entries wire wire' s f =

@@ -15,6 +15,7 @@ use Rattle.server_words.specs.declared.status.Counts.{Counts}
 use Rattle.server_words.specs.declared.status.Status.{Status}
 use Rattle.server_words.specs.declared.status.Status.TheVariants as status
 use Rattle.server_run.specs.declared.course.Course.{Course}
+use Rattle.entry_step.specs.Start.{first_start}
 use Rattle.server_run.specs.Going.{IsAheadOf, HasGone}
 use Rattle.server_run.specs.Ports.{ReadsUpTo}
 use Rattle.server_run.specs.Ran.{Objects, IsUpToLine, IsRun}
@@ -54,7 +55,7 @@ refused_so_far words before after began entries counts s isnt taken u wire outbo
 -- a run that was opened, and went on over a book or got none
 pub gone_so_far : {D O : Type 0} (tells : D → DiskTells) (shows : O → SinkTells) (words : List (List ℕ)) (source source' : Option (List ℕ)) (faults faults' turns : ℕ) (disk : D) (conf : Conf) (made : Fronted D)
     → Opened tells words source source' disk turns conf made → (kept : List Numbered) → kept ≡ made.intake.entries → (outbox : SinkTells) (w w' : WireTells) (course : Course D O)
-    → HasGone tells shows conf kept outbox made turns w w' course → ReadsUpTo 16777216 source source' → (course.began ≡ false → (w' ≡ w) × (shows course.outbox ≡ outbox))
+    → HasGone tells shows (first_start conf) kept outbox made turns w w' course → ReadsUpTo 16777216 source source' → (course.began ≡ false → (w' ≡ w) × (shows course.outbox ≡ outbox))
     → IsUpToLine words (record { source = source; source_faults = faults; wire = w; disk = tells disk; outbox = outbox })
     (record { source = source'; source_faults = faults'; wire = w'; disk = tells course.disk; outbox = shows course.outbox }) course.began course.entries course.counts course.status
 gone_so_far tells shows words source source' faults faults' turns disk conf made o kept same outbox w w' course gone taken untouched = record {
@@ -68,7 +69,7 @@ gone_so_far tells shows words source source' faults faults' turns disk conf made
   followed = λ t. followed tells words source source' turns disk conf made o outbox.held kept same (gone.enough t) course.disk course.entries w w' course.status (gone.finished t);
   lines = λ t. lines_left conf course.entries outbox (shows course.outbox) (course_of course.status).out (its_conf t) (gone.lines t);
   counts_are = λ well. either_way course.began (λ t. counts_left conf course.entries course.counts (its_conf t) (gone.counts_are well))
-      (λ f. absurd (subst (IsAheadOf conf kept outbox.held) well (gone.held_back f).why));
+      (λ f. absurd (subst (IsAheadOf (first_start conf) kept outbox.held) well (gone.held_back f).why));
 }
   where
     its_conf : course.began ≡ true → conf_of_run course.entries ≡ Some conf

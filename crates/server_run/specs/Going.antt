@@ -1,5 +1,5 @@
 -- How far the taking of events has come, and what of their entries was sent.
-use Rattle.entry_step.specs.Start.{first_start}
+use Rattle.entry_step.specs.Start.{Start}
 use Rattle.std.specs.Prelude.{◌≡◌, ◌≢◌, ◌⊎◌, ◌≤◌, ◌<◌, ◌+◌, ℕ, List, ◌++◌, length, drop, true, false, None, Result, Ok, Err, ⊤}
 use mathlib.Core.List.{IsPrefix}
 use Rattle.zbx_types.specs.declared.conf.Conf.{Conf}
@@ -120,18 +120,18 @@ pub record IsOpened {D : Type 0} (tells : D → DiskTells) (conf : Conf) (kept :
   pub durable : IsKept (tells front.journal.disk) front.intake.entries
 
 -- a run that got no book: memory was refused, or its outbox holds more bytes than the lines of the kept entries have
-abbrev pub IsAheadOf : Conf → List Numbered → ℕ → Status → Type 0
-IsAheadOf conf kept held status.OutOfMemory = ⊤
-IsAheadOf conf kept held (status.OutboxAhead told lines) =
-    (told ≡ held) × (lines ≡ length (log_lines conf (log_of kept))) × (lines < told)
-IsAheadOf conf kept held _ = ⊥
+abbrev pub IsAheadOf : Start → List Numbered → ℕ → Status → Type 0
+IsAheadOf start kept held status.OutOfMemory = ⊤
+IsAheadOf start kept held (status.OutboxAhead told lines) =
+    (told ≡ held) × (lines ≡ length (log_lines start (log_of kept))) × (lines < told)
+IsAheadOf start kept held _ = ⊥
 
 -- and has its disk and its entries
-pub record IsHeldBack {D : Type 0} (conf : Conf) (kept : List Numbered) (held : ℕ) (front : Fronted D) (disk : D)
+pub record IsHeldBack {D : Type 0} (start : Start) (kept : List Numbered) (held : ℕ) (front : Fronted D) (disk : D)
     (entries : List Numbered) (s : Status) : Type 0 where
   pub disk_is : disk ≡ front.journal.disk
   pub entries_are : entries ≡ front.intake.entries
-  pub why : IsAheadOf conf kept held s
+  pub why : IsAheadOf start kept held s
 
 -- the status of a run that got no book
 abbrev pub book_status : BookError → Status
@@ -146,17 +146,17 @@ IsWorse s worse =
 
 -- A run that was opened went up to its printed line: it got no book, or it took events up to some ending; and so many
 -- lines and counts are those of its entries.
-pub record HasGone {D O : Type 0} (tells : D → DiskTells) (shows : O → SinkTells) (conf : Conf) (kept : List Numbered)
+pub record HasGone {D O : Type 0} (tells : D → DiskTells) (shows : O → SinkTells) (start : Start) (kept : List Numbered)
     (outbox : SinkTells) (front : Fronted D) (turns : ℕ) (w w' : WireTells) (course : Course D O) : Type 0 where
   pub wire : course.status ≡ status.WireFault → Rose w.faults w'.faults
   pub fault : course.status ≡ status.OutboxFault → Rose outbox.faults (shows course.outbox).faults
   pub unprinted : IsUnprinted course.status
   pub held_back : course.began ≡ false
-      → IsHeldBack conf kept outbox.held front course.disk course.entries course.status
-  pub enough : course.began ≡ true → outbox.held ≤ length (log_lines conf (log_of kept))
-  pub finished : course.began ≡ true → Finished (limits_of front.journal 0) conf kept front.intake course.entries turns
+      → IsHeldBack start kept outbox.held front course.disk course.entries course.status
+  pub enough : course.began ≡ true → outbox.held ≤ length (log_lines start (log_of kept))
+  pub finished : course.began ≡ true → Finished (limits_of front.journal 0) start.stage.conf kept front.intake course.entries turns
       (Journals (λ c. ⊥) (tells front.journal.disk) (tells course.disk)) w w' (course_of course.status).ending
   pub lines : course.began ≡ true → LinesAre (course_of course.status).out outbox (shows course.outbox)
-      (drop outbox.held (log_lines conf (log_of course.entries)))
+      (drop outbox.held (log_lines start (log_of course.entries)))
   pub counts_are : course.status ≡ status.Ok → course.counts ≡ counts_with (length course.entries)
-      (tally_of (replay (first_start conf) (log_of course.entries)))
+      (tally_of (replay start (log_of course.entries)))

@@ -10,6 +10,7 @@ use Rattle.intake_journal.specs.Kept.Kept.{Damaged}
 use Rattle.intake_journal.specs.declared.format.Group.{Group}
 use Rattle.intake_journal.specs.declared.state.State.TheVariants.{Ready}
 use Rattle.entry_step.specs.Log.{log_of}
+use Rattle.entry_step.specs.Start.{first_start}
 use Rattle.intake_front.specs.Intake.{start}
 use Rattle.intake_front.specs.Fronted.{numbered_of}
 use Rattle.intake_front.specs.Misfit.{IsFirstMisfit}
@@ -84,7 +85,7 @@ opening_entries conf groups = (start conf.text (numbered_of groups) (journal_byt
 
 -- and their lines
 abbrev pub opening_lines : Conf → List Group → List ℕ
-opening_lines conf groups = log_lines conf (log_of (opening_entries conf groups))
+opening_lines conf groups = log_lines (first_start conf) (log_of (opening_entries conf groups))
 
 -- an outbox of so many bytes holds more than these lines of the groups
 abbrev pub IsAhead : Conf → List Group → ℕ → ℕ → ℕ → Type 0

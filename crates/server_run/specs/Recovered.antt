@@ -1,5 +1,5 @@
 -- What is known of a journal all of whose groups were read, and why one wasn't.
-use Rattle.std.specs.Prelude.{◌≡◌, ◌≤◌, ◌<◌, ◌+◌, is_some, ℕ, List, [], ◌∷◌, length, Option, Some, All, IfSome, ⊤}
+use Rattle.std.specs.Prelude.{◌≡◌, ◌≤◌, ◌<◌, ◌+◌, is_some, ℕ, List, [], ◌∷◌, length, Option, Some, None, All, IfSome, ⊤}
 use Rattle.zbx_types.specs.declared.conf.Conf.{Conf}
 use Rattle.outside.specs.Causes.{Rose}
 use Rattle.outside.specs.Disk.{DiskTells, Only, LeavesOnly}
@@ -12,7 +12,8 @@ use Rattle.intake_journal.specs.declared.state.State.TheVariants.{Ready}
 use Rattle.intake_journal.specs.declared.state.JournalError.{JournalError}
 use Rattle.intake_journal.specs.declared.state.JournalError.TheVariants as cause
 use Rattle.intake_front.specs.Fronted.{numbered_of}
-use Rattle.intake_front.specs.Misfit.{IsFirstMisfit}
+use Rattle.intake_front.specs.Misfit.{IsFirstMisfit, reached}
+use Rattle.entry_step.specs.Log.{log_of}
 use Rattle.server_words.specs.declared.status.Status.{Status}
 use Rattle.server_words.specs.declared.status.Status.TheVariants as status
 use Rattle.server_run.specs.declared.numbering.Numbering.{Numbering}
@@ -30,12 +31,18 @@ pub record HasGroups {D : Type 0} (tells : D → DiskTells) (journal : Journaled
   pub keeps : IfSome (tells journal.disk).bytes (λ c. groups_of (kept c) ≡ Some groups)
   pub durable : IfSome (tells journal.disk).bytes (λ c. Only c (tells journal.disk))
 
--- what groups come to that were read, each of which has an entry: their entries are numbered from 1, and the place is
--- that of the first one that doesn't fit a configuration
+-- groups were judged one after the other: the place is that of the first one that doesn't fit a configuration, and
+-- where all fit, the judge has reached the moment of the last entry
+pub record AreJudged (conf : Conf) (groups : List Group) (misfit last : Option ℕ) : Type 0 where
+  pub misfit_is : IsFirstMisfit conf groups misfit
+  pub goes_on : misfit ≡ None → last ≡ reached (log_of (numbered_of groups))
+
+-- what groups come to that were read, each of which has an entry: their entries are numbered from 1, and all of them
+-- were judged beside a configuration
 pub record IsNumbered (conf : Conf) (groups : List Group) (numbering : Numbering) : Type 0 where
   pub some : All (λ (g : Group). 0 < length g.entries) groups
   pub entries_are : numbering.entries ≡ numbered_of groups
-  pub misfit_is : IsFirstMisfit conf groups numbering.misfit
+  pub judged : AreJudged conf groups numbering.misfit numbering.judge
 
 -- a journal of which groups were read, where nothing was read before: these, in front of what is left
 pub record IsReadSoFar {D : Type 0} (tells : D → DiskTells) (conf : Conf) (old new : Journaled D)

@@ -1,7 +1,5 @@
 //! The course of a run over its book, from its opening to its last line.
 
-ghost use Rattle.entry_step.specs.Start.{first_start};
-ghost use Rattle.trigger_state.specs.Stages.{first_stage};
 ghost use Rattle.std.specs.Prelude.{◌≡◌, ◌⊎◌, ◌<◌, ◌++◌, List, IsTrue, IfOk, true, false, drop, length};
 ghost use Rattle.zbx_types.specs.declared.entries.Numbered.{Numbered};
 ghost use Rattle.outside.specs.Causes.{Rose};
@@ -84,20 +82,6 @@ pub(crate) fn held_back<D: Disk, O>(front: Front<D>, status: Status, outbox: O) 
     }
 }
 
-/// A copy of entries.
-pub(crate) fn copy_entries(
-    alloc: Global,
-    entries: &[Numbered],
-) -> Result<Many<Numbered>, OutOfMemory>
-    ensures { IfOk result (λ made. made ≡ entries.now) }
-{
-    let mut made = Many::new(alloc);
-    for entry in entries {
-        made.push(entry.copy(alloc)?)?;
-    }
-    Ok(made)
-}
-
 /// What a run ends with whose outbox failed.
 fn failed(status: Status) -> Status
     ensures worse { IsWorse status result }
@@ -127,8 +111,8 @@ fn serve_alone<S: StartName, N: RunName, W: Wire, D: Disk, O: Sink>(
     head: &mut RingHead<S, N>,
     alone: &mut Alone<S, N, O>,
 ) -> Status
-    requires { IsServing S.conf S.kept front.old head.old }
-    ensures takes { TakesOn D.tells S.conf front.old front.new (W.tells wire.old) (W.tells wire.new) turns
+    requires { IsServing S.start.stage.conf S.kept front.old head.old }
+    ensures takes { TakesOn D.tells S.start.stage.conf front.old front.new (W.tells wire.old) (W.tells wire.new) turns
         (Taken.Ended result) }
     ensures ended { IsEndedAt S.kept front.new (W.tells wire.old) (W.tells wire.new) head.new result }
     ensures outbox { result ≡ Status.OutboxFault → Rose S.outbox.faults alone.new.book.sink.faults }
@@ -169,9 +153,9 @@ where
     O: Sink + Send,
     R: Threads + Wait + Sync,
     G: Gate + Sync,
-    requires serving { IsServing S.conf S.kept front.old head.old }
+    requires serving { IsServing S.start.stage.conf S.kept front.old head.old }
     requires before { before ≡ S.outbox.faults }
-    ensures takes { TakesOn D.tells S.conf front.old front.new (W.tells wire.old) (W.tells wire.new) turns
+    ensures takes { TakesOn D.tells S.start.stage.conf front.old front.new (W.tells wire.old) (W.tells wire.new) turns
         (Taken.Ended result.1) }
     ensures ended { IsEndedAt S.kept front.new (W.tells wire.old) (W.tells wire.new) head.new result.1 }
     ensures outbox { result.1 ≡ Status.OutboxFault → Rose S.outbox.faults result.0.sink.faults }
@@ -231,10 +215,10 @@ fn finish<S: StartName, N: RunName, O: Sink>(
     ensures status { IsWorse status result.status }
     ensures lines { (entries : List Numbered) → IsSentAt S.kept head.sent entries status
         → LinesAre (course_of result.status).out S.outbox (O.tells result.outbox)
-        (drop S.outbox.held (log_lines S.conf (log_of entries))) }
+        (drop S.outbox.held (log_lines S.start (log_of entries))) }
     ensures outbox { result.status ≡ Status.OutboxFault → Rose S.outbox.faults (O.tells result.outbox).faults }
     ensures counts { result.status ≡ Status.Ok → result.tally ≡ tally_of
-        (replay (first_start S.conf) (log_of (S.kept ++ head.sent))) }
+        (replay S.start (log_of (S.kept ++ head.sent))) }
 {
     let _since = book.faults();
     match book.finish(alloc, prepared.ready(), head) {
@@ -284,10 +268,10 @@ fn close<S: StartName, N: RunName, D: Disk, O: Sink>(
     ensures entries { result.entries ≡ front.intake.entries }
     ensures status { IsWorse status result.status }
     ensures lines { LinesAre (course_of result.status).out S.outbox (O.tells result.outbox)
-        (drop S.outbox.held (log_lines S.conf (log_of front.intake.entries))) }
+        (drop S.outbox.held (log_lines S.start (log_of front.intake.entries))) }
     ensures outbox { result.status ≡ Status.OutboxFault → Rose S.outbox.faults (O.tells result.outbox).faults }
     ensures counts { result.status ≡ Status.Ok → result.counts ≡ counts_with (length front.intake.entries)
-        (tally_of (replay (first_start S.conf) (log_of front.intake.entries))) }
+        (tally_of (replay S.start (log_of front.intake.entries))) }
 {
     let Written {
         status,
@@ -316,21 +300,19 @@ fn named<S: StartName, N: RunName, W: Wire, D: Disk, O: Sink>(
     prepared: Prepared<S>,
     wire: &mut W,
     front: Front<D>,
-    kept: Many<Numbered>,
     ring: Ring<S>,
     outbox: O,
 ) -> Course<D, O>
     requires ring { ring.id ≡ N.ring }
     requires room { 0 < ring.capacity }
-    requires opened { IsOpened D.tells S.conf S.kept front }
-    requires kept { kept ≡ S.kept }
+    requires opened { IsOpened D.tells S.start.stage.conf S.kept front }
     requires outbox { O.tells outbox ≡ S.outbox }
-    ensures gone { HasGone D.tells O.tells S.conf S.kept S.outbox front turns (W.tells wire.old) (W.tells wire.new)
+    ensures gone { HasGone D.tells O.tells S.start S.kept S.outbox front turns (W.tells wire.old) (W.tells wire.new)
         result }
     ensures untouched { result.began ≡ false → (wire.new ≡ wire.old) × (result.outbox ≡ outbox) }
 {
     let (head, end) = ring.named::<N>();
-    let book = match Book::new(alloc, prepared.ready(), kept, end, outbox) {
+    let book = match Book::new(alloc, prepared.ready(), front.entries(), end, outbox) {
         Ok(book) => book,
         Err((outbox, error)) => {
             forget(prepared.into_ready());
@@ -357,21 +339,19 @@ pub(crate) fn started<S: StartName, W: Wire, D: Disk, O: Sink>(
     ready: Ready,
     wire: &mut W,
     front: Front<D>,
-    kept: Many<Numbered>,
     outbox: O,
 ) -> Course<D, O>
-    requires conf { ready ≡ first_stage S.conf }
-    requires opened { IsOpened D.tells S.conf S.kept front }
-    requires kept { kept ≡ S.kept }
+    requires conf { ready ≡ S.start.stage }
+    requires opened { IsOpened D.tells S.start.stage.conf S.kept front }
     requires outbox { O.tells outbox ≡ S.outbox }
-    ensures gone { HasGone D.tells O.tells S.conf S.kept S.outbox front turns (W.tells wire.old) (W.tells wire.new)
+    ensures gone { HasGone D.tells O.tells S.start S.kept S.outbox front turns (W.tells wire.old) (W.tells wire.new)
         result }
     ensures untouched { result.began ≡ false → (wire.new ≡ wire.old) × (result.outbox ≡ outbox) }
 {
     let prepared = Prepared::<S>::new(ready);
     match Ring::<S>::new(alloc, RING_CAPACITY) {
         Ok(ring) => {
-            named::<S, Brand, W, D, O>(alloc, turns, prepared, wire, front, kept, ring, outbox)
+            named::<S, Brand, W, D, O>(alloc, turns, prepared, wire, front, ring, outbox)
         }
         Err(OutOfMemory) => {
             forget(prepared.into_ready());
@@ -389,7 +369,6 @@ fn named_beside<S, N, W, D, O, R, G>(
     prepared: Prepared<S>,
     wire: &mut W,
     front: Front<D>,
-    kept: Many<Numbered>,
     ring: Ring<S>,
     outbox: O,
     gate: &G,
@@ -404,16 +383,15 @@ where
     G: Gate + Sync,
     requires ring { ring.id ≡ N.ring }
     requires room { 0 < ring.capacity }
-    requires opened { IsOpened D.tells S.conf S.kept front }
-    requires kept { kept ≡ S.kept }
+    requires opened { IsOpened D.tells S.start.stage.conf S.kept front }
     requires outbox { O.tells outbox ≡ S.outbox }
-    ensures gone { HasGone D.tells O.tells S.conf S.kept S.outbox front turns (W.tells wire.old) (W.tells wire.new)
+    ensures gone { HasGone D.tells O.tells S.start S.kept S.outbox front turns (W.tells wire.old) (W.tells wire.new)
         result }
     ensures untouched { result.began ≡ false → (wire.new ≡ wire.old) × (result.outbox ≡ outbox) }
 {
     let before = outbox.faults();
     let (head, end) = ring.named::<N>();
-    let book = match Book::new(alloc, prepared.ready(), kept, end, outbox) {
+    let book = match Book::new(alloc, prepared.ready(), front.entries(), end, outbox) {
         Ok(book) => book,
         Err((outbox, error)) => {
             forget(prepared.into_ready());
@@ -437,7 +415,6 @@ pub(crate) fn started_beside<S, W, D, O, R, G>(
     ready: Ready,
     wire: &mut W,
     front: Front<D>,
-    kept: Many<Numbered>,
     outbox: O,
     gate: &G,
 ) -> Course<D, O>
@@ -448,11 +425,10 @@ where
     O: Sink + Send,
     R: Threads + Wait + Sync,
     G: Gate + Sync,
-    requires conf { ready ≡ first_stage S.conf }
-    requires opened { IsOpened D.tells S.conf S.kept front }
-    requires kept { kept ≡ S.kept }
+    requires conf { ready ≡ S.start.stage }
+    requires opened { IsOpened D.tells S.start.stage.conf S.kept front }
     requires outbox { O.tells outbox ≡ S.outbox }
-    ensures gone { HasGone D.tells O.tells S.conf S.kept S.outbox front turns (W.tells wire.old) (W.tells wire.new)
+    ensures gone { HasGone D.tells O.tells S.start S.kept S.outbox front turns (W.tells wire.old) (W.tells wire.new)
         result }
     ensures untouched { result.began ≡ false → (wire.new ≡ wire.old) × (result.outbox ≡ outbox) }
 {
@@ -460,7 +436,7 @@ where
     match Ring::<S>::new(alloc, RING_CAPACITY) {
         Ok(ring) => {
             named_beside::<S, Brand, W, D, O, R, G>(
-                rt, alloc, syncers, turns, prepared, wire, front, kept, ring, outbox, gate,
+                rt, alloc, syncers, turns, prepared, wire, front, ring, outbox, gate,
             )
         }
         Err(OutOfMemory) => {

@@ -2,7 +2,6 @@
 
 ghost use Rattle.std.specs.Prelude.{◌≡◌, ◌<◌, ◌++◌, ◌∷◌, [], drop, OnOk, OnErr};
 ghost use mathlib.Core.List.{IsPrefix};
-ghost use Rattle.trigger_state.specs.Stages.{first_stage};
 ghost use Rattle.book.specs.Entries.{IsWholeLog};
 
 use book::{RingHead, RunName, StartName};
@@ -32,7 +31,7 @@ pub(crate) trait Worker<S: StartName, N: RunName> {
         ready: &Ready,
         head: &mut RingHead<S, N>,
     ) -> Result<bool, OutOfMemory>
-        requires conf { ready.now ≡ first_stage S.conf }
+        requires conf { ready.now ≡ S.start.stage }
         ensures sent { head.new.sent ≡ head.old.sent }
         ensures capacity { head.new.capacity ≡ head.old.capacity }
         ensures stops { IfOk result (λ on. on ≡ false → stops self.new) };
@@ -45,7 +44,7 @@ fn send_one<S: StartName, N: RunName, K: Worker<S, N>>(
     head: &mut RingHead<S, N>,
     worker: &mut K,
 ) -> Result<(), OutOfMemory>
-    requires whole { IsWholeLog S.conf (S.kept ++ (head.old.sent ++ entry ∷ [])) }
+    requires whole { IsWholeLog S.start (S.kept ++ (head.old.sent ++ entry ∷ [])) }
     requires room { 0 < head.old.capacity }
     ensures capacity { head.new.capacity ≡ head.old.capacity }
     ensures ok { OnOk result (head.new.sent ≡ head.old.sent ++ entry ∷ []) }
@@ -68,7 +67,7 @@ fn send_all<S: StartName, N: RunName, K: Worker<S, N>>(
     head: &mut RingHead<S, N>,
     worker: &mut K,
 ) -> Result<(), OutOfMemory>
-    requires whole { IsWholeLog S.conf (S.kept ++ (head.old.sent ++ entries.now)) }
+    requires whole { IsWholeLog S.start (S.kept ++ (head.old.sent ++ entries.now)) }
     requires room { 0 < head.old.capacity }
     ensures capacity { head.new.capacity ≡ head.old.capacity }
     ensures all { OnOk result (head.new.sent ≡ head.old.sent ++ entries.now) }
@@ -101,7 +100,7 @@ pub(crate) fn send_after<S: StartName, N: RunName, D: Disk, K: Worker<S, N>>(
     head: &mut RingHead<S, N>,
     worker: &mut K,
 ) -> Result<(), OutOfMemory>
-    requires whole { IsWholeLog S.conf (S.kept ++ (head.old.sent ++ drop first front.now.intake.entries)) }
+    requires whole { IsWholeLog S.start (S.kept ++ (head.old.sent ++ drop first front.now.intake.entries)) }
     requires room { 0 < head.old.capacity }
     ensures capacity { head.new.capacity ≡ head.old.capacity }
     ensures all { OnOk result (head.new.sent ≡ head.old.sent ++ drop first front.entry.now.intake.entries) }

@@ -44,7 +44,7 @@ fn read_all<D: Disk>(
     let mut numbering = Numbering::new(alloc);
     for _ in 0..u64::MAX {
         match journal.read_next(alloc) {
-            Ok(Some(group)) => match numbering.add(alloc, conf, group) {
+            Ok(Some(group)) => match numbering.add(conf, group) {
                 Ok(()) => {}
                 Err(OutOfMemory) => return Err(Status::OutOfMemory),
             },

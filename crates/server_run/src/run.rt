@@ -7,7 +7,7 @@ ghost use Rattle.server_run.specs.Ran.{IsUpToLine, IsRun};
 ghost use Rattle.server_run.specs.Runs.{Prints};
 ghost use Rattle.server_run.specs.Statuses.{cut_short, IsUnprinted, EndsPrinted};
 
-use crate::course::{Course, NOTHING, copy_entries, held_back, started, started_beside};
+use crate::course::{Course, NOTHING, started, started_beside};
 use crate::opening::{Begun, open};
 use crate::resuming::Refused;
 use book::write_all;
@@ -86,13 +86,7 @@ fn go<S: Source, W: Wire, D: Disk, O: Sink>(
             };
         }
     };
-    match copy_entries(alloc, front.entries()) {
-        Ok(kept) => started::<Brand, W, D, O>(alloc, turns, ready, wire, front, kept, outbox),
-        Err(OutOfMemory) => {
-            forget(ready);
-            held_back(front, Status::OutOfMemory, outbox)
-        }
-    }
+    started::<Brand, W, D, O>(alloc, turns, ready, wire, front, outbox)
 }
 
 /// Runs beside syncers up to the printed line.
@@ -153,15 +147,9 @@ where
             };
         }
     };
-    match copy_entries(alloc, front.entries()) {
-        Ok(kept) => started_beside::<Brand, W, D, O, R, G>(
-            rt, alloc, syncers, turns, ready, wire, front, kept, outbox, gate,
-        ),
-        Err(OutOfMemory) => {
-            forget(ready);
-            held_back(front, Status::OutOfMemory, outbox)
-        }
-    }
+    started_beside::<Brand, W, D, O, R, G>(
+        rt, alloc, syncers, turns, ready, wire, front, outbox, gate,
+    )
 }
 
 /// Prints the line of a status, and answers how the run ended.

@@ -1,7 +1,6 @@
 //! What the threads of a run share: the configuration, a book under a lock, and whether the run ends.
 
 ghost use Rattle.std.specs.Prelude.{◌≡◌, OnOk};
-ghost use Rattle.trigger_state.specs.Stages.{first_stage};
 
 use book::{Book, Done, FlushError, Order, RingHead, RunName, StartName};
 use entry_step::{Ready, Steps};
@@ -17,12 +16,12 @@ use zbx_types::OutOfMemory;
 pub(crate) struct Prepared<S: StartName> {
     ready: Ready,
     of: PhantomData<S>,
-    ghost conf: { ready ≡ first_stage S.conf },
+    ghost conf: { ready ≡ S.start.stage },
 }
 
 impl<S: StartName> Prepared<S> {
     pub(crate) fn new(ready: Ready) -> Prepared<S>
-        requires { ready ≡ first_stage S.conf }
+        requires { ready ≡ S.start.stage }
     {
         Prepared {
             ready,
@@ -31,13 +30,13 @@ impl<S: StartName> Prepared<S> {
     }
 
     pub(crate) fn ready(&self) -> &Ready
-        ensures { result.now ≡ first_stage S.conf }
+        ensures { result.now ≡ S.start.stage }
     {
         &self.ready
     }
 
     pub(crate) fn into_ready(self) -> Ready
-        ensures { result ≡ first_stage S.conf }
+        ensures { result ≡ S.start.stage }
     {
         self.ready
     }

@@ -1,4 +1,4 @@
-use Rattle.std.proofs.Common.{◌≡◌, ◌<◌, ◌-◌, ◌∷◌, ◌∙◌, sym, refl, ap, arith, get_or, set, length, length-set}
+use Rattle.std.proofs.Common.{◌≡◌, ◌<◌, ◌+◌, ◌-◌, ◌∷◌, ◌∙◌, sym, refl, ap, arith, get_or, set, length, length-set}
 use Rattle.std.specs.Vec.Iter.{into_iter_items}
 use Rattle.book.proofs.Batches.{keep_more}
 use Rattle.book.proofs.inputs.keep.Goals as goal
@@ -19,6 +19,6 @@ loop-list-preserved c =
     record {
       counted = omega (arith, fewer, count, before);
       left = omega (arith, count, left);
-      size = length-set c.loop-list.made.items (e.number - 1) v ∙ c.loop-list.invariant.size;
-      kept = λ n l. keep_more c.loop-list.made.items (set c.loop-list.made.items (e.number - 1) v) c.args.entries.now c.loop-list.place n d v rest (into_iter_items c.loop-list.list-iterator) inside refl bounds.0 (omega (arith, bounds.1, c.loop-list.invariant.size)) l is ∙ c.loop-list.invariant.kept n l;
+      size = length-set c.loop-list.made.items (e.number - (c.args.before + 1)) v ∙ c.loop-list.invariant.size;
+      kept = λ n l. keep_more c.args.before c.loop-list.made.items (set c.loop-list.made.items (e.number - (c.args.before + 1)) v) c.args.entries.now c.loop-list.place n d v rest (into_iter_items c.loop-list.list-iterator) inside refl (bounds.0, omega (arith, bounds.1, c.loop-list.invariant.size)) l is ∙ c.loop-list.invariant.kept n l;
     }

@@ -9,5 +9,5 @@ invariant-loop-list l = record {
   counted : into_iter_len l.list-iterator ≡ length (into_iter_items l.list-iterator);
   left : l.place + length (into_iter_items l.list-iterator) ≡ length l.entries;
   size : length l.made.items ≡ length l.fn.made.items;
-  kept : (n : ℕ) → 0 < n → keeping (made_at l.made.items) (drop l.place l.entries) (into_iter_items l.list-iterator) n ≡ keeping (made_at l.fn.made.items) l.entries l.fn.lists n;
+  kept : (n : ℕ) → l.before < n → keeping (made_at l.before l.made.items) (drop l.place l.entries) (into_iter_items l.list-iterator) n ≡ keeping (made_at l.before l.fn.made.items) l.entries l.fn.lists n;
 }

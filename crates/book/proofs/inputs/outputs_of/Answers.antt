@@ -3,37 +3,36 @@ use Rattle.std.specs.Prelude.{All}
 use Rattle.zbx_types.specs.declared.entries.Numbered.{Numbered}
 use Rattle.entry_step.specs.Parts.{IsSame, WorksOut}
 use Rattle.syncer_gate.proofs.Ended.{not_both}
-use Rattle.book.specs.Progress.{OrderView, DoneView, AreHere, AreOutputs, entries_with}
+use Rattle.book.specs.Progress.{OrderView, DoneView, AreHere, IsAmong, AreOutputs, entries_with}
 use Rattle.book.proofs.Batches.{within_ones}
 use Rattle.book.proofs.Claiming.{here_with, with_here, fresh_outputs}
 use Rattle.book.proofs.inputs.outputs_of.Goals as goal
-use Rattle.trigger_state.specs.Stages.{first_stage}
 
 pub is_usable-requires : goal.is_usable-requires
 is_usable-requires g c =
     let numbers = ap (λ (o : OrderView). o.batch.numbers) c.order.view_is ∙ ap (λ (d : DoneView). d.order.batch.numbers) c.done.view_is in
-    subst (All (λ (e : Numbered). (0 < e.number) × (e.number ≤ length c.args.entries.now))) (sym c.as_slice.ensures)
-    (within_ones c.args.entries.now c.order.inside.entries c.args.done.order.batch.numbers (c.order.invariant.numbers ∙ numbers) c.requires.ready.within)
+    subst (All (λ (e : Numbered). IsAmong c.args.all.before (length c.args.all.entries.now) e.number)) (sym c.as_slice.ensures)
+    (within_ones c.args.all.before c.args.all.entries.now c.order.inside.entries c.args.done.order.batch.numbers (c.order.invariant.numbers ∙ numbers) c.requires.ready.within)
 
 pub returns-then-is_usable-clause-entries : goal.returns-then-is_usable-clause-entries
 returns-then-is_usable-clause-entries g c =
     let numbers = ap (λ (o : OrderView). o.batch.numbers) c.order.view_is ∙ ap (λ (d : DoneView). d.order.batch.numbers) c.done.view_is in
     let usable = c.is_usable.ensures.0 c.if-is_usable.true in
-    sym (here_with g.S.StartName.conf c.args.cells.now c.args.entries.now c.order.inside.entries c.args.done.order.batch.numbers c.requires.ready (c.order.invariant.numbers ∙ numbers) (subst (AreHere c.args.entries.now) c.as_slice.ensures usable.0))
+    sym (here_with c.args.all.before g.S.StartName.start.stage c.args.cells.now c.args.all.entries.now c.order.inside.entries c.args.done.order.batch.numbers c.requires.ready (c.order.invariant.numbers ∙ numbers) (subst (AreHere c.args.all.before c.args.all.entries.now) c.as_slice.ensures usable.0))
 
 pub returns-then-is_usable-clause-made : goal.returns-then-is_usable-clause-made
 returns-then-is_usable-clause-made g c =
     let numbers = ap (λ (o : OrderView). o.batch.numbers) c.order.view_is ∙ ap (λ (d : DoneView). d.order.batch.numbers) c.done.view_is in
     let usable = c.is_usable.ensures.0 c.if-is_usable.true in
-    fresh_outputs g.S.StartName.conf c.args.cells.now c.args.entries.now c.order.inside.entries c.args.done.order.batch.numbers c.order.inside.part c.done.inside.part c.done.inside.made c.requires.ready
-    (here_with g.S.StartName.conf c.args.cells.now c.args.entries.now c.order.inside.entries c.args.done.order.batch.numbers c.requires.ready (c.order.invariant.numbers ∙ numbers) (subst (AreHere c.args.entries.now) c.as_slice.ensures usable.0))
+    fresh_outputs c.args.all.before g.S.StartName.start.stage c.args.cells.now c.args.all.entries.now c.order.inside.entries c.args.done.order.batch.numbers c.order.inside.part c.done.inside.part c.done.inside.made c.requires.ready
+    (here_with c.args.all.before g.S.StartName.start.stage c.args.cells.now c.args.all.entries.now c.order.inside.entries c.args.done.order.batch.numbers c.requires.ready (c.order.invariant.numbers ∙ numbers) (subst (AreHere c.args.all.before c.args.all.entries.now) c.as_slice.ensures usable.0))
     c.order.invariant.workable usable.1
-    (subst (λ (o : OrderView). WorksOut (first_stage g.S.StartName.conf) o.entries o.part c.done.inside.part c.done.inside.made) (sym c.order.view_is) c.done.invariant)
+    (subst (λ (o : OrderView). WorksOut g.S.StartName.start.stage o.entries o.part c.done.inside.part c.done.inside.made) (sym c.order.view_is) c.done.invariant)
 
 pub returns-in-Ok-clause-made : goal.returns-in-Ok-clause-made
 returns-in-Ok-clause-made g c =
     let numbers = ap (λ (o : OrderView). o.batch.numbers) c.order.view_is ∙ ap (λ (d : DoneView). d.order.batch.numbers) c.done.view_is in
-    subst (λ ns. AreOutputs g.S.StartName.conf c.args.cells.now (entries_with ns c.args.entries.now) c.in-Ok.again.part c.in-Ok.again.made) (c.as_slice-numbers.ensures ∙ numbers) c.in-Ok.ensures.made
+    subst (λ ns. AreOutputs g.S.StartName.start.stage c.args.cells.now (entries_with ns c.args.all.entries.now) c.in-Ok.again.part c.in-Ok.again.made) (c.as_slice-numbers.ensures ∙ numbers) c.in-Ok.ensures.made
 
 pub returns-in-Ok-clause-uncounted : goal.returns-in-Ok-clause-uncounted
 returns-in-Ok-clause-uncounted g c = λ here same.
@@ -41,7 +40,7 @@ returns-in-Ok-clause-uncounted g c = λ here same.
     let entries = ap (λ (o : OrderView). o.entries) c.order.view_is ∙ ap (λ (d : DoneView). d.order.entries) c.done.view_is in
     let part = ap (λ (o : OrderView). o.part) c.order.view_is ∙ ap (λ (d : DoneView). d.order.part) c.done.view_is in
     absurd (not_both c.is_usable.result (c.is_usable.ensures.1 (
-      subst (AreHere c.args.entries.now) (sym c.as_slice.ensures) (with_here g.S.StartName.conf c.args.cells.now c.args.entries.now c.order.inside.entries c.args.done.order.batch.numbers c.requires.ready (c.order.invariant.numbers ∙ numbers) (here ∙ sym entries)),
+      subst (AreHere c.args.all.before c.args.all.entries.now) (sym c.as_slice.ensures) (with_here c.args.all.before g.S.StartName.start.stage c.args.cells.now c.args.all.entries.now c.order.inside.entries c.args.done.order.batch.numbers c.requires.ready (c.order.invariant.numbers ∙ numbers) (here ∙ sym entries)),
       subst (IsSame c.args.cells.now) (sym part) same,
     )) c.if-is_usable.false)
 
@@ -51,6 +50,6 @@ returns-in-Err-clause-uncounted g c = λ here same.
     let entries = ap (λ (o : OrderView). o.entries) c.order.view_is ∙ ap (λ (d : DoneView). d.order.entries) c.done.view_is in
     let part = ap (λ (o : OrderView). o.part) c.order.view_is ∙ ap (λ (d : DoneView). d.order.part) c.done.view_is in
     absurd (not_both c.is_usable.result (c.is_usable.ensures.1 (
-      subst (AreHere c.args.entries.now) (sym c.as_slice.ensures) (with_here g.S.StartName.conf c.args.cells.now c.args.entries.now c.order.inside.entries c.args.done.order.batch.numbers c.requires.ready (c.order.invariant.numbers ∙ numbers) (here ∙ sym entries)),
+      subst (AreHere c.args.all.before c.args.all.entries.now) (sym c.as_slice.ensures) (with_here c.args.all.before g.S.StartName.start.stage c.args.cells.now c.args.all.entries.now c.order.inside.entries c.args.done.order.batch.numbers c.requires.ready (c.order.invariant.numbers ∙ numbers) (here ∙ sym entries)),
       subst (IsSame c.args.cells.now) (sym part) same,
     )) c.if-is_usable.false)

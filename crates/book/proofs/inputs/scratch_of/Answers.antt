@@ -1,12 +1,12 @@
-use Rattle.entry_step.specs.Start.{first_start}
 use Rattle.std.proofs.Common.{◌≡◌, ◌∷◌, [], ◌++◌, Some, List, ap, sym, subst, ◌∙◌}
 use Rattle.std.specs.Option.{option_to_list}
 use Rattle.entry_step.specs.Represents.{Holds, CellsView}
 use Rattle.book.proofs.Batches.{all_popped}
+use Rattle.book.specs.Progress.{IsBlank}
 use Rattle.book.proofs.inputs.scratch_of.Goals as goal
 
 pub returns-in-Some-clause-cells : goal.returns-in-Some-clause-cells
-returns-in-Some-clause-cells g c = (all_popped (λ cells. Holds (first_start g.S.StartName.conf) cells []) c.args.spare.now.items c.pop.new.self.items c.in-Some.cells c.in-Some.ensures.items c.requires.spare).1
+returns-in-Some-clause-cells g c = (all_popped (IsBlank g.S.StartName.start.stage) c.args.spare.now.items c.pop.new.self.items c.in-Some.cells c.in-Some.ensures.items c.requires.spare).1
 
 pub returns-in-Some-clause-spare : goal.returns-in-Some-clause-spare
-returns-in-Some-clause-spare g c = (all_popped (λ cells. Holds (first_start g.S.StartName.conf) cells []) c.args.spare.now.items c.pop.new.self.items c.in-Some.cells c.in-Some.ensures.items c.requires.spare).0
+returns-in-Some-clause-spare g c = (all_popped (IsBlank g.S.StartName.start.stage) c.args.spare.now.items c.pop.new.self.items c.in-Some.cells c.in-Some.ensures.items c.requires.spare).0

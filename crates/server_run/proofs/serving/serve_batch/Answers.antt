@@ -8,7 +8,7 @@ use Rattle.server_run.proofs.serving.serve_batch.Goals as goal
 pub send_after-sent-requires-clause-whole : goal.send_after-sent-requires-clause-whole
 send_after-sent-requires-clause-whole g c =
     let count : length c.entries-from.result.now ≡ length c.args.front.now.intake.entries = ap (λ (l : List Numbered). length l) c.entries-from.ensures in
-    batch_whole _ _ _ c.requires.conf _ _ _ _ _ _ _ _ _ c.take_batch-count.ensures.took c.requires.serving.sound _ _ c.requires.serving.sent _ count
+    batch_whole _ _ _ c.requires.conf _ _ _ _ _ _ _ _ _ c.take_batch-count.ensures.took c.requires.serving.sound _ _ c.requires.serving.sent _ count g.S.StartName.start g.S.StartName.first
 
 pub returns-in-None-clause-sent : goal.returns-in-None-clause-sent
 returns-in-None-clause-sent g c =

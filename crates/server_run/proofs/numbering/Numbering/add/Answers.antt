@@ -6,4 +6,4 @@ use Rattle.server_run.proofs.numbering.Numbering.add.Goals as goal
 pub returns : goal.returns
 returns c = λ groups some are.
     let more : c.number_group.new.numbered ≡ with_group c.args.self.now.entries c.args.group.entries = search rules in
-    numbers_more c.args.conf.now groups c.args.group c.args.self.now (record { entries = c.number_group.new.numbered; misfit = c.in_ok-group.misfit }) some are more (c.in_ok-group.ensures.misfit groups are)
+    numbers_more c.args.conf.now groups c.args.group c.args.self.now (record { entries = c.number_group.new.numbered; misfit = c.misfit_with-self.result; judge = c.misfit_with-self.new.judge }) some are more (c.misfit_with-self.ensures groups are.judged)
