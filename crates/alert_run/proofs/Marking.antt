@@ -15,8 +15,8 @@ use Rattle.gated_file.proofs.Openings.{and_then, leaves_less, front_same}
 use Rattle.gated_file.proofs.Fronts.{closed, damaged, onto-damaged, front_none, front_goes_on, kept_short, kept_long, kept_other}
 use Rattle.gated_file.proofs.Adding.{ready_keeps, ready_after, moments_after}
 use Rattle.alert_run.specs.Marks.{byte_of, group_of, size_of, mark_form, mark_of, marks_in, EachKeeps, KeepsBeforeOrWith, KeepsAsOneOf, gate_behind, IsSettled, mark_behind, IsOurs, IsOpened, IsRead}
-use Rattle.alert_run.specs.declared.types.Mark.{Mark}
-use Rattle.alert_run.specs.declared.types.Mark.TheVariants.{Done, Failed}
+use Rattle.alert_queue.specs.declared.types.Mark.{Mark}
+use Rattle.alert_queue.specs.declared.types.Mark.TheVariants.{Done, Failed}
 
 -- ---- bytes behind a gate
 

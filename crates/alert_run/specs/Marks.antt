@@ -2,8 +2,8 @@
 use Rattle.std.specs.Prelude.{◌≡◌, ◌⊎◌, ◌<◌, ◌≤◌, ℕ, ◌+◌, ◌*◌, ◌==◌, ◌||◌, Bool, false, List, [], ◌∷◌, ◌++◌, length, take, get_or, map, Option, Some, None, option_map, IfSome, Result, Ok, Err, if◌then◌else◌, codes}
 use Rattle.outside.specs.Disk.{DiskTells, Only}
 use Rattle.gated_file.specs.Groups.{Form, kept, groups_of, IsFront, IsReady}
-use Rattle.alert_run.specs.declared.types.Mark.{Mark}
-use Rattle.alert_run.specs.declared.types.Mark.TheVariants.{Done, Failed}
+use Rattle.alert_queue.specs.declared.types.Mark.{Mark}
+use Rattle.alert_queue.specs.declared.types.Mark.TheVariants.{Done, Failed}
 use Rattle.alert_run.specs.declared.types.MarksError.{MarksError}
 
 -- what contracts see of marks: their disk, the list, and whether the disk has failed

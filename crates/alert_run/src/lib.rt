@@ -21,6 +21,7 @@ mod notes;
 mod reading;
 mod types;
 
+pub use alert_queue::Mark;
 pub use marks::Marks;
 pub use notes::messages;
-pub use types::{AddError, Mark, MarksError, Note, NotesError};
+pub use types::{AddError, MarksError, Note, NotesError};

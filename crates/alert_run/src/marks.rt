@@ -10,7 +10,8 @@ ghost use Rattle.alert_run.specs.declared.types.AddError.TheVariants as add_erro
 ghost use Rattle.alert_run.specs.declared.types.MarksError.TheVariants as error;
 
 use crate::reading::read_marks;
-use crate::types::{AddError, Mark, MarksError};
+use crate::types::{AddError, MarksError};
+use alert_queue::Mark;
 use gated_file::{keep, prepare};
 use outside::{Disk, Failed};
 use std::alloc::Global;

@@ -9,7 +9,8 @@ ghost use Rattle.gated_file.specs.Groups.Kept.{Damaged};
 ghost use Rattle.alert_run.specs.Marks.{mark_form, mark_behind, gate_behind, marks_in, IsOurs, IsOpened, IsRead, IsSettled};
 ghost use Rattle.alert_run.specs.declared.types.MarksError.TheVariants as error;
 
-use crate::types::{Mark, MarksError};
+use crate::types::MarksError;
+use alert_queue::Mark;
 use gated_file::read_whole;
 use outside::{Disk, Trouble};
 use std::alloc::Global;

@@ -1,4 +1,4 @@
-//! Notes, marks, and why calls stop.
+//! Notes, and why calls stop.
 
 use std::alloc::AllocFailed;
 use thiserror::Error;
@@ -13,15 +13,6 @@ pub struct Note {
     pub subject: Text,
     /// Its body.
     pub body: Text,
-}
-
-/// What became of a note.
-#[derive(Clone, Copy, Debug, PartialEq, Eq)]
-pub enum Mark {
-    /// A try succeeded.
-    Done,
-    /// As many tries as are allowed failed.
-    Failed,
 }
 
 /// Why there are no notes.

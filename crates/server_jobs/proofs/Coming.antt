@@ -7,7 +7,7 @@ use Rattle.outside.specs.Spawning.{SpawnerTells}
 use Rattle.gated_file.proofs.Moments.{if_some, told_of}
 use Rattle.alert_run.specs.Marks.{marks_in, EachKeeps}
 use Rattle.alert_run.specs.Notes.{notes_of}
-use Rattle.alert_run.specs.declared.types.Mark.{Mark}
+use Rattle.alert_queue.specs.declared.types.Mark.{Mark}
 use Rattle.alert_run.specs.declared.types.Note.{Note}
 use Rattle.server_words.specs.Words.{alerts_plan_of}
 use Rattle.server_words.specs.declared.words.Plan.{Plan}

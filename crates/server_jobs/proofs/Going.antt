@@ -1,5 +1,5 @@
 -- How the tries of notes go on, and what crashes leave meanwhile.
-use Rattle.std.proofs.Common.{◌≡◌, ◌≢◌, ◌⊎◌, ◌∙◌, inl, inr, ℕ, zero, suc, ◌+◌, ◌-◌, ◌<◌, ◌≤◌, Bool, true, false, List, [], ◌∷◌, ◌++◌, length, map, take, drop, get_or, Option, Some, None, IfSome, Result, Ok, Err, refl, sym, ap, subst, arith, append-nil, length-append, true≢false}
+use Rattle.std.proofs.Common.{◌≡◌, ◌≢◌, ◌∙◌, inl, inr, ℕ, zero, suc, ◌+◌, ◌-◌, ◌<◌, ◌≤◌, Bool, true, false, List, [], ◌∷◌, ◌++◌, length, map, drop, get_or, Option, Some, None, IfSome, Result, Ok, Err, refl, sym, ap, subst, arith, append-nil, true≢false}
 use Rattle.std.specs.Prelude.{is_some, is_ok}
 use Rattle.std.proofs.lemmas.Bool.{cases_lt}
 use Rattle.std.proofs.lemmas.List.{length-drop, take-append-le, take_all}
@@ -9,9 +9,9 @@ use Rattle.gated_file.proofs.Moments.{if_some, told_of, started}
 use Rattle.gated_file.proofs.Openings.{and_then, leaves_less}
 use Rattle.alert_run.specs.Marks.{marks_in, EachKeeps, KeepsBeforeOrWith, KeepsAsOneOf}
 use Rattle.alert_run.specs.declared.types.AddError.{AddError}
-use Rattle.alert_run.specs.declared.types.Mark.{Mark}
+use Rattle.alert_queue.specs.declared.types.Mark.{Mark}
 use Rattle.alert_run.specs.declared.types.Note.{Note}
-use Rattle.server_jobs.specs.Tries.{Tried, Tries, TriesOne, mark_of}
+use Rattle.server_jobs.specs.Tries.{Tried, Tries, mark_of}
 use Rattle.server_jobs.specs.Working.{KeepsFront, KeepsSome, Works, Marks, with_mark}
 use Rattle.server_jobs.specs.Alerts.{KeepsThrough}
 use Rattle.server_jobs.proofs.Runs.{tries_none, tries_more, marks_push, counts}
@@ -54,7 +54,7 @@ module _ (command : List ℕ) (limit : ℕ) (notes : List Note) (s0 s s' : Spawn
     there = is ∙ ap (λ (n : ℕ). get_or notes n note) (counts before list m.tries m.marks_are) ∙ sym (get_drop notes (length before) (length m.tries) note)
 
     -- one note more that has its mark
-    pub made_more : (r : Result (Unit {0}) AddError) → r ≡ Ok tt → Marks command limit note s s' list list' r → Made command limit notes s0 s' before list'
+    pub made_more : (r : Result (Unit {0}) AddError) → r ≡ Ok tt → Marks command limit (note.recipient ∷ note.subject ∷ note.body ∷ []) s s' list list' r → Made command limit notes s0 s' before list'
     made_more r ok step = record {
       tries = m.tries ++ step.tries.tried ∷ [];
       tried = tries_more command limit (drop (length before) notes) s0 s s' m.tries note step.mark m.tried fits there step.tries;
@@ -62,7 +62,7 @@ module _ (command : List ℕ) (limit : ℕ) (notes : List Note) (s0 s s' : Spawn
     }
 
     -- and one whose mark was refused
-    pub works_more : (r : Result (Unit {0}) AddError) (e : AddError) → r ≡ Err e → Marks command limit note s s' list list' r → Works command limit notes s0 s' before list'
+    pub works_more : (r : Result (Unit {0}) AddError) (e : AddError) → r ≡ Err e → Marks command limit (note.recipient ∷ note.subject ∷ note.body ∷ []) s s' list list' r → Works command limit notes s0 s' before list'
     works_more r e err step = record {
       tries = m.tries ++ step.tries.tried ∷ [];
       tried = tries_more command limit (drop (length before) notes) s0 s s' m.tries note step.mark m.tried fits there step.tries;
@@ -70,22 +70,19 @@ module _ (command : List ℕ) (limit : ℕ) (notes : List Note) (s0 s s' : Spawn
     }
 
     -- at an Ok of a try
-    pub made_ok : (r : Result (Unit {0}) AddError) → is_ok r ≡ true → Marks command limit note s s' list list' r ⊎ ((s' ≡ s) × (list' ≡ list) × (is_ok r ≡ false)) → Made command limit notes s0 s' before list'
-    made_ok (Ok x) ok (inl step) = made_more (Ok x) refl step
-    made_ok (Ok x) ok (inr spent) = absurd (true≢false spent.2)
+    pub made_ok : (r : Result (Unit {0}) AddError) → is_ok r ≡ true → Marks command limit (note.recipient ∷ note.subject ∷ note.body ∷ []) s s' list list' r → Made command limit notes s0 s' before list'
+    made_ok (Ok x) ok step = made_more (Ok x) refl step
     made_ok (Err e) ok step = absurd (true≢false (sym ok))
 
     -- the marks have one more then
-    pub list_grows : (r : Result (Unit {0}) AddError) → is_ok r ≡ true → Marks command limit note s s' list list' r ⊎ ((s' ≡ s) × (list' ≡ list) × (is_ok r ≡ false)) → (mark : Mark) × (list' ≡ list ++ mark ∷ [])
-    list_grows (Ok x) ok (inl step) = (step.mark, step.list_is)
-    list_grows (Ok x) ok (inr spent) = absurd (true≢false spent.2)
+    pub list_grows : (r : Result (Unit {0}) AddError) → is_ok r ≡ true → Marks command limit (note.recipient ∷ note.subject ∷ note.body ∷ []) s s' list list' r → (mark : Mark) × (list' ≡ list ++ mark ∷ [])
+    list_grows (Ok x) ok step = (step.mark, step.list_is)
     list_grows (Err e) ok step = absurd (true≢false (sym ok))
 
     -- and at an error
-    pub works_err : (r : Result (Unit {0}) AddError) → is_ok r ≡ false → Marks command limit note s s' list list' r ⊎ ((s' ≡ s) × (list' ≡ list) × (is_ok r ≡ false)) → Works command limit notes s0 s' before list'
+    pub works_err : (r : Result (Unit {0}) AddError) → is_ok r ≡ false → Marks command limit (note.recipient ∷ note.subject ∷ note.body ∷ []) s s' list list' r → Works command limit notes s0 s' before list'
     works_err (Ok x) err step = absurd (true≢false err)
-    works_err (Err e) err (inl step) = works_more (Err e) e refl step
-    works_err (Err e) err (inr spent) = subst (λ (l : List Mark). Works command limit notes s0 s' before l) (sym spent.1) (subst (λ (t : SpawnerTells). Works command limit notes s0 t before list) (sym spent.0) (made_works command limit notes s0 s before list m))
+    works_err (Err e) err step = works_more (Err e) e refl step
 
 -- ---- crashes
 

@@ -1,3 +1,4 @@
 pub mod Runs
+pub mod Queueing
 pub mod Going
 pub mod Coming

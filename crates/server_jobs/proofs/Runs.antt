@@ -1,13 +1,13 @@
 -- Runs that are made one after the other.
-use Rattle.std.proofs.Common.{◌≡◌, ◌∙◌, ℕ, zero, suc, ◌+◌, ◌-◌, ◌^◌, ◌<◌, ◌≤◌, min, Bool, true, false, List, [], ◌∷◌, ◌++◌, length, map, drop, get_or, replicate, Option, Some, None, IfSome, Result, Ok, Err, true≢false, refl, sym, ap, subst, arith, append_assoc, append-nil, length-append}
+use Rattle.std.proofs.Common.{◌≡◌, ◌∙◌, ℕ, zero, suc, ◌+◌, ◌-◌, ◌<◌, ◌≤◌, true, false, List, [], ◌∷◌, ◌++◌, length, map, get_or, replicate, Option, Some, None, Result, Ok, Err, true≢false, refl, sym, ap, subst, arith, append_assoc, append-nil, length-append}
 use Rattle.std.specs.Prelude.{is_ok, OnErr}
 use Rattle.outside.specs.Causes.{Rose}
 use Rattle.outside.specs.Spawning.{SpawnerTells, AddsRun}
 use Rattle.outside.specs.declared.spawner.Run.{Run}
-use Rattle.alert_run.specs.declared.types.Mark.{Mark}
-use Rattle.alert_run.specs.declared.types.Mark.TheVariants.{Done, Failed}
+use Rattle.alert_queue.specs.declared.types.Mark.{Mark}
+use Rattle.alert_queue.specs.declared.types.Mark.TheVariants.{Done, Failed}
 use Rattle.alert_run.specs.declared.types.Note.{Note}
-use Rattle.server_jobs.specs.Tries.{Tried, IsWhole, AreWhole, mark_of, runs_with, runs_of, all_runs, count_failed, AddsRuns, RisenBy, Tries, TriesOne}
+use Rattle.server_jobs.specs.Tries.{Tried, IsWhole, AreWhole, mark_of, runs_of, all_runs, count_failed, AddsRuns, RisenBy, Tries, TriesOne}
 
 pub adds_none : (o : Option (List Run)) → AddsRuns o o []
 adds_none None = tt
@@ -32,11 +32,12 @@ pub adds_one : (a b : Option (List Run)) (run : Run) → AddsRun a b run → Add
 adds_one a None run p = tt
 adds_one a (Some now) run p = p
 
-replicate_push : (n : ℕ) (x : Run) → replicate n x ++ x ∷ [] ≡ replicate (n + 1) x
+-- one more of the same
+pub replicate_push : {A : Type 0} (n : ℕ) (x : A) → replicate n x ++ x ∷ [] ≡ replicate (n + 1) x
 replicate_push zero x = refl
-replicate_push (suc n) x =
+replicate_push {A} (suc n) x =
     let same : suc n + 1 ≡ suc (n + 1) = omega arith in
-    ap (λ (l : List Run). x ∷ l) (replicate_push n x) ∙ ap (λ (k : ℕ). replicate k x) (sym same)
+    ap (λ (l : List A). x ∷ l) (replicate_push n x) ∙ ap (λ (k : ℕ). replicate k x) (sym same)
 
 -- what is said of an error
 pub rose_of : {T E : Type 0} (r : Result T E) (P : Type 0) → is_ok r ≡ false → OnErr r P → P

@@ -7,7 +7,7 @@ use Rattle.gated_file.specs.Groups.{kept}
 use Rattle.gated_file.specs.Groups.Kept.{NotOurs, Damaged}
 use Rattle.alert_run.specs.Marks.{mark_form, marks_in, EachKeeps, KeepsAsOneOf}
 use Rattle.alert_run.specs.Notes.{notes_of}
-use Rattle.alert_run.specs.declared.types.Mark.{Mark}
+use Rattle.alert_queue.specs.declared.types.Mark.{Mark}
 use Rattle.alert_run.specs.declared.types.MarksError.{MarksError}
 use Rattle.alert_run.specs.declared.types.MarksError.TheVariants as error
 use Rattle.alert_run.specs.declared.types.Note.{Note}

@@ -1,4 +1,5 @@
 pub mod Tries
+pub mod Queueing
 pub mod Working
 pub mod Alerts
 pub mod Reports

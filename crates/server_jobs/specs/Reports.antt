@@ -2,8 +2,8 @@
 use Rattle.std.specs.Prelude.{◌≡◌, ◌⊎◌, ℕ, Bool, true, false, List, length}
 use Rattle.std.specs.List.{filter}
 use Rattle.outside.specs.Tells.{SinkTells}
-use Rattle.alert_run.specs.declared.types.Mark.{Mark}
-use Rattle.alert_run.specs.declared.types.Mark.TheVariants.{Done, Failed}
+use Rattle.alert_queue.specs.declared.types.Mark.{Mark}
+use Rattle.alert_queue.specs.declared.types.Mark.TheVariants.{Done, Failed}
 use Rattle.server_words.specs.Printed.{alerts_text, printed_text}
 use Rattle.server_words.specs.declared.status.Counts.{Counts}
 use Rattle.server_words.specs.declared.status.Status.{Status}

@@ -3,8 +3,8 @@ use Rattle.std.specs.Prelude.{◌≡◌, ◌<◌, ◌≤◌, ℕ, ◌+◌, ◌-�
 use Rattle.outside.specs.Spawning.{SpawnerTells}
 use Rattle.outside.specs.declared.spawner.Run.{Run}
 use Rattle.alert_run.specs.declared.types.Note.{Note}
-use Rattle.alert_run.specs.declared.types.Mark.{Mark}
-use Rattle.alert_run.specs.declared.types.Mark.TheVariants.{Done, Failed}
+use Rattle.alert_queue.specs.declared.types.Mark.{Mark}
+use Rattle.alert_queue.specs.declared.types.Mark.TheVariants.{Done, Failed}
 
 -- the tries of a note: how many failed, and whether one succeeded behind them
 pub record Tried : Type 0 where

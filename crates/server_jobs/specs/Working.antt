@@ -6,7 +6,7 @@ use Rattle.outside.specs.Spawning.{SpawnerTells}
 use Rattle.alert_run.specs.Marks.{Marked, marks_in}
 use Rattle.alert_run.specs.declared.types.AddError.{AddError}
 use Rattle.alert_run.specs.declared.types.AddError.TheVariants as add_error
-use Rattle.alert_run.specs.declared.types.Mark.{Mark}
+use Rattle.alert_queue.specs.declared.types.Mark.{Mark}
 use Rattle.alert_run.specs.declared.types.Note.{Note}
 use Rattle.server_words.specs.declared.status.Status.{Status}
 use Rattle.server_words.specs.declared.status.Status.TheVariants as status
@@ -32,10 +32,10 @@ abbrev pub with_mark : Result (Unit {0}) AddError → List Mark → Mark → Lis
 with_mark (Ok done) marks mark = marks ++ mark ∷ []
 with_mark (Err error) marks mark = marks
 
--- a note was tried, and its mark was to be added to others: at Ok it was
-pub record Marks (command : List ℕ) (limit : ℕ) (note : Note) (spawner spawner' : SpawnerTells) (before now : List Mark) (result : Result (Unit {0}) AddError) : Type 0 where
+-- a note with these texts was tried, and its mark was to be added to others: at Ok it was
+pub record Marks (command : List ℕ) (limit : ℕ) (texts : List (List ℕ)) (spawner spawner' : SpawnerTells) (before now : List Mark) (result : Result (Unit {0}) AddError) : Type 0 where
   pub mark : Mark
-  pub tries : TriesOne command (note.recipient ∷ note.subject ∷ note.body ∷ []) limit spawner spawner' mark
+  pub tries : TriesOne command texts limit spawner spawner' mark
   pub list_is : now ≡ with_mark result before mark
 
 -- why the tries ended: each note has its mark; there were more marks than notes; the disk failed; or memory was refused

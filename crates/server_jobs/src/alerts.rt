@@ -1,6 +1,6 @@
 //! The top call for alerts.
 
-ghost use Rattle.std.specs.Prelude.{◌≡◌, ◌≢◌, ◌⊎◌, ◌≤◌, [], None, false, length, is_some, IfSome, IfOk, IfErr};
+ghost use Rattle.std.specs.Prelude.{◌≡◌, ◌≢◌, ◌⊎◌, ◌≤◌, ◌<◌, ◌^◌, [], None, false, length, is_some, IfSome, IfOk, IfErr};
 ghost use Rattle.outside.specs.Causes.{Rose};
 ghost use Rattle.outside.specs.Disk.{LeavesOnly};
 ghost use Rattle.alert_run.specs.Marks.{EachKeeps};
@@ -37,6 +37,7 @@ pub struct Alerted<D> {
 #[tactic(auto, using(crate::proofs::Coming::whole_text, crate::proofs::Coming::long_text))]
 fn read_lines<S: Source>(alloc: Global, lines: &mut S) -> Result<Bytes, Status>
     ensures read { IfOk result (λ bytes. IfSome (S.left lines.old) (λ all. (bytes ≡ all) × (length all ≤ 1073741824))) }
+    ensures few { IfOk result (λ bytes. length bytes ≤ 1073741824) }
     ensures unread { IfErr result (IsUnread (S.left lines.old) (S.faults lines.old) (S.faults lines.new)) }
     ensures later { S.faults lines.old ≤ S.faults lines.new }
 {
@@ -52,6 +53,7 @@ fn read_lines<S: Source>(alloc: Global, lines: &mut S) -> Result<Bytes, Status>
 #[tactic(auto, using(crate::proofs::Coming::has_notes, crate::proofs::Coming::has_bad))]
 fn read_notes<S: Source>(alloc: Global, lines: &mut S) -> Result<Many<Note>, Status>
     ensures read { IfOk result (λ notes. IfSome (S.left lines.old) (HasNotes notes)) }
+    ensures few { IfOk result (λ notes. length notes < 2 ^ 32) }
     ensures unread { IfErr result (IsUnread (S.left lines.old) (S.faults lines.old) (S.faults lines.new)) }
     ensures later { S.faults lines.old ≤ S.faults lines.new }
 {
@@ -97,6 +99,8 @@ fn with_marks<D: Disk, W: Spawner>(
     marks: Marks<D>,
     spawner: &mut W,
 ) -> Alerted<D>
+    requires limited { 0 < plan.now.attempts }
+    requires few { length notes.now < 2 ^ 32 }
     requires going { marks.is_broken ≡ false }
     requires keeps { EachKeeps (D.tells marks.disk) marks.list }
     ensures works { Works (command_of plan.now) plan.now.attempts notes.now (W.tells spawner.old) (W.tells spawner.new) marks.list result.marks }
@@ -127,6 +131,8 @@ fn on_progress<D: Disk, W: Spawner>(
     progress: D,
     spawner: &mut W,
 ) -> Alerted<D>
+    requires limited { 0 < plan.now.attempts }
+    requires few { length notes.now < 2 ^ 32 }
     ensures done { Opens plan.now notes.now (D.tells progress) (D.tells result.progress) (W.tells spawner.old) (W.tells spawner.new) result.status result.marks
         ⊎ (IsUnopened (D.tells progress).bytes (D.tells progress).faults (D.tells result.progress).faults result.status × (result.marks ≡ []) × (spawner.new ≡ spawner.old)) }
     ensures told { is_some (D.tells result.progress).bytes ≡ is_some (D.tells progress).bytes }

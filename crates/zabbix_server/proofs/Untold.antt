@@ -13,7 +13,7 @@ use Rattle.server_run.specs.Runs.{Followed}
 use Rattle.server_run.specs.Stops.{Journals}
 use Rattle.outside.specs.Causes.{Rose}
 use Rattle.alert_run.specs.Marks.{marks_in, EachKeeps}
-use Rattle.alert_run.specs.declared.types.Mark.{Mark}
+use Rattle.alert_queue.specs.declared.types.Mark.{Mark}
 use Rattle.server_jobs.specs.Alerts.{Around, IsCut, ComesTo}
 use Rattle.server_jobs.specs.Reports.{Prints}
 use Rattle.zabbix_server.specs.Program.{Seen, without_images, objects_of, IsAlertsOf}

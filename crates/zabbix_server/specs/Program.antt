@@ -2,7 +2,7 @@
 use Rattle.std.specs.Prelude.{◌≡◌, ◌⊎◌, Ok, Err, Result, Bool, List, Option, None, IsSome, ℕ}
 use Rattle.zbx_types.specs.declared.entries.Numbered.{Numbered}
 use Rattle.zbx_types.specs.declared.memory.OutOfMemory.{OutOfMemory}
-use Rattle.alert_run.specs.declared.types.Mark.{Mark}
+use Rattle.alert_queue.specs.declared.types.Mark.{Mark}
 use Rattle.outside.specs.Disk.{DiskTells}
 use Rattle.outside.specs.Spawning.{SpawnerTells}
 use Rattle.outside.specs.Tells.{SinkTells, WireTells}

@@ -144,7 +144,8 @@ fn run_over<S: Source + Drop, W: Wire + Drop, R: Threads + Wait + Sync>(
     }
 }
 
-/// Runs the server over a configuration, a wire and a disk, and over the outbox that a plan names.
+/// Runs the server over a configuration, a wire and a disk, and over the outbox that a plan names. A file that can't be
+/// opened, or that another program has, is a sink at which every call fails.
 fn run_on<S: Source + Drop, W: Wire + Drop, D: Disk + Drop, R: Threads + Wait + Sync>(
     rt: &HostRuntime,
     threads: &R,

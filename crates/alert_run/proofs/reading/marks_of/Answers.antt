@@ -2,7 +2,7 @@ use Rattle.std.proofs.Common.{◌≡◌, ◌∙◌, ℕ, ◌+◌, List, [], ◌�
 use Rattle.std.proofs.lemmas.Bool.{eqb-true}
 use Rattle.std.proofs.lemmas.List.{take_rest}
 use Rattle.alert_run.specs.Marks.{mark_behind}
-use Rattle.alert_run.specs.declared.types.Mark.{Mark}
+use Rattle.alert_queue.specs.declared.types.Mark.{Mark}
 use Rattle.alert_run.proofs.Marking.{next_at, damaged_at}
 use Rattle.alert_run.proofs.reading.marks_of.Goals as goal
 

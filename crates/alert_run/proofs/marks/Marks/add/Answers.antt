@@ -1,7 +1,7 @@
 use Rattle.std.proofs.Common.{◌≡◌, ◌∙◌, false, List, [], ◌∷◌, ◌++◌, IfSome, sym, ap, subst}
 use Rattle.outside.specs.Disk.{LeavesOnly}
 use Rattle.alert_run.specs.Marks.{EachKeeps, KeepsBeforeOrWith}
-use Rattle.alert_run.specs.declared.types.Mark.{Mark}
+use Rattle.alert_queue.specs.declared.types.Mark.{Mark}
 use Rattle.alert_run.proofs.Marking.{moments_same, settled_keeps}
 use Rattle.alert_run.proofs.marks.Marks.add.Goals as goal
 
