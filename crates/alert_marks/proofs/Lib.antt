@@ -1,0 +1,7 @@
+pub mod Blocks
+pub mod States
+pub mod Marking
+pub mod Meeting
+pub mod Passing
+pub mod Readings
+pub mod Opened
