@@ -5,7 +5,7 @@ ghost use Rattle.zbx_types.specs.Ids.{ids_from};
 ghost use Rattle.syncer_gate.specs.Gate.{AreAlike, AreOffered};
 
 use crate::footprints::{feet, tick, value};
-use crate::parts::{add_number, add_word, number, numbers, split};
+use crate::parts::{add_number, add_word, number, numbers, split, told};
 use footprint::Feet;
 use std::alloc::Global;
 use syncer_gate::{Batch, Claims};
@@ -195,10 +195,9 @@ fn stepped(
     let taken = take_all(alloc, feet, entries, claims, &mut told, steps);
     let Told { batches, mut words } = told;
     drop(batches);
-    taken?;
     claims.give_back_all();
-    add_number(alloc, &mut words, claims.applied() as u64)?;
-    Ok(words)
+    let put = add_number(alloc, &mut words, claims.applied() as u64);
+    taken.and(put).and(Ok(words))
 }
 
 /// The same over values of these items, numbered from one number on.
@@ -210,12 +209,14 @@ fn taken(
     steps: &str,
 ) -> Result<String, OutOfMemory> {
     if 2000 < items.len() || 2000 < first {
-        return Ok(String::from_str(alloc, "out of range")?);
+        return told(alloc, "out of range");
     }
     let entries = entries(alloc, first, items)?;
     let mut claims = Claims::new(alloc, first);
-    claims.offer(items.len() as u32)?;
-    let made = stepped(alloc, feet, entries.as_slice(), &mut claims, steps);
+    let made = match claims.offer(items.len() as u32) {
+        Ok(()) => stepped(alloc, feet, entries.as_slice(), &mut claims, steps),
+        Err(OutOfMemory) => Err(OutOfMemory),
+    };
     drop(claims);
     made
 }
@@ -230,27 +231,15 @@ fn over(alloc: Global, feet: &Feet, text: &str) -> Result<String, OutOfMemory> {
 
 /// What the claims in `MASTERS;TRIGGERS;FIRST;ITEMS;STEPS` come to: the items' masters and their triggers, the number of the
 /// first entry, the items of the entries (0: a Tick), and the steps.
-fn claimed(alloc: Global, input: &str) -> Result<String, OutOfMemory> {
+pub(crate) fn claimed(alloc: Global, input: &str) -> Result<String, OutOfMemory> {
     let (masters, rest) = split(input, ';');
     let (words, rest) = split(rest, ';');
-    match feet(alloc, masters, words, Many::new(alloc))? {
+    match feet(alloc, masters, words, "")? {
         Some(feet) => {
             let made = over(alloc, &feet, rest);
             drop(feet);
             made
         }
-        None => Ok(String::from_str(alloc, "out of range")?),
-    }
-}
-
-/// What a case of claims comes to.
-pub(crate) fn answer(
-    alloc: Global,
-    kind: &str,
-    input: &str,
-) -> Result<Option<String>, OutOfMemory> {
-    match kind {
-        "claims" => Ok(Some(claimed(alloc, input)?)),
-        _ => Ok(None),
+        None => told(alloc, "out of range"),
     }
 }

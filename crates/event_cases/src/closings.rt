@@ -1,7 +1,8 @@
 //! What the rules of global correlation close.
 
 use crate::parts::{
-    add_number, add_word, configuration, hosts, matching, number, problem, split, test,
+    Came, Piece, add_number, add_word, both, configuration, hosts, matching, number, pieces,
+    problem, split, test,
 };
 use event_correlation::{Closes, closes};
 use std::alloc::Global;
@@ -10,8 +11,7 @@ use zbx_types::{Conf, EventId, Many, OutOfMemory, Rec, Rule, RuleCond, Text};
 /// A condition on tags or a group, as `old_tag/svc`, `new_tag/svc`, `new_group/g` or `tag_pair/old/new`.
 fn named(alloc: Global, kind: &str, rest: &str) -> Result<RuleCond, OutOfMemory> {
     let (name, other) = split(rest, '/');
-    let name = Text::of(alloc, name)?;
-    let other = Text::of(alloc, other)?;
+    let (name, other) = both(Text::of(alloc, name), Text::of(alloc, other))?;
     Ok(match kind {
         "old_tag" => {
             drop(other);
@@ -32,50 +32,45 @@ fn named(alloc: Global, kind: &str, rest: &str) -> Result<RuleCond, OutOfMemory>
     })
 }
 
-/// A condition: one of those, or a test, as `old_tag_value/svc/equals/x`.
-fn condition(alloc: Global, word: &str) -> Result<RuleCond, OutOfMemory> {
-    let (kind, rest) = split(word, '/');
-    match kind {
-        "old_tag_value" => Ok(RuleCond::OldTagValue(test(alloc, rest)?)),
-        "new_tag_value" => Ok(RuleCond::NewTagValue(test(alloc, rest)?)),
-        _ => named(alloc, kind, rest),
+/// The reader of conditions: one of those, or a test, as `old_tag_value/svc/equals/x`.
+struct ConditionReader;
+
+impl Piece for ConditionReader {
+    type Made = RuleCond;
+
+    fn read(alloc: Global, _place: u32, word: &str) -> Result<RuleCond, OutOfMemory> {
+        let (kind, rest) = split(word, '/');
+        match kind {
+            "old_tag_value" => Ok(RuleCond::OldTagValue(test(alloc, rest)?)),
+            "new_tag_value" => Ok(RuleCond::NewTagValue(test(alloc, rest)?)),
+            _ => named(alloc, kind, rest),
+        }
     }
 }
 
-fn conditions(alloc: Global, text: &str) -> Result<Many<RuleCond>, OutOfMemory> {
-    let mut made = Many::new(alloc);
-    for word in text.split(',') {
-        made.push(condition(alloc, word)?)?;
-    }
-    Ok(made)
-}
+/// The reader of rules, as `and:CONDITION,CONDITION:old`, with `old`, `new` or `both` for what a rule closes.
+struct RuleReader;
 
-/// A rule, as `and:CONDITION,CONDITION:old`, with `old`, `new` or `both` for what it closes.
-fn rule(alloc: Global, word: &str) -> Result<Rule, OutOfMemory> {
-    let (joined, rest) = split(word, ':');
-    let (given, which) = split(rest, ':');
-    let conditions = conditions(alloc, given)?;
-    Ok(Rule {
-        name: Text::new(alloc),
-        matching: matching(joined),
-        conditions,
-        close_old: which != "new",
-        close_new: which != "old",
-    })
-}
+impl Piece for RuleReader {
+    type Made = Rule;
 
-fn rules(alloc: Global, text: &str) -> Result<Many<Rule>, OutOfMemory> {
-    let mut made = Many::new(alloc);
-    for word in text.split_whitespace() {
-        made.push(rule(alloc, word)?)?;
+    fn read(alloc: Global, _place: u32, word: &str) -> Result<Rule, OutOfMemory> {
+        let (joined, rest) = split(word, ':');
+        let (given, which) = split(rest, ':');
+        let conditions = pieces::<ConditionReader>(alloc, given, ',')?;
+        Ok(Rule {
+            name: Text::new(alloc),
+            matching: matching(joined),
+            conditions,
+            close_old: which != "new",
+            close_new: which != "old",
+        })
     }
-    Ok(made)
 }
 
 /// A configuration of rules, with host `h` in group `g`.
 fn ruled(alloc: Global, text: &str) -> Result<Conf, OutOfMemory> {
-    let hosts = hosts(alloc)?;
-    let rules = rules(alloc, text)?;
+    let (hosts, rules) = both(hosts(alloc), pieces::<RuleReader>(alloc, text, ' '))?;
     let none = Many::new(alloc);
     Ok(configuration(
         alloc,
@@ -91,42 +86,53 @@ fn event(number: u64) -> EventId {
     EventId { number, trigger: 7 }
 }
 
-/// Problems of host `h`, numbered from 1 on, by their tags: with bars between; none of an empty text.
-fn problems(alloc: Global, text: &str) -> Result<Many<Rec>, OutOfMemory> {
-    let mut made = Many::new(alloc);
-    let mut number: u64 = 0;
-    if text.is_empty() {
-        return Ok(made);
+/// The reader of problems of host `h`, numbered from 1 on, by their tags.
+struct ProblemReader;
+
+impl Piece for ProblemReader {
+    type Made = Rec;
+
+    fn read(alloc: Global, place: u32, words: &str) -> Result<Rec, OutOfMemory> {
+        problem(alloc, event((place as u64).wrapping_add(1)), "h", words)
     }
-    for words in text.split('|') {
-        number = number.wrapping_add(1);
-        made.push(problem(alloc, event(number), "h", words)?)?;
-    }
-    Ok(made)
 }
 
-/// The events that close, as `1-7`, and `new` where the new one does.
-fn told(alloc: Global, made: &Closes) -> Result<String, OutOfMemory> {
-    let mut text = String::new(alloc);
+/// Adds an event, as `1-7`.
+fn add_event(alloc: Global, text: &mut String, event: EventId) -> Result<(), OutOfMemory> {
+    let word = format!(in alloc; "{}-{}", event.number, event.trigger)?;
+    add_word(text, word.as_str())
+}
+
+/// Adds the events that close, and `new` where the new one does.
+fn add_closes(alloc: Global, text: &mut String, made: &Closes) -> Result<(), OutOfMemory> {
     for event in made.old.as_slice() {
-        let word = format!(in alloc; "{}-{}", event.number, event.trigger)?;
-        add_word(&mut text, word.as_str())?;
+        add_event(alloc, text, *event)?;
     }
     if made.new {
-        add_word(&mut text, "new")?;
+        return add_word(text, "new");
     }
-    Ok(text)
+    Ok(())
+}
+
+/// What closes as a problem opens beside old ones.
+fn closed_beside(
+    alloc: Global,
+    conf: &Conf,
+    old: Result<Many<Rec>, OutOfMemory>,
+    new: Result<Rec, OutOfMemory>,
+) -> Result<Closes, OutOfMemory> {
+    let (old, new) = both(old, new)?;
+    let made = closes(alloc, conf, &new, old.as_slice());
+    drop(new);
+    made
 }
 
 /// What closes as a problem of a host with tags opens while others are open, in `HOST;TAGS;OTHERS`.
 fn closed_over(alloc: Global, conf: &Conf, text: &str) -> Result<Closes, OutOfMemory> {
     let (host, rest) = split(text, ';');
     let (words, others) = split(rest, ';');
-    let old = problems(alloc, others)?;
-    let new = problem(alloc, event(100), host, words)?;
-    let made = closes(alloc, conf, &new, old.as_slice());
-    drop(new);
-    made
+    let old = pieces::<ProblemReader>(alloc, others, '|');
+    closed_beside(alloc, conf, old, problem(alloc, event(100), host, words))
 }
 
 /// The same under the rules before that.
@@ -135,7 +141,9 @@ fn closed(alloc: Global, input: &str) -> Result<String, OutOfMemory> {
     let conf = ruled(alloc, rules)?;
     let made = closed_over(alloc, &conf, rest);
     drop(conf);
-    told(alloc, &made?)
+    let made = made?;
+    let mut text = String::new(alloc);
+    add_closes(alloc, &mut text, &made).and(Ok(text))
 }
 
 /// So many problems of host `h`, numbered from 0 on, with one tag.
@@ -148,11 +156,22 @@ fn many_problems(alloc: Global, count: u32) -> Result<Many<Rec>, OutOfMemory> {
 }
 
 fn many_closed(alloc: Global, conf: &Conf, count: u32) -> Result<Closes, OutOfMemory> {
-    let old = many_problems(alloc, count)?;
-    let new = problem(alloc, event(count as u64), "h", "svc=x")?;
-    let made = closes(alloc, conf, &new, old.as_slice());
-    drop(new);
-    made
+    let old = many_problems(alloc, count);
+    closed_beside(
+        alloc,
+        conf,
+        old,
+        problem(alloc, event(count as u64), "h", "svc=x"),
+    )
+}
+
+/// Adds how many events there are, and the number of the last one.
+fn add_count(alloc: Global, text: &mut String, events: &[EventId]) -> Result<(), OutOfMemory> {
+    add_number(alloc, text, events.len() as u64)?;
+    match events.last() {
+        Some(event) => add_number(alloc, text, event.number),
+        None => Ok(()),
+    }
 }
 
 /// How many of so many problems close as one more with their tag opens, and the number of the last one.
@@ -162,22 +181,14 @@ fn closed_of_many(alloc: Global, count: u32) -> Result<String, OutOfMemory> {
     drop(conf);
     let made = made?;
     let mut text = String::new(alloc);
-    add_number(alloc, &mut text, made.old.len() as u64)?;
-    if let Some(event) = made.old.as_slice().last() {
-        add_number(alloc, &mut text, event.number)?;
-    }
-    Ok(text)
+    add_count(alloc, &mut text, made.old.as_slice()).and(Ok(text))
 }
 
 /// What a case of correlation comes to.
-pub(crate) fn answer(
-    alloc: Global,
-    kind: &str,
-    input: &str,
-) -> Result<Option<String>, OutOfMemory> {
+pub(crate) fn answer(alloc: Global, kind: &str, input: &str) -> Option<Came> {
     match kind {
-        "closes" => Ok(Some(closed(alloc, input)?)),
-        "closes of many" => Ok(Some(closed_of_many(alloc, number(input))?)),
-        _ => Ok(None),
+        "closes" => Some(closed(alloc, input)),
+        "closes of many" => Some(closed_of_many(alloc, number(input))),
+        _ => None,
     }
 }

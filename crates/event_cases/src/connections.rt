@@ -4,9 +4,8 @@ use crate::parts::{add_word, number, split};
 use case_rows::bytes_of;
 use outside::WireEvent;
 use std::alloc::Global;
-use std::convert::AsStr;
 use wire_core::{Table, Turn};
-use zbx_types::{Moment, OutOfMemory, Text};
+use zbx_types::{Moment, OutOfMemory};
 
 fn at(sec: u32) -> Moment {
     Moment { sec, ns: 0 }
@@ -36,8 +35,8 @@ fn add_whole(
     body: &[u8],
     since: Moment,
 ) -> Result<(), OutOfMemory> {
-    let text = Text::from_utf8(alloc, body)?.unwrap_or(Text::new(alloc));
-    let word = format!(in alloc; "whole:{conn}:{}:{}", text.as_str(), since.sec)?;
+    let text = str::from_utf8(body).unwrap_or("");
+    let word = format!(in alloc; "whole:{conn}:{text}:{}", since.sec)?;
     add_word(made, word.as_str())
 }
 
@@ -55,6 +54,27 @@ fn add_turn(alloc: Global, made: &mut String, turn: &Turn) -> Result<(), OutOfMe
     }
 }
 
+/// A connection opens at a second. Adds what it comes to, if it comes to something.
+fn open(
+    alloc: Global,
+    table: &mut Table,
+    conn: u64,
+    sec: u32,
+    made: &mut String,
+) -> Result<(), OutOfMemory> {
+    let opened = WireEvent::Opened { conn, at: at(0) };
+    let turn = table.on(alloc, &opened, at(sec));
+    drop(opened);
+    match turn? {
+        Turn::Nothing => Ok(()),
+        turn => {
+            let added = add_turn(alloc, made, &turn);
+            drop(turn);
+            added
+        }
+    }
+}
+
 /// So many connections, numbered from 0 on, open at a second. Adds each that comes to something.
 fn fill(
     alloc: Global,
@@ -64,14 +84,7 @@ fn fill(
     made: &mut String,
 ) -> Result<(), OutOfMemory> {
     for conn in 0..count {
-        let opened = WireEvent::Opened {
-            conn: conn as u64,
-            at: at(0),
-        };
-        let turn = table.on(alloc, &opened, at(sec))?;
-        if !matches!(&turn, Turn::Nothing) {
-            add_turn(alloc, made, &turn)?;
-        }
+        open(alloc, table, conn as u64, sec, made)?;
     }
     Ok(())
 }
@@ -92,34 +105,30 @@ fn take(
     let event = event(alloc, kind, number(conn) as u64, text)?;
     let turn = table.on(alloc, &event, at(sec));
     drop(event);
-    add_turn(alloc, made, &turn?)
+    let turn = turn?;
+    let added = add_turn(alloc, made, &turn);
+    drop(turn);
+    added
 }
 
-/// What events come to, one behind the other.
-fn take_all(alloc: Global, table: &mut Table, input: &str) -> Result<String, OutOfMemory> {
-    let mut made = String::new(alloc);
-    for words in input.split(',') {
-        take(alloc, table, words, &mut made)?;
-    }
-    Ok(made)
-}
-
-/// The same of a table without connections.
-fn turns(alloc: Global, input: &str) -> Result<String, OutOfMemory> {
-    let mut table = Table::new(alloc);
-    let made = take_all(alloc, &mut table, input);
-    drop(table);
-    made
-}
-
-/// What a case of connections comes to.
-pub(crate) fn answer(
+/// Adds what events come to, one behind the other.
+fn take_all(
     alloc: Global,
-    kind: &str,
+    table: &mut Table,
     input: &str,
-) -> Result<Option<String>, OutOfMemory> {
-    match kind {
-        "connections" => Ok(Some(turns(alloc, input)?)),
-        _ => Ok(None),
+    made: &mut String,
+) -> Result<(), OutOfMemory> {
+    for words in input.split(',') {
+        take(alloc, table, words, made)?;
     }
+    Ok(())
+}
+
+/// What events come to in a table without connections.
+pub(crate) fn turns(alloc: Global, input: &str) -> Result<String, OutOfMemory> {
+    let mut table = Table::new(alloc);
+    let mut made = String::new(alloc);
+    let taken = take_all(alloc, &mut table, input, &mut made);
+    drop(table);
+    taken.and(Ok(made))
 }

@@ -1,12 +1,11 @@
 //! What actions do about a problem, and the lines of records.
 
-use crate::parts::{add_word, matching, moment, number, one, split};
+use crate::parts::{Came, Piece, add_word, both, matching, moment, number, one, pieces, split};
 use crate::suppression::maintained;
 use case_rows::bytes_of;
 use escalations::{due, first, recovered};
 use event_text::{line, lines};
 use std::alloc::Global;
-use std::convert::AsStr;
 use std::mem::replace;
 use zbx_types::{Action, Bytes, Conf, EventId, Many, Operation, OutOfMemory, Rec, Sending, Text};
 
@@ -15,56 +14,55 @@ fn recipients(alloc: Global, text: &str) -> Result<Many<Text>, OutOfMemory> {
     if text.is_empty() {
         return Ok(Many::new(alloc));
     }
-    one(alloc, Text::of(alloc, text)?)
+    one(alloc, Text::of(alloc, text))
 }
 
-/// An operation, as `1-2:ops:b1`: its first step and its last, a recipient and a body.
-fn operation(alloc: Global, word: &str) -> Result<Operation, OutOfMemory> {
-    let (steps, rest) = split(word, ':');
-    let (from, to) = split(steps, '-');
-    let (recipient, body) = split(rest, ':');
-    let recipients = recipients(alloc, recipient)?;
-    let subject = Text::of(alloc, "{EVENT.NAME}")?;
-    let body = Text::of(alloc, body)?;
-    Ok(Operation {
-        from: number(from),
-        to: number(to),
-        duration: 0,
+/// A message with a body to a recipient.
+fn sending(alloc: Global, recipient: &str, body: &str) -> Result<Sending, OutOfMemory> {
+    let texts = both(Text::of(alloc, "{EVENT.NAME}"), Text::of(alloc, body));
+    let (recipients, texts) = both(recipients(alloc, recipient), texts)?;
+    let (subject, body) = texts;
+    Ok(Sending {
         recipients,
         subject,
         body,
     })
 }
 
-fn operations(alloc: Global, text: &str) -> Result<Many<Operation>, OutOfMemory> {
-    let mut made = Many::new(alloc);
-    for word in text.split_whitespace() {
-        made.push(operation(alloc, word)?)?;
-    }
-    Ok(made)
-}
+/// The reader of operations, as `1-2:ops:b1`: the first step and the last, a recipient and a body.
+struct OperationReader;
 
-/// The message `ok` to `ops`, when the problem ends.
-fn sending(alloc: Global) -> Result<Many<Sending>, OutOfMemory> {
-    let recipients = recipients(alloc, "ops")?;
-    let subject = Text::of(alloc, "{EVENT.NAME}")?;
-    let body = Text::of(alloc, "ok")?;
-    one(
-        alloc,
-        Sending {
+impl Piece for OperationReader {
+    type Made = Operation;
+
+    fn read(alloc: Global, _place: u32, word: &str) -> Result<Operation, OutOfMemory> {
+        let (steps, rest) = split(word, ':');
+        let (from, to) = split(steps, '-');
+        let (recipient, body) = split(rest, ':');
+        let Sending {
             recipients,
             subject,
             body,
-        },
-    )
+        } = sending(alloc, recipient, body)?;
+        Ok(Operation {
+            from: number(from),
+            to: number(to),
+            duration: 0,
+            recipients,
+            subject,
+            body,
+        })
+    }
 }
 
-/// The action `act` of operations that take a minute each, as `pauses OPERATION OPERATION`, or with another word before.
+/// The action `act` of operations that take a minute each, as `pauses OPERATION OPERATION`, or with another word before; the
+/// message `ok` goes to `ops` when the problem ends.
 fn action(alloc: Global, text: &str) -> Result<Action, OutOfMemory> {
     let (pauses, words) = split(text, ' ');
-    let name = Text::of(alloc, "act")?;
-    let operations = operations(alloc, words)?;
-    let recovery = sending(alloc)?;
+    let recovery = one(alloc, sending(alloc, "ops", "ok"));
+    let sent = both(pieces::<OperationReader>(alloc, words, ' '), recovery);
+    let (name, sent) = both(Text::of(alloc, "act"), sent)?;
+    let (operations, recovery) = sent;
     Ok(Action {
         name,
         matching: matching("and"),
@@ -78,16 +76,15 @@ fn action(alloc: Global, text: &str) -> Result<Action, OutOfMemory> {
 
 /// A configuration with such an action, whose first trigger is suppressed from second 235 till 535.
 fn acting(alloc: Global, text: &str) -> Result<Conf, OutOfMemory> {
-    let actions = one(alloc, action(alloc, text)?)?;
-    let mut made = maintained(alloc, "yes and")?;
+    let actions = one(alloc, action(alloc, text));
+    let (actions, mut made) = both(actions, maintained(alloc, "yes and"))?;
     drop(replace(&mut made.actions, actions));
     Ok(made)
 }
 
 /// The problem `hot` of that trigger, whose event names another id.
 fn hot(alloc: Global) -> Result<Rec, OutOfMemory> {
-    let host = Text::of(alloc, "other")?;
-    let name = Text::of(alloc, "hot")?;
+    let (host, name) = both(Text::of(alloc, "other"), Text::of(alloc, "hot"))?;
     Ok(Rec::Problem {
         event: EventId {
             number: 3,
@@ -103,47 +100,49 @@ fn hot(alloc: Global) -> Result<Rec, OutOfMemory> {
     })
 }
 
-/// A step that ran, as `3:act:2:480/0`: the number of the event's entry, the action, the step and the moment.
-fn ran(alloc: Global, word: &str) -> Result<Rec, OutOfMemory> {
-    let (first, rest) = split(word, ':');
-    let (action, rest) = split(rest, ':');
-    let (step, at) = split(rest, ':');
-    Ok(Rec::Step {
-        event: EventId {
-            number: number(first) as u64,
-            trigger: 2,
-        },
-        action: Text::of(alloc, action)?,
-        step: number(step),
-        now: moment(at),
-    })
-}
+/// The reader of steps that ran, as `3:act:2:480/0`: the number of the event's entry, the action, the step and the moment.
+struct RanReader;
 
-fn all_ran(alloc: Global, text: &str) -> Result<Many<Rec>, OutOfMemory> {
-    let mut made = Many::new(alloc);
-    for word in text.split_whitespace() {
-        made.push(ran(alloc, word)?)?;
+impl Piece for RanReader {
+    type Made = Rec;
+
+    fn read(alloc: Global, _place: u32, word: &str) -> Result<Rec, OutOfMemory> {
+        let (first, rest) = split(word, ':');
+        let (action, rest) = split(rest, ':');
+        let (step, at) = split(rest, ':');
+        let action = Text::of(alloc, action)?;
+        Ok(Rec::Step {
+            event: EventId {
+                number: number(first) as u64,
+                trigger: 2,
+            },
+            action,
+            step: number(step),
+            now: moment(at),
+        })
     }
-    Ok(made)
 }
 
-/// The lines in bytes, with blanks between.
-fn as_words(alloc: Global, bytes: &[u8]) -> Result<String, OutOfMemory> {
-    let mut made = String::new(alloc);
-    if let Some(text) = Text::from_utf8(alloc, bytes)? {
-        for line in text.as_str().split('\n') {
-            if !line.is_empty() {
-                add_word(&mut made, line)?;
-            }
+/// Adds the lines of a text.
+fn add_lines(made: &mut String, text: &str) -> Result<(), OutOfMemory> {
+    for line in text.split('\n') {
+        if !line.is_empty() {
+            add_word(made, line)?;
         }
     }
-    Ok(made)
+    Ok(())
+}
+
+/// The lines in bytes, with blanks between; none where they are no text.
+fn as_words(alloc: Global, bytes: &[u8]) -> Result<String, OutOfMemory> {
+    let mut made = String::new(alloc);
+    add_lines(&mut made, str::from_utf8(bytes).unwrap_or("")).and(Ok(made))
 }
 
 fn lines_of(alloc: Global, records: &[Rec]) -> Result<String, OutOfMemory> {
     let mut out = Bytes::new(alloc);
-    lines(alloc, records, &mut out)?;
-    as_words(alloc, out.as_slice())
+    let put = lines(alloc, records, &mut out);
+    put.and(as_words(alloc, out.as_slice()))
 }
 
 /// What comes of the problem behind the steps and at the moment in `STEPS;MOMENT`.
@@ -155,7 +154,7 @@ fn made_of(
     text: &str,
 ) -> Result<Many<Rec>, OutOfMemory> {
     let (steps, at) = split(text, ';');
-    let steps = all_ran(alloc, steps)?;
+    let steps = pieces::<RanReader>(alloc, steps, ' ')?;
     match kind {
         "first" => first(alloc, conf, problem, moment(at)),
         "due" => due(alloc, conf, problem, steps.as_slice(), moment(at)),
@@ -182,7 +181,7 @@ fn told(alloc: Global, kind: &str, input: &str) -> Result<String, OutOfMemory> {
 /// The text that a word writes, as `a%0ab`.
 fn text_of(alloc: Global, word: &str) -> Result<Text, OutOfMemory> {
     let bytes = bytes_of(alloc, word)?;
-    Ok(Text::from_utf8(alloc, bytes.as_slice())?.unwrap_or(Text::new(alloc)))
+    Text::of(alloc, str::from_utf8(bytes.as_slice()).unwrap_or(""))
 }
 
 /// A failure, as `NUMBER HOST KEY WHY`.
@@ -190,9 +189,9 @@ fn failure(alloc: Global, input: &str) -> Result<Rec, OutOfMemory> {
     let (first, rest) = split(input, ' ');
     let (host, rest) = split(rest, ' ');
     let (key, why) = split(rest, ' ');
-    let host = text_of(alloc, host)?;
-    let key = text_of(alloc, key)?;
-    let why = text_of(alloc, why)?;
+    let names = both(text_of(alloc, host), text_of(alloc, key));
+    let (names, why) = both(names, text_of(alloc, why))?;
+    let (host, key) = names;
     Ok(Rec::Failure {
         number: first.parse().unwrap_or(0),
         host,
@@ -203,23 +202,18 @@ fn failure(alloc: Global, input: &str) -> Result<Rec, OutOfMemory> {
 
 /// The line of a failure, behind a line `before`.
 fn failure_line(alloc: Global, input: &str) -> Result<String, OutOfMemory> {
-    let mut out = Bytes::of(alloc, b"before\n")?;
-    let failure = failure(alloc, input)?;
-    let made = line(alloc, &failure, &mut out);
+    let out = Bytes::of(alloc, b"before\n");
+    let (failure, mut out) = both(failure(alloc, input), out)?;
+    let put = line(alloc, &failure, &mut out);
     drop(failure);
-    made?;
-    as_words(alloc, out.as_slice())
+    put.and(as_words(alloc, out.as_slice()))
 }
 
 /// What a case of escalations comes to.
-pub(crate) fn answer(
-    alloc: Global,
-    kind: &str,
-    input: &str,
-) -> Result<Option<String>, OutOfMemory> {
+pub(crate) fn answer(alloc: Global, kind: &str, input: &str) -> Option<Came> {
     match kind {
-        "first" | "due" | "recovered" => Ok(Some(told(alloc, kind, input)?)),
-        "failure" => Ok(Some(failure_line(alloc, input)?)),
-        _ => Ok(None),
+        "first" | "due" | "recovered" => Some(told(alloc, kind, input)),
+        "failure" => Some(failure_line(alloc, input)),
+        _ => None,
     }
 }

@@ -1,6 +1,9 @@
 //! Which values conflict.
 
-use crate::parts::{add_word, configuration, items, matching, number, one, split, triggers};
+use crate::parts::{
+    CallingReader, Piece, add_word, both, configuration, items, matching, number, one, pieces,
+    split, told,
+};
 use footprint::Feet;
 use std::alloc::Global;
 use zbx_types::{Conf, Entry, Many, Moment, OutOfMemory, Rule, RuleCond, Text, depths_fall};
@@ -35,10 +38,14 @@ pub(crate) fn feet(
     alloc: Global,
     masters: &str,
     words: &str,
-    rules: Many<Rule>,
+    ruling: &str,
 ) -> Result<Option<Feet>, OutOfMemory> {
-    let items = items(alloc, masters)?;
-    let triggers = triggers(alloc, words)?;
+    let on = both(
+        items(alloc, masters),
+        pieces::<CallingReader>(alloc, words, ' '),
+    );
+    let (on, rules) = both(on, pieces::<RuleReader>(alloc, ruling, ' '))?;
+    let (items, triggers) = on;
     let none = Many::new(alloc);
     let conf = configuration(alloc, none, items, triggers, rules, Many::new(alloc));
     let feet = feet_of(alloc, &conf);
@@ -46,42 +53,43 @@ pub(crate) fn feet(
     feet
 }
 
-fn pair(alloc: Global, old: &str, new: &str) -> Result<Many<RuleCond>, OutOfMemory> {
-    let old_tag = Text::of(alloc, old)?;
-    let new_tag = Text::of(alloc, new)?;
-    one(alloc, RuleCond::TagPair { old_tag, new_tag })
+fn pair(alloc: Global, old: &str, new: &str) -> Result<RuleCond, OutOfMemory> {
+    let (old_tag, new_tag) = both(Text::of(alloc, old), Text::of(alloc, new))?;
+    Ok(RuleCond::TagPair { old_tag, new_tag })
 }
 
-/// A rule that pairs two tags, as `and/a/b`.
-fn rule(alloc: Global, word: &str) -> Result<Rule, OutOfMemory> {
-    let (joined, rest) = split(word, '/');
-    let (old, new) = split(rest, '/');
-    let conditions = pair(alloc, old, new)?;
-    Ok(Rule {
-        name: Text::new(alloc),
-        matching: matching(joined),
-        conditions,
-        close_old: true,
-        close_new: false,
-    })
-}
+/// The reader of rules that pair two tags, as `and/a/b`.
+struct RuleReader;
 
-fn rules(alloc: Global, text: &str) -> Result<Many<Rule>, OutOfMemory> {
-    let mut made = Many::new(alloc);
-    for word in text.split_whitespace() {
-        made.push(rule(alloc, word)?)?;
+impl Piece for RuleReader {
+    type Made = Rule;
+
+    fn read(alloc: Global, _place: u32, word: &str) -> Result<Rule, OutOfMemory> {
+        let (joined, rest) = split(word, '/');
+        let (old, new) = split(rest, '/');
+        let conditions = one(alloc, pair(alloc, old, new))?;
+        Ok(Rule {
+            name: Text::new(alloc),
+            matching: matching(joined),
+            conditions,
+            close_old: true,
+            close_new: false,
+        })
     }
-    Ok(made)
 }
 
 /// Whether the values of two items conflict; none where their order matters, or a Tick doesn't conflict with the first.
 fn meet(alloc: Global, feet: &Feet, a: u32, b: u32) -> Option<bool> {
     let one = value(alloc, a);
     let other = value(alloc, b);
+    let ticks = tick();
     let is = feet.conflicts(&one, &other);
     let is_even = feet.conflicts(&other, &one) == is;
-    let ticks = feet.conflicts(&one, &tick()) && feet.conflicts(&tick(), &one);
-    (is_even && ticks).then_some(is)
+    let with_ticks = feet.conflicts(&one, &ticks) && feet.conflicts(&ticks, &one);
+    drop(one);
+    drop(other);
+    drop(ticks);
+    (is_even && with_ticks).then_some(is)
 }
 
 /// Adds a pair of items, as `1-2`, if their values conflict.
@@ -94,38 +102,34 @@ fn add_pair(alloc: Global, feet: &Feet, word: &str, made: &mut String) -> Result
     }
 }
 
+fn add_pairs(
+    alloc: Global,
+    feet: &Feet,
+    pairs: &str,
+    made: &mut String,
+) -> Result<(), OutOfMemory> {
+    for word in pairs.split(' ') {
+        add_pair(alloc, feet, word, made)?;
+    }
+    Ok(())
+}
+
 fn conflicting(alloc: Global, feet: &Feet, pairs: &str) -> Result<String, OutOfMemory> {
     let mut made = String::new(alloc);
-    for word in pairs.split_whitespace() {
-        add_pair(alloc, feet, word, &mut made)?;
-    }
-    Ok(made)
+    add_pairs(alloc, feet, pairs, &mut made).and(Ok(made))
 }
 
 /// Those of some pairs of items whose values conflict, in `MASTERS;TRIGGERS;RULES;PAIRS`.
-fn conflicts(alloc: Global, input: &str) -> Result<String, OutOfMemory> {
+pub(crate) fn conflicts(alloc: Global, input: &str) -> Result<String, OutOfMemory> {
     let (masters, rest) = split(input, ';');
     let (words, rest) = split(rest, ';');
     let (ruling, pairs) = split(rest, ';');
-    let rules = rules(alloc, ruling)?;
-    match feet(alloc, masters, words, rules)? {
+    match feet(alloc, masters, words, ruling)? {
         Some(feet) => {
             let made = conflicting(alloc, &feet, pairs);
             drop(feet);
             made
         }
-        None => Ok(String::from_str(alloc, "out of range")?),
-    }
-}
-
-/// What a case of conflicts comes to.
-pub(crate) fn answer(
-    alloc: Global,
-    kind: &str,
-    input: &str,
-) -> Result<Option<String>, OutOfMemory> {
-    match kind {
-        "conflicts" => Ok(Some(conflicts(alloc, input)?)),
-        _ => Ok(None),
+        None => told(alloc, "out of range"),
     }
 }

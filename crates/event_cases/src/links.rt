@@ -3,28 +3,26 @@
 ghost use Rattle.std.specs.Prelude.{◌<◌, All, IsTrue};
 ghost use Rattle.dependency_graph.specs.Tables.{IsClosed};
 
-use crate::parts::add_number;
+use crate::parts::{Piece, add_each, pieces, told};
 use dependency_graph::{depths, first_on_cycle};
 use std::alloc::Global;
 use zbx_types::{Many, OutOfMemory};
 
-fn ends(alloc: Global, word: &str) -> Result<Many<usize>, OutOfMemory> {
-    let mut made = Many::new(alloc);
-    for end in word.split(',') {
-        if let Ok(end) = end.parse() {
-            made.push(end)?;
-        }
-    }
-    Ok(made)
-}
+/// The reader of a thing's links, as `1,2`, or `-` where it has none.
+struct EndsReader;
 
-/// Links as `1,2 2 -`: a word for each thing, `-` where it has none.
-fn links(alloc: Global, text: &str) -> Result<Vec<Many<usize>>, OutOfMemory> {
-    let mut made = Vec::new(alloc);
-    for word in text.split(' ') {
-        made.push(ends(alloc, word)?)?;
+impl Piece for EndsReader {
+    type Made = Many<usize>;
+
+    fn read(alloc: Global, _place: u32, word: &str) -> Result<Many<usize>, OutOfMemory> {
+        let mut made = Many::new(alloc);
+        for end in word.split(',') {
+            if let Ok(end) = end.parse() {
+                made.push(end)?;
+            }
+        }
+        Ok(made)
     }
-    Ok(made)
 }
 
 /// Whether all of these are below a number.
@@ -43,33 +41,24 @@ fn is_closed(links: &[Many<usize>]) -> bool
 }
 
 fn depths_of(alloc: Global, links: &[Many<usize>]) -> Result<String, OutOfMemory> {
+    let depths = depths(alloc, links)?;
     let mut made = String::new(alloc);
-    for depth in depths(alloc, links)?.as_slice() {
-        add_number(alloc, &mut made, *depth as u64)?;
-    }
-    Ok(made)
+    add_each(alloc, &mut made, depths.as_slice()).and(Ok(made))
 }
 
 /// The place of the first link on a cycle, as `1/0`, or the depths, as `2 1 0`.
-fn told(alloc: Global, text: &str) -> Result<String, OutOfMemory> {
-    let links = links(alloc, text)?;
-    if !is_closed(&links) {
-        return Ok(String::from_str(alloc, "out of range")?);
+fn found(alloc: Global, links: &[Many<usize>]) -> Result<String, OutOfMemory> {
+    if !is_closed(links) {
+        return told(alloc, "out of range");
     }
-    match first_on_cycle(alloc, &links)? {
+    match first_on_cycle(alloc, links)? {
         Some(place) => Ok(format!(in alloc; "{}/{}", place.from, place.at)?),
-        None => depths_of(alloc, &links),
+        None => depths_of(alloc, links),
     }
 }
 
-/// What a case of links comes to.
-pub(crate) fn answer(
-    alloc: Global,
-    kind: &str,
-    input: &str,
-) -> Result<Option<String>, OutOfMemory> {
-    match kind {
-        "links" => Ok(Some(told(alloc, input)?)),
-        _ => Ok(None),
-    }
+/// The same of links as `1,2 2 -`: a word for each thing.
+pub(crate) fn found_in(alloc: Global, text: &str) -> Result<String, OutOfMemory> {
+    let links = pieces::<EndsReader>(alloc, text, ' ')?;
+    found(alloc, links.as_slice())
 }

@@ -15,57 +15,46 @@ mod suppression;
 mod verdicts;
 mod words;
 
+use crate::parts::{Came, told};
 use case_rows::{Row, row_of};
 use std::alloc::Global;
 use std::io;
 use zbx_types::OutOfMemory;
 
-/// What a case of what decides on triggers comes to; none where none of these kinds has this name.
-fn of_triggers(alloc: Global, kind: &str, input: &str) -> Result<Option<String>, OutOfMemory> {
-    if let Some(came) = verdicts::answer(alloc, kind, input)? {
-        return Ok(Some(came));
+/// What a case of the order of work comes to; none where none of these kinds has this name.
+fn of_work(alloc: Global, kind: &str, input: &str) -> Option<Came> {
+    match kind {
+        "claims" => Some(claims::claimed(alloc, input)),
+        "conflicts" => Some(footprints::conflicts(alloc, input)),
+        "links" => Some(links::found_in(alloc, input)),
+        "connections" => Some(connections::turns(alloc, input)),
+        _ => None,
     }
-    if let Some(came) = closings::answer(alloc, kind, input)? {
-        return Ok(Some(came));
-    }
-    if let Some(came) = escalation_steps::answer(alloc, kind, input)? {
-        return Ok(Some(came));
-    }
-    suppression::answer(alloc, kind, input)
 }
 
-/// What a case of the order of work comes to.
-fn of_work(alloc: Global, kind: &str, input: &str) -> Result<Option<String>, OutOfMemory> {
-    if let Some(came) = claims::answer(alloc, kind, input)? {
-        return Ok(Some(came));
-    }
-    if let Some(came) = footprints::answer(alloc, kind, input)? {
-        return Ok(Some(came));
-    }
-    if let Some(came) = links::answer(alloc, kind, input)? {
-        return Ok(Some(came));
-    }
-    connections::answer(alloc, kind, input)
+/// What the case of a row comes to; none where no kind has this name. At most one of these answers.
+fn answer(alloc: Global, kind: &str, input: &str) -> Option<Came> {
+    verdicts::answer(alloc, kind, input)
+        .or(closings::answer(alloc, kind, input))
+        .or(escalation_steps::answer(alloc, kind, input))
+        .or(suppression::answer(alloc, kind, input))
+        .or(of_work(alloc, kind, input))
+        .or(words::answer(alloc, kind, input))
 }
 
-/// What the case of a row comes to; none where no kind has this name.
-fn answer(alloc: Global, kind: &str, input: &str) -> Result<Option<String>, OutOfMemory> {
-    if let Some(came) = of_triggers(alloc, kind, input)? {
-        return Ok(Some(came));
+/// What a row comes to.
+fn came(alloc: Global, row: &Row<'_>) -> Result<String, OutOfMemory> {
+    match answer(alloc, row.kind, row.input) {
+        Some(came) => came,
+        None => told(alloc, "no such kind"),
     }
-    if let Some(came) = of_work(alloc, kind, input)? {
-        return Ok(Some(came));
-    }
-    words::answer(alloc, kind, input)
 }
 
 /// What a row comes to, where that isn't what it says.
 fn other(alloc: Global, row: &Row<'_>) -> Result<Option<String>, OutOfMemory> {
-    match answer(alloc, row.kind, row.input)? {
-        Some(came) if came.as_str() == row.wanted => Ok(None),
-        Some(came) => Ok(Some(came)),
-        None => Ok(Some(String::from_str(alloc, "no such kind")?)),
-    }
+    let came = came(alloc, row)?;
+    let is_same = came.as_str() == row.wanted;
+    Ok((!is_same).then_some(came))
 }
 
 fn main(rt: HostRuntime) -> io::Result<()> {
@@ -76,17 +65,17 @@ fn main(rt: HostRuntime) -> io::Result<()> {
         let line = line?;
         if let Some(row) = row_of(line.as_str()) {
             count = count.saturating_add(1);
-            match other(alloc, &row) {
-                Ok(None) => {}
-                Ok(Some(came)) => {
-                    differ = differ.saturating_add(1);
-                    println!(rt; "{line}: {came}")?;
-                }
-                Err(OutOfMemory) => {
-                    differ = differ.saturating_add(1);
-                    println!(rt; "{line}: out of memory")?;
-                }
+            let came = other(alloc, &row);
+            let shown = match &came {
+                Ok(None) => None,
+                Ok(Some(came)) => Some(came.as_str()),
+                Err(OutOfMemory) => Some("out of memory"),
+            };
+            if let Some(shown) = shown {
+                differ = differ.saturating_add(1);
+                println!(rt; "{line}: {shown}")?;
             }
+            drop(came);
         }
     }
     println!(rt; "{count} rows, {differ} differ")

@@ -25,47 +25,56 @@ pub(crate) fn moment(word: &str) -> Moment {
     }
 }
 
-/// So many times a number.
-fn add_times(numbers: &mut Many<u32>, number: u32, times: u32) -> Result<(), OutOfMemory> {
-    for _time in 0..times {
-        numbers.push(number)?;
+/// So many numbers from the first on, each by the rise greater than the one before it.
+fn add_row(numbers: &mut Many<u32>, first: u32, count: u32, rise: u32) -> Result<(), OutOfMemory> {
+    for place in 0..count {
+        numbers.push(first.wrapping_add(rise.wrapping_mul(place)))?;
     }
     Ok(())
 }
 
-/// The numbers from the first to the last.
-fn add_range(numbers: &mut Many<u32>, first: u32, last: u32) -> Result<(), OutOfMemory> {
-    for number in first..last {
-        numbers.push(number)?;
+/// The numbers of a word: `7`, as well as `7*3` for three times 7, and `7-9` for 7, 8 and 9.
+fn add_numbers(numbers: &mut Many<u32>, word: &str) -> Result<(), OutOfMemory> {
+    if let Some((one, times)) = word.split_once('*') {
+        return add_row(numbers, number(one), number(times), 0);
     }
-    if first <= last {
-        numbers.push(last)?;
+    if let Some((first, last)) = word.split_once('-') {
+        let behind = number(last).saturating_add(1);
+        return add_row(
+            numbers,
+            number(first),
+            behind.saturating_sub(number(first)),
+            1,
+        );
     }
-    Ok(())
+    match word.parse() {
+        Ok(one) => add_row(numbers, one, 1, 0),
+        Err(_) => Ok(()),
+    }
 }
 
-/// Numbers with commas between: `7`, as well as `7*3` for three times 7, and `7-9` for 7, 8 and 9.
+/// The numbers of words with commas between.
 pub(crate) fn numbers(alloc: Global, text: &str) -> Result<Many<u32>, OutOfMemory> {
     let mut made = Many::new(alloc);
     for word in text.split(',') {
-        if let Some((one, times)) = word.split_once('*') {
-            add_times(&mut made, number(one), number(times))?;
-        } else if let Some((first, last)) = word.split_once('-') {
-            add_range(&mut made, number(first), number(last))?;
-        } else if let Ok(one) = word.parse() {
-            made.push(one)?;
-        }
+        add_numbers(&mut made, word)?;
     }
     Ok(made)
 }
 
 /// A word behind those that a text has, with a blank before it if there are any.
 pub(crate) fn add_word(text: &mut String, word: &str) -> Result<(), OutOfMemory> {
-    if !text.is_empty() {
-        text.push_str(" ")?;
-    }
-    text.push_str(word)?;
-    Ok(())
+    let between = if text.is_empty() { "" } else { " " };
+    let put = text.push_str(between).ok();
+    put.and(text.push_str(word).ok()).ok_or(OutOfMemory)
+}
+
+/// What a case comes to.
+pub(crate) type Came = Result<String, OutOfMemory>;
+
+/// A text of a word.
+pub(crate) fn told(alloc: Global, word: &str) -> Result<String, OutOfMemory> {
+    String::from_str(alloc, word).ok().ok_or(OutOfMemory)
 }
 
 /// Adds a number as a word.
@@ -74,27 +83,93 @@ pub(crate) fn add_number(alloc: Global, text: &mut String, number: u64) -> Resul
     add_word(text, word.as_str())
 }
 
-/// A list of one.
-pub(crate) fn one<T: Drop>(alloc: Global, made: T) -> Result<Many<T>, OutOfMemory> {
-    let mut list = Many::new(alloc);
-    list.push(made)?;
-    Ok(list)
+/// Adds numbers as words.
+pub(crate) fn add_each(
+    alloc: Global,
+    text: &mut String,
+    numbers: &[u32],
+) -> Result<(), OutOfMemory> {
+    for number in numbers {
+        add_number(alloc, text, *number as u64)?;
+    }
+    Ok(())
 }
 
-fn tag(alloc: Global, word: &str) -> Result<Tag, OutOfMemory> {
-    let (tag, value) = split(word, '=');
-    let tag = Text::of(alloc, tag)?;
-    let value = Text::of(alloc, value)?;
-    Ok(Tag { tag, value })
+/// Two things, where there was room for both.
+pub(crate) fn both<A: Drop, B: Drop>(
+    one: Result<A, OutOfMemory>,
+    other: Result<B, OutOfMemory>,
+) -> Result<(A, B), OutOfMemory> {
+    one.ok().zip(other.ok()).ok_or(OutOfMemory)
+}
+
+/// A list with one more.
+fn with_one<T: Drop>(mut list: Many<T>, made: T) -> Result<Many<T>, OutOfMemory> {
+    list.push(made).ok().and(Some(list)).ok_or(OutOfMemory)
+}
+
+/// A list of one.
+pub(crate) fn one<T: Drop>(
+    alloc: Global,
+    made: Result<T, OutOfMemory>,
+) -> Result<Many<T>, OutOfMemory> {
+    let made = made?;
+    with_one(Many::new(alloc), made)
+}
+
+/// A list of two.
+pub(crate) fn two<T: Drop>(
+    alloc: Global,
+    first: Result<T, OutOfMemory>,
+    second: Result<T, OutOfMemory>,
+) -> Result<Many<T>, OutOfMemory> {
+    let (list, second) = both(one(alloc, first), second)?;
+    with_one(list, second)
+}
+
+/// A reader of the pieces of a text. It is named by a type that is only a name.
+pub(crate) trait Piece {
+    /// What a piece is read as.
+    type Made: Drop;
+
+    /// Reads a piece, the first of which is at place 0.
+    fn read(alloc: Global, place: u32, word: &str) -> Result<Self::Made, OutOfMemory>;
+}
+
+/// The pieces of a text between marks; none of an empty text.
+pub(crate) fn pieces<P: Piece>(
+    alloc: Global,
+    text: &str,
+    mark: char,
+) -> Result<Many<P::Made>, OutOfMemory> {
+    let mut made = Many::new(alloc);
+    if text.is_empty() {
+        return Ok(made);
+    }
+    let mut place: u32 = 0;
+    for word in text.split(mark) {
+        made.push(P::read(alloc, place, word)?)?;
+        place = place.wrapping_add(1);
+    }
+    Ok(made)
+}
+
+/// The reader of tags.
+struct TagReader;
+
+impl Piece for TagReader {
+    type Made = Tag;
+
+    fn read(alloc: Global, _place: u32, word: &str) -> Result<Tag, OutOfMemory> {
+        let (tag, value) = split(word, '=');
+        let (tag, value) = both(Text::of(alloc, tag), Text::of(alloc, value))?;
+        Ok(Tag { tag, value })
+    }
 }
 
 /// Tags, as `name=value`, with blanks between.
 pub(crate) fn tags(alloc: Global, text: &str) -> Result<Many<Tag>, OutOfMemory> {
-    let mut made = Many::new(alloc);
-    for word in text.split_whitespace() {
-        made.push(tag(alloc, word)?)?;
-    }
-    Ok(made)
+    pieces::<TagReader>(alloc, text, ' ')
 }
 
 fn operator(word: &str) -> TagOp {
@@ -110,8 +185,7 @@ fn operator(word: &str) -> TagOp {
 pub(crate) fn test(alloc: Global, word: &str) -> Result<TagTest, OutOfMemory> {
     let (tag, rest) = split(word, '/');
     let (op, value) = split(rest, '/');
-    let tag = Text::of(alloc, tag)?;
-    let value = Text::of(alloc, value)?;
+    let (tag, value) = both(Text::of(alloc, tag), Text::of(alloc, value))?;
     Ok(TagTest {
         tag,
         op: operator(op),
@@ -127,8 +201,8 @@ pub(crate) fn matching(word: &str) -> Matching {
 }
 
 fn host(alloc: Global, name: &str, group: &str) -> Result<Host, OutOfMemory> {
-    let groups = one(alloc, Text::of(alloc, group)?)?;
-    let name = Text::of(alloc, name)?;
+    let groups = one(alloc, Text::of(alloc, group));
+    let (groups, name) = both(groups, Text::of(alloc, name))?;
     Ok(Host {
         name,
         groups,
@@ -138,9 +212,7 @@ fn host(alloc: Global, name: &str, group: &str) -> Result<Host, OutOfMemory> {
 
 /// Host `h` is in the group `g`, host `other` in the group `else`.
 pub(crate) fn hosts(alloc: Global) -> Result<Many<Host>, OutOfMemory> {
-    let mut hosts = one(alloc, host(alloc, "h", "g")?)?;
-    hosts.push(host(alloc, "other", "else")?)?;
-    Ok(hosts)
+    two(alloc, host(alloc, "h", "g"), host(alloc, "other", "else"))
 }
 
 /// An item of a host, with its master (0: none).
@@ -157,14 +229,18 @@ pub(crate) fn item(alloc: Global, host: u32, master: u32) -> Item {
     }
 }
 
-/// Items of host 1, each by its master (0: none).
-pub(crate) fn items(alloc: Global, masters: &str) -> Result<Many<Item>, OutOfMemory> {
-    let masters = numbers(alloc, masters)?;
+fn items_of(alloc: Global, masters: &[u32]) -> Result<Many<Item>, OutOfMemory> {
     let mut made = Many::new(alloc);
-    for master in masters.as_slice() {
+    for master in masters {
         made.push(item(alloc, 1, *master))?;
     }
     Ok(made)
+}
+
+/// Items of host 1, each by its master (0: none).
+pub(crate) fn items(alloc: Global, masters: &str) -> Result<Many<Item>, OutOfMemory> {
+    let masters = numbers(alloc, masters)?;
+    items_of(alloc, masters.as_slice())
 }
 
 /// What a trigger looks at and depends on.
@@ -209,9 +285,9 @@ pub(crate) fn calling(alloc: Global, host: u32, word: &str) -> Result<Trigger, O
     let (calls, rest) = split(word, ':');
     let (depends, rest) = split(rest, ':');
     let (depth, name) = split(rest, ':');
-    let call_items = numbers(alloc, calls)?;
-    let depends = numbers(alloc, depends)?;
-    let tags = tags(alloc, name)?;
+    let on = both(numbers(alloc, calls), numbers(alloc, depends));
+    let (on, tags) = both(on, tags(alloc, name))?;
+    let (call_items, depends) = on;
     let links = Links {
         host,
         call_items,
@@ -227,13 +303,15 @@ pub(crate) fn calling(alloc: Global, host: u32, word: &str) -> Result<Trigger, O
     ))
 }
 
-/// Such triggers of host 1, with blanks between.
-pub(crate) fn triggers(alloc: Global, text: &str) -> Result<Many<Trigger>, OutOfMemory> {
-    let mut made = Many::new(alloc);
-    for word in text.split_whitespace() {
-        made.push(calling(alloc, 1, word)?)?;
+/// The reader of such triggers of host 1.
+pub(crate) struct CallingReader;
+
+impl Piece for CallingReader {
+    type Made = Trigger;
+
+    fn read(alloc: Global, _place: u32, word: &str) -> Result<Trigger, OutOfMemory> {
+        calling(alloc, 1, word)
     }
-    Ok(made)
 }
 
 /// A configuration of hosts, items and triggers, with rules and maintenances.
@@ -266,8 +344,7 @@ pub(crate) fn problem(
     host: &str,
     words: &str,
 ) -> Result<Rec, OutOfMemory> {
-    let host = Text::of(alloc, host)?;
-    let tags = tags(alloc, words)?;
+    let (host, tags) = both(Text::of(alloc, host), tags(alloc, words))?;
     Ok(Rec::Problem {
         event,
         now: Moment { sec: 100, ns: 0 },

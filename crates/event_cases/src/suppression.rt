@@ -1,35 +1,41 @@
 //! When a maintenance is in force, which problems it suppresses, and which hosts' values it keeps out.
 
-use crate::parts::{calling, configuration, hosts, item, matching, number, one, split, tags, test};
+use crate::parts::{
+    Came, Piece, both, calling, configuration, hosts, item, matching, number, one, pieces, split,
+    tags, test, told, two,
+};
 use maintenance::{collects, in_force, suppressed};
 use std::alloc::Global;
 use zbx_types::{
     Conf, Item, Maintenance, Many, Moment, OutOfMemory, Period, TagTest, Text, Trigger,
 };
 
-/// Tests of tags, as `app/equals/web`, with commas between.
-fn tests(alloc: Global, text: &str) -> Result<Many<TagTest>, OutOfMemory> {
-    let mut made = Many::new(alloc);
-    for word in text.split(',') {
-        if word.contains('/') {
-            made.push(test(alloc, word)?)?;
-        }
+/// The reader of tests of tags, as `app/equals/web`.
+struct TestReader;
+
+impl Piece for TestReader {
+    type Made = TagTest;
+
+    fn read(alloc: Global, _place: u32, word: &str) -> Result<TagTest, OutOfMemory> {
+        test(alloc, word)
     }
-    Ok(made)
 }
 
 /// A maintenance of the group `g` for five minutes from second 235 on, as `yes and app/equals/web`: whether it collects, how
-/// its tests are joined, and the tests.
+/// its tests are joined, and the tests, with commas between.
 fn grouped(alloc: Global, words: &str) -> Result<Maintenance, OutOfMemory> {
     let (collect, rest) = split(words, ' ');
     let (joined, given) = split(rest, ' ');
-    let tags = tests(alloc, given)?;
-    let groups = one(alloc, Text::of(alloc, "g")?)?;
     let once = Period::Once {
         start: 235,
         length: 300,
     };
-    let periods = one(alloc, once)?;
+    let given = both(
+        pieces::<TestReader>(alloc, given, ','),
+        one(alloc, Text::of(alloc, "g")),
+    );
+    let (given, periods) = both(given, one(alloc, Ok(once)))?;
+    let (tags, groups) = given;
     Ok(Maintenance {
         name: Text::new(alloc),
         since: 0,
@@ -45,24 +51,21 @@ fn grouped(alloc: Global, words: &str) -> Result<Maintenance, OutOfMemory> {
 
 /// Item 1 is of host 1, item 2 of host 2.
 fn items(alloc: Global) -> Result<Many<Item>, OutOfMemory> {
-    let mut items = one(alloc, item(alloc, 1, 0))?;
-    items.push(item(alloc, 2, 0))?;
-    Ok(items)
+    two(alloc, Ok(item(alloc, 1, 0)), Ok(item(alloc, 2, 0)))
 }
 
 /// Trigger 1 is of host 2 and looks at the time and at item 1, trigger 2 is of host 1 and looks at item 2.
 fn triggers(alloc: Global) -> Result<Many<Trigger>, OutOfMemory> {
-    let mut triggers = one(alloc, calling(alloc, 2, "0,1")?)?;
-    triggers.push(calling(alloc, 1, "2")?)?;
-    Ok(triggers)
+    two(alloc, calling(alloc, 2, "0,1"), calling(alloc, 1, "2"))
 }
 
 /// A configuration of these with a maintenance.
 pub(crate) fn maintained(alloc: Global, words: &str) -> Result<Conf, OutOfMemory> {
-    let hosts = hosts(alloc)?;
-    let items = items(alloc)?;
-    let triggers = triggers(alloc)?;
-    let maintenances = one(alloc, grouped(alloc, words)?)?;
+    let on = both(hosts(alloc), items(alloc));
+    let over = both(triggers(alloc), one(alloc, grouped(alloc, words)));
+    let (on, over) = both(on, over)?;
+    let (hosts, items) = on;
+    let (triggers, maintenances) = over;
     Ok(configuration(
         alloc,
         hosts,
@@ -105,23 +108,19 @@ fn holds(
 }
 
 /// The same in `MAINTENANCE;NUMBER;SECOND;TAGS`.
-fn told(alloc: Global, kind: &str, input: &str) -> Result<String, OutOfMemory> {
+fn held(alloc: Global, kind: &str, input: &str) -> Result<String, OutOfMemory> {
     let (words, rest) = split(input, ';');
     let (which, rest) = split(rest, ';');
     let conf = maintained(alloc, words)?;
     let made = holds(alloc, &conf, kind, number(which), rest);
     drop(conf);
-    Ok(String::from_str(alloc, if made? { "yes" } else { "no" })?)
+    told(alloc, if made? { "yes" } else { "no" })
 }
 
 /// What a case of maintenances comes to.
-pub(crate) fn answer(
-    alloc: Global,
-    kind: &str,
-    input: &str,
-) -> Result<Option<String>, OutOfMemory> {
+pub(crate) fn answer(alloc: Global, kind: &str, input: &str) -> Option<Came> {
     match kind {
-        "in force" | "collects" | "suppressed" => Ok(Some(told(alloc, kind, input)?)),
-        _ => Ok(None),
+        "in force" | "collects" | "suppressed" => Some(held(alloc, kind, input)),
+        _ => None,
     }
 }

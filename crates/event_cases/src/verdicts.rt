@@ -3,7 +3,8 @@
 ghost use Rattle.std.specs.Prelude.{◌≡◌, Some};
 
 use crate::parts::{
-    Links, add_number, configuration, moment, number, numbers, problem, split, tags, trigger,
+    Came, Links, Piece, add_each, add_number, both, configuration, moment, number, numbers, pieces,
+    problem, split, tags, told, trigger,
 };
 use std::alloc::Global;
 use trigger_state::{InForce, Open, Opens, TriggerCells, Verdict, verdict};
@@ -20,28 +21,30 @@ fn recovery(word: &str) -> RecoveryMode {
     }
 }
 
-/// A trigger, as `RECOVERY:DEPENDS:DEPTH:TAG`; one with a closing tag makes several problems.
-fn closing(alloc: Global, word: &str) -> Result<Trigger, OutOfMemory> {
-    let (mode, rest) = split(word, ':');
-    let (depends, rest) = split(rest, ':');
-    let (depth, tag) = split(rest, ':');
-    let depends = numbers(alloc, depends)?;
-    let close_tag = Text::of(alloc, tag)?;
-    let links = Links {
-        host: 1,
-        call_items: Many::new(alloc),
-        depends,
-        depth: number(depth),
-    };
-    Ok(trigger(alloc, links, Many::new(alloc), recovery(mode), close_tag))
+/// The reader of triggers, as `RECOVERY:DEPENDS:DEPTH:TAG`; one with a closing tag makes several problems.
+struct ClosingReader;
+
+impl Piece for ClosingReader {
+    type Made = Trigger;
+
+    fn read(alloc: Global, _place: u32, word: &str) -> Result<Trigger, OutOfMemory> {
+        let (mode, rest) = split(word, ':');
+        let (depends, rest) = split(rest, ':');
+        let (depth, tag) = split(rest, ':');
+        let (depends, close_tag) = both(numbers(alloc, depends), Text::of(alloc, tag))?;
+        let links = Links {
+            host: 1,
+            call_items: Many::new(alloc),
+            depends,
+            depth: number(depth),
+        };
+        Ok(trigger(alloc, links, Many::new(alloc), recovery(mode), close_tag))
+    }
 }
 
 /// A configuration of such triggers.
 fn with_triggers(alloc: Global, text: &str) -> Result<Conf, OutOfMemory> {
-    let mut made = Many::new(alloc);
-    for word in text.split_whitespace() {
-        made.push(closing(alloc, word)?)?;
-    }
+    let made = pieces::<ClosingReader>(alloc, text, ' ')?;
     let none = Many::new(alloc);
     Ok(configuration(
         alloc,
@@ -123,26 +126,28 @@ fn take_all(
 /// What is open behind records, with commas between.
 fn behind(alloc: Global, stage: &InForce, text: &str) -> Result<TriggerCells, OutOfMemory> {
     let mut cells = TriggerCells::new(alloc, stage.conf())?;
-    match take_all(alloc, stage, &mut cells, text) {
-        Ok(()) => Ok(cells),
-        Err(OutOfMemory) => {
-            drop(cells);
-            Err(OutOfMemory)
-        }
+    take_all(alloc, stage, &mut cells, text).and(Ok(cells))
+}
+
+/// Adds the numbers of events.
+fn add_events(alloc: Global, text: &mut String, events: &[EventId]) -> Result<(), OutOfMemory> {
+    for event in events {
+        add_number(alloc, text, event.number)?;
     }
+    Ok(())
+}
+
+/// The events that a verdict closes.
+fn closed(alloc: Global, events: &[EventId]) -> Result<String, OutOfMemory> {
+    let mut text = told(alloc, "close")?;
+    add_events(alloc, &mut text, events).and(Ok(text))
 }
 
 fn said(alloc: Global, made: &Verdict) -> Result<String, OutOfMemory> {
     match made {
-        Verdict::Nothing => Ok(String::from_str(alloc, "nothing")?),
-        Verdict::New => Ok(String::from_str(alloc, "new")?),
-        Verdict::Close(events) => {
-            let mut text = String::from_str(alloc, "close")?;
-            for event in events.as_slice() {
-                add_number(alloc, &mut text, event.number)?;
-            }
-            Ok(text)
-        }
+        Verdict::Nothing => told(alloc, "nothing"),
+        Verdict::New => told(alloc, "new"),
+        Verdict::Close(events) => closed(alloc, events.as_slice()),
     }
 }
 
@@ -170,10 +175,10 @@ fn judged(
     let (p, rest) = split(rest, ' ');
     let (r, rest) = split(rest, ' ');
     let (at, words) = split(rest, ' ');
-    let tags = tags(alloc, words)?;
     if !depths_fall(conf) {
         return Ok(Verdict::Nothing);
     }
+    let tags = tags(alloc, words)?;
     verdict(
         alloc,
         conf,
@@ -200,7 +205,10 @@ fn verdict_of(alloc: Global, input: &str) -> Result<String, OutOfMemory> {
     let stage = InForce::first(with_triggers(alloc, words)?);
     let made = judged_behind(alloc, &stage, rest);
     drop(stage);
-    said(alloc, &made?)
+    let made = made?;
+    let text = said(alloc, &made);
+    drop(made);
+    text
 }
 
 fn masters_in(alloc: Global, conf: &Conf, id: u32) -> Result<Many<u32>, OutOfMemory> {
@@ -216,26 +224,34 @@ fn masters_of(alloc: Global, input: &str) -> Result<String, OutOfMemory> {
     let conf = with_triggers(alloc, words)?;
     let made = masters_in(alloc, &conf, number(id));
     drop(conf);
+    let made = made?;
     let mut text = String::new(alloc);
-    for id in made?.as_slice() {
-        add_number(alloc, &mut text, *id as u64)?;
-    }
-    Ok(text)
+    add_each(alloc, &mut text, made.as_slice()).and(Ok(text))
 }
 
-/// The number of the first of some open problems, its rank, and the numbers of the steps that stand with it.
-fn first_of(alloc: Global, open: &[Open]) -> Result<String, OutOfMemory> {
-    let Some(first) = open.first() else {
-        return Ok(String::from_str(alloc, "none")?);
-    };
-    let number = first.problem.event().number;
-    let mut text = format!(in alloc; "{number} rank {} steps", first.rank)?;
-    for one in first.steps.as_slice() {
+/// Adds the numbers of steps.
+fn add_steps(alloc: Global, text: &mut String, steps: &[Rec]) -> Result<(), OutOfMemory> {
+    for one in steps {
         if let Rec::Step { step, .. } = one {
-            add_number(alloc, &mut text, *step as u64)?;
+            add_number(alloc, text, *step as u64)?;
         }
     }
-    Ok(text)
+    Ok(())
+}
+
+/// The number of an open problem, its rank, and the numbers of the steps that stand with it.
+fn shown(alloc: Global, open: &Open) -> Result<String, OutOfMemory> {
+    let number = open.problem.event().number;
+    let mut text = format!(in alloc; "{number} rank {} steps", open.rank)?;
+    add_steps(alloc, &mut text, open.steps.as_slice()).and(Ok(text))
+}
+
+/// What is to be said of the first of some open problems.
+fn first_of(alloc: Global, open: &[Open]) -> Result<String, OutOfMemory> {
+    match open.first() {
+        Some(first) => shown(alloc, first),
+        None => told(alloc, "none"),
+    }
 }
 
 fn open_behind(alloc: Global, stage: &InForce, text: &str) -> Result<String, OutOfMemory> {
@@ -255,34 +271,34 @@ fn open_of(alloc: Global, input: &str) -> Result<String, OutOfMemory> {
     made
 }
 
-/// The first Tick behind those at some moments, as `100/5` for 100 seconds and 5 nanoseconds.
-fn first_tick(alloc: Global, text: &str) -> Result<String, OutOfMemory> {
-    let conf = with_triggers(alloc, "")?;
-    let cells = TriggerCells::new(alloc, &conf);
-    drop(conf);
-    let mut cells = cells?;
+/// Takes Ticks, and says which one was the first.
+fn ticked(mut cells: TriggerCells, text: &str) -> Option<Moment> {
     for word in text.split_whitespace() {
         cells.ticked(moment(word));
     }
     let first = cells.first_tick();
     drop(cells);
-    match first {
-        None => Ok(String::from_str(alloc, "none")?),
+    first
+}
+
+/// The first Tick behind those at some moments, as `100/5` for 100 seconds and 5 nanoseconds.
+fn first_tick(alloc: Global, text: &str) -> Result<String, OutOfMemory> {
+    let conf = with_triggers(alloc, "")?;
+    let cells = TriggerCells::new(alloc, &conf);
+    drop(conf);
+    match ticked(cells?, text) {
+        None => told(alloc, "none"),
         Some(first) => Ok(format!(in alloc; "{}/{}", first.sec, first.ns)?),
     }
 }
 
 /// What a case of verdicts comes to.
-pub(crate) fn answer(
-    alloc: Global,
-    kind: &str,
-    input: &str,
-) -> Result<Option<String>, OutOfMemory> {
+pub(crate) fn answer(alloc: Global, kind: &str, input: &str) -> Option<Came> {
     match kind {
-        "verdict" => Ok(Some(verdict_of(alloc, input)?)),
-        "masters" => Ok(Some(masters_of(alloc, input)?)),
-        "open" => Ok(Some(open_of(alloc, input)?)),
-        "first tick" => Ok(Some(first_tick(alloc, input)?)),
-        _ => Ok(None),
+        "verdict" => Some(verdict_of(alloc, input)),
+        "masters" => Some(masters_of(alloc, input)),
+        "open" => Some(open_of(alloc, input)),
+        "first tick" => Some(first_tick(alloc, input)),
+        _ => None,
     }
 }

@@ -1,30 +1,32 @@
 //! The words of the command line, and the statuses of a run.
 
+use crate::parts::{Came, Piece, pieces, told};
 use server_words::{Counts, Mode, Plan, PlanError, Status, plan, printed};
 use std::alloc::Global;
 use std::convert::AsStr;
-use zbx_types::{Cause, Many, OutOfMemory, Text};
+use zbx_types::{Cause, OutOfMemory, Text};
 
-/// The words of a line, between its blanks.
-fn words_of(alloc: Global, line: &str) -> Result<Many<Text>, OutOfMemory> {
-    let mut made = Many::new(alloc);
-    for word in line.split(' ') {
-        if !word.is_empty() {
-            made.push(Text::of(alloc, word)?)?;
-        }
+/// The reader of the words of a line.
+struct WordReader;
+
+impl Piece for WordReader {
+    type Made = Text;
+
+    fn read(alloc: Global, _place: u32, word: &str) -> Result<Text, OutOfMemory> {
+        Text::of(alloc, word)
     }
-    Ok(made)
 }
 
-/// What a line of words asks for: mode, paths, outbox and numbers.
+/// What a line of words with blanks between asks for: mode, paths, outbox and numbers.
 fn asked(alloc: Global, line: &str) -> Result<String, OutOfMemory> {
-    match plan(alloc, words_of(alloc, line)?.as_slice()) {
+    let words = pieces::<WordReader>(alloc, line, ' ')?;
+    match plan(alloc, words.as_slice()) {
         Ok(plan) => {
             let made = plan_line(alloc, &plan);
             drop(plan);
             made
         }
-        Err(PlanError::Usage) => Ok(String::from_str(alloc, "Usage")?),
+        Err(PlanError::Usage) => told(alloc, "Usage"),
         Err(PlanError::OutOfMemory) => Err(OutOfMemory),
     }
 }
@@ -129,14 +131,10 @@ fn said(alloc: Global, number: u32) -> Result<String, OutOfMemory> {
 }
 
 /// What a case of words or of statuses comes to.
-pub(crate) fn answer(
-    alloc: Global,
-    kind: &str,
-    input: &str,
-) -> Result<Option<String>, OutOfMemory> {
+pub(crate) fn answer(alloc: Global, kind: &str, input: &str) -> Option<Came> {
     match kind {
-        "words" => Ok(Some(asked(alloc, input)?)),
-        "status" => Ok(Some(said(alloc, input.parse().unwrap_or(103))?)),
-        _ => Ok(None),
+        "words" => Some(asked(alloc, input)),
+        "status" => Some(said(alloc, input.parse().unwrap_or(103))),
+        _ => None,
     }
 }

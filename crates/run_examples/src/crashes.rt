@@ -1,9 +1,13 @@
+//! What a run finds that goes on behind another one: one that was stopped where its disk failed, or by a crash.
+
 ghost use Rattle.std.specs.Prelude.{◌≡◌};
 ghost use Rattle.outside.specs.Disk.{silent, silent_lawful};
 
-use crate::runs::{Found, Over, none_fails, only, plain_config, run_behind, run_beside, sink};
+use crate::rows::{Row, number, row_of};
+use crate::runs::{Over, TestWire, beside, ports_of, run, setup_behind, setup_of, told_of};
 use outside::{Disk, Failed, MemDisk, OpenGate};
 use std::alloc::Global;
+use std::convert::AsStr;
 use std::sync::Wait;
 use std::test::Fail;
 use std::thread::Threads;
@@ -48,6 +52,7 @@ fn fill(
 }
 
 impl CrashDisk {
+    /// A disk of no bytes.
     fn new(alloc: Global, fails: Many<u64>, torn: Torn) -> CrashDisk {
         CrashDisk {
             alloc,
@@ -132,11 +137,6 @@ impl Disk for CrashDisk {
     }
 }
 
-/// Three connections bring the values 10, 1 and 7.
-fn three_frames() -> &'static str {
-    "100.000000000 open 1\n100.000000000 open 2\n100.000000000 open 3\n100.000000000 frame 1 {\"request\":\"sender data\",\"data\":[{\"host\":\"h\",\"key\":\"k\",\"value\":\"10\"}]}\n100.000000000 frame 2 {\"request\":\"sender data\",\"data\":[{\"host\":\"h\",\"key\":\"k\",\"value\":\"1\"}]}\n100.000000000 frame 3 {\"request\":\"sender data\",\"data\":[{\"host\":\"h\",\"key\":\"k\",\"value\":\"7\"}]}\n100.000000000 closed\n"
-}
-
 /// The lines of the first ones of these values.
 fn lines(values: usize) -> &'static str {
     match values {
@@ -187,7 +187,7 @@ fn answered(sent: &[(u64, Bytes)]) -> usize {
 }
 
 /// Whether a run has begun, and has so many values at least, with their lines.
-fn has(over: &Over<MemDisk>, least: usize) -> bool {
+fn has(over: &Over<TestWire, MemDisk>, least: usize) -> bool {
     match values_in(over.ended.entries.as_slice()) {
         Some(count) => {
             over.ended.began
@@ -209,94 +209,62 @@ enum Went {
     Lost,
 }
 
-/// How a run went, beside a run behind what a crash left of it.
-fn judged(crashed: &Over<CrashDisk>, behind: &Over<MemDisk>) -> Went {
-    if !has(behind, answered(crashed.wire.wire.sent().as_slice())) {
-        return Went::Lost;
-    }
-    if crashed.ended.disk.faults == 0 {
-        Went::Through
-    } else {
-        Went::Kept
+/// How a run went, where the one behind it had what was answered, or hadn't, and the disk failed so often.
+fn judged(has_all: bool, faults: u64) -> Went {
+    match (has_all, faults) {
+        (false, _) => Went::Lost,
+        (true, 0) => Went::Through,
+        (true, _) => Went::Kept,
     }
 }
 
-/// Runs behind what a crash left.
-fn run_again(alloc: Global, crashed: &Over<CrashDisk>) -> Result<Went, OutOfMemory> {
-    let behind = run_behind(
-        alloc,
-        "--mode feed --config c --script s",
-        plain_config(),
-        "100.000000000 closed\n",
-        Found {
-            journal: crashed.ended.disk.left.bytes().as_slice(),
-            outbox: crashed.ended.outbox.bytes().as_slice(),
-        },
-        none_fails(),
-    )?;
-    Ok(judged(crashed, &behind))
-}
-
-/// The words of a run over a script beside four syncers, or with none.
-fn words(beside: bool) -> &'static str {
-    if beside {
-        "--mode feed --config c --script s --syncers 4"
-    } else {
-        "--mode feed --config c --script s --syncers 0"
-    }
-}
-
-/// In which way a run takes three values: beside syncers or alone, and whether they all stand ready.
-#[derive(Clone, Copy)]
-struct Way {
-    beside: bool,
-    ready: bool,
-}
-
-/// Runs over three values up to the disk's call of this number, which fails.
+/// Runs over three values, in the way that a line of parts says, up to the disk's call of this number, which fails.
 fn run_up_to<R: Threads + Wait + Sync>(
     rt: &R,
     alloc: Global,
-    way: Way,
+    parts: &str,
     torn: Torn,
     call: u64,
-) -> Result<Over<CrashDisk>, OutOfMemory> {
-    let fails = only(alloc, call)?;
-    let outbox = sink(alloc, &[], 0)?;
+) -> Result<Over<TestWire, CrashDisk>, OutOfMemory> {
+    let setup = setup_of(alloc, parts, call)?;
+    let (ports, journal, fails) = ports_of(alloc, setup);
+    drop(journal);
     let disk = CrashDisk::new(alloc, fails, torn);
-    run_beside(
-        rt,
-        alloc,
-        words(way.beside),
-        three_frames(),
-        way.ready,
-        disk,
-        outbox,
-        &OpenGate,
-    )
+    Ok(beside(rt, alloc, ports, disk, &OpenGate))
 }
 
 /// Runs up to a call of the disk, and then behind what a crash leaves there.
 fn crashed_at<R: Threads + Wait + Sync>(
     rt: &R,
     alloc: Global,
-    way: Way,
+    parts: &str,
     torn: Torn,
     call: u64,
 ) -> Result<Went, OutOfMemory> {
-    let crashed = run_up_to(rt, alloc, way, torn, call)?;
-    run_again(alloc, &crashed)
+    let crashed = run_up_to(rt, alloc, parts, torn, call)?;
+    let answered = answered(crashed.wire.wire.sent().as_slice());
+    let faults = crashed.ended.disk.faults;
+    let setup = setup_behind(
+        alloc,
+        crashed.ended.disk.left.bytes().as_slice(),
+        crashed.ended.outbox.bytes().as_slice(),
+    );
+    drop(crashed);
+    let behind = run(alloc, setup?);
+    let has_all = has(&behind, answered);
+    drop(behind);
+    Ok(judged(has_all, faults))
 }
 
 /// How many calls of the disk a run has, where each crash at one of them left all that was answered.
 fn calls_kept<R: Threads + Wait + Sync>(
     rt: &R,
     alloc: Global,
-    way: Way,
+    parts: &str,
     torn: Torn,
 ) -> Result<Option<u64>, OutOfMemory> {
     for before in 0..100u64 {
-        match crashed_at(rt, alloc, way, torn, before + 1)? {
+        match crashed_at(rt, alloc, parts, torn, before + 1)? {
             Went::Through => return Ok(Some(before)),
             Went::Kept => {}
             Went::Lost => return Ok(None),
@@ -305,30 +273,189 @@ fn calls_kept<R: Threads + Wait + Sync>(
     Ok(None)
 }
 
+/// What a crash leaves, by a name.
+fn torn_of(name: &str) -> Option<Torn> {
+    match name {
+        "nothing" => Some(Torn::Nothing),
+        "front" => Some(Torn::Front),
+        "back" => Some(Torn::Back),
+        "whole" => Some(Torn::Whole),
+        "filled with 1" => Some(Torn::Filled(1)),
+        "filled with 2" => Some(Torn::Filled(2)),
+        _ => None,
+    }
+}
+
+/// Whether a run has as many calls of the disk as are wanted, and each crash at one of them left all that was answered.
+fn is_kept<R: Threads + Wait + Sync>(
+    rt: &R,
+    alloc: Global,
+    row: Row<'_>,
+) -> Result<bool, OutOfMemory> {
+    let Some(torn) = torn_of(row.kind) else {
+        return Ok(false);
+    };
+    let calls = calls_kept(rt, alloc, row.input, torn)?;
+    Ok(calls == Some(number(row.wanted)))
+}
+
+/// Of what a disk held at its last sync nothing is lost, and of each piece that was to be written since there is nothing, its
+/// front, its back, all, or another byte in place of each of its own. An append has four calls: one of the three values, or
+/// one for each of them.
+fn crashes() -> &'static str {
+    "nothing | 18 | script=three syncers=0 ready=yes\n\
+    nothing | 26 | script=three syncers=0 ready=no\n\
+    nothing | 18 | script=three syncers=4 ready=yes\n\
+    nothing | 26 | script=three syncers=4 ready=no\n\
+    front | 18 | script=three syncers=0 ready=yes\n\
+    front | 26 | script=three syncers=0 ready=no\n\
+    front | 18 | script=three syncers=4 ready=yes\n\
+    front | 26 | script=three syncers=4 ready=no\n\
+    back | 18 | script=three syncers=0 ready=yes\n\
+    back | 26 | script=three syncers=0 ready=no\n\
+    back | 18 | script=three syncers=4 ready=yes\n\
+    back | 26 | script=three syncers=4 ready=no\n\
+    whole | 18 | script=three syncers=0 ready=yes\n\
+    whole | 26 | script=three syncers=0 ready=no\n\
+    whole | 18 | script=three syncers=4 ready=yes\n\
+    whole | 26 | script=three syncers=4 ready=no\n\
+    filled with 1 | 18 | script=three syncers=0 ready=yes\n\
+    filled with 1 | 26 | script=three syncers=0 ready=no\n\
+    filled with 1 | 18 | script=three syncers=4 ready=yes\n\
+    filled with 1 | 26 | script=three syncers=4 ready=no\n\
+    filled with 2 | 18 | script=three syncers=0 ready=yes\n\
+    filled with 2 | 26 | script=three syncers=0 ready=no\n\
+    filled with 2 | 18 | script=three syncers=4 ready=yes\n\
+    filled with 2 | 26 | script=three syncers=4 ready=no"
+}
+
 #[test]
 fn each_file_that_a_crash_leaves_has_what_was_answered(rt: HostRuntime) -> Result<(), Fail> {
-    let alloc = rt.alloc();
-    for torn in [
-        Torn::Nothing,
-        Torn::Front,
-        Torn::Back,
-        Torn::Whole,
-        Torn::Filled(1),
-        Torn::Filled(2),
-    ] {
-        for beside in [false, true] {
-            // An append has four calls: one of the three values, or one for each of them.
-            let together = Way {
-                beside,
-                ready: true,
-            };
-            assert!(rt; calls_kept(&rt, alloc, together, torn)? == Some(18));
-            let apart = Way {
-                beside,
-                ready: false,
-            };
-            assert!(rt; calls_kept(&rt, alloc, apart, torn)? == Some(26));
+    for line in crashes().split('\n') {
+        let is_kept = is_kept(&rt, rt.alloc(), row_of(line))?;
+        assert!(rt; is_kept, "{line}");
+    }
+    Ok(())
+}
+
+/// The report of a restart behind all of the one frame.
+fn whole_report() -> &'static str {
+    "Ok begun C1T2V3\nP|3-1|100.000000000|3|0|h|hot|hot\nstatus: Ok; entries: 3; problems: 1; recoveries: 0; messages: 0; outbox bytes: 34\n"
+}
+
+/// That of a restart behind none of it.
+fn tick_report() -> &'static str {
+    "Ok begun C1T2\nstatus: Ok; entries: 2; problems: 0; recoveries: 0; messages: 0; outbox bytes: 0\n"
+}
+
+/// What a restart finds of the one frame.
+#[derive(Clone, Copy, PartialEq, Eq)]
+enum Finds {
+    /// All of it.
+    Whole,
+    /// None of it.
+    Tick,
+    /// Something else.
+    Other,
+}
+
+/// What a restart of this report finds of the one frame.
+fn finds_of(report: &[u8]) -> Finds {
+    if report == whole_report().as_bytes() {
+        Finds::Whole
+    } else if report == tick_report().as_bytes() {
+        Finds::Tick
+    } else {
+        Finds::Other
+    }
+}
+
+/// Runs over the one frame, where the disk's call of this number fails, and then behind what is left, the outbox cut to so
+/// many bytes. Whether the first run answered its value, and what the second one finds of it.
+fn run_twice(alloc: Global, disk: u64, held: usize) -> Result<(bool, Finds), OutOfMemory> {
+    let setup = setup_of(alloc, "script=one", disk)?;
+    let first = run(alloc, setup);
+    let has_answered = 0 < answered(first.wire.wire.sent().as_slice());
+    let outbox = first.ended.outbox.bytes().as_slice();
+    let setup = setup_behind(
+        alloc,
+        first.ended.disk.bytes().as_slice(),
+        outbox.get(..held).unwrap_or(outbox),
+    );
+    drop(first);
+    let told = told_of(alloc, setup?)?;
+    Ok((has_answered, finds_of(told.as_slice())))
+}
+
+/// Whether a restart has the answered value, whichever call of the disk failed.
+fn has_answered(alloc: Global) -> Result<bool, OutOfMemory> {
+    for disk in 1..30u64 {
+        match run_twice(alloc, disk, 1_000)? {
+            (_, Finds::Whole) | (false, Finds::Tick) => {}
+            _ => return Ok(false),
         }
+    }
+    Ok(true)
+}
+
+/// The report of a run that refused all values of its first commit.
+fn refused_together_report() -> &'static str {
+    "DiskFault begun C1T2 2:1 1:2\n2 {\"response\":\"success\",\"info\":\"processed: 0; failed: 0; total: 0; seconds spent: 0.000000\"}\n1 {\"response\":\"success\",\"info\":\"processed: 0; failed: 1; total: 1; seconds spent: 0.000000\"}\nstatus: DiskFault\n"
+}
+
+/// How many calls of the disk end a run that has begun where they fail, and how many of these refuse its first value.
+fn refused(alloc: Global, parts: &str) -> Result<(u64, u64), OutOfMemory> {
+    let mut all = 0u64;
+    let mut first = 0u64;
+    for disk in 1..41u64 {
+        let setup = setup_of(alloc, parts, disk)?;
+        let told = told_of(alloc, setup)?;
+        if told.as_slice().starts_with(b"DiskFault begun") {
+            all = all.saturating_add(1);
+        }
+        if told.as_slice() == refused_together_report().as_bytes() {
+            first = first.saturating_add(1);
+        }
+    }
+    Ok((all, first))
+}
+
+/// Whether a case comes to what is wanted.
+fn is_so(alloc: Global, row: Row<'_>) -> Result<bool, OutOfMemory> {
+    match row.kind {
+        "held" => Ok(run_twice(alloc, 0, number(row.input) as usize)? == (true, Finds::Whole)),
+        "each call fails" => has_answered(alloc),
+        "refused" => {
+            let (all, first) = refused(alloc, row.input)?;
+            let (wanted_all, wanted_first) = row.wanted.split_once(' ').unwrap_or(("", ""));
+            Ok(all == number(wanted_all) && first == number(wanted_first))
+        }
+        _ => Ok(false),
+    }
+}
+
+/// A restart writes the lines that an outbox lacks which held so many bytes, and has the answered value whichever call of the
+/// disk failed.
+///
+/// Where events are committed together one append has four calls: that of the Tick, and that of all values, or one for each
+/// value. At most 128 events are committed together: the first event brings the Tick, which ends its commit, and behind it
+/// stand 127 events in one commit, or 128 and one more; the event that closes the wire journals nothing.
+fn restarts() -> &'static str {
+    "held | whole | 0\n\
+    held | whole | 10\n\
+    held | whole | 34\n\
+    each call fails\n\
+    refused | 8 4 | script=many ready=yes\n\
+    refused | 20 4 | script=many ready=no\n\
+    refused | 8 0 | values=64 ready=yes\n\
+    refused | 12 0 | values=65 ready=yes"
+}
+
+#[test]
+fn a_restart_has_what_was_answered(rt: HostRuntime) -> Result<(), Fail> {
+    for line in restarts().split('\n') {
+        let is_so = is_so(rt.alloc(), row_of(line))?;
+        assert!(rt; is_so, "{line}");
     }
     Ok(())
 }

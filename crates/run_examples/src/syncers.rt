@@ -1,254 +1,332 @@
-ghost use Rattle.std.specs.Prelude.{◌≤◌};
+//! Runs beside history syncers, over workloads.
 
-use crate::runs::{one_frame, only, run_beside, sink, words_of};
-use outside::{Gate, HoldGate, MemSink, OpenGate, RamDisk, WorkWire, work_source};
-use server_run::{Ended, run_single, run_syncers};
+use crate::rows::number;
+use crate::runs::{Over, Ports, alone, beside, ports_of, put_words, setup_of};
+use outside::{HoldGate, MemSink, OpenGate, RamDisk, WorkWire, work_source};
 use server_words::Status;
 use std::alloc::Global;
-use std::convert::AsStr;
 use std::sync::Wait;
 use std::test::Fail;
 use std::thread::Threads;
-use zbx_types::{Bytes, OutOfMemory};
+use zbx_types::{Bytes, Many, OutOfMemory, Text};
 
-/// A run that has ended, with the printer that it had.
-#[derive(Drop)]
-struct Over {
-    ended: Ended<RamDisk, MemSink>,
-    print: MemSink,
-}
-
-impl Over {
-    fn outbox(&self) -> &[u8] {
-        self.ended.outbox.bytes().as_slice()
-    }
-
-    fn printed(&self) -> &[u8] {
-        self.print.bytes().as_slice()
-    }
-}
-
-/// How many values a small workload has, and how many a large one.
+/// How many values a small workload has.
 const FEW: u64 = 2_000;
 
+/// How many values a large workload has.
 const MANY: u64 = 200_000;
 
-/// The words of a workload beside so many syncers.
-fn words(values: u64, syncers: u32) -> &'static str {
-    match (values, syncers) {
-        (MANY, 0) => "--mode workload --number 7 --values 200000 --syncers 0",
-        (MANY, _) => "--mode workload --number 7 --values 200000 --syncers 4",
-        (_, 0) => "--mode workload --number 7 --values 2000 --syncers 0",
-        (_, 1) => "--mode workload --number 7 --values 2000 --syncers 1",
-        (_, 4) => "--mode workload --number 7 --values 2000 --syncers 4",
-        _ => "--mode workload --number 7 --values 2000 --syncers 8",
+/// A run over a workload of the number 7.
+#[derive(Clone, Copy)]
+struct Asked<'a> {
+    values: u64,
+    syncers: &'a str,
+    /// A gate holds the first syncer that comes with an entry behind this one, for so many turns. Without turns it is open.
+    after: u64,
+    turns: u64,
+    /// The calls of the outbox that fail.
+    first: u64,
+    last: u64,
+}
+
+impl<'a> Asked<'a> {
+    /// Sets one part.
+    fn set(&mut self, name: &str, value: &'a str) {
+        match name {
+            "syncers" => self.syncers = value,
+            "after" => self.after = number(value),
+            "turns" => self.turns = number(value),
+            "first" => self.first = number(value),
+            _ => self.last = number(value),
+        }
     }
 }
 
-/// Runs over a workload on one thread.
-fn run_work(alloc: Global, values: u64) -> Result<Over, OutOfMemory>
-    requires { (1 ≤ values) × (values ≤ 1000000) }
-{
-    let words = words_of(alloc, words(values, 0))?;
-    let mut config = work_source(alloc, 7, values)?;
-    let mut wire = WorkWire::new(alloc, 7, values);
-    let disk = RamDisk::new(alloc);
-    let outbox = sink(alloc, &[], 0)?;
-    let mut print = sink(alloc, &[], 0)?;
-    let ended = run_single(
-        alloc,
-        words.as_slice(),
-        &mut config,
-        &mut wire,
-        disk,
-        outbox,
-        &mut print,
-    );
-    Ok(Over { ended, print })
+/// What a line of parts asks for, of a workload of so many values.
+fn asked_by(values: u64, parts: &str) -> Asked<'_> {
+    let mut asked = Asked {
+        values,
+        syncers: "0",
+        after: 0,
+        turns: 0,
+        first: 0,
+        last: 0,
+    };
+    for part in parts.split_whitespace() {
+        let (name, value) = part.split_once('=').unwrap_or((part, ""));
+        asked.set(name, value);
+    }
+    asked
 }
 
-/// Runs over a workload beside so many syncers.
-fn run_work_beside<R: Threads + Wait + Sync, G: Gate + Sync>(
+/// The first words of a run.
+fn first_words(values: u64) -> &'static str {
+    if values == MANY {
+        "--mode workload --number 7 --values 200000 --syncers"
+    } else {
+        "--mode workload --number 7 --values 2000 --syncers"
+    }
+}
+
+/// Adds the words of a run, and the numbers of the outbox's calls that fail. There is no call of the number 0.
+fn fill(
+    alloc: Global,
+    asked: Asked<'_>,
+    words: &mut Many<Text>,
+    fails: &mut Many<u64>,
+) -> Result<(), OutOfMemory> {
+    put_words(alloc, words, first_words(asked.values))?;
+    put_words(alloc, words, asked.syncers)?;
+    fails.push(asked.first)?;
+    for number in asked.first..asked.last {
+        fails.push(number + 1)?;
+    }
+    Ok(())
+}
+
+/// The ports of a run.
+fn work_ports(alloc: Global, asked: Asked<'_>) -> Result<Ports<WorkWire>, OutOfMemory> {
+    let values = asked.values.clamp(1, 1_000_000);
+    let config = work_source(alloc, 7, values)?;
+    let mut words = Many::new(alloc);
+    let mut fails = Many::new(alloc);
+    let filled = fill(alloc, asked, &mut words, &mut fails);
+    let ports = Ports {
+        words,
+        config,
+        wire: WorkWire::new(alloc, 7, values),
+        outbox: MemSink::new(Bytes::new(alloc), fails),
+        print: MemSink::new(Bytes::new(alloc), Many::new(alloc)),
+    };
+    match filled {
+        Ok(()) => Ok(ports),
+        Err(OutOfMemory) => {
+            drop(ports);
+            Err(OutOfMemory)
+        }
+    }
+}
+
+/// Runs on one thread.
+fn work_alone(alloc: Global, values: u64) -> Result<Over<WorkWire, RamDisk>, OutOfMemory> {
+    let ports = work_ports(alloc, asked_by(values, ""))?;
+    Ok(alone(alloc, ports, RamDisk::new(alloc)))
+}
+
+/// Runs beside syncers, at a gate, or at an open one where it has no turns.
+fn work_beside<R: Threads + Wait + Sync>(
+    rt: &R,
+    alloc: Global,
+    ports: Ports<WorkWire>,
+    gate: &HoldGate,
+    is_open: bool,
+) -> Over<WorkWire, RamDisk> {
+    let disk = RamDisk::new(alloc);
+    if is_open {
+        beside(rt, alloc, ports, disk, &OpenGate)
+    } else {
+        beside(rt, alloc, ports, disk, gate)
+    }
+}
+
+/// How a run beside syncers went, and how its lines stand to those of the run on one thread.
+#[derive(Clone, Copy)]
+struct Came {
+    ok: bool,
+    failed: bool,
+    some: bool,
+    same: bool,
+    front: bool,
+    printed: bool,
+    entries: u64,
+    orders: u64,
+    other: bool,
+}
+
+/// How a run beside syncers went that has ended.
+fn came_of(
+    over: &Over<WorkWire, RamDisk>,
+    alone: &Over<WorkWire, RamDisk>,
+    gate: &HoldGate,
+) -> Came {
+    let outbox = over.ended.outbox.bytes().as_slice();
+    let whole = alone.ended.outbox.bytes().as_slice();
+    Came {
+        ok: over.ended.status == Status::Ok,
+        failed: over.ended.status == Status::OutboxFault,
+        some: !outbox.is_empty(),
+        same: outbox == whole,
+        front: whole.starts_with(outbox),
+        printed: over.print.bytes().as_slice() == alone.print.bytes().as_slice(),
+        entries: over.ended.entries.as_slice().len() as u64,
+        orders: gate.calls(),
+        other: gate.ended_by_other(),
+    }
+}
+
+impl Came {
+    /// Whether one thing is so: the run ended well or the outbox failed, or one of both; its lines are some or none, all or
+    /// the first ones; it printed the same line; it took so many entries, or fewer than so many, in so many orders at
+    /// least; another syncer ended the hold.
+    fn is(&self, name: &str, number: u64) -> bool {
+        match name {
+            "Ok" => self.ok,
+            "failed" => self.failed,
+            "ended" => self.failed || self.ok && self.same,
+            "some" => self.some,
+            "none" => !self.some,
+            "same" => self.same,
+            "front" => self.front,
+            "printed" => self.printed,
+            "entries" => self.entries == number,
+            "below" => self.entries < number,
+            "orders" => number <= self.orders,
+            "other" => self.other,
+            _ => false,
+        }
+    }
+
+    /// Whether all of these are so.
+    fn is_all(&self, wanted: &str) -> bool {
+        for part in wanted.split_whitespace() {
+            let (name, value) = part.split_once('=').unwrap_or((part, ""));
+            if !self.is(name, number(value)) {
+                return false;
+            }
+        }
+        true
+    }
+}
+
+/// How a run went that a line asks for.
+fn run_asked<R: Threads + Wait + Sync>(
+    rt: &R,
+    alloc: Global,
+    asked: Asked<'_>,
+    alone: &Over<WorkWire, RamDisk>,
+) -> Result<Came, OutOfMemory> {
+    let ports = work_ports(alloc, asked)?;
+    let gate = HoldGate::new(asked.after, asked.turns);
+    let over = work_beside(rt, alloc, ports, &gate, asked.turns == 0);
+    let came = came_of(&over, alone, &gate);
+    drop(over);
+    Ok(came)
+}
+
+/// The first line of cases that comes to something else, beside a run on one thread. It is empty where there is none.
+fn first_other<'a, R: Threads + Wait + Sync>(
     rt: &R,
     alloc: Global,
     values: u64,
-    syncers: u32,
-    outbox: MemSink,
-    gate: &G,
-) -> Result<Over, OutOfMemory>
-    requires { (1 ≤ values) × (values ≤ 1000000) }
-{
-    let words = words_of(alloc, words(values, syncers))?;
-    let mut config = work_source(alloc, 7, values)?;
-    let mut wire = WorkWire::new(alloc, 7, values);
-    let disk = RamDisk::new(alloc);
-    let mut print = sink(alloc, &[], 0)?;
-    let ended = run_syncers(
-        rt,
-        alloc,
-        words.as_slice(),
-        &mut config,
-        &mut wire,
-        disk,
-        outbox,
-        &mut print,
-        gate,
-    );
-    Ok(Over { ended, print })
+    cases: &'a str,
+    alone: &Over<WorkWire, RamDisk>,
+) -> Result<&'a str, OutOfMemory> {
+    for line in cases.split('\n') {
+        let (wanted, parts) = line.split_once(" | ").unwrap_or((line, ""));
+        let came = run_asked(rt, alloc, asked_by(values, parts), alone)?;
+        if !came.is_all(wanted) {
+            return Ok(line);
+        }
+    }
+    Ok("")
+}
+
+/// The same over a workload of so many values.
+fn other_case<'a, R: Threads + Wait + Sync>(
+    rt: &R,
+    alloc: Global,
+    values: u64,
+    cases: &'a str,
+) -> Result<&'a str, OutOfMemory> {
+    let alone = work_alone(alloc, values)?;
+    let other = first_other(rt, alloc, values, cases, &alone);
+    drop(alone);
+    other
+}
+
+/// Syncers write what one thread writes, also where one is held anywhere. Behind the Tick entries are worked out beside the
+/// one that is held first: all but the first go out in orders of at most 64, and none is left to the end of the run. An
+/// outbox that fails holds the first lines.
+fn few_cases() -> &'static str {
+    "Ok same printed some | syncers=0\n\
+    Ok same printed some | syncers=1\n\
+    Ok same printed some | syncers=4\n\
+    Ok same printed some | syncers=8\n\
+    Ok same entries=2002 orders=32 other | syncers=4 after=2 turns=100000000\n\
+    Ok same printed | syncers=8 after=66 turns=100000\n\
+    Ok same printed | syncers=8 after=1143 turns=100000\n\
+    Ok same printed | syncers=8 after=1074 turns=100000\n\
+    Ok same printed | syncers=8 after=967 turns=100000\n\
+    Ok same printed | syncers=8 after=946 turns=100000\n\
+    Ok same printed | syncers=8 after=1783 turns=100000\n\
+    Ok same printed | syncers=8 after=994 turns=100000\n\
+    Ok same printed | syncers=8 after=727 turns=100000\n\
+    Ok same printed | syncers=8 after=226 turns=100000\n\
+    Ok same printed | syncers=8 after=1623 turns=100000\n\
+    Ok same printed | syncers=8 after=514 turns=100000\n\
+    Ok same printed | syncers=8 after=1287 turns=100000\n\
+    Ok same printed | syncers=8 after=1906 turns=100000\n\
+    Ok same printed | syncers=8 after=663 turns=100000\n\
+    Ok same printed | syncers=8 after=1634 turns=100000\n\
+    Ok same printed | syncers=8 after=647 turns=100000\n\
+    Ok same printed | syncers=8 after=1986 turns=100000\n\
+    Ok same printed | syncers=8 after=903 turns=100000\n\
+    Ok same printed | syncers=8 after=354 turns=100000\n\
+    Ok same printed | syncers=8 after=807 turns=100000\n\
+    failed front | syncers=4 first=1 last=1\n\
+    failed none | syncers=4 first=1 last=100\n\
+    ended front some | syncers=4 first=2 last=2\n\
+    ended front some | syncers=4 first=2 last=100\n\
+    ended front some | syncers=4 first=3 last=3\n\
+    ended front some | syncers=4 first=4 last=4\n\
+    ended front some | syncers=4 first=4 last=100\n\
+    ended front some | syncers=4 first=5 last=5\n\
+    ended front some | syncers=4 first=6 last=6\n\
+    ended front some | syncers=4 first=8 last=8"
 }
 
 #[test]
 fn syncers_write_what_one_thread_writes(rt: HostRuntime) -> Result<(), Fail> {
-    let alloc = rt.alloc();
-    let alone = run_work(alloc, FEW)?;
-    assert!(rt; alone.ended.status == Status::Ok);
-    assert!(rt; !alone.outbox().is_empty());
-    for syncers in [0u32, 1, 4, 8] {
-        let outbox = sink(alloc, &[], 0)?;
-        let over = run_work_beside(&rt, alloc, FEW, syncers, outbox, &OpenGate)?;
-        assert!(rt; over.outbox() == alone.outbox(), "{syncers} syncers");
-        assert!(rt; over.printed() == alone.printed(), "{syncers} syncers");
-    }
+    let other = other_case(&rt, rt.alloc(), FEW, few_cases())?;
+    assert_eq!(rt; other, "");
+    Ok(())
+}
+
+/// The same of many values; and no more entries are taken once the outbox failed.
+fn many_cases() -> &'static str {
+    "Ok same entries=200028 orders=3126 other | syncers=4 after=2 turns=100000000\n\
+    failed none below=100000 | syncers=4 first=1 last=100"
+}
+
+#[test]
+fn many_values_go_through_the_syncers(rt: HostRuntime) -> Result<(), Fail> {
+    let other = other_case(&rt, rt.alloc(), MANY, many_cases())?;
+    assert_eq!(rt; other, "");
     Ok(())
 }
 
 /// The turns of a hold that another syncer is to end.
 const TURNS: u64 = 100_000_000;
 
-/// How a workload went beside four syncers, of which the first one that came with an entry behind the Tick was held.
-#[derive(Clone, Copy)]
-struct Held {
-    ended_by_other: bool,
-    calls: u64,
-    entries: u64,
-    is_same: bool,
-}
-
-fn hold_one<R: Threads + Wait + Sync>(
-    rt: &R,
-    alloc: Global,
-    values: u64,
-) -> Result<Held, OutOfMemory>
-    requires { (1 ≤ values) × (values ≤ 1000000) }
-{
-    let alone = run_work(alloc, values)?;
-    let gate = HoldGate::new(2, TURNS);
-    let outbox = sink(alloc, &[], 0)?;
-    let over = run_work_beside(rt, alloc, values, 4, outbox, &gate)?;
-    Ok(Held {
-        ended_by_other: gate.ended_by_other(),
-        calls: gate.calls(),
-        entries: over.ended.entries.as_slice().len() as u64,
-        is_same: over.outbox() == alone.outbox(),
-    })
-}
-
-#[test]
-fn entries_are_worked_out_beside_a_syncer_that_is_held(rt: HostRuntime) -> Result<(), Fail> {
-    let alloc = rt.alloc();
-    let few = hold_one(&rt, alloc, FEW)?;
-    assert!(rt; few.ended_by_other && few.is_same);
-    // All entries but the first go out in orders of at most 64, and none is left to the end of the run.
-    assert_eq!(rt; few.entries, 2_002);
-    assert!(rt; few.calls >= 32);
-    let many = hold_one(&rt, alloc, MANY)?;
-    assert!(rt; many.ended_by_other && many.is_same);
-    assert_eq!(rt; many.entries, 200_028);
-    assert!(rt; many.calls >= 3_126);
-    Ok(())
+/// Whether the two entries of one frame, which conflict, go out in one order or two, none beside another, and their line is
+/// written.
+fn conflict<R: Threads + Wait + Sync>(rt: &R, alloc: Global) -> Result<bool, OutOfMemory> {
+    let setup = setup_of(alloc, "script=one syncers=4", 0)?;
+    let (ports, journal, fails) = ports_of(alloc, setup);
+    drop(journal);
+    drop(fails);
+    let gate = HoldGate::new(3, TURNS);
+    let over = beside(rt, alloc, ports, RamDisk::new(alloc), &gate);
+    let calls = gate.calls();
+    let is_written = over.ended.outbox.bytes().as_slice()
+        == b"P|3-1|100.000000000|3|0|h|hot|hot\n".as_slice();
+    drop(over);
+    Ok(is_written && 1 <= calls && calls <= 2 && !gate.ended_by_other())
 }
 
 #[test]
 fn entries_that_conflict_go_out_one_after_the_other(rt: HostRuntime) -> Result<(), Fail> {
-    let alloc = rt.alloc();
-    let gate = HoldGate::new(3, TURNS);
-    let words = "--mode feed --config c --script s --syncers 4";
-    let outbox = sink(alloc, &[], 0)?;
-    let disk = RamDisk::new(alloc);
-    let over = run_beside(&rt, alloc, words, one_frame(), false, disk, outbox, &gate)?;
-    assert!(rt; (1..=2).contains(&gate.calls()));
-    assert!(rt; !gate.ended_by_other());
-    assert!(rt;
-        over.ended.outbox.bytes().as_slice() == b"P|3-1|100.000000000|3|0|h|hot|hot\n".as_slice()
-    );
-    Ok(())
-}
-
-#[test]
-fn a_syncer_may_be_held_anywhere(rt: HostRuntime) -> Result<(), Fail> {
-    let alloc = rt.alloc();
-    let alone = run_work(alloc, FEW)?;
-    let mut after = 7u64;
-    for time in 1..21u64 {
-        after = after.wrapping_mul(1_103).wrapping_add(12_345) % FEW;
-        let gate = HoldGate::new(after, 100_000);
-        let outbox = sink(alloc, &[], 0)?;
-        let over = run_work_beside(&rt, alloc, FEW, 8, outbox, &gate)?;
-        assert!(rt;
-            over.outbox() == alone.outbox(),
-            "time {time}, held behind {after}"
-        );
-        assert!(rt;
-            over.printed() == alone.printed(),
-            "time {time}, held behind {after}"
-        );
-    }
-    Ok(())
-}
-
-/// An outbox that fails at its calls from `first` on up to `last`.
-fn failing(alloc: Global, first: u64, last: u64) -> Result<MemSink, OutOfMemory> {
-    let mut numbers = only(alloc, first)?;
-    for number in first..last {
-        numbers.push(number + 1)?;
-    }
-    Ok(MemSink::new(Bytes::new(alloc), numbers))
-}
-
-#[test]
-fn an_outbox_that_fails_holds_the_first_lines(rt: HostRuntime) -> Result<(), Fail> {
-    let alloc = rt.alloc();
-    let alone = run_work(alloc, FEW)?;
-    for (first, last) in [
-        (1u64, 1u64),
-        (1, 100),
-        (2, 2),
-        (2, 100),
-        (3, 3),
-        (4, 4),
-        (4, 100),
-        (5, 5),
-        (6, 6),
-        (8, 8),
-    ] {
-        let outbox = failing(alloc, first, last)?;
-        let over = run_work_beside(&rt, alloc, FEW, 4, outbox, &OpenGate)?;
-        let failed = over.ended.status == Status::OutboxFault;
-        let whole = over.ended.status == Status::Ok && over.outbox() == alone.outbox();
-        assert!(rt; failed || first > 1 && whole, "calls {first} to {last}");
-        assert!(rt;
-            alone.outbox().starts_with(over.outbox()),
-            "calls {first} to {last}"
-        );
-        assert!(rt;
-            !over.outbox().is_empty() || first == 1,
-            "calls {first} to {last}"
-        );
-        assert!(rt;
-            over.outbox().is_empty() || last != 100 || first > 1,
-            "calls {first} to {last}"
-        );
-    }
-    Ok(())
-}
-
-#[test]
-fn no_more_entries_are_taken_once_the_outbox_failed(rt: HostRuntime) -> Result<(), Fail> {
-    let alloc = rt.alloc();
-    let outbox = failing(alloc, 1, 100)?;
-    let over = run_work_beside(&rt, alloc, MANY, 4, outbox, &OpenGate)?;
-    assert!(rt; over.ended.status == Status::OutboxFault);
-    assert!(rt; over.outbox().is_empty());
-    assert!(rt; over.ended.entries.as_slice().len() < 100_000);
+    let conflict = conflict(&rt, rt.alloc())?;
+    assert!(rt; conflict);
     Ok(())
 }
