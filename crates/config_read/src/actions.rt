@@ -6,6 +6,7 @@ ghost use Rattle.config_read.specs.Ranges.{step_duration_of, operation_duration_
 ghost use Rattle.config_read.specs.Actions.{action_cond_kind, severity_op, severity_of, action_cond_parts, action_cond_of, action_conds_of, recipients_of};
 ghost use Rattle.config_read.specs.Actions.{sending_of, steps_of, operation_of, recovery_of, occasion_of, pace_of, work_of, action_of, actions_of};
 
+use crate::beside::beside;
 use crate::naming::{Form, new_name};
 use crate::ranges::{one_to_16, operation_duration, step_duration};
 use crate::rules::tag_test;
@@ -162,8 +163,9 @@ fn sending(alloc: Global, object: &Object<'_, '_>) -> Result<Sending, ReadError>
     ensures { Gives result (sending_of (object_of object.now)) }
 {
     let recipients = recipients(alloc, &object.member("recipients"))?;
-    let subject = object.member("subject").text(alloc)?;
-    let body = object.member("body").text(alloc)?;
+    let held = beside(object.member("subject").text(alloc), recipients)?;
+    let (body, held) = beside(object.member("body").text(alloc), held)?;
+    let (subject, recipients) = held;
     Ok(Sending {
         recipients,
         subject,
@@ -281,7 +283,8 @@ fn work(
     ensures { Gives result (work_of (object_of object.now)) }
 {
     let operations = list::<OperationReader>(alloc, &object.member("operations"))?;
-    let recovery = list::<RecoveryReader>(alloc, &object.member("recovery"))?;
+    let recovery = list::<RecoveryReader>(alloc, &object.member("recovery"));
+    let (recovery, operations) = beside(recovery, operations)?;
     Ok((operations, recovery))
 }
 
@@ -304,9 +307,14 @@ impl Named for ActionReader {
     ) -> Result<Action, ReadError> {
         let object = Object::at(alloc, path, value)?;
         let name = new_name(alloc, Form::Title, taken, &object.member("name"))?;
-        let (matching, conditions) = occasion(alloc, &object)?;
-        let (step_duration, pause_suppressed) = pace(alloc, &object)?;
-        let (operations, recovery) = work(alloc, &object)?;
+        let held = beside(occasion(alloc, &object), name)?;
+        let held = beside(pace(alloc, &object), held)?;
+        let (lists, held) = beside(work(alloc, &object), held)?;
+        let (operations, recovery) = lists;
+        let (pace, held) = held;
+        let (step_duration, pause_suppressed) = pace;
+        let (occasion, name) = held;
+        let (matching, conditions) = occasion;
         Ok(Action {
             name,
             matching,

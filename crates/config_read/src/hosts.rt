@@ -5,6 +5,7 @@ ghost use Rattle.json_form.specs.Faults.{Gives};
 ghost use Rattle.json_form.specs.Places.{place_of, object_of};
 ghost use Rattle.config_read.specs.Hosts.{macro_of, macros_of, templates_of, content_of, front_of, template_of, membership_of, host_of, name_of, thousand_of, hosts_of};
 
+use crate::beside::beside;
 use crate::items::ItemReader;
 use crate::naming::{Form, new_name};
 use crate::raw::{RawHost, RawItem, RawMacro, RawTrigger};
@@ -61,9 +62,11 @@ fn content(alloc: Global, object: &Object<'_, '_>) -> Result<Content, ReadError>
     ensures { Gives result (content_of (object_of object.now)) }
 {
     let templates = links(alloc, &object.member("templates"))?;
-    let macros = macros(alloc, &object.member("macros"))?;
-    let items = list::<ItemReader>(alloc, &object.member("items"))?;
-    let triggers = triggers(alloc, &object.member("triggers"))?;
+    let held = beside(macros(alloc, &object.member("macros")), templates)?;
+    let held = beside(list::<ItemReader>(alloc, &object.member("items")), held)?;
+    let (triggers, held) = beside(triggers(alloc, &object.member("triggers")), held)?;
+    let (items, held) = held;
+    let (macros, templates) = held;
     Ok((templates, macros, items, triggers))
 }
 
@@ -82,7 +85,8 @@ fn front(alloc: Global, taken: &mut Names, object: &Object<'_, '_>) -> Result<Fr
     ensures taken { IfOk result (λ front. taken.new ≡ taken.old ++ front.0 ∷ []) }
 {
     let name = new_name(alloc, Form::Host, taken, &object.member("name"))?;
-    let (templates, macros, items, triggers) = content(alloc, object)?;
+    let (inside, name) = beside(content(alloc, object), name)?;
+    let (templates, macros, items, triggers) = inside;
     Ok((name, templates, macros, items, triggers))
 }
 
@@ -145,8 +149,10 @@ impl Named for HostReader {
         value: &Value,
     ) -> Result<RawHost, ReadError> {
         let object = Object::at(alloc, path, value)?;
-        let (name, templates, macros, items, triggers) = front(alloc, taken, &object)?;
-        let (groups, enabled) = membership(alloc, &object)?;
+        let first = front(alloc, taken, &object)?;
+        let (last, first) = beside(membership(alloc, &object), first)?;
+        let (name, templates, macros, items, triggers) = first;
+        let (groups, enabled) = last;
         Ok(RawHost {
             name,
             templates,
@@ -183,6 +189,7 @@ pub(crate) fn hosts(
 {
     let mut taken = Names::new(alloc);
     let templates = thousand::<TemplateReader>(alloc, &mut taken, &object.member("templates"))?;
-    let hosts = thousand::<HostReader>(alloc, &mut taken, &object.member("hosts"))?;
+    let hosts = thousand::<HostReader>(alloc, &mut taken, &object.member("hosts"));
+    let (hosts, templates) = beside(hosts, templates)?;
     Ok((templates, hosts))
 }

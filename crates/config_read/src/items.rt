@@ -5,6 +5,7 @@ ghost use Rattle.json_form.specs.Places.{place_of, object_of, given_or};
 ghost use Rattle.config_read.specs.Hosts.{master_of, source_of, item_front_of, item_back_of, delay_of, item_of};
 ghost use Rattle.config_read.specs.Ranges.{item_delay_of};
 
+use crate::beside::beside;
 use crate::ranges::item_delay;
 use crate::raw::RawItem;
 use crate::steps::steps;
@@ -43,7 +44,8 @@ fn front(alloc: Global, object: &Object<'_, '_>) -> Result<(Text, ItemKind, Text
     ensures { Gives result (item_front_of (object_of object.now)) }
 {
     let key = object.member("key").text(alloc)?;
-    let (kind, master) = source(alloc, object)?;
+    let (from, key) = beside(source(alloc, object), key)?;
+    let (kind, master) = from;
     Ok((key, kind, master))
 }
 
@@ -95,9 +97,13 @@ impl Element for ItemReader {
     #[tactic(auto, unfolding(crate::specs::Hosts::item_of))]
     fn read(alloc: Global, path: &str, value: &Value) -> Result<RawItem, ReadError> {
         let object = Object::at(alloc, path, value)?;
-        let (key, kind, master) = front(alloc, &object)?;
-        let (value_type, enabled, steps) = back(alloc, &object)?;
-        let delay = delay(alloc, kind, &object.member("delay"))?;
+        let first = front(alloc, &object)?;
+        let kind = first.1;
+        let held = beside(back(alloc, &object), first)?;
+        let (delay, held) = beside(delay(alloc, kind, &object.member("delay")), held)?;
+        let (last, first) = held;
+        let (key, kind, master) = first;
+        let (value_type, enabled, steps) = last;
         Ok(RawItem {
             key,
             kind,

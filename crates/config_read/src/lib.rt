@@ -22,6 +22,7 @@
 #![tactic(auto)]
 
 mod actions;
+mod beside;
 mod document;
 mod hosts;
 mod items;

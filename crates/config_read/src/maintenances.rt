@@ -6,6 +6,7 @@ ghost use Rattle.json_form.specs.Places.{place_of, object_of, number_between};
 ghost use Rattle.config_read.specs.Maintenances.{period_kind, plain_tag_op, seconds, daytime_of, once_of, daily_of, weekly_of, monthly_of, period_parts, period_of};
 ghost use Rattle.config_read.specs.Maintenances.{periods_of, tag_test_of, tags_of, span_of, scope_of, tests_of, front_of, back_of, maintenance_of, maintenances_of};
 
+use crate::beside::beside;
 use crate::naming::{Form, new_name};
 use crate::ranges::{length, one_to_16};
 use crate::words::Matchings;
@@ -250,7 +251,8 @@ fn scope(alloc: Global, object: &Object<'_, '_>) -> Result<Scope, ReadError>
 {
     let collect = object.member("collect").truth_or(alloc, true)?;
     let hosts = list::<Texts>(alloc, &object.member("hosts"))?;
-    let groups = list::<Texts>(alloc, &object.member("groups"))?;
+    let groups = list::<Texts>(alloc, &object.member("groups"));
+    let (groups, hosts) = beside(groups, hosts)?;
     Ok((collect, hosts, groups))
 }
 
@@ -292,8 +294,9 @@ type Back = (Matching, Many<TagTest>, Many<Period>);
 fn back(alloc: Global, collect: bool, object: &Object<'_, '_>) -> Result<Back, ReadError>
     ensures { Gives result (back_of collect (object_of object.now)) }
 {
-    let (matching, tags) = tests(alloc, collect, object)?;
-    let periods = periods(alloc, &object.member("periods"))?;
+    let joined = tests(alloc, collect, object)?;
+    let (periods, joined) = beside(periods(alloc, &object.member("periods")), joined)?;
+    let (matching, tags) = joined;
     Ok((matching, tags, periods))
 }
 
@@ -315,9 +318,14 @@ impl Named for MaintenanceReader {
         value: &Value,
     ) -> Result<Maintenance, ReadError> {
         let object = Object::at(alloc, path, value)?;
-        let (name, since, till) = front(alloc, taken, &object)?;
-        let (collect, hosts, groups) = scope(alloc, &object)?;
-        let (matching, tags, periods) = back(alloc, collect, &object)?;
+        let first = front(alloc, taken, &object)?;
+        let held = beside(scope(alloc, &object), first)?;
+        let collect = held.0.0;
+        let (last, held) = beside(back(alloc, collect, &object), held)?;
+        let (middle, first) = held;
+        let (name, since, till) = first;
+        let (collect, hosts, groups) = middle;
+        let (matching, tags, periods) = last;
         Ok(Maintenance {
             name,
             since,

@@ -6,6 +6,7 @@ ghost use Rattle.json_form.specs.Places.{place_of, object_of, given_or, number_b
 ghost use Rattle.config_read.specs.Triggers.{tag_of, depend_of, unused_text, recovery_text, recovery_of, closing_of, tags_of, links_of};
 ghost use Rattle.config_read.specs.Triggers.{front_of, problems_of, back_of, trigger_of, triggers_of};
 
+use crate::beside::beside;
 use crate::naming::{Form, new_name};
 use crate::raw::{RawDepend, RawTrigger};
 use crate::words::RecoveryModes;
@@ -110,7 +111,8 @@ fn links(alloc: Global, object: &Object<'_, '_>) -> Result<(Many<Tag>, Many<RawD
     ensures { Gives result (links_of (object_of object.now)) }
 {
     let tags = tags(alloc, &object.member("tags"))?;
-    let depends = list::<DependReader>(alloc, &object.member("depends"))?;
+    let depends = list::<DependReader>(alloc, &object.member("depends"));
+    let (depends, tags) = beside(depends, tags)?;
     Ok((tags, depends))
 }
 
@@ -123,8 +125,10 @@ fn front(alloc: Global, taken: &mut Names, object: &Object<'_, '_>) -> Result<Fr
     ensures taken { IfOk result (λ front. taken.new ≡ taken.old ++ front.0 ∷ []) }
 {
     let name = new_name(alloc, Form::Title, taken, &object.member("name"))?;
-    let expression = object.member("expression").text(alloc)?;
-    let (recovery, recovery_expression) = recovery(alloc, object)?;
+    let first = beside(object.member("expression").text(alloc), name)?;
+    let (ends, first) = beside(recovery(alloc, object), first)?;
+    let (expression, name) = first;
+    let (recovery, recovery_expression) = ends;
     Ok((name, expression, recovery, recovery_expression))
 }
 
@@ -145,8 +149,9 @@ type Back = (Many<Tag>, Many<RawDepend>, bool);
 fn back(alloc: Global, object: &Object<'_, '_>) -> Result<Back, ReadError>
     ensures { Gives result (back_of (object_of object.now)) }
 {
-    let (tags, depends) = links(alloc, object)?;
-    let enabled = object.member("enabled").truth_or(alloc, true)?;
+    let lists = links(alloc, object)?;
+    let (enabled, lists) = beside(object.member("enabled").truth_or(alloc, true), lists)?;
+    let (tags, depends) = lists;
     Ok((tags, depends, enabled))
 }
 
@@ -168,9 +173,13 @@ impl Named for TriggerReader {
         value: &Value,
     ) -> Result<RawTrigger, ReadError> {
         let object = Object::at(alloc, path, value)?;
-        let (name, expression, recovery, recovery_expression) = front(alloc, taken, &object)?;
-        let (multiple, close_tag, severity) = problems(alloc, &object)?;
-        let (tags, depends, enabled) = back(alloc, &object)?;
+        let first = front(alloc, taken, &object)?;
+        let held = beside(problems(alloc, &object), first)?;
+        let (last, held) = beside(back(alloc, &object), held)?;
+        let (middle, first) = held;
+        let (name, expression, recovery, recovery_expression) = first;
+        let (multiple, close_tag, severity) = middle;
+        let (tags, depends, enabled) = last;
         Ok(RawTrigger {
             name,
             expression,
