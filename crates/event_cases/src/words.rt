@@ -103,6 +103,10 @@ fn status_of(alloc: Global, number: u32) -> Result<Status, OutOfMemory> {
             messages: 1,
         },
         24 => Status::LinesTooLong,
+        25 => Status::MediaRefused {
+            path: Text::of(alloc, "/media/1/recipient")?,
+        },
+        27 => Status::OutboxDiffers { at: 35 },
         _ => Status::ConfigRefused {
             path: Text::of(alloc, "/hosts/0/items/0/key")?,
             cause: Cause::Duplicate,

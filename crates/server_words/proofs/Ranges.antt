@@ -3,7 +3,7 @@ use Rattle.std.proofs.Common.{◌≡◌, ◌≤◌, ℕ, Bool, true, false, List
 use Rattle.std.specs.Prelude.{option_and_then, option_map, if◌then◌else◌, codes, nat_le, ◌&&◌, ◌^◌, ◌-◌}
 use Rattle.std.proofs.lemmas.Bool.Decides.{nat_tests}
 use Rattle.clap.specs.Words.{Row, matches_of, first_of, one_of}
-use Rattle.server_words.specs.Words.{most_syncers, most_turns, most_entries, most_attempts, most_values, server_app, mode_of, number_of, within, number_in, has_needed, is_mode_of, numbers_in, plan_with, plan_in, is_taken, plan_for, IsWithin}
+use Rattle.server_words.specs.Words.{most_syncers, most_turns, most_entries, most_attempts, most_sessions, most_values, server_app, mode_of, number_of, within, number_in, has_needed, is_mode_of, numbers_in, plan_with, plan_in, is_taken, plan_for, IsWithin}
 use Rattle.server_words.specs.declared.planning.Numbers.{Numbers}
 use Rattle.server_words.specs.declared.words.Call.{Call}
 use Rattle.server_words.specs.declared.words.Mode.{Mode}
@@ -39,6 +39,7 @@ record AreWithin (n : Numbers) : Type 0 where
   turns : (1 ≤ n.turns) × (n.turns ≤ most_turns)
   entries : (1 ≤ n.max_entries) × (n.max_entries ≤ most_entries)
   attempts : (1 ≤ n.attempts) × (n.attempts ≤ most_attempts)
+  sessions : (1 ≤ n.sessions) × (n.sessions ≤ most_sessions)
   values : (1 ≤ n.values) × (n.values ≤ most_values)
 
 numbers_within : (rows : List Row) (n : Numbers) → numbers_in rows ≡ Some n → AreWithin n
@@ -48,12 +49,14 @@ numbers_within rows n is =
     let entries = and_then_some _ (number_in 64 1 most_entries (codes "max-entries") rows) n turns.2 in
     let number = and_then_some _ (number_in 64 0 (2 ^ 64 - 1) (codes "number") rows) n entries.2 in
     let attempts = and_then_some _ (number_in 32 1 most_attempts (codes "attempts") rows) n number.2 in
-    let values = map_some _ (number_in 64 1 most_values (codes "values") rows) n attempts.2 in
+    let sessions = and_then_some _ (number_in 32 1 most_sessions (codes "sessions") rows) n attempts.2 in
+    let values = map_some _ (number_in 64 1 most_values (codes "values") rows) n sessions.2 in
     subst AreWithin values.2 (record {
       syncers = (number_within 32 0 most_syncers (codes "syncers") rows syncers.0 syncers.1).1;
       turns = number_within 64 1 most_turns (codes "turns") rows turns.0 turns.1;
       entries = number_within 64 1 most_entries (codes "max-entries") rows entries.0 entries.1;
       attempts = number_within 32 1 most_attempts (codes "attempts") rows attempts.0 attempts.1;
+      sessions = number_within 32 1 most_sessions (codes "sessions") rows sessions.0 sessions.1;
       values = number_within 64 1 most_values (codes "values") rows values.0 values.1;
     })
 
@@ -66,7 +69,7 @@ in_within call rows plan is =
     by mode true e =
         let numbers = map_some (plan_with rows mode) (numbers_in rows) plan e in
         let n = numbers_within rows numbers.0 numbers.1 in
-        subst IsWithin numbers.2 (record { syncers = n.syncers; turns = n.turns; entries = n.entries; attempts = n.attempts; values = n.values })
+        subst IsWithin numbers.2 (record { syncers = n.syncers; turns = n.turns; entries = n.entries; attempts = n.attempts; sessions = n.sessions; values = n.values })
     by mode false e = absurd (cc)
 
 -- of each plan of words

@@ -28,7 +28,9 @@ exit_of status.OutOfMemory = 16
 exit_of (status.BadLine at) = 22
 exit_of (status.MarksAhead marks messages) = 23
 exit_of status.LinesTooLong = 24
+exit_of (status.MediaRefused path) = 25
 exit_of (status.PatternTooLarge path) = 26
+exit_of (status.OutboxDiffers at) = 27
 
 -- a count behind its name
 unfoldable pub count_text : List ℕ → ℕ → List ℕ
@@ -69,7 +71,7 @@ reason_text cause = codes "; cause: " ++ cause_text cause ++ codes "\n"
 abbrev pub refused_text : List ℕ → Cause → List ℕ
 refused_text path cause = codes "status: ConfigRefused; path: " ++ path ++ reason_text cause
 
--- the line of a pattern that can't be used, behind the text before its path
+-- the line of a pattern that can't be used, or of media that are refused, behind the text before its path
 abbrev pub path_text : List ℕ → List ℕ → List ℕ
 path_text name path = name ++ path ++ codes "\n"
 
@@ -85,6 +87,7 @@ printed_text status.NotOurs c = codes "status: NotOurs\n"
 printed_text (status.Damaged at) c = count_text (codes "status: Damaged; at: ") at ++ codes "\n"
 printed_text (status.ConfigDiffers at) c = count_text (codes "status: ConfigDiffers; at: ") at ++ codes "\n"
 printed_text (status.OutboxAhead held lines) c = count_text (codes "status: OutboxAhead; held: ") held ++ count_text (codes "; lines: ") lines ++ codes "\n"
+printed_text (status.OutboxDiffers at) c = count_text (codes "status: OutboxDiffers; at: ") at ++ codes "\n"
 printed_text status.DiskFault c = codes "status: DiskFault\n"
 printed_text (status.Full entries bytes) c = count_text (codes "status: Full; entries: ") entries ++ count_text (codes "; bytes: ") bytes ++ codes "\n"
 printed_text (status.ConfigRefused path cause) c = refused_text path cause
@@ -96,6 +99,7 @@ printed_text status.OutOfMemory c = codes "status: OutOfMemory\n"
 printed_text (status.BadLine at) c = count_text (codes "status: BadLine; at: ") at ++ codes "\n"
 printed_text (status.MarksAhead marks messages) c = count_text (codes "status: MarksAhead; marks: ") marks ++ count_text (codes "; messages: ") messages ++ codes "\n"
 printed_text status.LinesTooLong c = codes "status: LinesTooLong\n"
+printed_text (status.MediaRefused path) c = path_text (codes "status: MediaRefused; path: ") path
 
 -- the line of alerts that ended well: how many messages there are, how many of them were sent, and how many failed
 abbrev pub alerts_text : ℕ → ℕ → ℕ → List ℕ

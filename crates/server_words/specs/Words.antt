@@ -13,7 +13,7 @@ use Rattle.server_words.specs.declared.words.Mode.TheVariants.{Feed, Serve, Work
 use Rattle.server_words.specs.declared.words.Call.{Call}
 use Rattle.server_words.specs.declared.words.Call.TheVariants.{Run, Alerting}
 
--- the most syncers, turns, entries, tries of a message and values of a workload that a plan may ask for
+-- the most syncers, turns, entries, tries of a message, alert sessions and values of a workload that a plan may ask for
 abbrev pub most_syncers : ℕ
 most_syncers = 16
 
@@ -25,6 +25,9 @@ most_entries = 4000000
 
 abbrev pub most_attempts : ℕ
 most_attempts = 100
+
+abbrev pub most_sessions : ℕ
+most_sessions = 16
 
 abbrev pub most_values : ℕ
 most_values = 1000000
@@ -51,17 +54,18 @@ bare_app = let app = new_app (codes "zabbix_server") in record app { top = recor
 
 -- the command with its texts
 abbrev pub text_app : App
-text_app = with_rule (with_rule (with_rule (with_rule (with_rule (with_rule (with_rule (with_rule bare_app
+text_app = with_rule (with_rule (with_rule (with_rule (with_rule (with_rule (with_rule (with_rule (with_rule bare_app
     (needed (codes "mode"))) (option (codes "config"))) (option (codes "listen")))
     (option (codes "script"))) (option (codes "journal"))) (option (codes "progress")))
-    (option (codes "command"))) (with_default (codes "outbox") (codes "-"))
+    (option (codes "command"))) (option (codes "media"))) (with_default (codes "outbox") (codes "-"))
 
 -- the command: its texts and its numbers
 abbrev pub server_app : App
-server_app = with_rule (with_rule (with_rule (with_rule (with_rule (with_rule text_app
+server_app = with_rule (with_rule (with_rule (with_rule (with_rule (with_rule (with_rule text_app
     (number (codes "syncers") (codes "4") 0 most_syncers)) (number (codes "turns") (codes "1000000000") 1 most_turns))
     (number (codes "max-entries") (codes "4000000") 1 most_entries)) (number (codes "number") (codes "1") 0 (2 ^ 64 - 1)))
-    (number (codes "attempts") (codes "3") 1 most_attempts)) (number (codes "values") (codes "1000") 1 most_values)
+    (number (codes "attempts") (codes "3") 1 most_attempts)) (number (codes "sessions") (codes "1") 1 most_sessions))
+    (number (codes "values") (codes "1000") 1 most_values)
 
 -- the mode of this name
 abbrev pub mode_of : List ℕ → Option Mode
@@ -112,8 +116,10 @@ numbers_in rows =
     option_and_then (λ max_entries.
     option_and_then (λ number.
     option_and_then (λ attempts.
-    option_map (λ values. record { syncers = syncers; turns = turns; max_entries = max_entries; number = number; attempts = attempts; values = values })
+    option_and_then (λ sessions.
+    option_map (λ values. record { syncers = syncers; turns = turns; max_entries = max_entries; number = number; attempts = attempts; sessions = sessions; values = values })
     (number_in 64 1 most_values (codes "values") rows))
+    (number_in 32 1 most_sessions (codes "sessions") rows))
     (number_in 32 1 most_attempts (codes "attempts") rows))
     (number_in 64 0 (2 ^ 64 - 1) (codes "number") rows))
     (number_in 64 1 most_entries (codes "max-entries") rows))
@@ -137,6 +143,8 @@ plan_with rows mode numbers = record {
   progress = first_of (codes "progress") rows;
   command = first_of (codes "command") rows;
   attempts = numbers.attempts;
+  media = first_of (codes "media") rows;
+  sessions = numbers.sessions;
 }
 
 -- the plan that the options ask of a call, or none where the mode is another one's, or one is missing that it needs
@@ -167,4 +175,5 @@ pub record IsWithin (plan : Plan) : Type 0 where
   pub turns : (1 ≤ plan.turns) × (plan.turns ≤ most_turns)
   pub entries : (1 ≤ plan.max_entries) × (plan.max_entries ≤ most_entries)
   pub attempts : (1 ≤ plan.attempts) × (plan.attempts ≤ most_attempts)
+  pub sessions : (1 ≤ plan.sessions) × (plan.sessions ≤ most_sessions)
   pub values : (1 ≤ plan.values) × (plan.values ≤ most_values)

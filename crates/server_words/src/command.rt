@@ -20,6 +20,9 @@ pub(crate) const MOST_ENTRIES: u64 = 4_000_000;
 /// The most tries of a message that a plan may ask for.
 pub(crate) const MOST_ATTEMPTS: u32 = 100;
 
+/// The most alert sessions that a plan may ask for.
+pub(crate) const MOST_SESSIONS: u32 = 16;
+
 /// The most values of a workload that a plan may ask for.
 pub(crate) const MOST_VALUES: u64 = 1_000_000;
 
@@ -71,6 +74,7 @@ fn text_command<'a>(alloc: Global) -> Result<Command<'a>, AllocError>
         .arg(option(alloc, "journal"))?
         .arg(option(alloc, "progress"))?
         .arg(option(alloc, "command"))?
+        .arg(option(alloc, "media"))?
         .arg(with_default(alloc, "outbox", "-"))
 }
 
@@ -84,5 +88,6 @@ pub(crate) fn command<'a>(alloc: Global) -> Result<Command<'a>, AllocError>
         .arg(number(alloc, "max-entries", "4000000", 1, MOST_ENTRIES))?
         .arg(number(alloc, "number", "1", 0, u64::MAX))?
         .arg(number(alloc, "attempts", "3", 1, MOST_ATTEMPTS as u64))?
+        .arg(number(alloc, "sessions", "1", 1, MOST_SESSIONS as u64))?
         .arg(number(alloc, "values", "1000", 1, MOST_VALUES))
 }

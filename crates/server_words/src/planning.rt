@@ -4,7 +4,9 @@ ghost use Rattle.std.specs.Prelude.{◌≡◌, [], IfOk, IsErrOf, Some, None, op
 ghost use Rattle.clap.specs.Words.{found_of, first_of, one_of, rows_of};
 ghost use Rattle.server_words.specs.Words.{IsWithin, plan_of, alerts_plan_of, plan_for, plan_in, plan_with, mode_of, is_mode_of, number_of, within, number_in, numbers_in, has_needed};
 
-use crate::command::{MOST_ATTEMPTS, MOST_ENTRIES, MOST_SYNCERS, MOST_TURNS, MOST_VALUES, command};
+use crate::command::{
+    MOST_ATTEMPTS, MOST_ENTRIES, MOST_SESSIONS, MOST_SYNCERS, MOST_TURNS, MOST_VALUES, command,
+};
 use crate::words::{Call, Mode, Plan, PlanError};
 use clap::ArgMatches;
 use clap::error::ErrorKind;
@@ -32,7 +34,8 @@ pub fn plan(alloc: Global, words: &[Text]) -> Result<Plan, PlanError>
 /// The plan of a list of words for alerts.
 ///
 /// `--mode` is `alerts`. It needs `--outbox` and `--progress`, which are paths, the first not `-`, and `--command`, a
-/// program. `--attempts` is 1 to 100. Usage and OutOfMemory come as with [`plan`].
+/// program. `--attempts` is 1 to 100, `--sessions` 1 to 16, and `--media` is a path. Usage and OutOfMemory come as with
+/// [`plan`].
 pub fn alerts_plan(alloc: Global, words: &[Text]) -> Result<Plan, PlanError>
     ensures ok { IfOk result (λ plan. alerts_plan_of words.now ≡ Some plan) }
     ensures within { IfOk result IsWithin }
@@ -181,6 +184,7 @@ struct Numbers {
     max_entries: u64,
     number: u64,
     attempts: u32,
+    sessions: u32,
     values: u64,
 }
 
@@ -194,6 +198,7 @@ fn numbers_in(matches: &ArgMatches) -> Option<Numbers>
         max_entries: number_in(matches, "max-entries", 1, MOST_ENTRIES)?,
         number: number_in(matches, "number", 0, u64::MAX)?,
         attempts: narrow_number_in(matches, "attempts", 1, MOST_ATTEMPTS)?,
+        sessions: narrow_number_in(matches, "sessions", 1, MOST_SESSIONS)?,
         values: number_in(matches, "values", 1, MOST_VALUES)?,
     })
 }
@@ -244,6 +249,7 @@ fn plan_with(
     let (config, script) = texts_in(alloc, matches, "config", "script")?;
     let (listen, journal) = texts_in(alloc, matches, "listen", "journal")?;
     let (progress, command) = texts_in(alloc, matches, "progress", "command")?;
+    let media = text_in(alloc, matches, "media")?;
     Ok(Plan {
         mode,
         config,
@@ -259,5 +265,7 @@ fn plan_with(
         progress,
         command,
         attempts: numbers.attempts,
+        media,
+        sessions: numbers.sessions,
     })
 }

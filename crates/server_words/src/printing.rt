@@ -84,7 +84,7 @@ fn refused_line(alloc: Global, path: &Text, cause: Cause) -> Result<Text, OutOfM
     Ok(line)
 }
 
-/// The line of a pattern that can't be used, from the text before its path on.
+/// The line of a pattern that can't be used, or of media that are refused, from the text before the path on.
 fn path_line(alloc: Global, name: &str, path: &Text) -> Result<Text, OutOfMemory>
     ensures { IfOk result (λ line. line ≡ path_text name.now path.now) }
 {
@@ -148,6 +148,7 @@ pub fn printed(alloc: Global, status: &Status, counts: &Counts) -> Result<Text, 
             "; lines: ",
             *lines,
         ),
+        Status::OutboxDiffers { at } => count_line(alloc, "status: OutboxDiffers; at: ", *at),
         Status::DiskFault => Text::of(alloc, "status: DiskFault\n"),
         Status::Full { entries, bytes } => two_counts_line(
             alloc,
@@ -170,6 +171,7 @@ pub fn printed(alloc: Global, status: &Status, counts: &Counts) -> Result<Text, 
             *messages,
         ),
         Status::LinesTooLong => Text::of(alloc, "status: LinesTooLong\n"),
+        Status::MediaRefused { path } => path_line(alloc, "status: MediaRefused; path: ", path),
     }
 }
 

@@ -50,6 +50,11 @@ pub enum Status {
         /// How many bytes the lines have.
         lines: u64,
     },
+    /// The outbox holds a byte that differs from the lines of the kept entries.
+    OutboxDiffers {
+        /// The place of the first one, counted from 0.
+        at: u64,
+    },
     /// The journal's disk failed.
     DiskFault,
     /// The wire failed.
@@ -81,6 +86,11 @@ pub enum Status {
     },
     /// The outbox has more bytes than are read.
     LinesTooLong,
+    /// The document of media isn't of its form.
+    MediaRefused {
+        /// A JSON pointer (RFC 6901) to the first member at fault; empty where the document isn't JSON or is too long.
+        path: Text,
+    },
     /// No memory was to be had.
     OutOfMemory,
 }
@@ -110,7 +120,9 @@ impl Status {
             Status::BadLine { .. } => 22,
             Status::MarksAhead { .. } => 23,
             Status::LinesTooLong => 24,
+            Status::MediaRefused { .. } => 25,
             Status::PatternTooLarge { .. } => 26,
+            Status::OutboxDiffers { .. } => 27,
         }
     }
 }

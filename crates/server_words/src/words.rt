@@ -56,6 +56,10 @@ pub struct Plan {
     pub command: Option<Text>,
     /// How many tries a message has at most: 1 to 100; 3 is the default.
     pub attempts: u32,
+    /// The path of the document of media, which says how the messages of each recipient are tried.
+    pub media: Option<Text>,
+    /// How many alert sessions work at once: 1 to 16; 1 is the default.
+    pub sessions: u32,
 }
 
 /// Why there is no plan.

@@ -17,4 +17,5 @@ returns c =
     let journal = c.in_ok-arg-5.ensures.shape c.option-4.ensures.local ∙ ap₂ with_rule script c.option-4.ensures.rule in
     let progress = c.in_ok-arg-6.ensures.shape c.option-5.ensures.local ∙ ap₂ with_rule journal c.option-5.ensures.rule in
     let command = c.in_ok-arg-7.ensures.shape c.option-6.ensures.local ∙ ap₂ with_rule progress c.option-6.ensures.rule in
-    IfOk-weaker c.arg-8.result _ _ (λ made adds. adds.shape c.with_default.ensures.local ∙ ap₂ with_rule command c.with_default.ensures.rule) c.arg-8.ensures
+    let media = c.in_ok-arg-8.ensures.shape c.option-7.ensures.local ∙ ap₂ with_rule command c.option-7.ensures.rule in
+    IfOk-weaker c.arg-9.result _ _ (λ made adds. adds.shape c.with_default.ensures.local ∙ ap₂ with_rule media c.with_default.ensures.rule) c.arg-9.ensures
