@@ -39,7 +39,7 @@ module _ {D : Type 0} (tells : D → DiskTells)
     (old new : Journaled D) (i m j : Intake) (b c : Batch) (says : ℕ → Handled) (s : Option Stop) (none : b.block ≡ []) (batch : IsBatch i b) (t : IsTaken i m b c says s)
     (front : take b.mark.kept (says 0).intake.entries ≡ take b.mark.kept i.entries) where
   all_kept : take b.mark.kept i.entries ≡ i.entries
-  all_kept = none_waits i.entries (take b.mark.kept i.entries) b.block batch.entries_are none
+  all_kept = none_waits i.before i.entries (take b.mark.kept i.entries) b.block batch.entries_are none
 
   before : take c.mark.kept m.entries ≡ i.entries
   before = ap (λ (k : Mark). take k.kept m.entries) t.mark ∙ ap (λ (k : Intake). take b.mark.kept k.entries) t.after ∙ front ∙ all_kept
@@ -90,7 +90,7 @@ module _ {D : Type 0} (tells : D → DiskTells)
           let number : refused_group i a.stop ≡ i.groups + 1 = ap (refused_group i) stops in
           let size : b.mark.bytes ≡ i.bytes = omega (arith, batch.size_is, ap (λ (bl : List (List Entry)). length (opened_bytes bl)) none) in
           let left : back_to m c.mark ≡ record i { now = (says 0).intake.now; peers = (says 0).intake.peers } =
-          same_intake (back_to m c.mark) _ (ap (λ (k : Intake). k.now) t.after) (ap (λ (k : Mark). k.tick) t.mark ∙ there.1) (ap (λ (k : Intake). k.peers) t.after) before (ap (λ (k : Mark). k.bytes) t.mark ∙ size) (ap (λ (k : Mark). k.groups) t.mark ∙ there.2) in
+          same_intake (back_to m c.mark) _ (ap (λ (k : Intake). k.now) t.after) (ap (λ (k : Mark). k.tick) t.mark ∙ there.1) (ap (λ (k : Intake). k.peers) t.after) (t.batch.from_one ∙ sym batch.from_one) before (ap (λ (k : Mark). k.bytes) t.mark ∙ size) (ap (λ (k : Mark). k.groups) t.mark ∙ there.2) in
           record {
             answer = answered ∙ ap (λ (h : Handled). h.answer) (sym by.1) ∙ ap (λ (n : ℕ). (says n).answer) (sym number);
             after = back ∙ left ∙ ap (λ (h : Handled). h.intake) (sym by.1) ∙ ap (λ (n : ℕ). (says n).intake) (sym number);
@@ -113,7 +113,7 @@ module _ {D : Type 0} (tells : D → DiskTells) where
   pub alone_left : ((disk : D) → IsLawful (tells disk)) → (old : Journaled D) (i j : Intake) (b c : Batch) (says : ℕ → Handled) (e : OutOfMemory) → old.state ≡ Ready → IsWaiting tells old i b
       → b.block ≡ [] → IsLeft i j b c → IsOffered tells old old i j says (Err e)
   alone_left lawful old i j b c says e ready is none left =
-      let all : take b.mark.kept i.entries ≡ i.entries = none_waits i.entries (take b.mark.kept i.entries) b.block is.batch.entries_are none in
+      let all : take b.mark.kept i.entries ≡ i.entries = none_waits i.before i.entries (take b.mark.kept i.entries) b.block is.batch.entries_are none in
       let has = subst (λ (es : List Numbered). HasJournaled tells old es b.mark.bytes) all (is.journaled ready) in
       record {
         answer = tt;

@@ -19,18 +19,19 @@ use Rattle.intake_front.specs.declared.batch.Batch.{Batch}
 use Rattle.intake_front.specs.declared.batch.First.{First}
 use Rattle.intake_front.specs.declared.batch.Mark.{Mark}
 use Rattle.intake_front.proofs.Numbers.{length_numbered, numbered-append}
-use Rattle.intake_front.proofs.Offers.{Says, ticked_entries}
+use Rattle.intake_front.proofs.Offers.{Says, ticked_before, ticked_entries}
 
 -- one answer put in the place of another, and what stood behind it cut off
 pub cut_at : (xs ys : List Answer) (at : ℕ) (a : Answer) → ys ≡ slice_set xs at a → at < length xs → take (at + 1) ys ≡ take at xs ++ a ∷ []
 cut_at xs ys at a is lt = ap (take (at + 1)) is ∙ ap (λ (n : ℕ). take n (slice_set xs at a)) (add-one at) ∙ take-suc-set xs at a lt
 
 -- entries behind two groups, one after the other
-with_both : (entries : List Numbered) (a b : List Entry) → with_group (with_group entries a) b ≡ with_group entries (a ++ b)
-with_both entries a b =
-    let next : length (with_group entries a) + 1 ≡ length entries + 1 + length a = omega (arith, length-append entries (numbered_behind entries a), length_numbered (length entries + 1) a) in
-    ap (λ (n : ℕ). with_group entries a ++ numbered_from n b) next ∙ append_assoc entries (numbered_behind entries a) (numbered_from (length entries + 1 + length a) b)
-    ∙ ap (λ (l : List Numbered). entries ++ l) (sym (numbered-append (length entries + 1) a b))
+with_both : (before : ℕ) (entries : List Numbered) (a b : List Entry) → with_group before (with_group before entries a) b ≡ with_group before entries (a ++ b)
+with_both before entries a b =
+    let first = before + length entries + 1 in
+    let next : before + length (with_group before entries a) + 1 ≡ first + length a = omega (arith, length-append entries (numbered_behind before entries a), length_numbered first a) in
+    ap (λ (n : ℕ). with_group before entries a ++ numbered_from n b) next ∙ append_assoc entries (numbered_behind before entries a) (numbered_from (first + length a) b)
+    ∙ ap (λ (l : List Numbered). entries ++ l) (sym (numbered-append first a b))
 
 -- the entries of a block with a group more
 all_more : (block : List (List Entry)) (group : List Entry) → all_of (staged_with block group) ≡ all_of block ++ group
@@ -41,7 +42,7 @@ all_more block (g ∷ gs) = flat_map-append _ block ((g ∷ gs) ∷ []) ∙ ap (
 all_both : (block : List (List Entry)) (a b : List Entry) → all_of (staged_with (staged_with block a) b) ≡ all_of block ++ (a ++ b)
 all_both block a b = all_more (staged_with block a) b ∙ ap (λ (l : List Entry). l ++ b) (all_more block a) ∙ append_assoc (all_of block) a b
 
-kept_entries : (i : Intake) (group : List Entry) → (kept_with i group).entries ≡ with_group i.entries group
+kept_entries : (i : Intake) (group : List Entry) → (kept_with i group).entries ≡ with_group i.before i.entries group
 kept_entries i [] = sym (append-nil i.entries)
 kept_entries i (e ∷ es) = refl
 
@@ -69,19 +70,24 @@ others_kept : (i : Intake) (group : List Entry) → ((kept_with i group).now ≡
 others_kept i [] = (refl, refl, refl)
 others_kept i (e ∷ es) = (refl, refl, refl)
 
-same_parts : (n n' : ℕ) (t t' : Option ℕ) (p p' : Peers) (e e' : List Numbered) (b b' : ℕ) (g g' : ℕ) → n ≡ n' → t ≡ t' → p ≡ p' → e ≡ e' → b ≡ b' → g ≡ g'
-    → (let i : Intake = record { now = n; tick = t; peers = p; entries = e; bytes = b; groups = g } in i) ≡ record { now = n'; tick = t'; peers = p'; entries = e'; bytes = b'; groups = g' }
-same_parts n n' t t' p p' e e' b b' g g' en et ep ee eb eg = cc
+kept_before : (i : Intake) (group : List Entry) → (kept_with i group).before ≡ i.before
+kept_before i [] = refl
+kept_before i (e ∷ es) = refl
 
-pub same_intake : (a b : Intake) → a.now ≡ b.now → a.tick ≡ b.tick → a.peers ≡ b.peers → a.entries ≡ b.entries → a.bytes ≡ b.bytes → a.groups ≡ b.groups → a ≡ b
-same_intake a b n t p e y g = same_parts a.now b.now a.tick b.tick a.peers b.peers a.entries b.entries a.bytes b.bytes a.groups b.groups n t p e y g
+same_parts : (n n' : ℕ) (t t' : Option ℕ) (p p' : Peers) (f f' : ℕ) (e e' : List Numbered) (b b' : ℕ) (g g' : ℕ) → n ≡ n' → t ≡ t' → p ≡ p' → f ≡ f' → e ≡ e' → b ≡ b' → g ≡ g'
+    → (let i : Intake = record { now = n; tick = t; peers = p; before = f; entries = e; bytes = b; groups = g } in i) ≡ record { now = n'; tick = t'; peers = p'; before = f'; entries = e'; bytes = b'; groups = g' }
+same_parts n n' t t' p p' f f' e e' b b' g g' en et ep ef ee eb eg = cc
+
+pub same_intake : (a b : Intake) → a.now ≡ b.now → a.tick ≡ b.tick → a.peers ≡ b.peers → a.before ≡ b.before → a.entries ≡ b.entries → a.bytes ≡ b.bytes → a.groups ≡ b.groups → a ≡ b
+same_intake a b n t p f e y g = same_parts a.now b.now a.tick b.tick a.peers b.peers a.before b.before a.entries b.entries a.bytes b.bytes a.groups b.groups n t p f e y g
 
 -- an intake that entered two groups, which were staged behind those of a block
 pub record IsEntered {D : Type 0} (journal : Journaled D) (after : List (List Entry)) (i j : Intake) (ticks group : List Entry) : Type 0 where
   pub now : j.now ≡ i.now
   pub peers : j.peers ≡ i.peers
   pub tick : j.tick ≡ (ticked i ticks).tick
-  pub entries : j.entries ≡ with_group (with_group i.entries ticks) group
+  pub before : j.before ≡ i.before
+  pub entries : j.entries ≡ with_group i.before (with_group i.before i.entries ticks) group
   pub bytes : j.bytes ≡ journal.at + length (opened_bytes after) + 1
   pub groups : j.groups ≡ i.groups + (groups_in ticks + groups_in group)
 
@@ -94,22 +100,24 @@ module _ {D : Type 0} (journal : Journaled D) (block after : List (List Entry)) 
       let n = now_ticked i ticks in
       let long = ap (λ (b : List (List Entry)). length (opened_bytes b)) staged in
       same_intake j (kept_with t group) (is.now ∙ sym n.0 ∙ sym o.0) (is.tick ∙ sym o.2) (is.peers ∙ sym n.1 ∙ sym o.1)
-      (is.entries ∙ ap (λ (es : List Numbered). with_group es group) (sym (ticked_entries i ticks)) ∙ sym (kept_entries t group))
+      (is.before ∙ sym (ticked_before i ticks) ∙ sym (kept_before t group))
+      (is.entries ∙ ap (λ (es : List Numbered). with_group i.before es group) (sym (ticked_entries i ticks)) ∙ ap (λ (m : ℕ). with_group m t.entries group) (sym (ticked_before i ticks)) ∙ sym (kept_entries t group))
       (omega (arith, is.bytes, long, stands.size_is, long_more (staged_with block ticks) t group, long_ticked block i ticks))
       (omega (arith, is.groups, groups_kept t group, groups_ticked i ticks))
 
-  entries_more : j.entries ≡ with_group i.entries (ticks ++ group)
-  entries_more = is.entries ∙ with_both i.entries ticks group
+  entries_more : j.entries ≡ with_group i.before i.entries (ticks ++ group)
+  entries_more = is.entries ∙ with_both i.before i.entries ticks group
 
   -- what stands at the front stays there
   front_same : (kept : ℕ) → kept ≤ length i.entries → take kept j.entries ≡ take kept i.entries
-  front_same kept le = ap (take kept) entries_more ∙ take-append-le kept i.entries (numbered_behind i.entries (ticks ++ group)) le
+  front_same kept le = ap (take kept) entries_more ∙ take-append-le kept i.entries (numbered_behind i.before i.entries (ticks ++ group)) le
 
-  waits_more : (kept : ℕ) → kept ≤ length i.entries → i.entries ≡ with_group (take kept i.entries) (all_of block) → j.entries ≡ with_group (take kept j.entries) (all_of after)
+  waits_more : (kept : ℕ) → kept ≤ length i.entries → i.entries ≡ with_group i.before (take kept i.entries) (all_of block) → j.entries ≡ with_group j.before (take kept j.entries) (all_of after)
   waits_more kept le waits =
-      entries_more ∙ ap (λ (es : List Numbered). with_group es (ticks ++ group)) waits ∙ with_both (take kept i.entries) (all_of block) (ticks ++ group)
-      ∙ ap (λ (es : List Numbered). with_group es (all_of block ++ (ticks ++ group))) (sym (front_same kept le))
-      ∙ ap (with_group (take kept j.entries)) (sym (ap all_of staged ∙ all_both block ticks group))
+      entries_more ∙ ap (λ (es : List Numbered). with_group i.before es (ticks ++ group)) waits ∙ with_both i.before (take kept i.entries) (all_of block) (ticks ++ group)
+      ∙ ap (λ (es : List Numbered). with_group i.before es (all_of block ++ (ticks ++ group))) (sym (front_same kept le))
+      ∙ ap (with_group i.before (take kept j.entries)) (sym (ap all_of staged ∙ all_both block ticks group))
+      ∙ ap (λ (m : ℕ). with_group m (take kept j.entries) (all_of after)) (sym is.before)
 
 some_more : (block : List (List Entry)) (group : List Entry) → 0 < length block → 0 < length (staged_with block group)
 some_more block [] some = some
@@ -131,7 +139,7 @@ first_by i answers ticks group says now (Some a) None s =
     let t = ticked i ticks in
     let moment : i.now ≡ (says 0).intake.now = sym (ap (λ (h : Handled). h.intake.now) s.now_is ∙ (others_kept t group).0 ∙ (now_ticked i ticks).0) in
     let peers : i.peers ≡ (says 0).intake.peers = sym (ap (λ (h : Handled). h.intake.peers) s.now_is ∙ (others_kept t group).1 ∙ (now_ticked i ticks).1) in
-    let there : i ≡ record i { now = (says 0).intake.now; peers = (says 0).intake.peers } = same_intake i _ moment refl peers refl refl refl in
+    let there : i ≡ record i { now = (says 0).intake.now; peers = (says 0).intake.peers } = same_intake i _ moment refl peers refl refl refl refl in
     (refl, s.fault_is.0 ∙ ap (λ (k : Intake). (let h : Handled = record { intake = k; answer = a } in h)) there, s.fault_is.1)
 
 has_first : (i j : Intake) (mark : Mark) (block after : List (List Entry)) (answers answers' : List Answer) (ticks group : List Entry) (first : Option First) (says : ℕ → Handled) (now : Answer) (fault : Option Answer)
@@ -176,10 +184,11 @@ taken_by journal i j b c ticks group says now fault stands batch staged s entere
       first = subst (FirstBy i b.answers.items says b.first) (sym first) (first_by i b.answers.items ticks group says now fault b.first s);
       mark = mark;
       batch = record {
-        entries_are = subst (λ (n : ℕ). j.entries ≡ with_group (take n j.entries) (all_of c.block)) (sym kept) waits;
+        from_one = entered.before ∙ batch.from_one;
+        entries_are = subst (λ (n : ℕ). j.entries ≡ with_group j.before (take n j.entries) (all_of c.block)) (sym kept) waits;
         size_is = omega (arith, entered.bytes, batch.size_is, stands.size_is, ap (λ (m : Mark). m.bytes) mark);
         few = subst (λ (m : Mark). m.groups ≤ m.kept) (sym mark) batch.few;
-        within = omega (arith, kept, batch.within, ap length more, length-append i.entries (numbered_behind i.entries (ticks ++ group)));
+        within = omega (arith, kept, batch.within, ap length more, length-append i.entries (numbered_behind i.before i.entries (ticks ++ group)));
         first_is = subst (HasFirst j c.mark c.block c.answers.items) (sym first)
             (subst (λ (m : Mark). HasFirst j m c.block c.answers.items (first_with b.first (length b.answers.items) fault)) (sym mark)
             (has_first i j b.mark b.block c.block b.answers.items c.answers.items ticks group b.first says now fault batch.first_is staged answers is s));

@@ -17,15 +17,20 @@ use Rattle.intake_front.specs.declared.batch.Mark.{Mark}
 use Rattle.intake_front.proofs.Journals.{count_of}
 use Rattle.intake_front.proofs.Numbers.{length_numbered}
 
+-- what an intake and what waits behind its mark has, numbered from 1
+entries_from_one : (i : Intake) (b : Batch) → IsBatch i b → i.entries ≡ with_group 0 (take b.mark.kept i.entries) (all_of b.block)
+entries_from_one i b is = is.entries_are ∙ ap (λ (n : ℕ). with_group n (take b.mark.kept i.entries) (all_of b.block)) is.from_one
+
 -- nothing waits behind an intake's own mark
-pub idle_batch : (i : Intake) (b : Batch) → b.block ≡ [] → b.first ≡ None → b.is_ticked ≡ false → b.mark ≡ mark_of i → i.groups ≤ length i.entries → IsBatch i b
-idle_batch i b block first ticked mark few =
+pub idle_batch : (i : Intake) (b : Batch) → i.before ≡ 0 → b.block ≡ [] → b.first ≡ None → b.is_ticked ≡ false → b.mark ≡ mark_of i → i.groups ≤ length i.entries → IsBatch i b
+idle_batch i b one block first ticked mark few =
     let kept : b.mark.kept ≡ length i.entries = ap (λ (m : Mark). m.kept) mark in
     let bytes : b.mark.bytes ≡ i.bytes = ap (λ (m : Mark). m.bytes) mark in
     let groups : b.mark.groups ≡ i.groups = ap (λ (m : Mark). m.groups) mark in
     let all : take b.mark.kept i.entries ≡ i.entries = take_all b.mark.kept i.entries (omega (arith, kept)) in
     record {
-      entries_are = sym (ap (λ (bl : List (List Entry)). with_group (take b.mark.kept i.entries) (all_of bl)) block ∙ append-nil (take b.mark.kept i.entries) ∙ all);
+      from_one = one;
+      entries_are = sym (ap (λ (bl : List (List Entry)). with_group i.before (take b.mark.kept i.entries) (all_of bl)) block ∙ append-nil (take b.mark.kept i.entries) ∙ all);
       size_is = omega (arith, bytes, ap (λ (bl : List (List Entry)). length (opened_bytes bl)) block);
       few = omega (arith, kept, groups, few);
       within = omega (arith, kept);
@@ -55,17 +60,17 @@ module _ {D : Type 0} (tells : D → DiskTells) where
       let has = is.journaled ready in
       let kept = take b.mark.kept i.entries in
       record {
-        count = omega (arith, has.count, count_of b.block, ap length is.batch.entries_are, length-append kept (numbered_behind kept (all_of b.block)), length_numbered (length kept + 1) (all_of b.block));
+        count = omega (arith, has.count, count_of b.block, ap length is.batch.entries_are, length-append kept (numbered_behind i.before kept (all_of b.block)), length_numbered (i.before + length kept + 1) (all_of b.block));
         size_is = omega (arith, has.size_is, is.batch.size_is);
       }
 
   -- once all that waited was appended
-  pub kept_waiting : (journal : Journaled D) (i : Intake) (b c : Batch) → IsBatch i b → HasJournaled tells journal (with_group (take b.mark.kept i.entries) (all_of b.block)) (b.mark.bytes + length (opened_bytes b.block))
+  pub kept_waiting : (journal : Journaled D) (i : Intake) (b c : Batch) → IsBatch i b → HasJournaled tells journal (with_group 0 (take b.mark.kept i.entries) (all_of b.block)) (b.mark.bytes + length (opened_bytes b.block))
       → c.block ≡ [] → c.first ≡ None → c.is_ticked ≡ false → c.mark ≡ mark_of i → i.groups ≤ length i.entries → IsWaiting tells journal i c
   kept_waiting journal i b c batch has block first ticked mark few =
-      let all = subst (λ (es : List Numbered). HasJournaled tells journal es (b.mark.bytes + length (opened_bytes b.block))) (sym batch.entries_are) has in
+      let all = subst (λ (es : List Numbered). HasJournaled tells journal es (b.mark.bytes + length (opened_bytes b.block))) (sym (entries_from_one i b batch)) has in
       let now = subst (λ (n : ℕ). HasJournaled tells journal i.entries n) (sym batch.size_is) all in
-      idle_waiting journal i c (idle_batch i c block first ticked mark few) block mark (λ _. now)
+      idle_waiting journal i c (idle_batch i c batch.from_one block first ticked mark few) block mark (λ _. now)
 
   -- once the disk refused it
   pub back_waiting : (journal : Journaled D) (i : Intake) (b c : Batch) → IsBatch i b → journal.state ≡ Broken → c.block ≡ [] → c.first ≡ None → c.is_ticked ≡ false → c.mark ≡ b.mark
@@ -74,17 +79,17 @@ module _ {D : Type 0} (tells : D → DiskTells) where
       let back = back_to i b.mark in
       let long : length back.entries ≡ b.mark.kept = length-take-le b.mark.kept i.entries batch.within in
       let same : c.mark ≡ mark_of back = mark ∙ sym (ap (λ (n : ℕ). (let m : Mark = record { kept = n; tick = b.mark.tick; bytes = b.mark.bytes; groups = b.mark.groups } in m)) long) in
-      idle_waiting journal back c (idle_batch back c block first ticked same (omega (arith, long, batch.few))) block same (λ ready. absurd (not_both ready))
+      idle_waiting journal back c (idle_batch back c batch.from_one block first ticked same (omega (arith, long, batch.few))) block same (λ ready. absurd (not_both ready))
     where
       not_both : journal.state ≡ Ready → ⊥
       not_both ready = let both = sym ready ∙ broken in absurd (cc)
 
 -- what was written of what waited
 pub commit_written : (old new : DiskTells) (i : Intake) (b : Batch) → IsBatch i b → old.faults ≤ new.faults
-    → is_some new.bytes ≡ is_some old.bytes → IfSome old.bytes (λ _. LeavesOnly old new (KeepsEither (take b.mark.kept i.entries) (with_group (take b.mark.kept i.entries) (all_of b.block))))
+    → is_some new.bytes ≡ is_some old.bytes → IfSome old.bytes (λ _. LeavesOnly old new (KeepsEither (take b.mark.kept i.entries) (with_group 0 (take b.mark.kept i.entries) (all_of b.block))))
     → IsWritten old new (take b.mark.kept i.entries) i.entries
 commit_written old new i b batch later told left = record {
   later = later;
   told = told;
-  any_moment = subst (λ (es : List Numbered). IfSome old.bytes (λ _. LeavesOnly old new (KeepsEither (take b.mark.kept i.entries) es))) (sym batch.entries_are) left;
+  any_moment = subst (λ (es : List Numbered). IfSome old.bytes (λ _. LeavesOnly old new (KeepsEither (take b.mark.kept i.entries) es))) (sym (entries_from_one i b batch)) left;
 }

@@ -12,11 +12,11 @@ use Rattle.intake_front.specs.declared.answer.Stop.{Stop}
 use Rattle.intake_front.specs.declared.answer.Stop.TheVariants as stop
 use Rattle.intake_front.specs.declared.drafts.Draft.{Draft}
 
-kept_grows : (i : Intake) (group : List Entry) → (kept_with i group).entries ≡ i.entries ++ numbered_behind i.entries group
+kept_grows : (i : Intake) (group : List Entry) → (kept_with i group).entries ≡ i.entries ++ numbered_behind i.before i.entries group
 kept_grows i [] = sym (append-nil i.entries)
 kept_grows i (e ∷ es) = refl
 
-ticked_grows : (i : Intake) (ticks : List Entry) → (ticked i ticks).entries ≡ i.entries ++ numbered_behind i.entries ticks
+ticked_grows : (i : Intake) (ticks : List Entry) → (ticked i ticks).entries ≡ i.entries ++ numbered_behind i.before i.entries ticks
 ticked_grows i [] = sym (append-nil i.entries)
 ticked_grows i (e ∷ es) = refl
 
@@ -26,13 +26,13 @@ Grows entries h = h.intake.entries ≡ entries ++ h.answer.added
 
 values_grow : (i : Intake) (before : List Numbered) (ticks : List Numbered) (made : Draft) (last o : Option Stop) → i.entries ≡ before ++ ticks → Grows before (values_offered i ticks made last o)
 values_grow i before ticks made last None is =
-    let behind = numbered_behind i.entries made.group in
+    let behind = numbered_behind i.before i.entries made.group in
     kept_grows i made.group ∙ ap (λ (es : List Numbered). es ++ behind) is ∙ append_assoc before ticks behind
 values_grow i before ticks made last (Some reason) is = is
 
 tick_grows : (limits : Limits) (i : Intake) (ticks : List Entry) (made : Draft) (last o : Option Stop) → Grows i.entries (tick_offered limits i ticks made last o)
 unfolding behind_tick
-tick_grows limits i ticks made last None = values_grow (ticked i ticks) i.entries (numbered_behind i.entries ticks) made last (refused limits (ticked i ticks) made.group) (ticked_grows i ticks)
+tick_grows limits i ticks made last None = values_grow (ticked i ticks) i.entries (numbered_behind i.before i.entries ticks) made last (refused limits (ticked i ticks) made.group) (ticked_grows i ticks)
 tick_grows limits i ticks made last (Some reason) = sym (append-nil i.entries)
 
 offered_grows : (limits : Limits) (i : Intake) (ticks : List Entry) (made : Draft) (last : Option Stop) → Grows i.entries (offered limits i ticks made last)

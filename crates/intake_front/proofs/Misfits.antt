@@ -26,15 +26,15 @@ fits_more conf e [] fits behind = ((fits.0, behind.0), (fits.1, omega arith, beh
 fits_more conf e (f ∷ log) fits behind = ((fits.0, behind.0 ∙ sym (ne_eqb _ 0 (λ h. absurd (omega (arith, h))))), (fits.1, behind.1, behind.2))
 
 -- the entry with its number, behind a log and others
-abbrev next : List Numbered → List Entry → Entry → Numbered
-next log entries e = record { number = length log + 1 + length entries; entry = e }
+abbrev next : ℕ → List Numbered → List Entry → Entry → Numbered
+next before log entries e = record { number = before + length log + 1 + length entries; entry = e }
 
 -- a log with one more entry behind others
-log_more : (log : List Numbered) (entries : List Entry) (e : Entry) → log_with log (entries ++ e ∷ []) ≡ next log entries e ∷ log_with log entries
-log_more log entries e =
-    let first = numbered_from (length log + 1) entries in
-    let last : List Numbered = next log entries e ∷ [] in
-    ap (λ (l : List Numbered). reverse l ++ log) (numbered-append (length log + 1) entries (e ∷ []))
+log_more : (before : ℕ) (log : List Numbered) (entries : List Entry) (e : Entry) → log_with before log (entries ++ e ∷ []) ≡ next before log entries e ∷ log_with before log entries
+log_more before log entries e =
+    let first = numbered_from (before + length log + 1) entries in
+    let last : List Numbered = next before log entries e ∷ [] in
+    ap (λ (l : List Numbered). reverse l ++ log) (numbered-append (before + length log + 1) entries (e ∷ []))
     ∙ ap (λ (l : List Numbered). l ++ log) (reverse-append first last)
 
 -- a log that fits does so without its newest entries
@@ -42,35 +42,35 @@ fits_without : (conf : Conf) (newer log : List Numbered) → Fits (first_start c
 fits_without conf [] log fits = fits
 fits_without conf (e ∷ newer) log fits = fits_without conf newer log (fits.0.0, fits.1.0)
 
-log_parts : (log : List Numbered) (a b : List Entry) → (newer : List Numbered) × (log_with log (a ++ b) ≡ newer ++ log_with log a)
-log_parts log a b =
-    let front = numbered_from (length log + 1) a in
-    let back = numbered_from (length log + 1 + length a) b in (
+log_parts : (before : ℕ) (log : List Numbered) (a b : List Entry) → (newer : List Numbered) × (log_with before log (a ++ b) ≡ newer ++ log_with before log a)
+log_parts before log a b =
+    let front = numbered_from (before + length log + 1) a in
+    let back = numbered_from (before + length log + 1 + length a) b in (
       reverse back,
-      ap (λ (l : List Numbered). reverse l ++ log) (numbered-append (length log + 1) a b)
+      ap (λ (l : List Numbered). reverse l ++ log) (numbered-append (before + length log + 1) a b)
           ∙ ap (λ (l : List Numbered). l ++ log) (reverse-append front back)
           ∙ append_assoc (reverse back) (reverse front) log,
     )
 
 -- entries so far, one of which is new
-pub step_fits : (conf : Conf) (log : List Numbered) (entries : List Entry) (e : Entry) → Fits (first_start conf) (log_with log entries) → FitsBehind conf (reached (log_with log entries)) e → Fits (first_start conf) (log_with log (entries ++ e ∷ []))
-step_fits conf log entries e fits behind = subst (Fits (first_start conf)) (sym (log_more log entries e)) (fits_more conf (next log entries e) (log_with log entries) fits behind)
+pub step_fits : (conf : Conf) (before : ℕ) (log : List Numbered) (entries : List Entry) (e : Entry) → Fits (first_start conf) (log_with before log entries) → FitsBehind conf (reached (log_with before log entries)) e → Fits (first_start conf) (log_with before log (entries ++ e ∷ []))
+step_fits conf before log entries e fits behind = subst (Fits (first_start conf)) (sym (log_more before log entries e)) (fits_more conf (next before log entries e) (log_with before log entries) fits behind)
 
-pub step_reached : (log : List Numbered) (entries : List Entry) (e : Entry) → reached (log_with log (entries ++ e ∷ [])) ≡ Some (moment_of e)
-step_reached log entries e = ap reached (log_more log entries e)
+pub step_reached : (before : ℕ) (log : List Numbered) (entries : List Entry) (e : Entry) → reached (log_with before log (entries ++ e ∷ [])) ≡ Some (moment_of e)
+step_reached before log entries e = ap reached (log_more before log entries e)
 
-pub step_misfits : (conf : Conf) (log : List Numbered) (entries rest : List Entry) (e : Entry) → ¬ (FitsBehind conf (reached (log_with log entries)) e) → ¬ (Fits (first_start conf) (log_with log ((entries ++ e ∷ []) ++ rest)))
-step_misfits conf log entries rest e misfits fits =
-    let parts = log_parts log (entries ++ e ∷ []) rest in
-    let here = fits_without conf parts.0 (log_with log (entries ++ e ∷ [])) (subst (Fits (first_start conf)) parts.1 fits) in
-    misfits (behind_of conf (next log entries e) (log_with log entries) (subst (Fits (first_start conf)) (log_more log entries e) here))
+pub step_misfits : (conf : Conf) (before : ℕ) (log : List Numbered) (entries rest : List Entry) (e : Entry) → ¬ (FitsBehind conf (reached (log_with before log entries)) e) → ¬ (Fits (first_start conf) (log_with before log ((entries ++ e ∷ []) ++ rest)))
+step_misfits conf before log entries rest e misfits fits =
+    let parts = log_parts before log (entries ++ e ∷ []) rest in
+    let here = fits_without conf parts.0 (log_with before log (entries ++ e ∷ [])) (subst (Fits (first_start conf)) parts.1 fits) in
+    misfits (behind_of conf (next before log entries e) (log_with before log entries) (subst (Fits (first_start conf)) (log_more before log entries e) here))
 
 -- the log of groups with one more
-pub log_group : (groups : List Group) (g : Group) → log_of (numbered_of (groups ++ g ∷ [])) ≡ log_with (log_of (numbered_of groups)) g.entries
+pub log_group : (groups : List Group) (g : Group) → log_of (numbered_of (groups ++ g ∷ [])) ≡ log_with 0 (log_of (numbered_of groups)) g.entries
 log_group groups g =
     let before = flat_map (λ (h : Group). h.entries) groups in
     let all : flat_map (λ (h : Group). h.entries) (groups ++ g ∷ []) ≡ before ++ g.entries = flat_map-append _ groups (g ∷ []) ∙ ap (λ (l : List Entry). before ++ l) (append-nil g.entries) in
-    let count : 1 + length before ≡ length (reverse (numbered_from 1 before)) + 1 = omega (arith, length-reverse (numbered_from 1 before), length_numbered 1 before) in
+    let count : 1 + length before ≡ 0 + length (reverse (numbered_from 1 before)) + 1 = omega (arith, length-reverse (numbered_from 1 before), length_numbered 1 before) in
     ap (λ (l : List Entry). reverse (numbered_from 1 l)) all
     ∙ ap reverse (numbered-append 1 before g.entries)
     ∙ reverse-append (numbered_from 1 before) (numbered_from (1 + length before) g.entries)

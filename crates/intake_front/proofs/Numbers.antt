@@ -51,14 +51,14 @@ numbered_more first number before made new group e is at more =
     ∙ ap (λ (l : List Numbered). before ++ l) (sym (numbered-append start group (e ∷ [])))
 
 -- a group whose first entry was moved behind entries
-pub group_step : (entries new : List Numbered) (number : ℕ) (e : Entry) (rest group : List Entry) → group ≡ e ∷ rest → number ≡ length entries + 1 → new ≡ entries ++ record { number = number; entry = e } ∷ []
-    → with_group new rest ≡ with_group entries group
-group_step entries new number e rest group is at more =
-    let one : Numbered = record { number = length entries + 1; entry = e } in
+pub group_step : (before : ℕ) (entries new : List Numbered) (number : ℕ) (e : Entry) (rest group : List Entry) → group ≡ e ∷ rest → number ≡ before + length entries + 1 → new ≡ entries ++ record { number = number; entry = e } ∷ []
+    → with_group before new rest ≡ with_group before entries group
+group_step before entries new number e rest group is at more =
+    let one : Numbered = record { number = before + length entries + 1; entry = e } in
     let there : new ≡ entries ++ one ∷ [] = more ∙ ap (λ (n : ℕ). entries ++ record { number = n; entry = e } ∷ []) at in
-    let next : length (entries ++ one ∷ []) + 1 ≡ length entries + 1 + 1 = omega (arith, length-append entries (one ∷ [])) in
-    ap (λ (es : List Numbered). with_group es rest) there ∙ ap (λ (n : ℕ). (entries ++ one ∷ []) ++ numbered_from n rest) next ∙ append_assoc entries (one ∷ []) (numbered_from (length entries + 1 + 1) rest)
-    ∙ ap (with_group entries) (sym is)
+    let next : before + length (entries ++ one ∷ []) + 1 ≡ before + length entries + 1 + 1 = omega (arith, length-append entries (one ∷ [])) in
+    ap (λ (es : List Numbered). with_group before es rest) there ∙ ap (λ (n : ℕ). (entries ++ one ∷ []) ++ numbered_from n rest) next ∙ append_assoc entries (one ∷ []) (numbered_from (before + length entries + 1 + 1) rest)
+    ∙ ap (with_group before entries) (sym is)
 
 -- two groups, one numbered behind the other
 pub both_from : (first : ℕ) (none one both : List Numbered) (a b : List Entry) → none ≡ [] → one ≡ none ++ numbered_from (first + length none) a → both ≡ one ++ numbered_from (first + length one) b → both ≡ numbered_from first (a ++ b)

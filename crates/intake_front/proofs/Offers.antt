@@ -75,24 +75,30 @@ stands_ticked journal block i [] is = is
 stands_ticked journal block i (e ∷ es) is =
     let group = e ∷ es in
     record {
-      count = omega (arith, is.count, count-push block group, length-append i.entries (numbered_behind i.entries group), length_numbered (length i.entries + 1) group);
+      count = omega (arith, is.count, count-push block group, length-append i.entries (numbered_behind i.before i.entries group), length_numbered (i.before + length i.entries + 1) group);
       size_is = omega (arith, is.size_is, more_long block group);
     }
 
 -- the numbers of entries behind two groups, one after the other
-both_numbered : (entries : List Numbered) (a b : List Entry) → numbered_behind entries a ++ numbered_behind (with_group entries a) b ≡ numbered_behind entries (a ++ b)
-both_numbered entries a b =
-    let next : length (with_group entries a) + 1 ≡ length entries + 1 + length a = omega (arith, length-append entries (numbered_behind entries a), length_numbered (length entries + 1) a) in
-    ap (λ (n : ℕ). numbered_behind entries a ++ numbered_from n b) next ∙ sym (numbered-append (length entries + 1) a b)
+both_numbered : (before : ℕ) (entries : List Numbered) (a b : List Entry)
+    → numbered_behind before entries a ++ numbered_behind before (with_group before entries a) b ≡ numbered_behind before entries (a ++ b)
+both_numbered before entries a b =
+    let first = before + length entries + 1 in
+    let next : before + length (with_group before entries a) + 1 ≡ first + length a = omega (arith, length-append entries (numbered_behind before entries a), length_numbered first a) in
+    ap (λ (n : ℕ). numbered_behind before entries a ++ numbered_from n b) next ∙ sym (numbered-append first a b)
 
-pub ticked_entries : (i : Intake) (ticks : List Entry) → (ticked i ticks).entries ≡ with_group i.entries ticks
+pub ticked_before : (i : Intake) (ticks : List Entry) → (ticked i ticks).before ≡ i.before
+ticked_before i [] = refl
+ticked_before i (e ∷ es) = refl
+
+pub ticked_entries : (i : Intake) (ticks : List Entry) → (ticked i ticks).entries ≡ with_group i.before i.entries ticks
 ticked_entries i [] = sym (append-nil i.entries)
 ticked_entries i (e ∷ es) = refl
 
 -- the numbers of a group that stands in front of another
-pub front_numbered : (entries : List Numbered) (a b : List Entry) → take (length a) (numbered_behind entries (a ++ b)) ≡ numbered_behind entries a
-front_numbered entries a b =
-    let n = length entries + 1 in
+pub front_numbered : (before : ℕ) (entries : List Numbered) (a b : List Entry) → take (length a) (numbered_behind before entries (a ++ b)) ≡ numbered_behind before entries a
+front_numbered before entries a b =
+    let n = before + length entries + 1 in
     ap (λ (k : ℕ). take k (numbered_from n (a ++ b))) (sym (length_numbered n a)) ∙ ap (take (length (numbered_from n a))) (numbered-append n a b) ∙ take-append_seam (numbered_from n a) (numbered_from (n + length a) b)
 
 module _ {D : Type 0} (journal : Journaled D) (block : List (List Entry)) (i : Intake) (is : FollowsBlock journal block i) (ticks : List Entry) (made : Draft) (last : Option Stop) where
@@ -100,15 +106,16 @@ module _ {D : Type 0} (journal : Journaled D) (block : List (List Entry)) (i : I
   pub all_kept : refused_by journal block ticks ≡ None → refused_by journal (staged_with block ticks) made.group ≡ None
       → offered (limits_of journal 0) i ticks made last ≡ record {
         intake = kept_with (ticked i ticks) made.group;
-        answer = record { reply = made.reply; shut = made.shut; added = numbered_behind i.entries (ticks ++ made.group); stop = last };
+        answer = record { reply = made.reply; shut = made.shut; added = numbered_behind i.before i.entries (ticks ++ made.group); stop = last };
       }
   unfolding offered behind_tick
   all_kept room room_behind =
       let l = limits_of journal 0 in
       let t = ticked i ticks in
-      let before = numbered_behind i.entries ticks in
-      let added : before ++ numbered_behind t.entries made.group ≡ numbered_behind i.entries (ticks ++ made.group) =
-      ap (λ (es : List Numbered). before ++ numbered_behind es made.group) (ticked_entries i ticks) ∙ both_numbered i.entries ticks made.group in
+      let before = numbered_behind i.before i.entries ticks in
+      let added : before ++ numbered_behind t.before t.entries made.group ≡ numbered_behind i.before i.entries (ticks ++ made.group) =
+      ap (λ (n : ℕ). before ++ numbered_behind n t.entries made.group) (ticked_before i ticks)
+      ∙ ap (λ (es : List Numbered). before ++ numbered_behind i.before es made.group) (ticked_entries i ticks) ∙ both_numbered i.before i.entries ticks made.group in
       ap (tick_offered l i ticks made last) (accepted journal block i ticks is room)
       ∙ ap (values_offered t before made last) (accepted journal (staged_with block ticks) t made.group (stands_ticked journal block i ticks is) room_behind)
       ∙ ap (λ (x : List Numbered). (let h : Handled = record { intake = kept_with t made.group; answer = record { reply = made.reply; shut = made.shut; added = x; stop = last } } in h)) added
@@ -122,12 +129,12 @@ module _ {D : Type 0} (journal : Journaled D) (block : List (List Entry)) (i : I
   pub values_full : (full : Stop) → refused_by journal block ticks ≡ None → refused_by journal (staged_with block ticks) made.group ≡ Some full
       → offered (limits_of journal 0) i ticks made last ≡ record {
         intake = ticked i ticks;
-        answer = record { reply = made.failing; shut = made.shut; added = numbered_behind i.entries ticks; stop = Some full };
+        answer = record { reply = made.failing; shut = made.shut; added = numbered_behind i.before i.entries ticks; stop = Some full };
       }
   unfolding offered behind_tick
   values_full full room room_behind =
       let t = ticked i ticks in
-      let before = numbered_behind i.entries ticks in
+      let before = numbered_behind i.before i.entries ticks in
       ap (tick_offered (limits_of journal 0) i ticks made last) (accepted journal block i ticks is room)
       ∙ ap (values_offered t before made last) (refused_full journal (staged_with block ticks) t 0 made.group full (stands_ticked journal block i ticks is) room_behind)
 
@@ -187,7 +194,7 @@ module _ {D : Type 0} (journal : Journaled D) (block : List (List Entry)) (i : I
   full_only group b full room same = never_fault journal b group (room ∙ same)
 
   -- what was staged of an event is what it enters, and its answers are those of that
-  pub settles : (s : Staged) → added ≡ numbered_behind i.entries (ticks ++ made.group) → last ≢ Some stop.DiskFault → IsStagedAs journal block ticks made.group after s → Settles s
+  pub settles : (s : Staged) → added ≡ numbered_behind i.before i.entries (ticks ++ made.group) → last ≢ Some stop.DiskFault → IsStagedAs journal block ticks made.group after s → Settles s
   settles Both added_is plain staged = (
     record {
       now_is = all_kept journal block i is ticks made last staged.0 staged.1
@@ -198,7 +205,7 @@ module _ {D : Type 0} (journal : Journaled D) (block : List (List Entry)) (i : I
     staged.2,
   )
   settles (OnlyTick full) added_is plain staged =
-      let cut : take (length ticks) added ≡ numbered_behind i.entries ticks = ap (take (length ticks)) added_is ∙ front_numbered i.entries ticks made.group in (
+      let cut : take (length ticks) added ≡ numbered_behind i.before i.entries ticks = ap (take (length ticks)) added_is ∙ front_numbered i.before i.entries ticks made.group in (
         record {
           now_is = values_full journal block i is ticks made last full staged.0 staged.1
               ∙ ap (λ (x : List Numbered). (let h : Handled = record { intake = ticked i ticks; answer = record { reply = made.failing; shut = made.shut; added = x; stop = Some full } } in h)) (sym cut);

@@ -14,10 +14,10 @@ first_size size text = omega (arith, more_long [] (first_group text))
 
 -- a journal to which the configuration was appended
 pub first_has : {D : Type 0} (tells : D → DiskTells) (journal : Journaled D) (block : List (List Entry)) (size : ℕ) (text : List ℕ) → block ≡ first_group text ∷ []
-    → HasJournaled tells journal (with_group [] (all_of block)) (size + length (opened_bytes block))
+    → HasJournaled tells journal (with_group 0 [] (all_of block)) (size + length (opened_bytes block))
     → HasJournaled tells journal (numbered_from 1 (first_group text)) (bytes_with size (first_group text))
 first_has tells journal block size text is has =
-    let P : List (List Entry) → Type 0 = λ b. HasJournaled tells journal (with_group [] (all_of b)) (size + length (opened_bytes b)) in
+    let P : List (List Entry) → Type 0 = λ b. HasJournaled tells journal (with_group 0 [] (all_of b)) (size + length (opened_bytes b)) in
     let there : HasJournaled tells journal (numbered_from 1 (first_group text)) (size + length (opened_bytes (first_group text ∷ []))) = subst P is has in
     subst (λ (n : ℕ). HasJournaled tells journal (numbered_from 1 (first_group text)) n) (first_size size text) there
 
@@ -34,7 +34,7 @@ pub has_first : {D : Type 0} (tells : D → DiskTells) (journal : Journaled D) (
 has_first tells journal size text i has is = subst (λ (j : Intake). HasJournaled tells journal j.entries j.bytes) (sym is) has
 
 pub first_moments : (old new : DiskTells) (block : List (List Entry)) (size : ℕ) (text : List ℕ) → block ≡ first_group text ∷ []
-    → IfSome old.bytes (λ _. LeavesOnly old new (KeepsEither [] (with_group [] (all_of block))))
+    → IfSome old.bytes (λ _. LeavesOnly old new (KeepsEither [] (with_group 0 [] (all_of block))))
     → IfSome old.bytes (λ _. LeavesOnly old new (KeepsEither [] (start text [] size).entries))
 first_moments old new block size text is left =
-    subst (λ (b : List (List Entry)). IfSome old.bytes (λ _. LeavesOnly old new (KeepsEither [] (with_group [] (all_of b))))) is left
+    subst (λ (b : List (List Entry)). IfSome old.bytes (λ _. LeavesOnly old new (KeepsEither [] (with_group 0 [] (all_of b))))) is left

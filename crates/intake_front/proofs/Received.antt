@@ -34,6 +34,7 @@ stop_plain (Quiet at) last is fault = absurd (cc)
 
 -- two intakes with the same entries, bytes, Tick and groups
 pub record IsAs (i j : Intake) : Type 0 where
+  pub before : j.before ≡ i.before
   pub entries : j.entries ≡ i.entries
   pub bytes : j.bytes ≡ i.bytes
   pub tick : j.tick ≡ i.tick
@@ -48,7 +49,9 @@ first_as i j mark block answers (Some first) as_i has = has
 
 pub batch_as : (i j : Intake) (b : Batch) → IsAs i j → IsBatch i b → IsBatch j b
 batch_as i j b as_i is = record {
-  entries_are = subst (λ (es : List Numbered). es ≡ with_group (take b.mark.kept es) (all_of b.block)) (sym as_i.entries) is.entries_are;
+  from_one = as_i.before ∙ is.from_one;
+  entries_are = subst (λ (n : ℕ). j.entries ≡ with_group n (take b.mark.kept j.entries) (all_of b.block)) (sym as_i.before)
+      (subst (λ (es : List Numbered). es ≡ with_group i.before (take b.mark.kept es) (all_of b.block)) (sym as_i.entries) is.entries_are);
   size_is = as_i.bytes ∙ is.size_is;
   few = is.few;
   within = subst (λ (es : List Numbered). b.mark.kept ≤ length es) (sym as_i.entries) is.within;
@@ -61,12 +64,12 @@ pub left_as : (i j : Intake) (b : Batch) → IsAs i j → IsBatch i b → IsLeft
 left_as i j b as_i is = record { entries = as_i.entries; block = refl; answers = refl; first = refl; mark = refl; batch = batch_as i j b as_i is }
 
 -- an intake to which an event came, by its parts
-come_is : (n : ℕ) (t : Option ℕ) (p : Peers) (es : List Numbered) (b g : ℕ) (e : WireEvent) (now : ℕ) (peers : Peers) → now ≡ max n (moment_at e) → peers ≡ after_event p now e
-    → (let i : Intake = record { now = now; tick = t; peers = peers; entries = es; bytes = b; groups = g } in i) ≡ come_to (record { now = n; tick = t; peers = p; entries = es; bytes = b; groups = g }) e
-come_is n t p es b g e now peers now_is peers_is =
+come_is : (n : ℕ) (t : Option ℕ) (p : Peers) (before : ℕ) (es : List Numbered) (b g : ℕ) (e : WireEvent) (now : ℕ) (peers : Peers) → now ≡ max n (moment_at e) → peers ≡ after_event p now e
+    → (let i : Intake = record { now = now; tick = t; peers = peers; before = before; entries = es; bytes = b; groups = g } in i) ≡ come_to (record { now = n; tick = t; peers = p; before = before; entries = es; bytes = b; groups = g }) e
+come_is n t p before es b g e now peers now_is peers_is =
     let all : peers ≡ after_event p (max n (moment_at e)) e = peers_is ∙ ap (λ (m : ℕ). after_event p m e) now_is in
-    ap (λ (m : ℕ). (let i : Intake = record { now = m; tick = t; peers = peers; entries = es; bytes = b; groups = g } in i)) now_is
-    ∙ ap (λ (q : Peers). (let i : Intake = record { now = max n (moment_at e); tick = t; peers = q; entries = es; bytes = b; groups = g } in i)) all
+    ap (λ (m : ℕ). (let i : Intake = record { now = m; tick = t; peers = peers; before = before; entries = es; bytes = b; groups = g } in i)) now_is
+    ∙ ap (λ (q : Peers). (let i : Intake = record { now = max n (moment_at e); tick = t; peers = q; before = before; entries = es; bytes = b; groups = g } in i)) all
 
 first_come : (i : Intake) (e : WireEvent) (answers : List Answer) (says : ℕ → Handled) (first after : Option First) → FirstBy (come_to i e) answers says first after → FirstBy i answers says first after
 first_come i e answers says (Some before) after by = by
@@ -104,15 +107,15 @@ module _ {D : Type 0} (journal : Journaled D) (conf : Conf) where
       come_did i j b c e (λ s. handled (limits_of journal s) conf i e) result n
 
   -- the same by the parts of the intake
-  pub received_parts : (n : ℕ) (t : Option ℕ) (p : Peers) (es : List Numbered) (size g : ℕ) (i j : Intake) (b c : Batch) (e : WireEvent) (now : ℕ) (peers : Peers) (turn : Turn)
+  pub received_parts : (n : ℕ) (t : Option ℕ) (p : Peers) (before : ℕ) (es : List Numbered) (size g : ℕ) (i j : Intake) (b c : Batch) (e : WireEvent) (now : ℕ) (peers : Peers) (turn : Turn)
       (ticks : List Entry) (made : Draft) (last : Option Stop) (result : Result (Option Stop) OutOfMemory) → now ≡ max n (moment_at e) → peers ≡ after_event p now e → turn ≡ turn_of p now e
       → ticks ≡ ticks_at t now → made ≡ turned conf now turn → last ≡ stop_of e
-      → (let v : Intake = record { now = n; tick = t; peers = p; entries = es; bytes = size; groups = g } in v) ≡ i
-      → (let mid : Intake = record { now = now; tick = t; peers = peers; entries = es; bytes = size; groups = g } in Did mid j b c (λ s. offered (limits_of journal s) mid ticks made last) result)
+      → (let v : Intake = record { now = n; tick = t; peers = p; before = before; entries = es; bytes = size; groups = g } in v) ≡ i
+      → (let mid : Intake = record { now = now; tick = t; peers = peers; before = before; entries = es; bytes = size; groups = g } in Did mid j b c (λ s. offered (limits_of journal s) mid ticks made last) result)
       → Did i j b c (λ s. handled (limits_of journal s) conf i e) result
-  received_parts n t p es size g i j b c e now peers turn ticks made last result now_is peers_is turn_is ticks_is made_is last_is is given =
-      let v : Intake = record { now = n; tick = t; peers = p; entries = es; bytes = size; groups = g } in
-      let mid : Intake = record { now = now; tick = t; peers = peers; entries = es; bytes = size; groups = g } in
+  received_parts n t p before es size g i j b c e now peers turn ticks made last result now_is peers_is turn_is ticks_is made_is last_is is given =
+      let v : Intake = record { now = n; tick = t; peers = p; before = before; entries = es; bytes = size; groups = g } in
+      let mid : Intake = record { now = now; tick = t; peers = peers; before = before; entries = es; bytes = size; groups = g } in
       let all = made_is ∙ ap (turned conf now) turn_is ∙ ap (λ (m : ℕ). turned conf m (turn_of p m e)) now_is in
       subst (λ (w : Intake). Did w j b c (λ s. handled (limits_of journal s) conf w e) result) is
-      (received v mid j b c e ticks made last result (come_is n t p es size g e now peers now_is peers_is) (ticks_is ∙ ap (ticks_at t) now_is) all last_is given)
+      (received v mid j b c e ticks made last result (come_is n t p before es size g e now peers now_is peers_is) (ticks_is ∙ ap (ticks_at t) now_is) all last_is given)

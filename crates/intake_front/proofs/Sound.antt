@@ -58,13 +58,13 @@ record EntriesSoundAt (conf : Conf) (now : ℕ) (entries : List Numbered) : Type
   begun : 0 < length entries
 
 stand_one : (conf : Conf) (now : ℕ) (entries : List Numbered) (e : Entry) → EntriesSoundAt conf now entries → IsTakenAt conf now e
-    → EntriesSoundAt conf now (entries ++ record { number = length entries + 1; entry = e } ∷ [])
+    → EntriesSoundAt conf now (entries ++ record { number = 0 + length entries + 1; entry = e } ∷ [])
 stand_one conf now entries e s t =
-    let one : Numbered = record { number = length entries + 1; entry = e } in
+    let one : Numbered = record { number = 0 + length entries + 1; entry = e } in
     let log : log_of (entries ++ one ∷ []) ≡ one ∷ log_of entries = reverse-append entries (one ∷ []) in
     let count : length (log_of entries) ≡ length entries = length-reverse entries in
     let some : length entries ≡ 0 → ⊥ = λ none. let begun = s.begun in omega arith in
-    let numbered : length entries + 1 ≡ length (log_of entries) + 1 = rw count refl in
+    let numbered : 0 + length entries + 1 ≡ length (log_of entries) + 1 = omega (arith, count) in
     let first : is_config e ≡ eqb (length (log_of entries)) 0 = t.plain ∙ sym (ap (λ n. eqb n 0) count ∙ ne_eqb (length entries) 0 some) in
     let later : moment_from 0 (log_of entries) ≤ moment_of e = rw t.moment s.moments in
     record {
@@ -75,14 +75,14 @@ stand_one conf now entries e s t =
     }
 
 stand_group : (conf : Conf) (now : ℕ) (entries : List Numbered) (group : List Entry) → EntriesSoundAt conf now entries → All (IsTakenAt conf now) group
-    → EntriesSoundAt conf now (with_group entries group)
+    → EntriesSoundAt conf now (with_group 0 entries group)
 stand_group conf now entries [] s all = rw append-nil s
 stand_group conf now entries (e ∷ rest) s all =
     let P : Entry → Type 0 = IsTakenAt conf now in
-    let one : Numbered = record { number = length entries + 1; entry = e } in
+    let one : Numbered = record { number = 0 + length entries + 1; entry = e } in
     let more = stand_group conf now (entries ++ one ∷ []) rest (stand_one conf now entries e s (All-head P e rest all)) (All-tail P e rest all) in
-    let next : length (entries ++ one ∷ []) + 1 ≡ length entries + 1 + 1 = omega (arith, length-append entries (one ∷ [])) in
-    let joined : (entries ++ one ∷ []) ++ numbered_from (length entries + 1 + 1) rest ≡ with_group entries (e ∷ rest) = append_assoc entries (one ∷ []) _ in
+    let next : 0 + length (entries ++ one ∷ []) + 1 ≡ 0 + length entries + 1 + 1 = omega (arith, length-append entries (one ∷ [])) in
+    let joined : (entries ++ one ∷ []) ++ numbered_from (0 + length entries + 1 + 1) rest ≡ with_group 0 entries (e ∷ rest) = append_assoc entries (one ∷ []) _ in
     subst (EntriesSoundAt conf now) (ap (λ n. (entries ++ one ∷ []) ++ numbered_from n rest) next ∙ joined) more
 
 -- what a refusal leaves out needs no proof
@@ -179,16 +179,25 @@ module _ (conf : Conf) (now : ℕ) where
 -- an intake that has reached a moment, with entries that are sound then
 record SoundAt (conf : Conf) (now : ℕ) (i : Intake) : Type 0 where
   reached : i.now ≡ now
+  from_one : i.before ≡ 0
   entries : EntriesSoundAt conf now i.entries
 
 module _ (conf : Conf) (now : ℕ) where
   kept_stands : (i : Intake) (group : List Entry) → SoundAt conf now i → All (IsTakenAt conf now) group → SoundAt conf now (kept_with i group)
   kept_stands i [] s all = s
-  kept_stands i (e ∷ es) s all = record { reached = s.reached; entries = stand_group conf now i.entries (e ∷ es) s.entries all }
+  kept_stands i (e ∷ es) s all = record {
+    reached = s.reached;
+    from_one = s.from_one;
+    entries = subst (λ (n : ℕ). EntriesSoundAt conf now (with_group n i.entries (e ∷ es))) (sym s.from_one) (stand_group conf now i.entries (e ∷ es) s.entries all);
+  }
 
   ticked_stands : (i : Intake) (ticks : List Entry) → SoundAt conf now i → All (IsTakenAt conf now) ticks → SoundAt conf now (ticked i ticks)
   ticked_stands i [] s all = s
-  ticked_stands i (e ∷ es) s all = record { reached = s.reached; entries = stand_group conf now i.entries (e ∷ es) s.entries all }
+  ticked_stands i (e ∷ es) s all = record {
+    reached = s.reached;
+    from_one = s.from_one;
+    entries = subst (λ (n : ℕ). EntriesSoundAt conf now (with_group n i.entries (e ∷ es))) (sym s.from_one) (stand_group conf now i.entries (e ∷ es) s.entries all);
+  }
 
   values_stand : (i : Intake) (ticks : List Numbered) (made : Draft) (last o : Option Stop) → SoundAt conf now i → All (IsTakenAt conf now) made.group
       → SoundAt conf now (values_offered i ticks made last o).intake
@@ -198,7 +207,7 @@ module _ (conf : Conf) (now : ℕ) where
   tick_stands : (limits : Limits) (i : Intake) (ticks : List Entry) (made : Draft) (last o : Option Stop) → SoundAt conf now i → All (IsTakenAt conf now) ticks → All (IsTakenAt conf now) made.group
       → SoundAt conf now (tick_offered limits i ticks made last o).intake
   unfolding behind_tick
-  tick_stands limits i ticks made last None s all behind = values_stand (ticked i ticks) (numbered_behind i.entries ticks) made last (refused limits (ticked i ticks) made.group) (ticked_stands i ticks s all) behind
+  tick_stands limits i ticks made last None s all behind = values_stand (ticked i ticks) (numbered_behind i.before i.entries ticks) made last (refused limits (ticked i ticks) made.group) (ticked_stands i ticks s all) behind
   tick_stands limits i ticks made last (Some reason) s all behind = s
 
   offered_stands : (limits : Limits) (i : Intake) (ticks : List Entry) (made : Draft) (last : Option Stop) → SoundAt conf now i → All (IsTakenAt conf now) ticks → All (IsTakenAt conf now) made.group
@@ -208,12 +217,12 @@ module _ (conf : Conf) (now : ℕ) where
 
 -- a run that begins is sound
 sound_first : (conf : Conf) (text : List ℕ) (bytes : ℕ) → IsSound conf (start text [] bytes)
-sound_first conf text bytes = record { full = (tt, refl); fits = ((tt, refl), (tt, omega arith, tt)); moments = omega arith; begun = omega arith }
+sound_first conf text bytes = record { from_one = refl; full = (tt, refl); fits = ((tt, refl), (tt, omega arith, tt)); moments = omega arith; begun = omega arith }
 
 -- so is one that goes on behind a full log that fits
 pub sound_start : (conf : Conf) (text : List ℕ) (kept : List Numbered) (bytes : ℕ) → IsFull (log_of kept) → Fits (first_start conf) (log_of kept) → IsSound conf (start text kept bytes)
 sound_start conf text [] bytes full fits = sound_first conf text bytes
-sound_start conf text (e ∷ es) bytes full fits = record { full = full; fits = fits; moments = omega arith; begun = omega arith }
+sound_start conf text (e ∷ es) bytes full fits = record { from_one = refl; full = full; fits = fits; moments = omega arith; begun = omega arith }
 
 -- an event keeps the intake sound
 pub sound_handled : (limits : Limits) (conf : Conf) (i : Intake) (e : WireEvent) → IsSound conf i → IsSound conf (handled limits conf i e).intake
@@ -222,8 +231,8 @@ sound_handled limits conf i e s =
     let now = max i.now (moment_at e) in
     let begun : EntriesSoundAt conf now i.entries = let before = s.moments in record { full = s.full; fits = s.fits; moments = omega arith; begun = s.begun } in
     let t = turn_of i.peers now e in
-    let all = offered_stands conf now limits _ (ticks_at i.tick now) (turned conf now t) (stop_of e) (record { reached = refl; entries = begun }) (tick_fits conf now (is_due i.tick (half_minute now))) (turned_fits conf now t) in
-    record { full = all.entries.full; fits = all.entries.fits; moments = omega (arith, all.reached, all.entries.moments); begun = all.entries.begun }
+    let all = offered_stands conf now limits _ (ticks_at i.tick now) (turned conf now t) (stop_of e) (record { reached = refl; from_one = s.from_one; entries = begun }) (tick_fits conf now (is_due i.tick (half_minute now))) (turned_fits conf now t) in
+    record { from_one = all.from_one; full = all.entries.full; fits = all.entries.fits; moments = omega (arith, all.reached, all.entries.moments); begun = all.entries.begun }
 
 -- what an event leaves is as sound as what was there
 pub kept : (limits : Limits) (conf : Conf) (old new : Intake) (e : WireEvent) → new ≡ (handled limits conf old e).intake → IsSound conf old → IsSound conf new

@@ -99,8 +99,8 @@ module _ (limits : ℕ → Limits) (conf : Conf) (begun : Intake) (events : List
       }
 
 -- entries behind which no group waits
-pub none_waits : (entries kept : List Numbered) (block : List (List Entry)) → entries ≡ with_group kept (all_of block) → block ≡ [] → kept ≡ entries
-none_waits entries kept block is none = sym (is ∙ ap (λ (b : List (List Entry)). with_group kept (all_of b)) none ∙ append-nil kept)
+pub none_waits : (before : ℕ) (entries kept : List Numbered) (block : List (List Entry)) → entries ≡ with_group before kept (all_of block) → block ≡ [] → kept ≡ entries
+none_waits before entries kept block is none = sym (is ∙ ap (λ (b : List (List Entry)). with_group before kept (all_of b)) none ∙ append-nil kept)
 
 -- what was kept stands at the front of what an event leaves
 pub front_kept : (limits : Limits) (conf : Conf) (i j : Intake) (e : WireEvent) (kept : ℕ) → j ≡ (handled limits conf i e).intake → kept ≤ length i.entries → take kept j.entries ≡ take kept i.entries
@@ -115,7 +115,7 @@ pub more_taken : {D : Type 0} (journal : Journaled D) (conf : Conf) (begun : Int
 more_taken journal conf begun events e i j b c s batch t at going has =
     let limits : ℕ → Limits = λ n. limits_of journal n in
     let now = more_going limits conf begun events e 0 (answered (limits_of journal 0) conf begun events) i refl going (sym at) in
-    let waits : b.block ≡ [] → i.entries ≡ begun.entries = λ none. sym (none_waits i.entries (take b.mark.kept i.entries) b.block batch.entries_are none) ∙ has.kept_is in
+    let waits : b.block ≡ [] → i.entries ≡ begun.entries = λ none. sym (none_waits i.before i.entries (take b.mark.kept i.entries) b.block batch.entries_are none) ∙ has.kept_is in
     let holds = holds_more limits conf begun events e i j b.mark c.mark b.block c.block b.answers.items c.answers.items b.first c.first (sym at) going has.answers_are t.answers waits batch.first_is t.batch.first_is t.first
     (record { failing_are = has.failing_are; none = has.none; some = has.some }) in
     record {

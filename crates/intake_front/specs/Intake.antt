@@ -1,5 +1,5 @@
 -- What a wire event does: the entries that it numbers and journals, and the reply to its sender.
-use Rattle.std.specs.Prelude.{◌≤◌, ◌<◌, ℕ, ◌+◌, ◌-◌, ◌/◌, ◌^◌, min, max, nat_lt, ◌==◌, ◌||◌, Bool, true, List, [], ◌∷◌, ◌++◌, length, Option, Some, None, if◌then◌else◌}
+use Rattle.std.specs.Prelude.{◌≡◌, ◌≤◌, ◌<◌, ℕ, ◌+◌, ◌-◌, ◌/◌, ◌^◌, min, max, nat_lt, ◌==◌, ◌||◌, Bool, true, List, [], ◌∷◌, ◌++◌, length, Option, Some, None, if◌then◌else◌}
 use Rattle.std.specs.Option.{option_or, option_map}
 use Rattle.zbx_types.specs.Frames.{frame}
 use Rattle.zbx_types.specs.declared.conf.Conf.{Conf}
@@ -37,12 +37,14 @@ pub record Limits : Type 0 where
   pub stop : ℕ
 
 -- The intake between two events: the moment that the events have reached, the half minute of the last Tick, the
--- connections that are there, the entries in the order of their numbers, the journal's bytes up to and with the gate
--- behind its last group, and how many groups were kept in this run.
+-- connections that are there, the number of the entry before all of the journal's, or 0 where there is none, the entries
+-- in the order of their numbers, the journal's bytes up to and with the gate behind its last group, and how many groups
+-- were kept in this run.
 pub record Intake : Type 0 where
   pub now : ℕ
   pub tick : Option ℕ
   pub peers : Peers
+  pub before : ℕ
   pub entries : List Numbered
   pub bytes : ℕ
   pub groups : ℕ
@@ -57,13 +59,13 @@ abbrev pub numbered_from : ℕ → List Entry → List Numbered
 numbered_from number [] = []
 numbered_from number (entry ∷ rest) = record { number = number; entry = entry } ∷ numbered_from (number + 1) rest
 
--- a group with the numbers behind entries
-abbrev pub numbered_behind : List Numbered → List Entry → List Numbered
-numbered_behind entries group = numbered_from (length entries + 1) group
+-- a group with the numbers behind entries, before all of which an entry with this number stands
+abbrev pub numbered_behind : ℕ → List Numbered → List Entry → List Numbered
+numbered_behind before entries group = numbered_from (before + length entries + 1) group
 
 -- entries with a group behind them
-abbrev pub with_group : List Numbered → List Entry → List Numbered
-with_group entries group = entries ++ numbered_behind entries group
+abbrev pub with_group : ℕ → List Numbered → List Entry → List Numbered
+with_group before entries group = entries ++ numbered_behind before entries group
 
 -- a journal's bytes with a group more
 abbrev pub bytes_with : ℕ → List Entry → ℕ
@@ -148,7 +150,7 @@ refused limits i (e ∷ es) = refused_more limits i (e ∷ es)
 -- the intake with one more group
 abbrev pub kept_more : Intake → List Entry → Intake
 kept_more i group =
-    record i { entries = with_group i.entries group; bytes = bytes_with i.bytes group; groups = i.groups + 1 }
+    record i { entries = with_group i.before i.entries group; bytes = bytes_with i.bytes group; groups = i.groups + 1 }
 
 -- the intake with a group that is kept
 abbrev pub kept_with : Intake → List Entry → Intake
@@ -172,7 +174,7 @@ values_offered i ticks made last None = record {
       record {
         reply = made.reply;
         shut = made.shut;
-        added = ticks ++ numbered_behind i.entries made.group;
+        added = ticks ++ numbered_behind i.before i.entries made.group;
         stop = last;
       };
 }
@@ -186,7 +188,7 @@ behind_tick limits i ticks made last = values_offered i ticks made last (refused
 -- what an event does where its Tick is kept, or why it isn't: then the event isn't handled
 abbrev pub tick_offered : Limits → Intake → List Entry → Draft → Option Stop → Option Stop → Handled
 tick_offered limits i ticks made last None =
-    behind_tick limits (ticked i ticks) (numbered_behind i.entries ticks) made last
+    behind_tick limits (ticked i ticks) (numbered_behind i.before i.entries ticks) made last
 tick_offered limits i ticks made last (Some s) = record { intake = i; answer = stopping s }
 
 -- what an event does whose Tick and whose group are offered, one after the other
@@ -212,20 +214,25 @@ last_tick (e ∷ log) = option_or (tick_of e.entry) (last_tick log)
 abbrev pub half_with : Option ℕ → Entry → Option ℕ
 half_with last entry = option_or (option_map half_minute (tick_of entry)) last
 
--- the intake of a run that goes on behind these entries: no connection is there
+-- the intake of a run that goes on behind these entries, the first of which has number 1: no connection is there
 abbrev pub resumed : List Numbered → ℕ → Intake
 resumed entries bytes = record {
   now = moment_from 0 (log_of entries);
   tick = option_map half_minute (last_tick (log_of entries));
   peers = no_peers;
+  before = 0;
   entries = entries;
   bytes = bytes;
   groups = 0;
 }
 
+-- a configuration at a moment, as a group
+abbrev pub config_group : ℕ → List ℕ → List Entry
+config_group now text = Config now text ∷ []
+
 -- the entry with which a journal begins: the configuration, at moment 0
 abbrev pub first_group : List ℕ → List Entry
-first_group text = Config 0 text ∷ []
+first_group text = config_group 0 text
 
 -- the intake of a run whose journal kept these entries and has so many bytes; where it kept none the configuration is
 -- journaled
@@ -233,8 +240,10 @@ abbrev pub start : List ℕ → List Numbered → ℕ → Intake
 start text [] bytes = resumed (numbered_from 1 (first_group text)) (bytes_with bytes (first_group text))
 start text (e ∷ es) bytes = resumed (e ∷ es) bytes
 
--- the entries are a full log that fits, begun, and none is later than the moment that the events have reached
+-- the entries are a full log that fits, from number 1 on, begun, and none is later than the moment that the events have
+-- reached
 pub record IsSound (conf : Conf) (i : Intake) : Type 0 where
+  pub from_one : i.before ≡ 0
   pub full : IsFull (log_of i.entries)
   pub fits : Fits (first_start conf) (log_of i.entries)
   pub moments : moment_from 0 (log_of i.entries) ≤ i.now

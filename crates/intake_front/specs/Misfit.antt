@@ -31,9 +31,9 @@ reached (e ∷ log) = Some (moment_of e.entry)
 abbrev pub HasReached : Conf → List Numbered → Option ℕ → Type 0
 HasReached conf log last = Fits (first_start conf) log × (last ≡ reached log)
 
--- a log with entries more
-abbrev pub log_with : List Numbered → List Entry → List Numbered
-log_with log entries = reverse (numbered_from (length log + 1) entries) ++ log
+-- a log with entries more, before all of which an entry with this number stands
+abbrev pub log_with : ℕ → List Numbered → List Entry → List Numbered
+log_with before log entries = reverse (numbered_from (before + length log + 1) entries) ++ log
 
 -- an entry fits behind a log that has reached a moment, or is empty
 abbrev pub FitsBehind : Conf → Option ℕ → Entry → Type 0

@@ -39,9 +39,10 @@ abbrev pub HasFirst : Intake → Mark → List (List Entry) → List Answer → 
 HasFirst i mark block answers None = (block ≡ []) × (mark.tick ≡ i.tick) × (mark.groups ≡ i.groups)
 HasFirst i mark block answers (Some first) = (0 < length block) × (first.at < length answers)
 
--- what waits behind an intake's mark
+-- what waits behind an intake's mark; its entries are numbered from 1
 pub record IsBatch (i : Intake) (b : Batch) : Type 0 where
-  pub entries_are : i.entries ≡ with_group (take b.mark.kept i.entries) (all_of b.block)
+  pub from_one : i.before ≡ 0
+  pub entries_are : i.entries ≡ with_group i.before (take b.mark.kept i.entries) (all_of b.block)
   pub size_is : i.bytes ≡ b.mark.bytes + length (opened_bytes b.block)
   pub few : b.mark.groups ≤ b.mark.kept
   pub within : b.mark.kept ≤ length i.entries

@@ -63,6 +63,7 @@ impl Mark {
     pub(crate) fn of(held: &Held) -> Mark
         ensures value { result ≡ mark_of held.entry.now }
         ensures few { held.entry.now.groups ≤ length held.entry.now.entries }
+        ensures from_one { held.entry.now.before ≡ 0 }
     {
         Mark {
             kept: held.entries.len(),

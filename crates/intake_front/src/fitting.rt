@@ -1,6 +1,6 @@
 //! Whether the entries that a journal kept fit a configuration.
 
-ghost use Rattle.std.specs.Prelude.{◌≡◌, true, false, IsTrue, ◌↔◌, MatchBool, List, None};
+ghost use Rattle.std.specs.Prelude.{◌≡◌, true, false, IsTrue, ◌↔◌, MatchBool, List, ℕ, None};
 ghost use Rattle.entry_step.specs.Log.{Fits, IsFitting, is_config, is_taking};
 ghost use Rattle.zbx_types.specs.Ids.{at_id};
 ghost use Rattle.zbx_types.specs.declared.entries.Numbered.{Numbered};
@@ -37,9 +37,9 @@ impl Judge {
     /// Whether the entries of a group fit a configuration behind those of the groups before, all of which fit it. Where
     /// they do, the judge goes on behind them. Takes no memory.
     pub fn judge(&mut self, conf: &Conf, group: &Group) -> bool
-        ensures { (log : List Numbered) → HasReached conf.now log self.old
-            → MatchBool result (HasReached conf.now (log_with log group.now.entries) self.new)
-            (¬ (Fits (first_start conf.now) (log_with log group.now.entries))) }
+        ensures { (before : ℕ) → (log : List Numbered) → HasReached conf.now log self.old
+            → MatchBool result (HasReached conf.now (log_with before log group.now.entries) self.new)
+            (¬ (Fits (first_start conf.now) (log_with before log group.now.entries))) }
     {
         group_fits(conf, &mut self.last, group.entries.as_slice())
     }
@@ -63,9 +63,9 @@ pub fn first_misfit(conf: &Conf, kept: &[Group]) -> Option<u64>
 
 /// Whether entries fit behind a log that has reached this moment, which goes on to that of the last one.
 fn group_fits(conf: &Conf, last: &mut Option<Moment>, entries: &[Entry]) -> bool
-    ensures fits { (log : List Numbered) → HasReached conf.now log last.old
-        → MatchBool result (HasReached conf.now (log_with log entries.now) last.new)
-        (¬ (Fits (first_start conf.now) (log_with log entries.now))) }
+    ensures fits { (before : ℕ) → (log : List Numbered) → HasReached conf.now log last.old
+        → MatchBool result (HasReached conf.now (log_with before log entries.now) last.new)
+        (¬ (Fits (first_start conf.now) (log_with before log entries.now))) }
 {
     for entry in entries {
         if !entry_fits(conf, *last, entry) {

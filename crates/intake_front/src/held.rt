@@ -16,6 +16,7 @@ pub(crate) struct Held {
     pub(crate) now: Moment,
     pub(crate) tick: Option<u32>,
     pub(crate) table: Table,
+    pub(crate) before: u64,
     pub(crate) entries: Vec<Numbered>,
     pub(crate) bytes: u64,
     pub(crate) groups: u64,
@@ -23,13 +24,13 @@ pub(crate) struct Held {
 
 impl Model for Held {
     ghost use Rattle.intake_front.specs.Intake.{Intake};
-    ghost use Rattle.std.specs.Prelude.{◌≤◌, length};
+    ghost use Rattle.std.specs.Prelude.{◌≡◌, ◌≤◌, length};
 
     ghost Value = { Intake };
 
-    ghost view = { λ h. record { now = h.now; tick = h.tick; peers = h.table; entries = h.entries.items; bytes = h.bytes; groups = h.groups } };
+    ghost view = { λ h. record { now = h.now; tick = h.tick; peers = h.table; before = h.before; entries = h.entries.items; bytes = h.bytes; groups = h.groups } };
 
-    ghost invariant = { λ h. h.groups ≤ length h.entries.items };
+    ghost invariant = { λ h. (h.before ≡ 0) × (h.groups ≤ length h.entries.items) };
 }
 
 /// The moment of the last entry, or moment 0.
@@ -75,6 +76,7 @@ impl Held {
             now,
             tick,
             table: Table::new(alloc),
+            before: 0,
             entries: entries.into_vec(),
             bytes,
             groups: 0,

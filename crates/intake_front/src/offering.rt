@@ -54,7 +54,7 @@ fn offer<D: Disk>(
         (λ _. IsLeft held.old held.new batch.old batch.new) }
     ensures room { HasRoom journal.now batch.old.block → HasRoom journal.now batch.new.block }
 {
-    let first = held.entries.as_slice().len() as u64 + 1;
+    let first = held.before + held.entries.as_slice().len() as u64 + 1;
     let count = ticks.as_slice().len() + draft.group.as_slice().len();
     let added = numbered_both(alloc, first, ticks.as_slice(), draft.group.as_slice())?;
     held.entries.reserve(count)?;
@@ -77,8 +77,8 @@ fn offer<D: Disk>(
     held.tick = half_behind(held.tick, held.now, ticks.as_slice());
     held.bytes = journal.bytes_with(&batch.block);
     held.groups += groups_of(ticks.as_slice()) + groups_of(group.as_slice());
-    enter(&mut held.entries, ticks);
-    enter(&mut held.entries, group);
+    enter(held.before, &mut held.entries, ticks);
+    enter(held.before, &mut held.entries, group);
     batch.push(now, fault);
     Ok(stop)
 }

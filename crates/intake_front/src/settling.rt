@@ -101,15 +101,17 @@ pub(crate) fn numbered_both(
     Ok(made)
 }
 
-/// Moves a group behind entries, with the numbers behind theirs. There is room for it. Takes no memory.
-pub(crate) fn enter(entries: &mut Vec<Numbered>, group: Many<Entry>)
-    requires { vec_len entries.old + length group ≤ vec_capacity entries.old }
-    ensures items { entries.new.items ≡ with_group entries.old.items group }
+/// Moves a group behind entries, before all of which an entry with this number stands, with the numbers behind theirs.
+/// There is room for it. Takes no memory.
+pub(crate) fn enter(before: u64, entries: &mut Vec<Numbered>, group: Many<Entry>)
+    requires few { before ≤ 2 ^ 62 }
+    requires room { vec_len entries.old + length group ≤ vec_capacity entries.old }
+    ensures items { entries.new.items ≡ with_group before entries.old.items group }
     ensures len { vec_len entries.new ≡ vec_len entries.old + length group }
     ensures room { vec_capacity entries.new ≡ vec_capacity entries.old }
 {
     for entry in group.into_vec() {
-        let number = entries.len() as u64 + 1;
+        let number = before + entries.len() as u64 + 1;
         entries.push_reserved(Numbered { number, entry });
     }
 }

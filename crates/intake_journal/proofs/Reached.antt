@@ -1,5 +1,7 @@
 -- Bytes that were read ahead of where they are wanted.
-use Rattle.std.proofs.Common.{◌≡◌, ℕ, ◌+◌, ◌-◌, ◌≤◌, List, length, take, drop, Option, Some, None, IfSome, sym, ◌∙◌, ap, subst, arith}
+use Rattle.std.proofs.Common.{◌≡◌, ℕ, ◌+◌, ◌-◌, ◌<◌, ◌≤◌, true, List, length, take, drop, Option, Some, None, IfSome, sym, ◌∙◌, ap, subst, arith, length-drop}
+use Rattle.std.specs.Prelude.{nat_lt}
+use Rattle.std.proofs.lemmas.Bool.Decides.{nat_tests}
 use Rattle.std.proofs.lemmas.List.{drop-take, drop-drop, length-take, take_min}
 use Rattle.std.proofs.Math.Seq.{take-take}
 
@@ -24,7 +26,21 @@ filled file at size most enough =
 whole : (file : List ℕ) (at most : ℕ) → take most (drop at file) ≡ take (length (take most (drop at file))) (drop at file)
 whole file at most = sym (ap (λ (n : ℕ). take n (drop at file)) (length-take most (drop at file)) ∙ take_min most (drop at file))
 
+-- the file has more bytes from a place on than these, where more were read ahead
+more : (bytes file : List ℕ) (place at size : ℕ) → place ≤ at → at + (size + 1) ≤ place + length bytes → bytes ≡ take (length bytes) (drop place file) → size < length file - at
+more bytes file place at size before inside is = omega (arith, before, inside, ap length is, length-take (length bytes) (drop place file), length-drop place file)
+
+is_less : (m n : ℕ) → m < n → true ≡ nat_lt m n
+is_less m n less = grind (arith, nat_tests)
+
 module _ (file : Option (List ℕ)) (bytes : List ℕ) where
+  pub more_there : (place at size : ℕ) → place ≤ at → at + (size + 1) ≤ place + length bytes → IfSome file (λ b. bytes ≡ take (length bytes) (drop place b)) → IfSome file (λ b. true ≡ nat_lt size (length b - at))
+  more_there place at size before inside ahead = over file ahead
+    where
+      over : (o : Option (List ℕ)) → IfSome o (λ b. bytes ≡ take (length bytes) (drop place b)) → IfSome o (λ b. true ≡ nat_lt size (length b - at))
+      over None told = tt
+      over (Some b) told = is_less size (length b - at) (more bytes b place at size before inside told)
+
   pub reached_there : (place at size : ℕ) → place ≤ at → at + size ≤ place + length bytes → IfSome file (λ b. bytes ≡ take (length bytes) (drop place b)) → IfSome file (λ b. take size (drop (at - place) bytes) ≡ take size (drop at b))
   reached_there place at size before inside ahead = over file ahead
     where

@@ -54,11 +54,12 @@ impl Ahead {
     }
 
     /// Whether it has so many bytes from a place on.
-    fn has(&self, at: u64, size: u32) -> bool
-        requires { at < 2 ^ 32 }
+    pub(crate) fn has(&self, at: u64, size: u64) -> bool
+        requires place { at < 2 ^ 32 }
+        requires small { size ≤ 2 ^ 32 }
         ensures { result ≡ true → (self.now.at ≤ at) × (at + size ≤ self.now.at + length self.now.bytes) }
     {
-        self.at <= at && at - self.at + u64::from(size) <= self.bytes.len() as u64
+        self.at <= at && at - self.at + size <= self.bytes.len() as u64
     }
 
     /// Reads ahead from a place on, where it hasn't so many bytes from there.
@@ -77,7 +78,7 @@ impl Ahead {
         ensures later { (D.tells disk.old).faults ≤ (D.tells disk.new).faults }
         ensures failed { IsErrOf result trouble.Failed → Rose (D.tells disk.old).faults (D.tells disk.new).faults }
     {
-        if !self.has(at, size) {
+        if !self.has(at, u64::from(size)) {
             self.bytes = read_from(alloc, disk, at, size.max(AT_ONCE))?;
             self.at = at;
         }

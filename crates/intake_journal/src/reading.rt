@@ -1,12 +1,12 @@
 //! The groups of a journal, read one after the other.
 
-ghost use Rattle.std.specs.Prelude.{◌≡◌, ◌⊎◌, Ok, Err, None, ◌≤◌, ◌<◌, ◌+◌, ◌-◌, ◌^◌, length, take, drop, IfSome, IfOk, IsErrOf};
-ghost use Rattle.outside.specs.Causes.{Rose};
+ghost use Rattle.std.specs.Prelude.{◌≡◌, ◌⊎◌, Ok, Err, None, IsTrue, ℕ, ◌≤◌, ◌<◌, ◌+◌, ◌-◌, ◌^◌, nat_lt, length, take, drop, IfSome, IfOk, IsErrOf};
+ghost use Rattle.outside.specs.Causes.{Rose, HasCause};
 ghost use Rattle.outside.specs.declared.event.Trouble.TheVariants as trouble;
 ghost use Rattle.intake_journal.specs.Bytes.{entries_bytes};
 ghost use Rattle.intake_journal.specs.Ahead.{IsAhead};
 ghost use Rattle.intake_journal.specs.Format.{entries_of};
-ghost use Rattle.intake_journal.specs.Kept.{fits as has_room};
+ghost use Rattle.intake_journal.specs.Kept.{longest_journal, fits as has_room};
 ghost use Rattle.intake_journal.specs.Found.{IsHead, IsFound, IsSmall};
 ghost use Rattle.intake_journal.specs.declared.reading.Head.TheVariants.{Open};
 ghost use Rattle.gated_file.specs.Moments.{IsAsBefore};
@@ -20,7 +20,7 @@ use crate::format::Group;
 use crate::journal::Journal;
 use crate::state::{JournalError, State};
 use byteorder::{ByteOrder, LittleEndian};
-use outside::{Disk, Trouble};
+use outside::{Disk, Failed, Trouble};
 use std::alloc::Global;
 use zbx_types::{Entry, Many};
 
@@ -113,13 +113,30 @@ fn read_entries<D: Disk>(
     Ok(read)
 }
 
-/// Whether a group of this size and count has room behind a gate at this place, with so many bytes behind the count.
-fn fits(at: u64, size: u32, count: u32, left: u64) -> bool
-    requires { at < 2 ^ 32 }
-    ensures { result ≡ has_room at size count left }
+/// Whether the disk has more than so many bytes from a place on. It is asked only where fewer were read ahead.
+fn has_more<D: Disk>(disk: &mut D, ahead: &Ahead, at: u64, size: u32) -> Result<bool, Failed>
+    requires small { at < 2 ^ 32 }
+    requires ahead { IsAhead ahead.now (D.tells disk.old).bytes }
+    ensures told { IfOk result (λ more. IfSome (D.tells disk.old).bytes (λ b. more ≡ nat_lt size (length b - at))) }
+    ensures before { IsAsBefore (D.tells disk.old) (D.tells disk.new) }
+    ensures cause { HasCause (D.tells disk.old).faults (D.tells disk.new).faults result }
 {
     let size = u64::from(size);
-    size < left && at + size + 10 <= LONGEST_JOURNAL && 0 < count
+    if ahead.has(at, size + 1) {
+        return Ok(true);
+    }
+    let length = disk.len()?;
+    Ok(size < length.saturating_sub(at))
+}
+
+/// Whether a group of this size and count has room behind a gate at this place, where it is said whether there are more
+/// than so many bytes behind the count.
+fn fits(at: u64, size: u32, count: u32, more: bool) -> bool
+    requires { at < 2 ^ 32 }
+    ensures room { (left : ℕ) → more ≡ nat_lt size left → result ≡ has_room at size count left }
+    ensures within { IsTrue result → (at + size + 10 ≤ longest_journal) × (0 < count) }
+{
+    more && at + u64::from(size) + 10 <= LONGEST_JOURNAL && 0 < count
 }
 
 /// The group of this size and count behind an open gate, where there is one.
@@ -140,8 +157,8 @@ fn group_at<D: Disk>(
     ensures later { (D.tells disk.old).faults ≤ (D.tells disk.new).faults }
     ensures failed { IsErrOf result trouble.Failed → Rose (D.tells disk.old).faults (D.tells disk.new).faults }
 {
-    let length = disk.len()?;
-    if !fits(at, size, count, length.saturating_sub(at + 9)) {
+    let more = has_more(disk, ahead, at + 9, size)?;
+    if !fits(at, size, count, more) {
         return Ok(Found::Damage);
     }
     match read_entries(alloc, disk, ahead, at + 9, size, count)? {

@@ -15,7 +15,7 @@ returns-then-not-judge c =
     let h = c.group-item.result in
     let before = take i gs in
     let so_far = c.loop-group.invariant in
-    let misfits = c.if-not-judge.ensures (log_of (numbered_of before)) so_far in
+    let misfits = c.if-not-judge.ensures 0 (log_of (numbered_of before)) so_far in
     (before, h, drop (i + 1) gs, split_at gs i h c.loop-group-test.true c.group-item.is, refl, so_far.0, λ all. misfits (subst (Fits (first_start conf)) (log_group before h) all))
 
 pub loop-group-preserved : goal.loop-group-preserved
@@ -25,6 +25,6 @@ loop-group-preserved c =
     let i = c.loop-group.group-index in
     let h = c.group-item.result in
     let before = take i gs in
-    let reaches = c.if-not-judge.ensures (log_of (numbered_of before)) c.loop-group.invariant in
+    let reaches = c.if-not-judge.ensures 0 (log_of (numbered_of before)) c.loop-group.invariant in
     let same = ap (λ (l : List Group). log_of (numbered_of l)) (take_next gs i h c.loop-group-test.true c.group-item.is) ∙ log_group before h in
     subst (λ log. HasReached conf log c.judge.new.self) (sym same) reaches

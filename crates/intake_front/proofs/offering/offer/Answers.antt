@@ -23,10 +23,11 @@ returns-clause-taken g c =
     let t = c.settle-ticks.result in
     let says : ℕ → Handled = λ s. offered (limits_of journal s) i c.args.ticks made c.args.last in
     let view = c.held.view_is in
-    let first : length c.as_slice.result.now + 1 ≡ length i.entries + 1 = omega (arith, ap (λ (l : List Numbered). length l) c.as_slice.ensures.value, ap (λ v. length v.entries) view) in
-    let added : c.in_ok-added.added ≡ numbered_behind i.entries (c.args.ticks ++ made.group) =
+    let first : c.held.inside.before + length c.as_slice.result.now + 1 ≡ i.before + length i.entries + 1 =
+    omega (arith, ap (λ (l : List Numbered). length l) c.as_slice.ensures.value, ap (λ v. length v.entries) view, ap (λ v. v.before) view) in
+    let added : c.in_ok-added.added ≡ numbered_behind i.before i.entries (c.args.ticks ++ made.group) =
     c.in_ok-added.ensures ∙ ap (λ n. numbered_from n (c.as_slice-4.result.now ++ c.as_slice-5.result.now)) first
-    ∙ ap (λ (l : List Entry). numbered_behind i.entries (l ++ c.as_slice-5.result.now)) c.as_slice-4.ensures ∙ ap (λ (l : List Entry). numbered_behind i.entries (c.args.ticks ++ l)) c.as_slice-5.ensures in
+    ∙ ap (λ (l : List Entry). numbered_behind i.before i.entries (l ++ c.as_slice-5.result.now)) c.as_slice-4.ensures ∙ ap (λ (l : List Entry). numbered_behind i.before i.entries (c.args.ticks ++ l)) c.as_slice-5.ensures in
     let staged =
     subst (λ (l : List Entry). IsStagedAs journal b.block l made.group after c.in_ok-staged.staged) c.as_slice-6.ensures
     (subst (λ (l : List Entry). IsStagedAs journal b.block c.as_slice-6.result.now l after c.in_ok-staged.staged) c.as_slice-7.ensures c.in_ok-staged.ensures.staged) in
@@ -38,7 +39,9 @@ returns-clause-taken g c =
       now = ap (λ v. v.now) view;
       peers = ap (λ v. v.peers) view;
       tick = c.half_behind-held-inside.ensures i (sym (ap (λ v. v.tick) view)) (sym (ap (λ v. v.now) view)) ∙ ap (λ (l : List Entry). (ticked i l).tick) c.as_slice-10.ensures;
-      entries = c.enter-2.ensures.items ∙ ap (λ (l : List Numbered). with_group l t.group) (c.enter.ensures.items ∙ ap (λ (l : List Numbered). with_group l t.ticks) (c.reserve.ensures.items ∙ ap (λ v. v.entries) view));
+      before = ap (λ v. v.before) view;
+      entries = c.enter-2.ensures.items ∙ ap (λ (l : List Numbered). with_group c.held.inside.before l t.group) (c.enter.ensures.items ∙ ap (λ (l : List Numbered). with_group c.held.inside.before l t.ticks) (c.reserve.ensures.items ∙ ap (λ v. v.entries) view))
+          ∙ ap (λ (n : ℕ). with_group n (with_group n i.entries t.ticks) t.group) (ap (λ v. v.before) view);
       bytes = c.bytes_with-held-inside.ensures ∙ ap (λ (bl : List (List Entry)). journal.at + length (opened_bytes bl) + 1) (sym c.push.ensures.block);
       groups = omega (arith, ap (λ v. v.groups) view, c.groups_of.ensures.value, c.groups_of-2.ensures.value, ap groups_in c.as_slice-11.ensures, ap groups_in c.as_slice-12.ensures);
     })

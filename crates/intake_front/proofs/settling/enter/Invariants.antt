@@ -10,5 +10,5 @@ invariant-loop-entry l = record {
   room : vec_len l.entries + length (into_iter_items l.entry-iterator) ≤ vec_capacity l.entries;
   capacity : vec_capacity l.entries ≡ vec_capacity l.initial.entries;
   long : vec_len l.entries + length (into_iter_items l.entry-iterator) ≡ vec_len l.initial.entries + length l.fn.group;
-  made : with_group l.entries.items (into_iter_items l.entry-iterator) ≡ with_group l.initial.entries.items l.fn.group;
+  made : with_group l.before l.entries.items (into_iter_items l.entry-iterator) ≡ with_group l.before l.initial.entries.items l.fn.group;
 }

@@ -1,4 +1,4 @@
-use Rattle.std.proofs.Common.{◌≤◌, refl, arith}
+use Rattle.std.proofs.Common.{◌+◌, ◌≤◌, length, refl, arith}
 use Rattle.intake_journal.proofs.Reached.{reached_there, filled_there}
 use Rattle.intake_journal.proofs.ahead.Ahead.reach.Goals as goal
 
@@ -9,4 +9,7 @@ returns-in_ok-self-clause-told g c =
 
 pub returns-else-not-has-clause-told : goal.returns-else-not-has-clause-told
 returns-else-not-has-clause-told g c =
-    reached_there (g.D.Disk.tells c.args.disk.now).bytes c.args.self.now.bytes c.args.self.now.at c.args.at c.args.size (c.if-not-has.ensures refl).0 (c.if-not-has.ensures refl).1 c.requires.ahead
+    let ahead = c.args.self.now in
+    let has = c.if-not-has.ensures refl in
+    let inside : c.args.at + c.args.size ≤ ahead.at + length ahead.bytes = omega (arith, has.1, c.from.ensures) in
+    reached_there (g.D.Disk.tells c.args.disk.now).bytes ahead.bytes ahead.at c.args.at c.args.size has.0 inside c.requires.ahead
