@@ -2,7 +2,8 @@
 use Rattle.std.proofs.Common.{◌≡◌, ◌⊎◌, inl, inr, ℕ, zero, suc, ◌+◌, ◌-◌, ◌<◌, ◌≤◌, ◌^◌, List, [], ◌∷◌, ◌++◌, length, take, drop, get_or, refl, sym, ap, ap₂, subst, ◌∙◌, arith, append_assoc, append-nil, length-append, reverse, replicate, eq-or-lt_of_le}
 use Rattle.std.proofs.Math.Seq.{take-append_seam, take-length}
 use Rattle.std.proofs.lemmas.Bool.{cases_lt}
-use Rattle.std.proofs.lemmas.List.{take-append-drop, take-append-le, reverse-append}
+use Rattle.std.specs.Prelude.{Option, Some, None, IfSome, unwrap_or}
+use Rattle.std.proofs.lemmas.List.{take-append-drop, take-append-le, drop-append-le, reverse-append}
 use mathlib.Core.List.{IsPrefix}
 use Rattle.zbx_types.specs.declared.entries.Numbered.{Numbered}
 use Rattle.zbx_types.specs.declared.entries.Rec.{Rec}
@@ -16,15 +17,17 @@ use Rattle.entry_step.specs.Records.{replay}
 use Rattle.book.specs.declared.tally.Tally.{Tally}
 use Rattle.book.specs.declared.errors.BookError.TheVariants as BookError
 use Rattle.book.specs.Tally.{tally_of, tally_with}
-use Rattle.book.specs.Outgoing.{Grew, GrewByFront, log_lines}
+use Rattle.outside.specs.Others.{first_other}
+use Rattle.book.specs.Outgoing.{Grew, HasFront, log_lines}
+use Rattle.book.proofs.Comparing.{front_more, front_written}
 use Rattle.entry_step.proofs.Behind.{replay_behind}
 use Rattle.book.specs.Entries.{point}
 use Rattle.entry_step.specs.Represents.{Holds}
 use Rattle.book.specs.declared.opening.Replayed.{Replayed}
 use Rattle.book.specs.Opening.{IsReplayed}
-use Rattle.book.specs.Book.{IsBook, AreApplied, StayApplied, AreOut, upto, lines_upto}
+use Rattle.book.specs.Book.{IsBook, AreApplied, StayApplied, upto, lines_upto}
 use Rattle.book.proofs.Counting.{tally_more}
-use Rattle.book.proofs.Growing.{lines_of-append, lines_newer, lacking, grew_none, grew_more, tally_bytes}
+use Rattle.book.proofs.Growing.{lines_of-append, lines_newer, tally_bytes}
 use Rattle.entry_step.specs.Start.{Start}
 
 -- ---- lists
@@ -55,8 +58,10 @@ goes_on start kept outbox received entries marks frontier tally sink unwritten r
       within = omega (arith, b.within, long);
       applied = λ i l. keep i (b.applied i l);
       tally_is = subst (λ es. tally ≡ tally_of (replay start (log_of es))) (sym same) b.tally_is;
-      enough = subst (λ es. outbox.held ≤ length (log_lines start (log_of es))) (sym same) b.enough;
-      out = subst (λ es. AreOut outbox sink unwritten (drop outbox.held (log_lines start (log_of es)))) (sym same) b.out;
+      enough = b.enough;
+      lawful = b.lawful;
+      front = subst (λ es. HasFront outbox sink (log_lines start (log_of es))) (sym same) b.front;
+      left = b.left ∙ ap (λ es. drop sink.held (log_lines start (log_of es))) (sym same);
       later = b.later;
     }
 
@@ -65,6 +70,21 @@ goes_on start kept outbox received entries marks frontier tally sink unwritten r
 -- what is replayed with one more entry behind those with which a run began
 replay_upto : (start : Start) (kept entries : List Numbered) (n : ℕ) → replay start (log_of (upto kept entries n)) ≡ replay start (log_of kept) ++ replay (point start kept) (log_of (take n entries))
 replay_upto start kept entries n = ap (replay start) (reverse-append kept (take n entries)) ∙ replay_behind start (log_of (take n entries)) (log_of kept)
+
+-- the lines of kept entries are no more than those with more behind them
+kept_few : (start : Start) (kept entries : List Numbered) (n : ℕ) → length (log_lines start (log_of kept)) ≤ length (lines_upto start kept entries n)
+kept_few start kept entries n =
+    let is : lines_upto start kept entries n ≡ log_lines start (log_of kept) ++ lines_of (replay (point start kept) (log_of (take n entries))) = ap lines_of (replay_upto start kept entries n) ∙ lines_of-append (replay start (log_of kept)) (replay (point start kept) (log_of (take n entries))) in
+    let long = ap (λ (l : List ℕ). length l) is in
+    omega (arith, long, length-append (log_lines start (log_of kept)) (lines_of (replay (point start kept) (log_of (take n entries)))))
+
+-- an outbox held no more than lines
+held_few : (outbox : SinkTells) (count size : ℕ) → IfSome outbox.bytes (λ b. outbox.held ≡ length b) → outbox.held ≤ count → count ≤ size → IfSome outbox.bytes (λ b. length b ≤ size)
+held_few outbox count size lawful enough few = go outbox.bytes lawful
+  where
+    go : (o : Option (List ℕ)) → IfSome o (λ b. outbox.held ≡ length b) → IfSome o (λ b. length b ≤ size)
+    go None law = tt
+    go (Some b) law = omega arith
 
 -- the entry at the frontier is passed, which is applied
 pub passed : (start : Start) (kept : List Numbered) (outbox : SinkTells) (received entries : List Numbered) (marks : List Mark) (frontier : ℕ) (tally : Tally) (sink : SinkTells) (unwritten : List ℕ)
@@ -79,22 +99,16 @@ passed start kept outbox received entries marks frontier tally sink unwritten re
     replay_upto start kept entries (frontier + 1) ∙ ap (λ rs. replay start (log_of kept) ++ rs) next
     ∙ sym (append_assoc (replay start (log_of kept)) (replay (point start kept) (log_of (take frontier entries))) records)
     ∙ ap (λ rs. rs ++ records) (sym (replay_upto start kept entries frontier)) in
-    let lines : lines_upto start kept entries frontier ++ lines_of records ≡ lines_upto start kept entries (frontier + 1) = sym (lines_of-append before records) ∙ ap lines_of (sym more) in
-    let long : length (lines_upto start kept entries frontier) + length (lines_of records) ≡ length (lines_upto start kept entries (frontier + 1)) =
-    sym (length-append (lines_upto start kept entries frontier) (lines_of records)) ∙ ap (λ (l : List ℕ). length l) lines in record {
+    let lines : lines_upto start kept entries (frontier + 1) ≡ lines_upto start kept entries frontier ++ lines_of records = ap lines_of more ∙ lines_of-append before records in record {
       received_is = b.received_is;
       within = omega (arith, within);
       applied = λ i l. reach i (eq-or-lt_of_le (below i l));
       tally_is = counts ∙ ap (λ t. tally_with t records) b.tally_is ∙ tally_more before records ∙ ap tally_of (sym more);
-      enough = omega (arith, b.enough, long);
-      out = (
-        b.out.0,
-        b.out.1,
-        sym (lacking outbox.held (lines_upto start kept entries frontier) (lines_of records) (lines_upto start kept entries (frontier + 1)) b.enough lines)
-            ∙ ap (λ l. l ++ lines_of records) b.out.2
-            ∙ append_assoc b.out.0 unwritten (lines_of records)
-            ∙ ap (λ l. b.out.0 ++ l) (sym adds),
-      );
+      enough = b.enough;
+      lawful = b.lawful;
+      front = subst (HasFront outbox sink) (sym lines) (front_more outbox sink (lines_upto start kept entries frontier) (lines_of records)
+          (held_few outbox (length (log_lines start (log_of kept))) (length (lines_upto start kept entries frontier)) b.lawful b.enough (kept_few start kept entries frontier)) b.front);
+      left = adds ∙ ap (λ l. l ++ lines_of records) b.left ∙ sym (drop-append-le sink.held (lines_upto start kept entries frontier) (lines_of records) b.front.size) ∙ ap (drop sink.held) (sym lines);
       later = b.later;
     }
   where
@@ -112,57 +126,68 @@ pub written : (start : Start) (kept : List Numbered) (outbox : SinkTells) (recei
     (sink' : SinkTells) (unwritten' : List ℕ) → IsBook start kept outbox received entries marks frontier tally sink unwritten
     → (front : List ℕ) × Grew sink sink' front × (unwritten ≡ front ++ unwritten') → sink.faults ≤ sink'.faults
     → IsBook start kept outbox received entries marks frontier tally sink' unwritten'
-written start kept outbox received entries marks frontier tally sink unwritten sink' unwritten' b more rose = record {
-  received_is = b.received_is;
-  within = b.within;
-  applied = b.applied;
-  tally_is = b.tally_is;
-  enough = b.enough;
-  out = (b.out.0 ++ more.0, grew_more outbox sink sink' b.out.0 more.0 b.out.1 more.1, b.out.2 ∙ ap (λ l. b.out.0 ++ l) more.2 ∙ sym (append_assoc b.out.0 more.0 unwritten'));
-  later = omega (arith, b.later, rose);
-}
+written start kept outbox received entries marks frontier tally sink unwritten sink' unwritten' b more rose =
+    let w = front_written outbox sink sink' (lines_upto start kept entries frontier) more.0 unwritten' b.front more.1 (sym b.left ∙ more.2) in record {
+      received_is = b.received_is;
+      within = b.within;
+      applied = b.applied;
+      tally_is = b.tally_is;
+      enough = b.enough;
+      lawful = b.lawful;
+      front = w.0;
+      left = w.1;
+      later = omega (arith, b.later, rose);
+    }
 
--- an outbox that has all lines up to the frontier
-pub all_written : (outbox sink : SinkTells) (unwritten lines : List ℕ) → AreOut outbox sink unwritten lines → unwritten ≡ [] → Grew outbox sink lines
-all_written outbox sink unwritten lines out none = subst (Grew outbox sink) (sym (out.2 ∙ ap (λ l. out.0 ++ l) none ∙ append-nil out.0)) out.1
-
--- and one that has some of them has a front of the lines of all entries, and of more
-pub front_of_all : (start : Start) (kept entries all : List Numbered) (frontier : ℕ) (outbox sink : SinkTells) (unwritten : List ℕ) → IsPrefix entries all → outbox.held ≤ length (lines_upto start kept entries frontier)
-    → AreOut outbox sink unwritten (drop outbox.held (lines_upto start kept entries frontier)) → GrewByFront outbox sink (drop outbox.held (log_lines start (log_of (kept ++ all))))
-front_of_all start kept entries all frontier outbox sink unwritten pre enough out =
+-- an outbox that has a front of the lines up to the frontier has one of those of all entries, and of more
+pub front_of_all : (start : Start) (kept entries all : List Numbered) (frontier : ℕ) (outbox sink : SinkTells) → IsPrefix entries all → IfSome outbox.bytes (λ b. outbox.held ≡ length b) → outbox.held ≤ length (log_lines start (log_of kept))
+    → HasFront outbox sink (lines_upto start kept entries frontier) → HasFront outbox sink (log_lines start (log_of (kept ++ all)))
+front_of_all start kept entries all frontier outbox sink pre lawful enough front =
     let rest = drop frontier entries ++ pre.0 in
     let whole : take frontier entries ++ rest ≡ all = sym (append_assoc (take frontier entries) (drop frontier entries) pre.0) ∙ ap (λ l. l ++ pre.0) (take-append-drop frontier entries) ∙ pre.1 in
     let more = lines_newer start (reverse rest) (log_of (upto kept entries frontier)) in
     let lines : lines_upto start kept entries frontier ++ more.0 ≡ log_lines start (log_of (kept ++ all)) =
     sym more.1 ∙ ap (log_lines start) (sym (reverse-append (upto kept entries frontier) rest) ∙ ap log_of (append_assoc kept (take frontier entries) rest ∙ ap (λ es. kept ++ es) whole)) in
-    let parts : drop outbox.held (log_lines start (log_of (kept ++ all))) ≡ out.0 ++ (unwritten ++ more.0) =
-    sym (lacking outbox.held (lines_upto start kept entries frontier) more.0 (log_lines start (log_of (kept ++ all))) enough lines) ∙ ap (λ l. l ++ more.0) out.2 ∙ append_assoc out.0 unwritten more.0 in
-    (length out.0, subst (Grew outbox sink) (sym (ap (take (length out.0)) parts ∙ take-append_seam out.0 (unwritten ++ more.0))) out.1)
+    subst (HasFront outbox sink) lines (front_more outbox sink (lines_upto start kept entries frontier) more.0
+    (held_few outbox (length (log_lines start (log_of kept))) (length (lines_upto start kept entries frontier)) lawful enough (kept_few start kept entries frontier)) front)
 
 -- ---- the opening
 
 -- nothing was replayed yet
-pub nothing_replayed : (start : Start) (held : ℕ) (r : Replayed) → Holds start r.cells [] → r.tally ≡ tally_of [] → r.missing ≡ [] → IsReplayed start [] held r
-nothing_replayed start held r cells tally missing = record { cells = cells; tally = tally; missing = missing ∙ sym (drop_none held) }
+pub nothing_replayed : (start : Start) (outbox : SinkTells) (r : Replayed) → Holds start r.cells [] → r.tally ≡ tally_of [] → r.other ≡ None → r.missing ≡ [] → IsReplayed start [] outbox r
+nothing_replayed start outbox r cells tally none missing = record {
+  cells = cells;
+  recorded = record {
+    tally = tally;
+    compared = record { place = go outbox.bytes; within = subst (λ o. IfSome o (λ place. (place < outbox.held) × (place < 0))) (sym none) tt };
+    missing = missing ∙ sym (drop_none (unwrap_or r.other outbox.held));
+  };
+}
   where
-    drop_none : (n : ℕ) → drop n (log_lines start []) ≡ []
+    go : (o : Option (List ℕ)) → IfSome o (λ b. r.other ≡ first_other 0 [] b)
+    go None = tt
+    go (Some b) = none
+
+    drop_none : (n : ℕ) → drop n (lines_of []) ≡ []
     drop_none zero = refl
     drop_none (suc n) = refl
 
 -- nothing came out of the ring yet
 pub opened : (start : Start) (kept : List Numbered) (outbox : SinkTells) (received entries : List Numbered) (marks : List Mark) (frontier : ℕ) (tally : Tally) (sink : SinkTells) (unwritten : List ℕ)
-    → entries ≡ [] → received ≡ [] → frontier ≡ 0 → tally ≡ tally_of (replay start (log_of kept)) → sink ≡ outbox
-    → outbox.held ≤ length (log_lines start (log_of kept)) → unwritten ≡ drop outbox.held (log_lines start (log_of kept))
+    → entries ≡ [] → received ≡ [] → frontier ≡ 0 → tally ≡ tally_of (replay start (log_of kept)) → outbox.held ≤ length (log_lines start (log_of kept)) → IfSome outbox.bytes (λ b. outbox.held ≡ length b)
+    → HasFront outbox sink (log_lines start (log_of kept)) → unwritten ≡ drop sink.held (log_lines start (log_of kept)) → outbox.faults ≤ sink.faults
     → IsBook start kept outbox received entries marks frontier tally sink unwritten
-opened start kept outbox received entries marks frontier tally sink unwritten is none at counts told enough lacks =
+opened start kept outbox received entries marks frontier tally sink unwritten is none at counts enough lawful front lacks later =
     let same : upto kept entries frontier ≡ kept = ap₂ (λ es n. kept ++ take n es) is at ∙ append-nil kept in record {
       received_is = is ∙ sym none;
       within = let l = ap (λ (es : List Numbered). length es) is in omega (arith, at);
       applied = λ i l. absurd (omega (arith, l, at));
       tally_is = counts ∙ ap (λ es. tally_of (replay start (log_of es))) (sym same);
-      enough = subst (λ es. outbox.held ≤ length (log_lines start (log_of es))) (sym same) enough;
-      out = ([], subst (λ s. Grew outbox s []) (sym told) (grew_none outbox), ap (λ es. drop outbox.held (log_lines start (log_of es))) same ∙ sym lacks);
-      later = subst (λ (s : SinkTells). outbox.faults ≤ s.faults) (sym told) (omega arith);
+      enough = enough;
+      lawful = lawful;
+      front = subst (λ es. HasFront outbox sink (log_lines start (log_of es))) (sym same) front;
+      left = lacks ∙ ap (λ es. drop sink.held (log_lines start (log_of es))) (sym same);
+      later = later;
     }
 
 -- ---- what was pulled
@@ -226,30 +251,10 @@ frontier_at_end marks n size applied within next = by (eq-or-lt_of_le within)
 
 -- ---- an outbox at the opening
 
--- one that holds more than the lines: how much, and how many bytes these have
-pub outbox_ahead : (start : Start) (kept : List Numbered) (outbox told : SinkTells) (tally : Tally) (held h l : ℕ) → BookError.OutboxAhead held tally.bytes ≡ BookError.OutboxAhead h l → held ≡ told.held → told ≡ outbox
-    → tally ≡ tally_of (replay start (log_of kept)) → tally.bytes < held → held < 2 ^ 64 → (h ≡ outbox.held) × (l ≡ length (log_lines start (log_of kept))) × (l < h)
-outbox_ahead start kept outbox told tally held h l same is told_is counts less small =
-    let first : held ≡ h = cc in
-    let second : tally.bytes ≡ l = cc in
-    let bytes = tally_bytes start (log_of kept) tally counts in
-    (sym first ∙ is ∙ ap (λ (s : SinkTells). s.held) told_is, omega (arith, second, bytes, less, small), omega (arith, first, second, less))
+-- so many bytes are no more than the lines
+pub outbox_enough : (start : Start) (log : List Numbered) (tally : Tally) (held : ℕ) → tally ≡ tally_of (replay start log) → held ≤ tally.bytes → held ≤ length (log_lines start log)
+outbox_enough start log tally held counts enough = let bytes = tally_bytes start log tally counts in omega (arith, enough, bytes)
 
--- and one that doesn't
-pub outbox_enough : (start : Start) (kept : List Numbered) (outbox told : SinkTells) (tally : Tally) (held : ℕ) → held ≡ told.held → told ≡ outbox → tally ≡ tally_of (replay start (log_of kept))
-    → held ≤ tally.bytes → outbox.held ≤ length (log_lines start (log_of kept))
-outbox_enough start kept outbox told tally held is told_is counts enough =
-    let bytes = tally_bytes start (log_of kept) tally counts in
-    let same : held ≡ outbox.held = is ∙ ap (λ (s : SinkTells). s.held) told_is in omega (arith, enough, bytes, same)
-
--- the book of a run that begins behind these entries
-pub begun : (start : Start) (kept : List Numbered) (outbox : SinkTells) (given received entries : List Numbered) (marks : List Mark) (tally : Tally) (sink : SinkTells) (unwritten : List ℕ) (held : ℕ)
-    → given ≡ kept → entries ≡ [] → received ≡ [] → tally ≡ tally_of (replay start (log_of given)) → held ≡ sink.held → sink ≡ outbox
-    → held ≤ tally.bytes → unwritten ≡ drop held (log_lines start (log_of given)) → IsBook start kept outbox received entries marks 0 tally sink unwritten
-begun start kept outbox given received entries marks tally sink unwritten held same is none counts size told enough lacks =
-    let counted : tally ≡ tally_of (replay start (log_of kept)) = counts ∙ ap (λ es. tally_of (replay start (log_of es))) same in
-    let holds : held ≡ outbox.held = size ∙ ap (λ (s : SinkTells). s.held) told in
-    opened start kept outbox received entries marks 0 tally sink unwritten is none refl
-    counted told
-    (outbox_enough start kept outbox sink tally held size told counted enough)
-    (lacks ∙ ap (λ es. drop held (log_lines start (log_of es))) same ∙ ap (λ n. drop n (log_lines start (log_of kept))) holds)
+-- or more: how many bytes the lines have
+pub outbox_ahead : (start : Start) (log : List Numbered) (tally : Tally) (held count : ℕ) → tally ≡ tally_of (replay start log) → count ≡ tally.bytes → count < held → held < 2 ^ 64 → count ≡ length (log_lines start log)
+outbox_ahead start log tally held count counts is less small = let bytes = tally_bytes start log tally counts in omega (arith, bytes, is, less, small)

@@ -12,3 +12,4 @@ pub mod Batches
 pub mod Claiming
 pub mod Finishing
 pub mod Replaying
+pub mod Comparing

@@ -1,6 +1,6 @@
 -- The book: the work on the entries of a ring, and the lines that go out of it.
 use Rattle.entry_step.specs.Start.{Start}
-use Rattle.std.specs.Prelude.{◌≡◌, ◌≢◌, ◌≤◌, ◌<◌, ℕ, List, ◌++◌, length, take, drop, get_or}
+use Rattle.std.specs.Prelude.{◌≡◌, ◌≢◌, ◌≤◌, ◌<◌, ℕ, List, ◌++◌, length, take, drop, get_or, IfSome}
 use Rattle.zbx_types.specs.declared.entries.Numbered.{Numbered}
 use Rattle.zbx_types.specs.declared.entries.Rec.{Rec}
 use Rattle.outside.specs.Tells.{SinkTells}
@@ -12,7 +12,7 @@ use Rattle.syncer_gate.specs.declared.marks.Mark.{Mark}
 use Rattle.syncer_gate.specs.declared.marks.Mark.TheVariants.{Pending, Applied}
 use Rattle.book.specs.declared.tally.Tally.{Tally}
 use Rattle.book.specs.Tally.{tally_of}
-use Rattle.book.specs.Outgoing.{Grew, log_lines}
+use Rattle.book.specs.Outgoing.{HasFront, log_lines}
 use Rattle.book.specs.Progress.{ProgressView}
 
 -- The entries that came out of the ring, in the order of their numbers, where each stands, the cells, and the records
@@ -53,19 +53,17 @@ upto kept entries n = kept ++ take n entries
 abbrev pub lines_upto : Start → List Numbered → List Numbered → ℕ → List ℕ
 lines_upto start kept entries n = log_lines start (log_of (upto kept entries n))
 
--- these lines are what an outbox has grown by since its opening, and what isn't written yet
-abbrev pub AreOut : SinkTells → SinkTells → List ℕ → List ℕ → Type 0
-AreOut start sink unwritten lines = (sent : List ℕ) × Grew start sink sent × (lines ≡ sent ++ unwritten)
-
 -- What holds of a book at all times. Its entries are those that came out of the ring. Its lines and counts are those
--- of the entries with which the run began and of its own before its frontier, which are applied. Of the lines the outbox
--- held some at the opening; the others it has got since, or they aren't written yet.
+-- of the entries with which the run began and of its own before its frontier, which are applied. The outbox has a front
+-- of these lines, and the others aren't written yet.
 pub record IsBook (start : Start) (kept : List Numbered) (outbox : SinkTells) (received entries : List Numbered)
     (marks : List Mark) (frontier : ℕ) (tally : Tally) (sink : SinkTells) (unwritten : List ℕ) : Type 0 where
   pub received_is : entries ≡ received
   pub within : frontier ≤ length entries
   pub applied : AreApplied marks frontier
   pub tally_is : tally ≡ tally_of (replay start (log_of (upto kept entries frontier)))
-  pub enough : outbox.held ≤ length (lines_upto start kept entries frontier)
-  pub out : AreOut outbox sink unwritten (drop outbox.held (lines_upto start kept entries frontier))
+  pub enough : outbox.held ≤ length (log_lines start (log_of kept))
+  pub lawful : IfSome outbox.bytes (λ b. outbox.held ≡ length b)
+  pub front : HasFront outbox sink (lines_upto start kept entries frontier)
+  pub left : unwritten ≡ drop sink.held (lines_upto start kept entries frontier)
   pub later : outbox.faults ≤ sink.faults

@@ -2,7 +2,7 @@
 //! lines.
 
 ghost use Rattle.entry_step.specs.Start.{first_start};
-ghost use Rattle.std.specs.Prelude.{◌≡◌, ◌≤◌, ◌<◌, ◌+◌, ◌-◌, ◌++◌, [], ℕ, List, min, true, false, length, drop, replicate, get_or, is_some, IfOk, IfErr, IfSome, OnOk, OnErr, IsErrOf};
+ghost use Rattle.std.specs.Prelude.{◌≡◌, ◌≢◌, ◌≤◌, ◌<◌, ◌+◌, ◌-◌, ◌++◌, [], ℕ, List, Some, min, true, false, length, drop, replicate, get_or, is_some, IfOk, IfErr, IfSome, OnOk, OnErr, IsErrOf};
 ghost use Rattle.std.specs.Option.{option_map};
 ghost use mathlib.Core.List.{IsPrefix};
 ghost use Rattle.outside.specs.Causes.{Rose};
@@ -17,14 +17,15 @@ ghost use Rattle.syncer_gate.specs.declared.marks.Mark.{Mark};
 ghost use Rattle.syncer_gate.specs.declared.marks.Mark.TheVariants as Mark;
 ghost use Rattle.book.specs.Entries.{IsWholeLog};
 ghost use Rattle.book.specs.Tally.{tally_of};
-ghost use Rattle.book.specs.Outgoing.{Grew, GrewByFront, log_lines};
+ghost use Rattle.outside.specs.Others.{first_other};
+ghost use Rattle.book.specs.Outgoing.{HasFront, HasAll, IsLeft, IsMendable, log_lines};
 ghost use Rattle.book.specs.Progress.{HasInputs, IsOneMore};
 ghost use Rattle.book.specs.Book.{work_of, AreApplied, IsFrontier, lines_upto};
 
 use crate::alone::work_all;
 use crate::errors::{BookError, FlushError};
 use crate::names::{RunName, StartName};
-use crate::opening::{Replayed, begin};
+use crate::opening::{Replayed, begin, mend};
 use crate::order::{Done, Order};
 use crate::outgoing::{add_lines, write_out};
 use crate::progress::Progress;
@@ -34,14 +35,15 @@ use entry_step::{Ready, Steps};
 use outside::Sink;
 use std::alloc::Global;
 use std::marker::Model;
+use std::mem::forget;
 use std::sync::ledger::Ledger;
 use zbx_types::{Bytes, Numbered, OutOfMemory};
 
 /// The entries that came out of a ring behind those with which a run began, and how far the work on them is; and the
 /// lines of those that are worked out with all before them, on their way to the outbox.
 ///
-/// It keeps one promise whatever is called: what the outbox got since the opening is a front of the lines of one
-/// thread that replays the entries, but for as many of their first bytes as the outbox held.
+/// It keeps one promise whatever is called: the outbox has a front of the lines of one thread that replays the entries,
+/// whatever it held before, where it tells that.
 #[derive(Drop)]
 pub struct Book<S: StartName, N: RunName, O: Sink> {
     progress: Progress<S>,
@@ -80,13 +82,15 @@ pub struct Closed<O> {
 }
 
 impl<S: StartName, N: RunName, O: Sink> Book<S, N, O> {
-    /// A book behind the entries with which a run begins, over the end of its ring. These are replayed from nothing on;
-    /// no entry came out of the ring, and nothing is written yet.
+    /// A book behind the entries with which a run begins, over the end of its ring. These are replayed from nothing on,
+    /// and the outbox is compared with their lines: where its first other byte is a 0, as a power cut may leave it, the
+    /// outbox is cut there. No entry came out of the ring, and nothing is written yet.
     ///
     /// # Errors
     ///
-    /// `OutboxAhead` comes exactly where the outbox holds more bytes than the lines of these entries have.
-    /// `OutOfMemory` may come too. The outbox comes back as it was.
+    /// `OutboxAhead` comes exactly where the outbox holds more bytes than the lines of these entries have,
+    /// `OutboxDiffers` where its first other byte isn't a 0, `OutboxFault` where it failed. `OutOfMemory` may come too. The
+    /// outbox comes back with the bytes that it held.
     pub fn new(
         alloc: Global,
         ready: &Ready,
@@ -100,41 +104,45 @@ impl<S: StartName, N: RunName, O: Sink> Book<S, N, O> {
         requires received { ring.received ≡ [] }
         requires outbox { O.tells outbox ≡ S.outbox }
         ensures entries { IfOk result (λ book. (book.entries ≡ []) × (book.frontier ≡ 0)) }
-        ensures unwritten { IfOk result (λ book. (book.sink ≡ S.outbox)
-            × (book.unwritten ≡ drop S.outbox.held (log_lines S.start (log_of kept.now)))) }
-        ensures enough { IfOk result (λ book. S.outbox.held ≤ length (log_lines S.start (log_of kept.now))) }
-        ensures back { IfErr result (λ refused. refused.0 ≡ outbox) }
+        ensures front { IfOk result (λ book. HasFront S.outbox book.sink (log_lines S.start (log_of kept.now))) }
+        ensures unwritten { IfOk result (λ book. book.unwritten ≡ drop book.sink.held (log_lines S.start (log_of kept.now))) }
+        ensures mendable { IfOk result (λ _. IsMendable S.outbox (log_lines S.start (log_of kept.now))) }
+        ensures back { IfErr result (λ refused. IsLeft S.outbox (O.tells refused.0)) }
         ensures ahead { IfErr result (λ refused. (held : ℕ) (lines : ℕ) → refused.1 ≡ BookError.OutboxAhead held lines
             → (held ≡ S.outbox.held) × (lines ≡ length (log_lines S.start (log_of kept.now))) × (lines < held)) }
+        ensures differs { IfErr result (λ refused. (at : ℕ) → refused.1 ≡ BookError.OutboxDiffers at
+            → (S.outbox.held ≤ length (log_lines S.start (log_of kept.now))) × (at < S.outbox.held)
+            × IfSome S.outbox.bytes (λ b. (first_other 0 (log_lines S.start (log_of kept.now)) b ≡ Some at)
+            × (get_or b at 0 ≢ 0))) }
+        ensures cause { IfErr result (λ refused. refused.1 ≡ BookError.OutboxFault
+            → Rose S.outbox.faults (O.tells refused.0).faults) }
     {
-        let held = outbox.held();
         let count = kept.len();
         if count > u32::MAX as usize {
             return Err((outbox, BookError::OutOfMemory));
         }
-        match begin::<S>(alloc, ready, kept, held) {
-            Err(OutOfMemory) => Err((outbox, BookError::OutOfMemory)),
-            Ok(
-                Replayed {
-                    cells,
-                    tally,
-                    missing,
-                },
-            ) => {
-                let lines = tally.bytes;
-                if lines < held {
-                    return Err((outbox, BookError::OutboxAhead { held, lines }));
-                }
-                Ok(Book {
-                    progress: Progress::new(alloc, count as u64, cells),
-                    ring,
-                    frontier: 0,
-                    tally,
-                    unwritten: missing,
-                    outbox,
-                })
-            }
+        let mut outbox = outbox;
+        let replayed = match begin::<S, O>(alloc, ready, kept, &mut outbox) {
+            Ok(replayed) => replayed,
+            Err(error) => return Err((outbox, error)),
+        };
+        let Replayed {
+            cells,
+            tally,
+            other,
+            missing,
+        } = replayed;
+        if let Err(error) = mend(&mut outbox, tally.bytes, other) {
+            return Err((outbox, error));
         }
+        Ok(Book {
+            progress: Progress::new(alloc, count as u64, cells),
+            ring,
+            frontier: 0,
+            tally,
+            unwritten: missing,
+            outbox,
+        })
     }
 
     /// Takes the entries that the ring shows, and answers how many they are, or 2^32 - 1 where they are more. What
@@ -340,8 +348,7 @@ impl<S: StartName, N: RunName, O: Sink> Book<S, N, O> {
     /// What the outbox has, once all lines are written.
     fn told(&self)
         requires { self.now.unwritten ≡ [] }
-        ensures { Grew S.outbox self.now.sink (drop S.outbox.held
-            (lines_upto S.start S.kept self.now.entries self.now.frontier)) }
+        ensures { HasAll S.outbox self.now.sink (lines_upto S.start S.kept self.now.entries self.now.frontier) }
     {
         let _ = &self.unwritten;
     }
@@ -357,8 +364,8 @@ impl<S: StartName, N: RunName, O: Sink> Book<S, N, O> {
         ensures work { work_of self.new ≡ work_of self.old }
         ensures frontier { OnOk result (IsFrontier self.new.gate.marks self.new.entries self.new.frontier) }
         ensures all { OnOk result (self.new.unwritten ≡ []) }
-        ensures lines { OnOk result (Grew S.outbox self.new.sink
-            (drop S.outbox.held (lines_upto S.start S.kept self.new.entries self.new.frontier))) }
+        ensures lines { OnOk result (HasAll S.outbox self.new.sink
+            (lines_upto S.start S.kept self.new.entries self.new.frontier)) }
         ensures later { self.old.sink.faults ≤ self.new.sink.faults }
         ensures cause { IsErrOf result FlushError.OutboxFault → Rose self.old.sink.faults self.new.sink.faults }
         ensures unwritten { IsErrOf result FlushError.OutOfMemory → self.new.sink ≡ self.old.sink }
@@ -404,7 +411,7 @@ impl<S: StartName, N: RunName, O: Sink> Book<S, N, O> {
     /// The outbox, which has some of the lines from the front.
     fn into_outbox(self) -> O
         ensures front { (all : List Numbered) → IsPrefix self.entries all
-            → GrewByFront S.outbox (O.tells result) (drop S.outbox.held (log_lines S.start (log_of (S.kept ++ all)))) }
+            → HasFront S.outbox (O.tells result) (log_lines S.start (log_of (S.kept ++ all))) }
         ensures sink { O.tells result ≡ self.sink }
     {
         let Book {
@@ -422,20 +429,21 @@ impl<S: StartName, N: RunName, O: Sink> Book<S, N, O> {
     fn close(self) -> Closed<O>
         requires frontier { self.frontier ≡ length self.entries }
         requires unwritten { self.unwritten ≡ [] }
-        ensures lines { Grew S.outbox (O.tells result.outbox)
-            (drop S.outbox.held (log_lines S.start (log_of (S.kept ++ self.entries)))) }
+        ensures lines { HasAll S.outbox (O.tells result.outbox) (log_lines S.start (log_of (S.kept ++ self.entries))) }
         ensures sink { O.tells result.outbox ≡ self.sink }
         ensures counts { tally_of (replay S.start (log_of (S.kept ++ self.entries))) ≡ record
             { problems = result.problems; recoveries = result.recoveries; messages = result.messages; bytes = result.bytes } }
     {
         let Book {
-            progress: _,
+            progress,
             ring: _,
             frontier: _,
             tally,
             unwritten: _,
             outbox,
         } = self;
+        // It holds nothing but memory, which the system takes back whole where the process ends.
+        forget(progress);
         Closed {
             outbox,
             problems: tally.problems,
@@ -458,12 +466,12 @@ impl<S: StartName, N: RunName, O: Sink> Book<S, N, O> {
         head: RingHead<S, N>,
     ) -> Result<Closed<O>, (O, FlushError)>
         requires conf { ready.now ≡ S.start.stage }
-        ensures lines { IfOk result (λ closed. Grew S.outbox (O.tells closed.outbox)
-            (drop S.outbox.held (log_lines S.start (log_of (S.kept ++ head.sent))))) }
+        ensures lines { IfOk result (λ closed. HasAll S.outbox (O.tells closed.outbox)
+            (log_lines S.start (log_of (S.kept ++ head.sent)))) }
         ensures counts { IfOk result (λ closed. tally_of (replay S.start (log_of (S.kept ++ head.sent))) ≡ record
             { problems = closed.problems; recoveries = closed.recoveries; messages = closed.messages; bytes = closed.bytes }) }
-        ensures front { IfErr result (λ refused. GrewByFront S.outbox (O.tells refused.0)
-            (drop S.outbox.held (log_lines S.start (log_of (S.kept ++ head.sent))))) }
+        ensures front { IfErr result (λ refused. HasFront S.outbox (O.tells refused.0)
+            (log_lines S.start (log_of (S.kept ++ head.sent)))) }
         ensures later { IfOk result (λ closed. self.sink.faults ≤ (O.tells closed.outbox).faults) }
         ensures later_err { IfErr result (λ refused. self.sink.faults ≤ (O.tells refused.0).faults) }
         ensures cause { IfErr result (λ refused. refused.1 ≡ FlushError.OutboxFault

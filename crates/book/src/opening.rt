@@ -1,95 +1,190 @@
-//! The entries with which a run begins are replayed by one thread, one after another, and their lines made.
+//! The entries with which a run begins are replayed by one thread, one after another, their lines made, and the outbox
+//! compared with them.
 
-ghost use Rattle.std.specs.Prelude.{◌≡◌, ◌<◌, [], ◌∷◌, List, IfOk, OnOk};
+ghost use Rattle.std.specs.Prelude.{◌≡◌, ◌≢◌, ◌≤◌, ◌<◌, ◌++◌, [], ◌∷◌, ℕ, List, length, min, drop, get_or, Some, None, IfSome, IfOk, IfErr, OnOk, IsErrOf, unwrap_or};
 ghost use Rattle.zbx_types.specs.declared.entries.Numbered.{Numbered};
+ghost use Rattle.outside.specs.Causes.{Rose, HasCause};
+ghost use Rattle.outside.specs.Others.{first_other};
 ghost use Rattle.entry_step.specs.Log.{log_of, Suits};
 ghost use Rattle.entry_step.specs.Start.{Start, first_start};
 ghost use Rattle.book.specs.Entries.{IsWholeLog};
-ghost use Rattle.book.specs.Opening.{IsReplayed};
+ghost use Rattle.zbx_types.specs.declared.entries.Rec.{Rec};
+ghost use Rattle.book.specs.declared.errors.BookError.TheVariants as BookError;
+ghost use Rattle.book.specs.Opening.{IsReplayed, IsRecorded, IsCompared, IsRefused};
+ghost use Rattle.book.specs.Outgoing.{HasFront, IsLeft};
 
+use crate::errors::BookError;
 use crate::names::StartName;
-use crate::outgoing::add_behind;
+use crate::outgoing::{add_lines, behind};
 use crate::tally::Tally;
 use entry_step::{Cells, Ready, Steps, step};
+use outside::{Failed, Sink};
 use std::alloc::Global;
 use std::marker::Brand;
 use std::sync::ledger::{Blank, Ledger};
-use zbx_types::{Bytes, Numbered, OutOfMemory};
+use zbx_types::{Bytes, Numbered, OutOfMemory, Rec};
 
-/// What entries leave that were replayed: the cells behind them, the counts of their records, and those of their lines
-/// that an outbox lacks.
+/// What entries leave that were replayed: the cells behind them, the counts of their records, the first place at which
+/// the outbox holds another byte than their lines, and those of their lines that it lacks where it is cut there.
 #[derive(Drop)]
 pub(crate) struct Replayed {
     pub cells: Cells,
     pub tally: Tally,
+    pub other: Option<u64>,
     pub missing: Bytes,
 }
 
-/// Replays the next entry, where the outbox holds so many bytes.
-fn replay_one<L: Ledger>(
+/// The first place at which an outbox holds another byte than all lines, where that of the lines before these is known,
+/// and how many bytes they have.
+fn other_in<O: Sink>(
+    outbox: &mut O,
+    seen: u64,
+    lines: &[u8],
+    other: Option<u64>,
+) -> Result<Option<u64>, Failed>
+    ensures other { IfOk result (λ found. (before : List ℕ) → seen ≡ min (length before) 18446744073709551615
+        → IsCompared (O.tells outbox.old) before other → IsCompared (O.tells outbox.old) (before ++ lines.now) found) }
+    ensures first { IfOk result (λ found. other ≡ None → IfSome found (λ place.
+        (place < (O.tells outbox.old).held) × (seen ≤ place))) }
+    ensures still { IfOk result (λ found. (place : ℕ) → other ≡ Some place → found ≡ Some place) }
+    ensures left { IsLeft (O.tells outbox.old) (O.tells outbox.new) }
+    ensures cause { HasCause (O.tells outbox.old).faults (O.tells outbox.new).faults result }
+{
+    if other.is_some() || outbox.held() <= seen || lines.is_empty() {
+        return Ok(other);
+    }
+    outbox.differs(seen, lines)
+}
+
+/// Adds the lines of an entry's records to those that the outbox lacks, once they are compared with what it holds.
+fn compare<O: Sink>(
+    alloc: Global,
+    records: &[Rec],
+    outbox: &mut O,
+    so_far: &mut Replayed,
+) -> Result<(), BookError>
+    ensures lines { OnOk result ((before : List Rec) → IsRecorded before (O.tells outbox.old) so_far.old
+        → IsRecorded (before ++ records.now) (O.tells outbox.old) so_far.new) }
+    ensures cells { so_far.new.cells ≡ so_far.old.cells }
+    ensures left { IsLeft (O.tells outbox.old) (O.tells outbox.new) }
+    ensures cause { IsErrOf result BookError.OutboxFault → Rose (O.tells outbox.old).faults (O.tells outbox.new).faults }
+    ensures why { IfErr result IsRefused }
+{
+    let seen = so_far.tally.bytes;
+    let mut lines = Bytes::new(alloc);
+    add_lines(alloc, records, &mut so_far.tally, &mut lines)?;
+    so_far.other = other_in(outbox, seen, lines.as_slice(), so_far.other)?;
+    let from = so_far.other.unwrap_or(outbox.held());
+    so_far
+        .missing
+        .extend(behind(lines.as_slice(), from.saturating_sub(seen)))?;
+    Ok(())
+}
+
+/// Replays the next entry.
+fn replay_one<O: Sink, L: Ledger>(
     alloc: Global,
     ready: &Ready,
     entry: &Numbered,
-    held: u64,
+    outbox: &mut O,
     so_far: &mut Replayed,
     steps: &mut Steps<L>,
-) -> Result<(), OutOfMemory>
-    ensures { OnOk result ((start : Start) (log : List Numbered) → start.stage ≡ ready.now
-        → Suits start (entry.now ∷ log) → IsReplayed start log held so_far.old
-        → IsReplayed start (entry.now ∷ log) held so_far.new) }
+) -> Result<(), BookError>
+    ensures replayed { OnOk result ((start : Start) (log : List Numbered) → start.stage ≡ ready.now
+        → Suits start (entry.now ∷ log) → IsReplayed start log (O.tells outbox.old) so_far.old
+        → IsReplayed start (entry.now ∷ log) (O.tells outbox.old) so_far.new) }
+    ensures left { IsLeft (O.tells outbox.old) (O.tells outbox.new) }
+    ensures cause { IsErrOf result BookError.OutboxFault → Rose (O.tells outbox.old).faults (O.tells outbox.new).faults }
+    ensures why { IfErr result IsRefused }
 {
     let records = step(alloc, ready, &mut so_far.cells, entry, steps)?;
-    add_behind(
-        alloc,
-        records.as_slice(),
-        &mut so_far.tally,
-        held,
-        &mut so_far.missing,
-    )
+    compare(alloc, records.as_slice(), outbox, so_far)
 }
 
 /// Replays entries, and counts the steps in a ledger of their own.
-fn replay_all<L: Ledger>(
+fn replay_all<O: Sink, L: Ledger>(
     alloc: Global,
     ready: &Ready,
     kept: &[Numbered],
-    held: u64,
+    outbox: &mut O,
     so_far: &mut Replayed,
     blank: Blank,
-) -> Result<(), OutOfMemory>
+) -> Result<(), BookError>
     requires name { blank.name ≡ L.name }
     requires parts { blank.parts ≡ L.parts }
     requires some { 0 < L.parts }
-    ensures { OnOk result ((start : Start) → start.stage ≡ ready.now → Suits start (log_of kept.now)
-        → IsReplayed start [] held so_far.old → IsReplayed start (log_of kept.now) held so_far.new) }
+    ensures replayed { OnOk result ((start : Start) → start.stage ≡ ready.now → Suits start (log_of kept.now)
+        → IsReplayed start [] (O.tells outbox.old) so_far.old
+        → IsReplayed start (log_of kept.now) (O.tells outbox.old) so_far.new) }
+    ensures left { IsLeft (O.tells outbox.old) (O.tells outbox.new) }
+    ensures cause { IsErrOf result BookError.OutboxFault → Rose (O.tells outbox.old).faults (O.tells outbox.new).faults }
+    ensures why { IfErr result IsRefused }
 {
     let mut steps = Steps::<L>::new(blank);
     for entry in kept {
-        replay_one(alloc, ready, entry, held, so_far, &mut steps)?;
+        replay_one(alloc, ready, entry, outbox, so_far, &mut steps)?;
     }
     Ok(())
 }
 
-/// Replays the entries with which a run begins, from nothing on, and makes their lines behind the first bytes of this
-/// number.
-pub(crate) fn begin<S: StartName>(
+/// Replays the entries with which a run begins, from nothing on, and makes their lines that the outbox lacks.
+pub(crate) fn begin<S: StartName, O: Sink>(
     alloc: Global,
     ready: &Ready,
     kept: &[Numbered],
-    held: u64,
-) -> Result<Replayed, OutOfMemory>
+    outbox: &mut O,
+) -> Result<Replayed, BookError>
     requires conf { ready.now ≡ S.start.stage }
     requires whole { IsWholeLog S.start kept.now }
-    ensures { IfOk result (IsReplayed S.start (log_of kept.now) held) }
+    ensures replayed { IfOk result (IsReplayed S.start (log_of kept.now) (O.tells outbox.old)) }
+    ensures left { IsLeft (O.tells outbox.old) (O.tells outbox.new) }
+    ensures cause { IsErrOf result BookError.OutboxFault → Rose (O.tells outbox.old).faults (O.tells outbox.new).faults }
+    ensures why { IfErr result IsRefused }
 {
+    // One that can't be opened fails here.
+    outbox.differs(0, &[])?;
     let cells = Cells::new(alloc, ready.conf())?;
     let tally = Tally::new();
     let missing = Bytes::new(alloc);
     let mut so_far = Replayed {
         cells,
         tally,
+        other: None,
         missing,
     };
-    replay_all::<Brand>(alloc, ready, kept, held, &mut so_far, Blank::new(1))?;
+    replay_all::<O, Brand>(alloc, ready, kept, outbox, &mut so_far, Blank::new(1))?;
     Ok(so_far)
+}
+
+/// Cuts an outbox where it holds a 0 in place of the lines' byte, as a power cut may leave it. It is refused where it holds
+/// more bytes than the lines have, and where it holds any other byte. Then it is as before, as it is where a call of it
+/// fails.
+pub(crate) fn mend<O: Sink>(outbox: &mut O, lines: u64, other: Option<u64>) -> Result<(), BookError>
+    ensures mended { OnOk result ((all : List ℕ) → lines ≡ min (length all) 18446744073709551615
+        → IsCompared (O.tells outbox.old) all other → HasFront (O.tells outbox.old) (O.tells outbox.new) all) }
+    ensures enough { OnOk result ((O.tells outbox.old).held ≤ lines) }
+    ensures mendable { OnOk result (IfSome (O.tells outbox.old).bytes (λ b. IfSome other (λ place. get_or b place 0 ≡ 0))) }
+    ensures held { OnOk result ((O.tells outbox.new).held ≡ min (unwrap_or other (O.tells outbox.old).held) (O.tells outbox.old).held) }
+    ensures later { (O.tells outbox.old).faults ≤ (O.tells outbox.new).faults }
+    ensures left { IfErr result (λ _. IsLeft (O.tells outbox.old) (O.tells outbox.new)) }
+    ensures ahead { IfErr result (λ error. (held count : ℕ) (all : List ℕ) → error ≡ BookError.OutboxAhead held count
+        → lines ≡ min (length all) 18446744073709551615
+        → (held ≡ (O.tells outbox.old).held) × (count ≡ length all) × (count < held)) }
+    ensures differs { IfErr result (λ error. (at : ℕ) → error ≡ BookError.OutboxDiffers at
+        → ((O.tells outbox.old).held ≤ lines) × (other ≡ Some at)
+        × IfSome (O.tells outbox.old).bytes (λ b. at < length b → get_or b at 0 ≢ 0)) }
+    ensures cause { IsErrOf result BookError.OutboxFault → Rose (O.tells outbox.old).faults (O.tells outbox.new).faults }
+{
+    let held = outbox.held();
+    if lines < held {
+        return Err(BookError::OutboxAhead { held, lines });
+    }
+    let Some(at) = other else {
+        return Ok(());
+    };
+    if outbox.differs(at, &[0])?.is_some() {
+        return Err(BookError::OutboxDiffers { at });
+    }
+    outbox.cut(at)?;
+    Ok(())
 }

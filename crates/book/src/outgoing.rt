@@ -44,24 +44,6 @@ pub fn behind(bytes: &[u8], first: u64) -> &[u8]
     }
 }
 
-/// Counts records, and adds those of their lines that aren't among the first bytes of this number of all lines.
-pub(crate) fn add_behind(
-    alloc: Global,
-    records: &[Rec],
-    tally: &mut Tally,
-    held: u64,
-    missing: &mut Bytes,
-) -> Result<(), OutOfMemory>
-    ensures { OnOk result ((before : List Rec) → tally.old ≡ tally_of before → missing.old ≡ drop held (lines_of before)
-        → (tally.new ≡ tally_of (before ++ records.now))
-        × (missing.new ≡ drop held (lines_of (before ++ records.now)))) }
-{
-    let before = tally.bytes;
-    let mut lines = Bytes::new(alloc);
-    add_lines(alloc, records, tally, &mut lines)?;
-    missing.extend(behind(lines.as_slice(), held.saturating_sub(before)))
-}
-
 /// Drops so many of the first bytes. Takes no memory.
 fn drop_front(alloc: Global, bytes: &mut Bytes, count: usize)
     requires { count ≤ length bytes.old }
