@@ -4,8 +4,12 @@ ghost use Rattle.std.specs.Prelude.{◌≡◌};
 ghost use Rattle.outside.specs.Disk.{silent, silent_lawful};
 
 use crate::rows::{Row, number, row_of};
-use crate::runs::{Over, TestWire, beside, ports_of, run, setup_behind, setup_of, told_of};
+use crate::runs::{
+    Over, TestWire, beside, ports_of, run, setup_behind, setup_failing, setup_of, steps_lines,
+    told_of,
+};
 use outside::{Disk, Failed, MemDisk, OpenGate};
+use server_words::Status;
 use std::alloc::Global;
 use std::convert::AsStr;
 use std::sync::Wait;
@@ -198,23 +202,45 @@ fn has(over: &Over<TestWire, MemDisk>, least: usize) -> bool {
     }
 }
 
-/// How a run went whose disk was to fail at a call.
+/// How a run ended of which a call was to fail.
+#[derive(Clone, Copy, PartialEq, Eq)]
+enum Stop {
+    /// With Ok: no call failed.
+    None,
+    /// With the fault of the object whose call failed.
+    Fault,
+    /// In another way.
+    Other,
+}
+
+/// How a run ended with a status, where this is the fault of the object whose call was to fail.
+fn stop_of(status: &Status, fault: &Status) -> Stop {
+    if *status == Status::Ok {
+        Stop::None
+    } else if status == fault {
+        Stop::Fault
+    } else {
+        Stop::Other
+    }
+}
+
+/// How a run went of which a call was to fail.
 #[derive(Clone, Copy, PartialEq, Eq)]
 enum Went {
-    /// No call of the disk failed, and a run behind it had all.
+    /// No call failed, and a run behind it had all.
     Through,
-    /// A run behind the crash had all that was answered, and nothing that didn't come.
+    /// It ended with the fault of its object, and a run behind it had all that was to stay, and nothing that didn't come.
     Kept,
-    /// It hadn't.
+    /// One of both was otherwise.
     Lost,
 }
 
-/// How a run went, where the one behind it had what was answered, or hadn't, and the disk failed so often.
-fn judged(has_all: bool, faults: u64) -> Went {
-    match (has_all, faults) {
-        (false, _) => Went::Lost,
-        (true, 0) => Went::Through,
-        (true, _) => Went::Kept,
+/// How a run went that ended so, where the one behind it had what was to stay, or hadn't.
+fn judged(has_all: bool, stop: Stop) -> Went {
+    match (has_all, stop) {
+        (true, Stop::None) => Went::Through,
+        (true, Stop::Fault) => Went::Kept,
+        _ => Went::Lost,
     }
 }
 
@@ -243,9 +269,10 @@ fn crashed_at<R: Threads + Wait + Sync>(
 ) -> Result<Went, OutOfMemory> {
     let crashed = run_up_to(rt, alloc, parts, torn, call)?;
     let answered = answered(crashed.wire.wire.sent().as_slice());
-    let faults = crashed.ended.disk.faults;
+    let stop = stop_of(&crashed.ended.status, &Status::DiskFault);
     let setup = setup_behind(
         alloc,
+        "three",
         crashed.ended.disk.left.bytes().as_slice(),
         crashed.ended.outbox.bytes().as_slice(),
     );
@@ -253,10 +280,11 @@ fn crashed_at<R: Threads + Wait + Sync>(
     let behind = run(alloc, setup?);
     let has_all = has(&behind, answered);
     drop(behind);
-    Ok(judged(has_all, faults))
+    Ok(judged(has_all, stop))
 }
 
-/// How many calls of the disk a run has, where each crash at one of them left all that was answered.
+/// How many calls of the disk a run has, where each that fails ends it with DiskFault, and a crash there leaves all that was
+/// answered.
 fn calls_kept<R: Threads + Wait + Sync>(
     rt: &R,
     alloc: Global,
@@ -299,11 +327,17 @@ fn is_kept<R: Threads + Wait + Sync>(
     Ok(calls == Some(number(row.wanted)))
 }
 
-/// Of what a disk held at its last sync nothing is lost, and of each piece that was to be written since there is nothing, its
+/// Each call of a disk fails in turn, until none does. Of what it held at its last sync nothing is lost, and of each piece that was to be written since there is nothing, its
 /// front, its back, all, or another byte in place of each of its own. An append has four calls: one of the three values, or
 /// one for each of them.
 fn crashes() -> &'static str {
-    "nothing | 18 | script=three syncers=0 ready=yes\n\
+    "nothing | 18 | script=one syncers=0\n\
+    front | 18 | script=one syncers=0\n\
+    back | 18 | script=one syncers=0\n\
+    whole | 18 | script=one syncers=0\n\
+    filled with 1 | 18 | script=one syncers=0\n\
+    filled with 2 | 18 | script=one syncers=0\n\
+    nothing | 18 | script=three syncers=0 ready=yes\n\
     nothing | 26 | script=three syncers=0 ready=no\n\
     nothing | 18 | script=three syncers=4 ready=yes\n\
     nothing | 26 | script=three syncers=4 ready=no\n\
@@ -348,6 +382,11 @@ fn tick_report() -> &'static str {
     "Ok begun C1T2\nstatus: Ok; entries: 2; problems: 0; recoveries: 0; messages: 0; outbox bytes: 0\n"
 }
 
+/// That of a restart whose outbox holds 10 bytes of the line, and another one.
+fn differs_report() -> &'static str {
+    "OutboxDiffers not.. C1T2V3\nP|3-1|100.xstatus: OutboxDiffers; at: 10\n"
+}
+
 /// What a restart finds of the one frame.
 #[derive(Clone, Copy, PartialEq, Eq)]
 enum Finds {
@@ -355,6 +394,10 @@ enum Finds {
     Whole,
     /// None of it.
     Tick,
+    /// An outbox that isn't its own.
+    Differs,
+    /// None of it, and an outbox that has more than its lines.
+    Ahead,
     /// Something else.
     Other,
 }
@@ -365,23 +408,41 @@ fn finds_of(report: &[u8]) -> Finds {
         Finds::Whole
     } else if report == tick_report().as_bytes() {
         Finds::Tick
+    } else if report == differs_report().as_bytes() {
+        Finds::Differs
     } else {
         Finds::Other
     }
 }
 
+/// The bytes of an outbox up to so many, and others behind them.
+fn spoilt(alloc: Global, bytes: &[u8], held: usize, behind: &[u8]) -> Result<Bytes, OutOfMemory> {
+    let mut outbox = Bytes::of(alloc, bytes.get(..held).unwrap_or(bytes))?;
+    outbox.extend(behind)?;
+    Ok(outbox)
+}
+
 /// Runs over the one frame, where the disk's call of this number fails, and then behind what is left, the outbox cut to so
-/// many bytes. Whether the first run answered its value, and what the second one finds of it.
-fn run_twice(alloc: Global, disk: u64, held: usize) -> Result<(bool, Finds), OutOfMemory> {
+/// many bytes, with these behind them. Whether the first run answered its value, and what the second one finds of it.
+fn run_twice(
+    alloc: Global,
+    disk: u64,
+    held: usize,
+    behind: &[u8],
+) -> Result<(bool, Finds), OutOfMemory> {
     let setup = setup_of(alloc, "script=one", disk)?;
     let first = run(alloc, setup);
     let has_answered = 0 < answered(first.wire.wire.sent().as_slice());
-    let outbox = first.ended.outbox.bytes().as_slice();
-    let setup = setup_behind(
-        alloc,
-        first.ended.disk.bytes().as_slice(),
-        outbox.get(..held).unwrap_or(outbox),
-    );
+    let outbox = spoilt(alloc, first.ended.outbox.bytes().as_slice(), held, behind);
+    let setup = match outbox {
+        Ok(outbox) => setup_behind(
+            alloc,
+            "one",
+            first.ended.disk.bytes().as_slice(),
+            outbox.as_slice(),
+        ),
+        Err(OutOfMemory) => Err(OutOfMemory),
+    };
     drop(first);
     let told = told_of(alloc, setup?)?;
     Ok((has_answered, finds_of(told.as_slice())))
@@ -390,12 +451,130 @@ fn run_twice(alloc: Global, disk: u64, held: usize) -> Result<(bool, Finds), Out
 /// Whether a restart has the answered value, whichever call of the disk failed.
 fn has_answered(alloc: Global) -> Result<bool, OutOfMemory> {
     for disk in 1..30u64 {
-        match run_twice(alloc, disk, 1_000)? {
+        match run_twice(alloc, disk, 1_000, b"")? {
             (_, Finds::Whole) | (false, Finds::Tick) => {}
             _ => return Ok(false),
         }
     }
     Ok(true)
+}
+
+/// The first bytes of the line of the one frame.
+fn held_front() -> &'static str {
+    "P|3-1|100."
+}
+
+/// Whether a run was refused since its outbox has more than the lines of its entries, of which there are none.
+fn is_ahead(status: &Status) -> bool {
+    *status == Status::OutboxAhead { held: 10, lines: 0 }
+}
+
+/// How a run over the one frame went whose disk's call of this number was to fail, or none where all were through; and
+/// whether a run behind the crash there, whose outbox has the front of a line, is refused as ahead, where the entry isn't kept,
+/// or else writes the rest.
+fn ahead_at<R: Threads + Wait + Sync>(
+    rt: &R,
+    alloc: Global,
+    torn: Torn,
+    call: u64,
+) -> Result<(Stop, Finds), OutOfMemory> {
+    let crashed = run_up_to(rt, alloc, "script=one syncers=0", torn, call)?;
+    let stop = stop_of(&crashed.ended.status, &Status::DiskFault);
+    let setup = setup_behind(
+        alloc,
+        "one",
+        crashed.ended.disk.left.bytes().as_slice(),
+        held_front().as_bytes(),
+    );
+    drop(crashed);
+    let behind = run(alloc, setup?);
+    let finds = if is_ahead(&behind.ended.status) {
+        Finds::Ahead
+    } else if behind.ended.status == Status::Ok
+        && behind.ended.outbox.bytes().as_slice() == lines(1).as_bytes()
+    {
+        Finds::Whole
+    } else {
+        Finds::Other
+    };
+    drop(behind);
+    Ok((stop, finds))
+}
+
+/// At how many calls of the disk a crash leaves an outbox ahead, and at how many behind these it leaves the whole entry.
+fn ahead<R: Threads + Wait + Sync>(
+    rt: &R,
+    alloc: Global,
+    torn: Torn,
+) -> Result<Option<(u64, u64)>, OutOfMemory> {
+    let mut ahead = 0u64;
+    let mut whole = 0u64;
+    for call in 1..100u64 {
+        match ahead_at(rt, alloc, torn, call)? {
+            (Stop::None, Finds::Whole) => return Ok(Some((ahead, whole))),
+            (Stop::Fault, Finds::Ahead) if whole == 0 => ahead = ahead.saturating_add(1),
+            (Stop::Fault, Finds::Whole) => whole = whole.saturating_add(1),
+            _ => return Ok(None),
+        }
+    }
+    Ok(None)
+}
+
+/// Runs over the steps of an action, where one write to the outbox fails, or all from one on, and then behind what is left,
+/// over the outbox that was left or over an empty one. How the first run ended, and the lines of the second one; none where
+/// those of the first aren't the first of all.
+fn completed_behind(
+    alloc: Global,
+    object: &str,
+    call: u64,
+    keeps: bool,
+) -> Result<(Stop, Bytes), OutOfMemory> {
+    let setup = setup_failing(alloc, "script=steps", object, call)?;
+    let first = run(alloc, setup);
+    let stop = stop_of(&first.ended.status, &Status::OutboxFault);
+    let outbox = first.ended.outbox.bytes().as_slice();
+    let is_front = steps_lines().as_bytes().starts_with(outbox);
+    let journal = first.ended.disk.bytes().as_slice();
+    let held = if keeps { outbox.len() } else { 0 };
+    let left = outbox.get(..held).unwrap_or(outbox);
+    let setup = setup_behind(alloc, "steps", journal, left);
+    drop(first);
+    let behind = run(alloc, setup?);
+    let lines = if is_front && behind.ended.status == Status::Ok {
+        Bytes::of(alloc, behind.ended.outbox.bytes().as_slice())
+    } else {
+        Ok(Bytes::new(alloc))
+    };
+    drop(behind);
+    Ok((stop, lines?))
+}
+
+/// How a run went whose write to the outbox was to fail, or all from one on: behind it all lines are there, each once.
+fn write_fails(alloc: Global, object: &str, call: u64) -> Result<Went, OutOfMemory> {
+    let (stop, completed) = completed_behind(alloc, object, call, true)?;
+    let anew = completed_behind(alloc, object, call, false);
+    let has_all = match &anew {
+        Ok((_, lines)) => {
+            !lines.as_slice().is_empty() && lines.as_slice() == completed.as_slice()
+        }
+        Err(OutOfMemory) => false,
+    };
+    drop(completed);
+    drop(anew);
+    Ok(judged(has_all, stop))
+}
+
+/// How many writes to the outbox a run has behind its first look at it, where each that fails ends it with OutboxFault and lines
+/// that a run behind it completes.
+fn writes_completed(alloc: Global, object: &str) -> Result<Option<u64>, OutOfMemory> {
+    for before in 0..100u64 {
+        match write_fails(alloc, object, before + 2)? {
+            Went::Through => return Ok(Some(before)),
+            Went::Kept => {}
+            Went::Lost => return Ok(None),
+        }
+    }
+    Ok(None)
 }
 
 /// The report of a run that refused all values of its first commit.
@@ -420,10 +599,35 @@ fn refused(alloc: Global, parts: &str) -> Result<(u64, u64), OutOfMemory> {
     Ok((all, first))
 }
 
+/// Whether a restart finds this where the outbox holds so many of its bytes, and these behind them.
+fn restart_finds(
+    alloc: Global,
+    held: &str,
+    behind: &[u8],
+    wanted: Finds,
+) -> Result<bool, OutOfMemory> {
+    Ok(run_twice(alloc, 0, number(held) as usize, behind)? == (true, wanted))
+}
+
 /// Whether a case comes to what is wanted.
-fn is_so(alloc: Global, row: Row<'_>) -> Result<bool, OutOfMemory> {
+fn is_so<R: Threads + Wait + Sync>(
+    rt: &R,
+    alloc: Global,
+    row: Row<'_>,
+) -> Result<bool, OutOfMemory> {
     match row.kind {
-        "held" => Ok(run_twice(alloc, 0, number(row.input) as usize)? == (true, Finds::Whole)),
+        "writes" => { Ok(writes_completed(alloc, row.input)? == Some(number(row.wanted))) }
+        "ahead" => match torn_of(row.input) {
+            Some(torn) => {
+                let (wanted_ahead, wanted_whole) = row.wanted.split_once(' ').unwrap_or(("", ""));
+                let found = ahead(rt, alloc, torn)?;
+                Ok(found == Some((number(wanted_ahead), number(wanted_whole))))
+            }
+            None => Ok(false),
+        },
+        "held" => restart_finds(alloc, row.input, b"", Finds::Whole),
+        "zeros" => restart_finds(alloc, row.input, &[0; 24], Finds::Whole),
+        "other" => restart_finds(alloc, row.input, b"x", Finds::Differs),
         "each call fails" => has_answered(alloc),
         "refused" => {
             let (all, first) = refused(alloc, row.input)?;
@@ -434,16 +638,29 @@ fn is_so(alloc: Global, row: Row<'_>) -> Result<bool, OutOfMemory> {
     }
 }
 
-/// A restart writes the lines that an outbox lacks which held so many bytes, and has the answered value whichever call of the
-/// disk failed.
+/// A restart writes the lines that an outbox lacks which held so many bytes, also where zero bytes stand behind them, and
+/// leaves one alone that holds another byte. It has the answered value whichever call of the disk failed. Each write to an outbox
+/// ends a run with OutboxFault where it fails, and a restart completes the lines. Of a crash at each call of the disk, on an
+/// outbox with the front of the entry's line, comes OutboxAhead up to where the entry is kept.
 ///
 /// Where events are committed together one append has four calls: that of the Tick, and that of all values, or one for each
 /// value. At most 128 events are committed together: the first event brings the Tick, which ends its commit, and behind it
 /// stand 127 events in one commit, or 128 and one more; the event that closes the wire journals nothing.
 fn restarts() -> &'static str {
-    "held | whole | 0\n\
+    "writes | 4 | outbox\n\
+    writes | 4 | outbox from\n\
+    ahead | 18 0 | nothing\n\
+    ahead | 18 0 | front\n\
+    ahead | 16 2 | back\n\
+    ahead | 16 2 | whole\n\
+    ahead | 16 2 | filled with 1\n\
+    ahead | 18 0 | filled with 2\n\
+    held | whole | 0\n\
     held | whole | 10\n\
     held | whole | 34\n\
+    zeros | whole | 0\n\
+    zeros | whole | 10\n\
+    other | differs | 10\n\
     each call fails\n\
     refused | 8 4 | script=many ready=yes\n\
     refused | 20 4 | script=many ready=no\n\
@@ -454,7 +671,7 @@ fn restarts() -> &'static str {
 #[test]
 fn a_restart_has_what_was_answered(rt: HostRuntime) -> Result<(), Fail> {
     for line in restarts().split('\n') {
-        let is_so = is_so(rt.alloc(), row_of(line))?;
+        let is_so = is_so(&rt, rt.alloc(), row_of(line))?;
         assert!(rt; is_so, "{line}");
     }
     Ok(())

@@ -201,18 +201,24 @@ impl Setup {
         }
     }
 
-    /// Gives the plain configuration and the words of a feed.
-    fn begin(&mut self, alloc: Global) -> Result<(), OutOfMemory> {
+    /// Gives the words of a feed, and the configuration of a script.
+    fn begin(&mut self, alloc: Global, script: &str) -> Result<(), OutOfMemory> {
         put_words(alloc, &mut self.words, "--mode feed --config c --script s")?;
-        self.config.extend(plain_config().as_bytes())
+        self.config.extend(config_of(script).as_bytes())
     }
 
     /// Sets one part: `script=many`, say, `values=64` for a script of so many values, or the number of a call that fails,
-    /// `wire=2`.
+    /// `wire=2`. The script comes first.
     fn set(&mut self, alloc: Global, name: &str, value: &str) -> Result<(), OutOfMemory> {
         match name {
-            "script" => self.script.extend(script_of(value).as_bytes()),
-            "values" => put_values(&mut self.script, number(value)),
+            "script" => {
+                self.begin(alloc, value)?;
+                self.script.extend(script_of(value).as_bytes())
+            }
+            "values" => {
+                self.begin(alloc, value)?;
+                put_values(&mut self.script, number(value))
+            }
             "syncers" => {
                 put_words(alloc, &mut self.words, "--syncers")?;
                 put_words(alloc, &mut self.words, value)
@@ -225,10 +231,15 @@ impl Setup {
         }
     }
 
-    /// Gives what a line of parts says, and the number of the disk's call that fails, where it isn't 0.
-    fn fill(&mut self, alloc: Global, parts: &str, disk: u64) -> Result<(), OutOfMemory> {
-        self.begin(alloc)?;
-        self.fails.set("disk", disk)?;
+    /// Gives what a line of parts says, and the number of a call that fails of an object, where it isn't 0.
+    fn fill(
+        &mut self,
+        alloc: Global,
+        parts: &str,
+        object: &str,
+        call: u64,
+    ) -> Result<(), OutOfMemory> {
+        self.fails.set(object, call)?;
         for part in parts.split_whitespace() {
             let (name, value) = part.split_once('=').unwrap_or((part, ""));
             self.set(alloc, name, value)?;
@@ -240,10 +251,11 @@ impl Setup {
     fn fill_behind(
         &mut self,
         alloc: Global,
+        script: &str,
         journal: &[u8],
         outbox: &[u8],
     ) -> Result<(), OutOfMemory> {
-        self.begin(alloc)?;
+        self.begin(alloc, script)?;
         self.script.extend(b"100.000000000 closed\n")?;
         self.journal.extend(journal)?;
         self.outbox.extend(outbox)
@@ -261,35 +273,55 @@ impl Setup {
     }
 }
 
+/// Adds the numbers of a call and of the 30 behind it.
+fn put_from(calls: &mut Many<u64>, first: u64) -> Result<(), OutOfMemory> {
+    for number in first..first.saturating_add(31) {
+        calls.push(number)?;
+    }
+    Ok(())
+}
+
 impl Fails {
-    /// Has a call fail. There is none of the number 0.
+    /// Has a call fail, or one and those behind it. There is none of the number 0.
     fn set(&mut self, name: &str, call: u64) -> Result<(), OutOfMemory> {
         match name {
             "source" => self.source.push(call)?,
             "wire" => self.wire.push(call)?,
             "disk" => self.disk.push(call)?,
             "outbox" => self.outbox.push(call)?,
+            "outbox from" => put_from(&mut self.outbox, call)?,
             _ => self.print.push(call)?,
         }
         Ok(())
     }
 }
 
-/// What a run is given as a line of parts says, where the disk's call of this number fails.
-pub(crate) fn setup_of(alloc: Global, parts: &str, disk: u64) -> Result<Setup, OutOfMemory> {
+/// What a run is given as a line of parts says, where an object's call of this number fails.
+pub(crate) fn setup_failing(
+    alloc: Global,
+    parts: &str,
+    object: &str,
+    call: u64,
+) -> Result<Setup, OutOfMemory> {
     let mut setup = Setup::new(alloc);
-    let filled = setup.fill(alloc, parts, disk);
+    let filled = setup.fill(alloc, parts, object, call);
     setup.filled(filled)
 }
 
-/// What a run is given behind an earlier one, which left these bytes of its journal and its outbox.
+/// What a run is given as a line of parts says, where the disk's call of this number fails.
+pub(crate) fn setup_of(alloc: Global, parts: &str, disk: u64) -> Result<Setup, OutOfMemory> {
+    setup_failing(alloc, parts, "disk", disk)
+}
+
+/// What a run is given behind an earlier one of this script, which left these bytes of its journal and its outbox.
 pub(crate) fn setup_behind(
     alloc: Global,
+    script: &str,
     journal: &[u8],
     outbox: &[u8],
 ) -> Result<Setup, OutOfMemory> {
     let mut setup = Setup::new(alloc);
-    let filled = setup.fill_behind(alloc, journal, outbox);
+    let filled = setup.fill_behind(alloc, script, journal, outbox);
     setup.filled(filled)
 }
 
@@ -383,6 +415,7 @@ pub(crate) fn status_name(status: &Status) -> &'static str {
         Status::Damaged { .. } => "Damaged",
         Status::ConfigDiffers { .. } => "ConfigDiffers",
         Status::OutboxAhead { .. } => "OutboxAhead",
+        Status::OutboxDiffers { .. } => "OutboxDiffers",
         Status::DiskFault => "DiskFault",
         Status::Full { .. } => "Full",
         _ => "another",
@@ -451,6 +484,60 @@ fn three_frames() -> &'static str {
     "100.000000000 open 1\n100.000000000 open 2\n100.000000000 open 3\n100.000000000 frame 1 {\"request\":\"sender data\",\"data\":[{\"host\":\"h\",\"key\":\"k\",\"value\":\"10\"}]}\n100.000000000 frame 2 {\"request\":\"sender data\",\"data\":[{\"host\":\"h\",\"key\":\"k\",\"value\":\"1\"}]}\n100.000000000 frame 3 {\"request\":\"sender data\",\"data\":[{\"host\":\"h\",\"key\":\"k\",\"value\":\"7\"}]}\n100.000000000 closed\n"
 }
 
+/// A connection brings the front of the value 1, another one the value 10, and the first one the rest.
+fn halves() -> &'static str {
+    "100.000000000 open 1\n100.000000000 open 2\n100.000000000 piece 1 5a4258440145000000000000007b2272657175657374223a2273656e6465722064617461222c2264\n100.000000000 frame 2 {\"request\":\"sender data\",\"data\":[{\"host\":\"h\",\"key\":\"k\",\"value\":\"10\"}]}\n100.000000000 piece 1 617461223a5b7b22686f7374223a2268222c226b6579223a226b222c2276616c7565223a2231227d5d7d\n100.000000000 closed\n"
+}
+
+/// The report of a run over these.
+fn halves_report() -> &'static str {
+    "Ok begun C1T2V3V4 2:1 1:2\n2 {\"response\":\"success\",\"info\":\"processed: 1; failed: 0; total: 1; seconds spent: 0.000000\"}\n1 {\"response\":\"success\",\"info\":\"processed: 1; failed: 0; total: 1; seconds spent: 0.000000\"}\nP|3-1|100.000000000|3|0|h|hot|hot\nR|3-1|4|100.000000000|e\nstatus: Ok; entries: 4; problems: 1; recoveries: 1; messages: 0; outbox bytes: 58\n"
+}
+
+/// That of a run whose first reply wasn't sent.
+fn first_unsent_report() -> &'static str {
+    "Ok begun C1T2V3V4 2:1 1:2\n1 {\"response\":\"success\",\"info\":\"processed: 1; failed: 0; total: 1; seconds spent: 0.000000\"}\nP|3-1|100.000000000|3|0|h|hot|hot\nR|3-1|4|100.000000000|e\nstatus: Ok; entries: 4; problems: 1; recoveries: 1; messages: 0; outbox bytes: 58\n"
+}
+
+/// That of a run whose second reply wasn't sent.
+fn second_unsent_report() -> &'static str {
+    "Ok begun C1T2V3V4 2:1 1:2\n2 {\"response\":\"success\",\"info\":\"processed: 1; failed: 0; total: 1; seconds spent: 0.000000\"}\nP|3-1|100.000000000|3|0|h|hot|hot\nR|3-1|4|100.000000000|e\nstatus: Ok; entries: 4; problems: 1; recoveries: 1; messages: 0; outbox bytes: 58\n"
+}
+
+/// Connections bring the front of another magic in four pieces; three bytes of the right one; a header of ten bytes, nine bytes
+/// and their end; 200 brackets; a byte that isn't UTF-8; data that is an object; and elements that are no objects.
+fn hostile() -> &'static str {
+    "100.000000000 open 1\n100.000000000 open 2\n100.000000000 open 3\n100.000000000 open 4\n100.000000000 open 5\n100.000000000 open 6\n100.000000000 open 7\n100.000000000 piece 1 5a\n100.000000000 piece 1 42\n100.000000000 piece 1 58\n100.000000000 piece 1 43\n100.000000000 piece 2 5a4258\n100.000000000 piece 3 5a425844010a000000000000005b5b5b5b5b5b5b5b5b\n100.000000000 end 3\n100.000000000 frame 4 [[[[[[[[[[[[[[[[[[[[[[[[[[[[[[[[[[[[[[[[[[[[[[[[[[[[[[[[[[[[[[[[[[[[[[[[[[[[[[[[[[[[[[[[[[[[[[[[[[[[[[[[[[[[[[[[[[[[[[[[[[[[[[[[[[[[[[[[[[[[[[[[[[[[[[[[[[[[[[[[[[[[[[[[[[[[[[[[[[[[[[[[[[[[[[[[[[[[[[[[\n100.000000000 piece 5 5a425844010100000000000000ff\n100.000000000 frame 6 {\"request\":\"sender data\",\"data\":{}}\n100.000000000 frame 7 {\"request\":\"sender data\",\"data\":[1,null]}\n100.000000000 closed\n"
+}
+
+/// The report of a run over these: the first is closed at its fourth byte, and the next two get no reply.
+fn hostile_report() -> &'static str {
+    "Ok begun C1T2 1:0 4:1 5:2 6:3 7:4\n4 {\"response\":\"failed\",\"info\":\"not JSON\"}\n5 {\"response\":\"failed\",\"info\":\"not JSON\"}\n6 {\"response\":\"failed\",\"info\":\"unsupported request\"}\n7 {\"response\":\"success\",\"info\":\"processed: 0; failed: 2; total: 2; seconds spent: 0.000000\"}\nstatus: Ok; entries: 2; problems: 0; recoveries: 0; messages: 0; outbox bytes: 0\n"
+}
+
+/// The plain configuration with an action of three steps and a recovery, and a maintenance in which they wait.
+fn steps_config() -> &'static str {
+    "{\"hosts\":[{\"name\":\"h\",\"groups\":[\"g\"],\"items\":[{\"key\":\"k\"}],\"triggers\":[{\"name\":\"hot\",\"expression\":\"last(/h/k)>5\",\"severity\":3}]}],\"maintenances\":[{\"name\":\"night\",\"since\":0,\"till\":100000,\"hosts\":[\"h\"],\"periods\":[{\"kind\":\"once\",\"start\":235,\"length\":\"5m\"}]}],\"actions\":[{\"name\":\"act\",\"step_duration\":\"60s\",\"operations\":[{\"from\":1,\"to\":2,\"recipients\":[\"ops\"],\"subject\":\"{EVENT.NAME}\",\"body\":\"b1\"},{\"from\":3,\"to\":0,\"recipients\":[\"boss\"],\"subject\":\"{EVENT.NAME}\",\"body\":\"b2\"}],\"recovery\":[{\"recipients\":[\"ops\"],\"subject\":\"{EVENT.NAME}\",\"body\":\"ok\"}]}]}"
+}
+
+/// The value 10, moments that pass, and the value 1.
+fn steps() -> &'static str {
+    "120.000000000 open 1\n120.000000000 frame 1 {\"request\":\"sender data\",\"data\":[{\"host\":\"h\",\"key\":\"k\",\"value\":\"10\"}]}\n180.000000000 quiet\n240.000000000 quiet\n540.000000000 quiet\n550.000000000 open 2\n550.000000000 frame 2 {\"request\":\"sender data\",\"data\":[{\"host\":\"h\",\"key\":\"k\",\"value\":\"1\"}]}\n550.000000000 closed\n"
+}
+
+/// The lines of a run over these.
+pub(crate) fn steps_lines() -> &'static str {
+    "P|3-1|120.000000000|3|0|h|hot|hot\nS|3-1|act|1|120.000000000\nM|3-1|act|1|ops|hot|b1\nS|3-1|act|2|180.000000000\nM|3-1|act|2|ops|hot|b1\nS|3-1|act|3|540.000000000\nM|3-1|act|3|boss|hot|b2\nR|3-1|7|550.000000000|e\nM|3-1|act|0|ops|hot|ok\n"
+}
+
+/// The configuration for the script of a name.
+fn config_of(script: &str) -> &'static str {
+    match script {
+        "steps" => steps_config(),
+        _ => plain_config(),
+    }
+}
+
 /// The script of a name.
 fn script_of(name: &str) -> &'static str {
     match name {
@@ -458,6 +545,9 @@ fn script_of(name: &str) -> &'static str {
         "three" => three_frames(),
         "many" => many_frames(),
         "bad" => bad_frames(),
+        "halves" => halves(),
+        "hostile" => hostile(),
+        "steps" => steps(),
         _ => "",
     }
 }
@@ -472,20 +562,30 @@ fn unsent_report() -> &'static str {
     "Ok begun C1T2V3 1:1\nP|3-1|100.000000000|3|0|h|hot|hot\nstatus: Ok; entries: 3; problems: 1; recoveries: 0; messages: 0; outbox bytes: 34\n"
 }
 
+/// The report of a run whose line wasn't printed: all else is as without that fault.
+fn unprinted_report() -> &'static str {
+    "PrintFault begun C1T2V3 1:1\n1 {\"response\":\"success\",\"info\":\"processed: 1; failed: 0; total: 1; seconds spent: 0.000000\"}\nP|3-1|100.000000000|3|0|h|hot|hot\n"
+}
+
 /// What is wanted of a report, by a name. A write to the outbox that was refused is there all the same, since the run tries
 /// once more where it ends.
 fn report_of(name: &str) -> &'static str {
     match name {
         "no source" => "SourceFault not.. \nstatus: SourceFault\n",
+        "no outbox" => "OutboxFault not.. C1\nstatus: OutboxFault\n",
         "one frame" => one_frame_report(),
         "many frames" => many_frames_report(),
         "bad frames" => bad_frames_report(),
+        "halves" => halves_report(),
+        "first unsent" => first_unsent_report(),
+        "second unsent" => second_unsent_report(),
+        "hostile" => hostile_report(),
         "first write" => "0.000000\"}\nP|3-1|100.000000000|3|0|h|hot|hot\nstatus: OutboxFault\n",
         "second write" => "|hot\nR|3-1|4|100.000000000|e\nstatus: OutboxFault\n",
         "third write" => "|e\nF|5|h|k|value: not a number\nstatus: OutboxFault\n",
         "no wire" => wire_report(),
         "nothing sent" => unsent_report(),
-        "nothing printed" => "0.000000\"}\nP|3-1|100.000000000|3|0|h|hot|hot\n",
+        "nothing printed" => unprinted_report(),
         _ => "no such report",
     }
 }
@@ -502,25 +602,32 @@ fn is_so(alloc: Global, row: Row<'_>) -> Result<bool, OutOfMemory> {
     })
 }
 
-/// Each read of the configuration, each write to the outbox, a call of the wire, a send and the printer fail once. Events
+/// Each read of the configuration, each call of the outbox, of which the first looks whether it can be read, a call of the wire, a send and the printer fail once. Events
 /// are answered alike where they stand ready, which has them committed together, and where they don't.
 fn cases() -> &'static str {
     "is | no source | script=one source=1\n\
     is | no source | script=one source=2\n\
     is | one frame | script=one source=3\n\
-    ends | first write | script=many outbox=1\n\
-    ends | second write | script=many outbox=2\n\
-    ends | third write | script=many outbox=3\n\
-    ends | many frames | script=many outbox=4\n\
+    is | no outbox | script=one outbox=1\n\
+    ends | first write | script=many outbox=2\n\
+    ends | second write | script=many outbox=3\n\
+    ends | third write | script=many outbox=4\n\
+    ends | many frames | script=many outbox=5\n\
     is | no wire | script=one wire=2\n\
     is | nothing sent | script=one wire=3\n\
-    ends | nothing printed | script=one print=1\n\
+    is | nothing printed | script=one print=1\n\
     is | one frame | script=one ready=no\n\
     is | one frame | script=one ready=yes\n\
     is | many frames | script=many ready=no\n\
     is | many frames | script=many ready=yes\n\
     is | bad frames | script=bad ready=no\n\
-    is | bad frames | script=bad ready=yes"
+    is | bad frames | script=bad ready=yes\n\
+    is | halves | script=halves ready=no\n\
+    is | halves | script=halves ready=yes\n\
+    is | first unsent | script=halves wire=5\n\
+    is | second unsent | script=halves wire=7\n\
+    is | hostile | script=hostile ready=no\n\
+    is | hostile | script=hostile ready=yes"
 }
 
 #[test]

@@ -246,7 +246,7 @@ fn other_case<'a, R: Threads + Wait + Sync>(
 
 /// Syncers write what one thread writes, also where one is held anywhere. Behind the Tick entries are worked out beside the
 /// one that is held first: all but the first go out in orders of at most 64, and none is left to the end of the run. An
-/// outbox that fails holds the first lines.
+/// outbox that fails holds the first lines; one whose first call fails, which looks whether it can be read, ends the opening.
 fn few_cases() -> &'static str {
     "Ok same printed some | syncers=0\n\
     Ok same printed some | syncers=1\n\
@@ -273,16 +273,17 @@ fn few_cases() -> &'static str {
     Ok same printed | syncers=8 after=903 turns=100000\n\
     Ok same printed | syncers=8 after=354 turns=100000\n\
     Ok same printed | syncers=8 after=807 turns=100000\n\
-    failed front | syncers=4 first=1 last=1\n\
-    failed none | syncers=4 first=1 last=100\n\
-    ended front some | syncers=4 first=2 last=2\n\
-    ended front some | syncers=4 first=2 last=100\n\
+    failed none entries=1 | syncers=4 first=1 last=1\n\
+    failed front | syncers=4 first=2 last=2\n\
+    failed none | syncers=4 first=2 last=101\n\
     ended front some | syncers=4 first=3 last=3\n\
+    ended front some | syncers=4 first=3 last=101\n\
     ended front some | syncers=4 first=4 last=4\n\
-    ended front some | syncers=4 first=4 last=100\n\
     ended front some | syncers=4 first=5 last=5\n\
+    ended front some | syncers=4 first=5 last=101\n\
     ended front some | syncers=4 first=6 last=6\n\
-    ended front some | syncers=4 first=8 last=8"
+    ended front some | syncers=4 first=7 last=7\n\
+    ended front some | syncers=4 first=9 last=9"
 }
 
 #[test]
@@ -295,7 +296,7 @@ fn syncers_write_what_one_thread_writes(rt: HostRuntime) -> Result<(), Fail> {
 /// The same of many values; and no more entries are taken once the outbox failed.
 fn many_cases() -> &'static str {
     "Ok same entries=200028 orders=3126 other | syncers=4 after=2 turns=100000000\n\
-    failed none below=100000 | syncers=4 first=1 last=100"
+    failed none below=100000 | syncers=4 first=2 last=101"
 }
 
 #[test]

@@ -1,7 +1,7 @@
 -- Laws of what bars a run: one thing at most, and nothing where the journal and the outbox are accepted.
 use Rattle.std.proofs.Common.{◌≡◌, ◌⊎◌, ℕ, ◌+◌, ◌≤◌, ◌<◌, true, false, true≢false, List, [], ◌∷◌, ◌++◌, length, length-append, Option, Some, None, refl, sym, ap, ap₂, ◌∙◌, subst, arith, inl, inr, append_assoc}
 use Rattle.std.proofs.lemmas.Bool.Decides.{nat_tests}
-use Rattle.std.specs.Prelude.{nat_lt, ◌||◌, ◌==◌}
+use Rattle.std.specs.Prelude.{◌≢◌, nat_lt, ◌||◌, ◌==◌, get_or, is_some, IfSome}
 use Rattle.std.specs.List.{flat_map}
 use Rattle.std.specs.Option.{option_map}
 use Rattle.std.proofs.lemmas.Grind.{flat_map-append}
@@ -19,8 +19,12 @@ use Rattle.intake_front.specs.Fronted.{numbered_of}
 use Rattle.intake_front.specs.Misfit.{GroupsFit, IsFirstMisfit}
 use Rattle.server_words.specs.declared.status.Status.{Status}
 use Rattle.server_words.specs.declared.status.Status.TheVariants as status
-use Rattle.server_run.specs.Opening.{differ_at, kept_text, IsRejectedFor, IsRejected, IsAccepted, IsAhead, IsFullAtFirst, opening_lines}
-use Rattle.server_run.specs.Reasons.{Bars}
+use Rattle.server_run.specs.Opening.{differ_at, kept_text, IsRejectedFor, IsRejected, IsAccepted, IsFullAtFirst, opening_lines}
+use Rattle.server_run.specs.Outbox.{IsAhead, IsOther}
+use Rattle.server_run.specs.Reasons.{Bars, IsSeen, NamesOutbox}
+use Rattle.book.specs.Outgoing.{IsMendable}
+use Rattle.outside.specs.Others.{first_other}
+use Rattle.outside.specs.Tells.{SinkTells}
 use Rattle.server_run.proofs.Logs.{log_of-append, fits_front}
 use Rattle.entry_step.specs.Start.{first_start}
 
@@ -164,44 +168,64 @@ damaged_same b x y is other = let same : Damaged x ≡ Damaged y = sym is ∙ ot
 same_groups : (b : List ℕ) (g h : List Group) → groups_of (kept b) ≡ Some g → groups_of (kept b) ≡ Some h → g ≡ h
 same_groups b g h p q = some_same g h (sym p ∙ q)
 
-module _ (conf : Conf) (most held : ℕ) (b : List ℕ) (some : 0 < most) (short : length conf.text ≤ 16777216) where
+-- two first bytes that aren't those of lines are one, where they are told
+other_one : (bytes : Option (List ℕ)) (lines : List ℕ) (x y : ℕ) → is_some bytes ≡ true → IfSome bytes (λ b. (first_other 0 lines b ≡ Some x) × (get_or b x 0 ≢ 0)) → IfSome bytes (λ b. (first_other 0 lines b ≡ Some y) × (get_or b y 0 ≢ 0)) → x ≡ y
+other_one None lines x y told p q = absurd (true≢false (sym told))
+other_one (Some b) lines x y told p q = some_same x y (sym p.0 ∙ q.0)
+
+-- one that is a 0 isn't one that isn't
+other_zero : (bytes : Option (List ℕ)) (lines : List ℕ) (at : ℕ) → is_some bytes ≡ true → IfSome bytes (λ b. IfSome (first_other 0 lines b) (λ place. get_or b place 0 ≡ 0)) → IfSome bytes (λ b. (first_other 0 lines b ≡ Some at) × (get_or b at 0 ≢ 0)) → ⊥
+other_zero None lines at told zeros other = true≢false (sym told)
+other_zero (Some b) lines at told zeros other = other.1 (subst (λ o. IfSome o (λ place. get_or b place 0 ≡ 0)) other.0 zeros)
+
+module _ (conf : Conf) (most : ℕ) (outbox : SinkTells) (b : List ℕ) (some : 0 < most) (short : length conf.text ≤ 16777216) where
   -- what bars a run that has found groups
   abbrev BarsGroups : List Group → Status → Type 0
   BarsGroups groups (status.Damaged at) = IsRejected conf groups (status.Damaged at)
   BarsGroups groups (status.ConfigDiffers at) = IsRejected conf groups (status.ConfigDiffers at)
-  BarsGroups groups (status.OutboxAhead told lines) = IsAhead conf groups held told lines
+  BarsGroups groups (status.OutboxAhead told count) = IsAccepted conf groups × IsAhead outbox (opening_lines conf groups) told count
+  BarsGroups groups (status.OutboxDiffers at) = IsAccepted conf groups × IsOther outbox (opening_lines conf groups) at
   BarsGroups groups _ = ⊥
 
   abbrev Way : Status → Type 0
   Way u = ((u ≡ status.NotOurs) × (kept b ≡ NotOurs)) ⊎ (((at : ℕ) × (u ≡ status.Damaged at) × (kept b ≡ Damaged at)) ⊎ ((groups : List Group) × (groups_of (kept b) ≡ Some groups) × BarsGroups groups u))
 
   -- a run is barred by bytes that are no journal, by damage, or by the groups that they keep
-  ways : (s : Status) → Bars conf most (Some b) held s → Way s
+  ways : (s : Status) → Bars conf most (Some b) outbox s → Way s
   ways status.NotOurs is = inl (refl, is)
   ways (status.Damaged at) (inl is) = inr (inl (at, refl, is))
   ways (status.Damaged at) (inr (groups, found, why)) = inr (inr (groups, found, why))
   ways (status.ConfigDiffers at) (groups, found, why) = inr (inr (groups, found, why))
-  ways (status.OutboxAhead told lines) (groups, found, why) = inr (inr (groups, found, why))
+  ways (status.OutboxAhead told count) (groups, found, accepted, why) = inr (inr (groups, found, (accepted, why)))
+  ways (status.OutboxDiffers at) (groups, found, accepted, why) = inr (inr (groups, found, (accepted, why)))
   ways (status.Full entries bytes) (found, full) = absurd (has_room_first most conf entries bytes some short full)
   ways _ none = absurd none
 
-  groups_one : (groups : List Group) (s t : Status) → BarsGroups groups s → BarsGroups groups t → s ≡ t
-  groups_one groups (status.Damaged x) (status.Damaged y) p q = rejected_one conf groups (status.Damaged x) (status.Damaged y) p q
-  groups_one groups (status.Damaged x) (status.ConfigDiffers y) p q = rejected_one conf groups (status.Damaged x) (status.ConfigDiffers y) p q
-  groups_one groups (status.Damaged x) (status.OutboxAhead told lines) p q = absurd (rejected_not conf groups (status.Damaged x) q.0 p)
-  groups_one groups (status.Damaged x) _ p none = absurd none
-  groups_one groups (status.ConfigDiffers x) (status.Damaged y) p q = rejected_one conf groups (status.ConfigDiffers x) (status.Damaged y) p q
-  groups_one groups (status.ConfigDiffers x) (status.ConfigDiffers y) p q = rejected_one conf groups (status.ConfigDiffers x) (status.ConfigDiffers y) p q
-  groups_one groups (status.ConfigDiffers x) (status.OutboxAhead told lines) p q = absurd (rejected_not conf groups (status.ConfigDiffers x) q.0 p)
-  groups_one groups (status.ConfigDiffers x) _ p none = absurd none
-  groups_one groups (status.OutboxAhead told lines) (status.Damaged y) p q = absurd (rejected_not conf groups (status.Damaged y) p.0 q)
-  groups_one groups (status.OutboxAhead told lines) (status.ConfigDiffers y) p q = absurd (rejected_not conf groups (status.ConfigDiffers y) p.0 q)
-  groups_one groups (status.OutboxAhead told lines) (status.OutboxAhead told' lines') p q = ap₂ status.OutboxAhead (p.1 ∙ sym q.1) (p.2 ∙ sym q.2)
-  groups_one groups (status.OutboxAhead told lines) _ p none = absurd none
-  groups_one groups _ t none q = absurd none
+  groups_one : (groups : List Group) (s t : Status) → IsSeen outbox t → BarsGroups groups s → BarsGroups groups t → s ≡ t
+  groups_one groups (status.Damaged x) (status.Damaged y) seen p q = rejected_one conf groups (status.Damaged x) (status.Damaged y) p q
+  groups_one groups (status.Damaged x) (status.ConfigDiffers y) seen p q = rejected_one conf groups (status.Damaged x) (status.ConfigDiffers y) p q
+  groups_one groups (status.Damaged x) (status.OutboxAhead told count) seen p q = absurd (rejected_not conf groups (status.Damaged x) q.0 p)
+  groups_one groups (status.Damaged x) (status.OutboxDiffers y) seen p q = absurd (rejected_not conf groups (status.Damaged x) q.0 p)
+  groups_one groups (status.Damaged x) _ seen p none = absurd none
+  groups_one groups (status.ConfigDiffers x) (status.Damaged y) seen p q = rejected_one conf groups (status.ConfigDiffers x) (status.Damaged y) p q
+  groups_one groups (status.ConfigDiffers x) (status.ConfigDiffers y) seen p q = rejected_one conf groups (status.ConfigDiffers x) (status.ConfigDiffers y) p q
+  groups_one groups (status.ConfigDiffers x) (status.OutboxAhead told count) seen p q = absurd (rejected_not conf groups (status.ConfigDiffers x) q.0 p)
+  groups_one groups (status.ConfigDiffers x) (status.OutboxDiffers y) seen p q = absurd (rejected_not conf groups (status.ConfigDiffers x) q.0 p)
+  groups_one groups (status.ConfigDiffers x) _ seen p none = absurd none
+  groups_one groups (status.OutboxAhead told count) (status.Damaged y) seen p q = absurd (rejected_not conf groups (status.Damaged y) p.0 q)
+  groups_one groups (status.OutboxAhead told count) (status.ConfigDiffers y) seen p q = absurd (rejected_not conf groups (status.ConfigDiffers y) p.0 q)
+  groups_one groups (status.OutboxAhead told count) (status.OutboxAhead told' count') seen p q = ap₂ status.OutboxAhead (p.1.0 ∙ sym q.1.0) (p.1.1 ∙ sym q.1.1)
+  groups_one groups (status.OutboxAhead told count) (status.OutboxDiffers y) seen p q = absurd (omega (arith, p.1.0, p.1.1, p.1.2, q.1.0))
+  groups_one groups (status.OutboxAhead told count) _ seen p none = absurd none
+  groups_one groups (status.OutboxDiffers x) (status.Damaged y) seen p q = absurd (rejected_not conf groups (status.Damaged y) p.0 q)
+  groups_one groups (status.OutboxDiffers x) (status.ConfigDiffers y) seen p q = absurd (rejected_not conf groups (status.ConfigDiffers y) p.0 q)
+  groups_one groups (status.OutboxDiffers x) (status.OutboxAhead told count) seen p q = absurd (omega (arith, q.1.0, q.1.1, q.1.2, p.1.0))
+  groups_one groups (status.OutboxDiffers x) (status.OutboxDiffers y) seen p q = ap status.OutboxDiffers (other_one outbox.bytes (opening_lines conf groups) x y seen p.1.2 q.1.2)
+  groups_one groups (status.OutboxDiffers x) _ seen p none = absurd none
+  groups_one groups _ t seen none q = absurd none
 
-  pub bars_one : (s t : Status) → Bars conf most (Some b) held s → Bars conf most (Some b) held t → s ≡ t
-  bars_one s t p q = by (ways s p) (ways t q)
+  pub bars_one : (s t : Status) → IsSeen outbox t → Bars conf most (Some b) outbox s → Bars conf most (Some b) outbox t → s ≡ t
+  bars_one s t seen p q = by (ways s p) (ways t q)
     where
       by : Way s → Way t → s ≡ t
       by (inl (is, k)) (inl (is', k')) = is ∙ sym is'
@@ -212,19 +236,37 @@ module _ (conf : Conf) (most held : ℕ) (b : List ℕ) (some : 0 < most) (short
       by (inr (inl (at, is, k))) (inr (inr (groups, found, why))) = absurd (damaged_groups b at groups k found)
       by (inr (inr (groups, found, why))) (inl (is', k')) = absurd (not_ours_groups b groups k' found)
       by (inr (inr (groups, found, why))) (inr (inl (at, is', k'))) = absurd (damaged_groups b at groups k' found)
-      by (inr (inr (g, found, why))) (inr (inr (h, found', why'))) = groups_one g s t why (subst (λ x. BarsGroups x t) (same_groups b h g found' found) why')
+      by (inr (inr (g, found, why))) (inr (inr (h, found', why'))) = groups_one g s t seen why (subst (λ x. BarsGroups x t) (same_groups b h g found' found) why')
 
-  -- nothing bars a run whose groups are accepted and whose outbox holds no more than their lines
-  pub not_barred : (groups : List Group) (s : Status) → groups_of (kept b) ≡ Some groups → IsAccepted conf groups → held ≤ length (opening_lines conf groups) → Bars conf most (Some b) held s → ⊥
-  not_barred groups s found accepted enough bars = by (ways s bars)
-    where
-      no_groups : (s : Status) → BarsGroups groups s → ⊥
-      no_groups (status.Damaged at) why = rejected_not conf groups (status.Damaged at) accepted why
-      no_groups (status.ConfigDiffers at) why = rejected_not conf groups (status.ConfigDiffers at) accepted why
-      no_groups (status.OutboxAhead told lines) why = omega (arith, enough, why.2, why.3)
-      no_groups _ none = none
+  -- where the groups are accepted
+  module _ (groups : List Group) (found : groups_of (kept b) ≡ Some groups) (accepted : IsAccepted conf groups) where
+    by_groups : (s : Status) {P : Type 0} → (BarsGroups groups s → P) → Bars conf most (Some b) outbox s → P
+    by_groups s {P} goes bars = by (ways s bars)
+      where
+        by : Way s → P
+        by (inl (is, k)) = absurd (not_ours_groups b groups k found)
+        by (inr (inl (at, is, k))) = absurd (damaged_groups b at groups k found)
+        by (inr (inr (h, found', why))) = goes (subst (λ x. BarsGroups x s) (same_groups b h groups found' found) why)
 
-      by : ((s ≡ status.NotOurs) × (kept b ≡ NotOurs)) ⊎ (((at : ℕ) × (s ≡ status.Damaged at) × (kept b ≡ Damaged at)) ⊎ ((h : List Group) × (groups_of (kept b) ≡ Some h) × BarsGroups h s)) → ⊥
-      by (inl (is, k)) = not_ours_groups b groups k found
-      by (inr (inl (at, is, k))) = damaged_groups b at groups k found
-      by (inr (inr (h, found', why))) = no_groups s (subst (λ x. BarsGroups x s) (same_groups b h groups found' found) why)
+    -- nothing bars a run whose outbox may be completed to their lines
+    pub not_barred : (s : Status) → IsMendable outbox (opening_lines conf groups) → (outbox.held ≡ 0) ⊎ IsSeen outbox s → Bars conf most (Some b) outbox s → ⊥
+    not_barred s mendable seen bars = by_groups s (no_groups s seen) bars
+      where
+        no_groups : (s : Status) → (outbox.held ≡ 0) ⊎ IsSeen outbox s → BarsGroups groups s → ⊥
+        no_groups (status.Damaged at) seen why = rejected_not conf groups (status.Damaged at) accepted why
+        no_groups (status.ConfigDiffers at) seen why = rejected_not conf groups (status.ConfigDiffers at) accepted why
+        no_groups (status.OutboxAhead told count) seen why = omega (arith, mendable.enough, why.1.0, why.1.1, why.1.2)
+        no_groups (status.OutboxDiffers at) (inl none) why = omega (arith, none, why.1.1)
+        no_groups (status.OutboxDiffers at) (inr seen) why = other_zero outbox.bytes (opening_lines conf groups) at seen mendable.zeros why.1.2
+        no_groups _ seen none = none
+
+    -- what bars it names the outbox
+    pub outbox_only : (s : Status) → Bars conf most (Some b) outbox s → NamesOutbox s
+    outbox_only s bars = by_groups s (names s) bars
+      where
+        names : (s : Status) → BarsGroups groups s → NamesOutbox s
+        names (status.Damaged at) why = absurd (rejected_not conf groups (status.Damaged at) accepted why)
+        names (status.ConfigDiffers at) why = absurd (rejected_not conf groups (status.ConfigDiffers at) accepted why)
+        names (status.OutboxAhead told count) why = tt
+        names (status.OutboxDiffers at) why = tt
+        names _ none = absurd none

@@ -8,6 +8,7 @@ use Rattle.zbx_types.specs.declared.conf.Conf.{Conf}
 use Rattle.zbx_types.specs.declared.entries.Entry.{Entry}
 use Rattle.zbx_types.specs.declared.entries.Numbered.{Numbered}
 use Rattle.outside.specs.Causes.{Rose}
+use Rattle.outside.specs.Tells.{SinkTells}
 use Rattle.outside.specs.Disk.{DiskTells, LeavesOnly}
 use Rattle.intake_journal.specs.Block.{entries_with_all, bytes_with_all, passes_with_all, opened_bytes}
 use Rattle.intake_journal.specs.Bytes.{entries_bytes}
@@ -187,13 +188,13 @@ module _ {D : Type 0} (tells : D → DiskTells)
         ),
       )
 
-  pub turned_at_front : (held : ℕ) (new : D) (entries : List Numbered) (e : FrontError) → entries ≡ kept
+  pub turned_at_front : (outbox outbox' : SinkTells) (new : D) (entries : List Numbered) (e : FrontError) → entries ≡ kept
       → ((a b : ℕ) → e ≡ front.Full a b → (kept ≡ []) × IsTrue (passes_with_all journal (first_group conf.text ∷ []))
       × (a ≡ entries_with_all journal (first_group conf.text ∷ [])) × (b ≡ bytes_with_all journal (first_group conf.text ∷ [])))
       → (e ≡ front.DiskFault → (kept ≡ []) × Rose (tells journal.disk).faults (tells new).faults) → (e ≢ front.DiskFault → new ≡ journal.disk) → (tells journal.disk).faults ≤ (tells new).faults
       → is_some (tells new).bytes ≡ is_some (tells journal.disk).bytes → IfSome (tells journal.disk).bytes (λ _. LeavesOnly (tells journal.disk) (tells new) (KeepsEither kept begins))
-      → TurnedAway conf most held (tells old) (tells new) entries (status_for e)
-  turned_at_front held new entries e back full fault same later told left = record {
+      → TurnedAway conf most (tells old) (tells new) outbox outbox' entries (status_for e)
+  turned_at_front outbox outbox' new entries e back full fault same later told left = record {
     told = told ∙ t.goes_on.told;
     later = omega (arith, t.goes_on.later, later);
     why = why e full fault;
@@ -205,7 +206,7 @@ module _ {D : Type 0} (tells : D → DiskTells)
       why : (e : FrontError)
           → ((a b : ℕ) → e ≡ front.Full a b → (kept ≡ []) × IsTrue (passes_with_all journal (first_group conf.text ∷ []))
           × (a ≡ entries_with_all journal (first_group conf.text ∷ [])) × (b ≡ bytes_with_all journal (first_group conf.text ∷ [])))
-          → (e ≡ front.DiskFault → (kept ≡ []) × Rose (tells journal.disk).faults (tells new).faults) → Unopened conf most (tells old) (tells new) held (status_for e)
+          → (e ≡ front.DiskFault → (kept ≡ []) × Rose (tells journal.disk).faults (tells new).faults) → Unopened conf most (tells old) (tells new) outbox outbox' (status_for e)
       why (front.Full a b) full fault = let f = full a b refl in full_at_first a b f.0 f.1 f.2 f.3
       why front.DiskFault full fault = rose_since (tells old).faults (tells journal.disk).faults (tells new).faults t.goes_on.later (fault refl).1
       why front.OutOfMemory full fault = tt
@@ -233,12 +234,12 @@ module _ {D : Type 0} (tells : D → DiskTells)
 -- ---- a journal that isn't taken up
 
 -- one that couldn't be read
-unread_unopened : (conf : Conf) (most held : ℕ) (old new : DiskTells) (s : Status) → IsUnread old.bytes old.faults new.faults s → Unopened conf most old new held s
-unread_unopened conf most held old new status.NotOurs why = why
-unread_unopened conf most held old new (status.Damaged at) why = inl why
-unread_unopened conf most held old new status.DiskFault why = why
-unread_unopened conf most held old new status.OutOfMemory why = tt
-unread_unopened conf most held old new _ none = absurd none
+unread_unopened : (conf : Conf) (most : ℕ) (old new : DiskTells) (outbox outbox' : SinkTells) (s : Status) → IsUnread old.bytes old.faults new.faults s → Unopened conf most old new outbox outbox' s
+unread_unopened conf most old new outbox outbox' status.NotOurs why = why
+unread_unopened conf most old new outbox outbox' (status.Damaged at) why = inl why
+unread_unopened conf most old new outbox outbox' status.DiskFault why = why
+unread_unopened conf most old new outbox outbox' status.OutOfMemory why = tt
+unread_unopened conf most old new outbox outbox' _ none = absurd none
 
 -- of which no entries are had
 unread_has : (Begins Found : List Numbered → Type 0) (old new : DiskTells) (s : Status) → IsUnread old.bytes old.faults new.faults s → has_for (reason_of s) old.bytes Begins Found []
@@ -262,28 +263,28 @@ rejected_by : (conf : Conf) (groups : List Group) (s : Status) (P : Status → T
 rejected_by conf [] s P damaged differs none = absurd none
 rejected_by conf (g ∷ gs) s P damaged differs why = rejected_as conf (g ∷ gs) (kept_text (g ∷ gs)) s P damaged differs why why
 
-module _ (conf : Conf) (most held : ℕ) (old new : DiskTells) (on : GoesOn old new) where
+module _ (conf : Conf) (most : ℕ) (old new : DiskTells) (outbox outbox' : SinkTells) (on : GoesOn old new) where
   turned_back : (entries : List Numbered) (s : Status) → (entries ≡ []) ⊎ FoundEntries old.bytes conf entries
-      → has_for (reason_of s) old.bytes (BeginningEntries old.bytes conf) (FoundEntries old.bytes conf) entries → Unopened conf most old new held s → TurnedAway conf most held old new entries s
+      → has_for (reason_of s) old.bytes (BeginningEntries old.bytes conf) (FoundEntries old.bytes conf) entries → Unopened conf most old new outbox outbox' s → TurnedAway conf most old new outbox outbox' entries s
   turned_back entries s found has why =
       record { told = on.told; later = on.later; why = why; found = found; has = has; left = none_more old new (enters_for (reason_of s) (FoundEntries old.bytes conf)) on }
 
-  pub turned_unread : (s : Status) → IsUnread old.bytes old.faults new.faults s → TurnedAway conf most held old new [] s
-  turned_unread s why = turned_back [] s (inl refl) (unread_has _ _ old new s why) (unread_unopened conf most held old new s why)
+  pub turned_unread : (s : Status) → IsUnread old.bytes old.faults new.faults s → TurnedAway conf most old new outbox outbox' [] s
+  turned_unread s why = turned_back [] s (inl refl) (unread_has _ _ old new s why) (unread_unopened conf most old new outbox outbox' s why)
 
-  pub turned_rejected : (groups : List Group) (entries : List Numbered) (s : Status) → FoundGroups old.bytes groups → IsRejected conf groups s → entries ≡ numbered_of groups → TurnedAway conf most held old new entries s
+  pub turned_rejected : (groups : List Group) (entries : List Numbered) (s : Status) → FoundGroups old.bytes groups → IsRejected conf groups s → entries ≡ numbered_of groups → TurnedAway conf most old new outbox outbox' entries s
   turned_rejected groups entries s found why is = turned_back entries s (inr (groups, found, inl is))
       (rejected_by conf groups s (λ t. has_for (reason_of t) old.bytes (BeginningEntries old.bytes conf) (FoundEntries old.bytes conf) entries) (λ at w. kept) (λ at w. kept) why)
-      (rejected_by conf groups s (λ t. Unopened conf most old new held t) (λ at w. inr (groups, found, w)) (λ at w. (groups, found, w)) why)
+      (rejected_by conf groups s (λ t. Unopened conf most old new outbox outbox' t) (λ at w. inr (groups, found, w)) (λ at w. (groups, found, w)) why)
     where
       kept : IfSome old.bytes (λ b. entries ≡ unwrap_or (kept_entries b) [])
       kept = has_kept old.bytes groups entries found is
 
 -- a journal that was recovered, of which this is said
-pub turned_judged : {D : Type 0} (tells : D → DiskTells) (conf : Conf) (most held : ℕ) (old new : D) → GoesOn (tells old) (tells new) → (journal : Journaled D) (numbering : Numbering) (s : Status) → new ≡ journal.disk
-    → IsRecovered tells conf old journal numbering → ((groups : List Group) → IsNumbered conf groups numbering → IsRejected conf groups s) → TurnedAway conf most held (tells old) (tells new) numbering.entries s
-turned_judged tells conf most held old new on journal numbering s same r why =
-    turned_rejected conf most held (tells old) (tells new) on r.groups numbering.entries s r.found (why r.groups r.numbered) r.numbered.entries_are
+pub turned_judged : {D : Type 0} (tells : D → DiskTells) (conf : Conf) (most : ℕ) (old new : D) (outbox outbox' : SinkTells) → GoesOn (tells old) (tells new) → (journal : Journaled D) (numbering : Numbering) (s : Status) → new ≡ journal.disk
+    → IsRecovered tells conf old journal numbering → ((groups : List Group) → IsNumbered conf groups numbering → IsRejected conf groups s) → TurnedAway conf most (tells old) (tells new) outbox outbox' numbering.entries s
+turned_judged tells conf most old new outbox outbox' on journal numbering s same r why =
+    turned_rejected conf most (tells old) (tells new) outbox outbox' on r.groups numbering.entries s r.found (why r.groups r.numbered) r.numbered.entries_are
 
 -- one that is taken up
 pub taken_up : {D : Type 0} (tells : D → DiskTells) (conf : Conf) (most : ℕ) (old : D) (journal : Journaled D) (numbering : Numbering)

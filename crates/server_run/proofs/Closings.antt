@@ -1,6 +1,6 @@
 -- Laws of how a whole run ends.
 use Rattle.std.proofs.Common.{◌≡◌, ◌⊎◌, ⊎_elim, ℕ, ◌+◌, ◌-◌, ◌==◌, ◌≤◌, ◌<◌, [], ◌∷◌, ◌++◌, append-nil, take, All, slice_get, if◌then◌else◌, Bool, true, false, true≢false, List, length, Option, Some, None, refl, sym, ap, ◌∙◌, subst, arith, inl, inr}
-use Rattle.std.specs.Prelude.{Ok, IfSome, IsSomeAnd, is_some, chars}
+use Rattle.std.specs.Prelude.{Ok, IfSome, IsSome, IsSomeAnd, is_some, chars}
 use Rattle.zbx_types.specs.declared.causes.Cause.{Cause}
 use Rattle.zbx_types.specs.declared.conf.Conf.{Conf}
 use Rattle.zbx_types.specs.declared.entries.Numbered.{Numbered}
@@ -14,6 +14,7 @@ use Rattle.intake_front.specs.Fronted.{Keeps, numbered_of}
 use Rattle.intake_front.specs.declared.answer.Stop.{Stop}
 use Rattle.intake_front.specs.declared.answer.Stop.TheVariants as stop
 use Rattle.server_words.specs.declared.words.Plan.{Plan}
+use Rattle.server_words.specs.declared.status.Counts.{Counts}
 use Rattle.server_words.specs.declared.status.Status.{Status}
 use Rattle.server_words.specs.declared.status.Status.TheVariants as status
 use Rattle.server_words.specs.Words.{plan_of}
@@ -26,18 +27,19 @@ use Rattle.zbx_types.specs.Ids.{at_id}
 use Rattle.pattern_set.specs.Patterns.{IsPattern, IsNoPattern}
 use Rattle.server_run.specs.Patterns.{HasFlawAt, HoldsBrace}
 use Rattle.server_run.specs.Opening.{IsAccepted, opening_lines}
-use Rattle.server_run.specs.Reasons.{Bars}
+use Rattle.server_run.specs.Reasons.{Bars, IsSeen, NamesOutbox}
+use Rattle.book.specs.Outgoing.{IsMendable}
 use Rattle.server_run.specs.Statuses.{Ending, at_limit, at_full, YieldsTo, EndsPrinted}
-use Rattle.server_run.specs.Stops.{refusing, Journals}
+use Rattle.server_run.specs.Stops.{refusing}
 use Rattle.server_run.specs.Events.{Doing}
-use Rattle.server_run.specs.Runs.{Configured, Refuses, IsBarred, Finished, Followed, limits_by, opening_intake}
+use Rattle.server_run.specs.Runs.{Objects, Configured, Refuses, IsBarred, Finished, Followed, limits_by, opening_intake}
 use Rattle.std.specs.Option.{option_to_list}
 use Rattle.std.proofs.Math.Seq.{take-append-add}
 use Rattle.outside.specs.declared.event.WireEvent.{WireEvent}
 use Rattle.intake_front.specs.Intake.{Limits, Intake}
 use Rattle.intake_front.specs.Served.{Served, served_on, served_from, served}
 use Rattle.server_run.proofs.Handling.{served_from-append}
-use Rattle.server_run.proofs.Barring.{bars_one, not_barred}
+use Rattle.server_run.proofs.Barring.{bars_one, not_barred, outbox_only}
 use Rattle.server_run.proofs.Runs.{same_flaw}
 use Rattle.server_run.proofs.Texts.{at_end_of}
 
@@ -87,61 +89,63 @@ of_source (Some x) text P is p = subst P (some_text x text is) p
 flat_not : (text : List ℕ) (conf : Conf) (path : List ℕ) (cause : Cause) → flat_of text ≡ Ok conf → flat_of text ≡ refuse path cause → ⊥
 flat_not text conf path cause found refused = cc
 
-module _ (words : List (List ℕ)) (source : Option (List ℕ)) (faults faults' held : ℕ) (old new : DiskTells) (plan : Plan) (text : List ℕ) (conf : Conf) (b : List ℕ)
-    (plan_is : plan_of words ≡ Some plan) (some : 0 < plan.max_entries) (source_is : source ≡ Some text) (conf_is : flat_of text ≡ Ok conf) (file_is : old.bytes ≡ Some b) where
+module _ (words : List (List ℕ)) (before after : Objects) (plan : Plan) (text : List ℕ) (conf : Conf) (b : List ℕ)
+    (plan_is : plan_of words ≡ Some plan) (some : 0 < plan.max_entries) (source_is : before.source ≡ Some text) (conf_is : flat_of text ≡ Ok conf) (file_is : before.disk.bytes ≡ Some b) where
   -- what bars a run is said of this plan, this configuration and this file
-  bar_here : (s : Status) → IsBarred words source old.bytes held s → Bars conf plan.max_entries (Some b) held s × (length conf.text ≤ 16777216)
+  bar_here : (s : Status) → IsBarred words before s → Bars conf plan.max_entries (Some b) before.outbox s × (length conf.text ≤ 16777216)
   bar_here s (plan', conf', c, why) =
-      let same = config_same words source plan' conf' conf text c source_is conf_is in
+      let same = config_same words before.source plan' conf' conf text c source_is conf_is in
       let plans : plan' ≡ plan = plan_same words plan' plan c.plan_is plan_is in (
-        subst (λ o. Bars conf plan.max_entries o held s) file_is (subst (λ (p : Plan). Bars conf p.max_entries old.bytes held s) plans (subst (λ (k : Conf). Bars k plan'.max_entries old.bytes held s) same why)),
-        subst (λ (k : Conf). length k.text ≤ 16777216) same (short_text words source plan' conf' c),
+        subst (λ o. Bars conf plan.max_entries o before.outbox s) file_is
+            (subst (λ (p : Plan). Bars conf p.max_entries before.disk.bytes before.outbox s) plans (subst (λ (k : Conf). Bars k plan'.max_entries before.disk.bytes before.outbox s) same why)),
+        subst (λ (k : Conf). length k.text ≤ 16777216) same (short_text words before.source plan' conf' c),
       )
 
   -- two things that bar a run are one
-  same_bar : (t : Status) → Bars conf plan.max_entries (Some b) held t → (s : Status) → IsBarred words source old.bytes held s → s ≡ t
-  same_bar t bars s barred = let here = bar_here s barred in bars_one conf plan.max_entries held b some here.1 s t here.0 bars
+  same_bar : (t : Status) → Bars conf plan.max_entries (Some b) before.outbox t → IsSeen before.outbox t → (s : Status) → IsBarred words before s → s ≡ t
+  same_bar t bars seen s barred = let here = bar_here s barred in bars_one conf plan.max_entries before.outbox b some here.1 s t seen here.0 bars
 
   -- what bars a run that didn't begin is its status, or another fault stood before it
-  pub bars_unbegun : (t : Status) → Bars conf plan.max_entries (Some b) held t → (s : Status) → Refuses words source faults faults' old new held s → (s ≡ t) ⊎ YieldsTo s
-  bars_unbegun t bars status.Usage (inl none) = absurd (cc)
-  bars_unbegun t bars status.SourceFault (inl why) = inr (inl refl)
-  bars_unbegun t bars status.OutOfMemory why = inr (inr (inr (inl refl)))
-  bars_unbegun t bars (status.PatternRefused path) (inl why) = inr (inr (inr (inr tt)))
-  bars_unbegun t bars (status.PatternTooLarge path) (inl why) = inr (inr (inr (inr tt)))
-  bars_unbegun t bars (status.ConfigRefused path cause) (inl why) = absurd (flat_not text conf path cause conf_is (of_source source text (λ x. flat_of x ≡ refuse path cause) source_is why.1))
-  bars_unbegun t bars status.DiskFault (inr why) = inr (inr (inl refl))
-  bars_unbegun t bars status.NotOurs (inr why) = inl (same_bar t bars status.NotOurs why)
-  bars_unbegun t bars (status.Damaged at) (inr why) = inl (same_bar t bars (status.Damaged at) why)
-  bars_unbegun t bars (status.ConfigDiffers at) (inr why) = inl (same_bar t bars (status.ConfigDiffers at) why)
-  bars_unbegun t bars (status.OutboxAhead told lines) (inr why) = inl (same_bar t bars (status.OutboxAhead told lines) why)
-  bars_unbegun t bars (status.Full entries bytes) (inr why) = inl (same_bar t bars (status.Full entries bytes) why)
-  bars_unbegun t bars _ (inl none) = absurd none
-  bars_unbegun t bars _ (inr why) = absurd why.3
+  pub bars_unbegun : (t : Status) → Bars conf plan.max_entries (Some b) before.outbox t → IsSeen before.outbox t → (s : Status) → Refuses words before after s → (s ≡ t) ⊎ (YieldsTo s ⊎ (NamesOutbox t × (s ≡ status.OutboxFault)))
+  bars_unbegun t bars seen status.Usage (inl none) = absurd (cc)
+  bars_unbegun t bars seen status.SourceFault (inl why) = inr (inl (inl refl))
+  bars_unbegun t bars seen status.OutOfMemory why = inr (inl (inr (inr (inl refl))))
+  bars_unbegun t bars seen (status.PatternRefused path) (inl why) = inr (inl (inr (inr (inr tt))))
+  bars_unbegun t bars seen (status.PatternTooLarge path) (inl why) = inr (inl (inr (inr (inr tt))))
+  bars_unbegun t bars seen (status.ConfigRefused path cause) (inl why) = absurd (flat_not text conf path cause conf_is (of_source before.source text (λ x. flat_of x ≡ refuse path cause) source_is why.1))
+  bars_unbegun t bars seen status.DiskFault (inr why) = inr (inl (inr (inl refl)))
+  bars_unbegun t bars seen status.OutboxFault (inr (plan', conf', c, (groups, found, accepted, rose))) =
+      let same : conf' ≡ conf = config_same words before.source plan' conf' conf text c source_is conf_is in
+      let short : length conf.text ≤ 16777216 = subst (λ (k : Conf). length k.text ≤ 16777216) same (short_text words before.source plan' conf' c) in
+      inr (inr (outbox_only conf plan.max_entries before.outbox b some short groups (found_same before.disk.bytes b groups file_is found) (subst (λ (k : Conf). IsAccepted k groups) same accepted) t bars, refl))
+  bars_unbegun t bars seen status.NotOurs (inr why) = inl (same_bar t bars seen status.NotOurs why)
+  bars_unbegun t bars seen (status.Damaged at) (inr why) = inl (same_bar t bars seen (status.Damaged at) why)
+  bars_unbegun t bars seen (status.ConfigDiffers at) (inr why) = inl (same_bar t bars seen (status.ConfigDiffers at) why)
+  bars_unbegun t bars seen (status.OutboxAhead told count) (inr why) = inl (same_bar t bars seen (status.OutboxAhead told count) why)
+  bars_unbegun t bars seen (status.OutboxDiffers at) (inr why) = inl (same_bar t bars seen (status.OutboxDiffers at) why)
+  bars_unbegun t bars seen (status.Full entries bytes) (inr why) = inl (same_bar t bars seen (status.Full entries bytes) why)
+  bars_unbegun t bars seen _ (inl none) = absurd none
+  bars_unbegun t bars seen _ (inr why) = absurd why.3
 
   -- a run that began isn't barred
-  pub bars_begun : (t : Status) → Bars conf plan.max_entries (Some b) held t → (did : Doing) (wire wire' : WireTells) (s : Status) (entries : List Numbered) → Followed words source old.bytes held did wire wire' s entries → ⊥
-  bars_begun t bars did wire wire' s entries f =
-      let same = config_same words source f.plan f.conf conf text f.configured source_is conf_is in
-      let bars' : Bars f.conf plan.max_entries (Some b) held t = subst (λ (c : Conf). Bars c plan.max_entries (Some b) held t) (sym same) bars in
-      not_barred f.conf plan.max_entries held b some (short_text words source f.plan f.conf f.configured) f.groups t (found_same old.bytes b f.groups file_is f.found) f.accepted f.enough bars'
+  pub bars_begun : (t : Status) → Bars conf plan.max_entries (Some b) before.outbox t → IsSeen before.outbox t → (s : Status) (entries : List Numbered) (IsTold : Counts → Type 0) → Followed words before after s entries IsTold → ⊥
+  bars_begun t bars seen s entries IsTold f =
+      let same = config_same words before.source f.plan f.conf conf text f.configured source_is conf_is in
+      let bars' : Bars f.conf plan.max_entries (Some b) before.outbox t = subst (λ (c : Conf). Bars c plan.max_entries (Some b) before.outbox t) (sym same) bars in
+      not_barred f.conf plan.max_entries before.outbox b some (short_text words before.source f.plan f.conf f.configured) f.groups (found_same before.disk.bytes b f.groups file_is f.found) f.accepted t f.mendable (inr seen) bars'
 
-module _ (also : List ℕ → Type 0) (old new : DiskTells)
-    (words : List (List ℕ)) (source file : Option (List ℕ)) (held : ℕ) (wire wire' : WireTells) (entries : List Numbered) where
-  abbrev doing : Doing
-  doing = Journals also old new
-
+module _ (words : List (List ℕ)) (before after : Objects) (entries : List Numbered) (IsTold : Counts → Type 0) where
   -- a run that ended by a fault of its disk
-  pub disk_fault : (s : Status) → s ≡ status.DiskFault → Followed words source file held doing wire wire' s entries → Rose old.faults new.faults
+  pub disk_fault : (s : Status) → s ≡ status.DiskFault → Followed words before after s entries IsTold → Rose before.disk.faults after.disk.faults
   disk_fault s is f =
-      let g : Followed words source file held doing wire wire' status.DiskFault entries = subst (λ t. Followed words source file held doing wire wire' t entries) is f in
+      let g : Followed words before after status.DiskFault entries IsTold = subst (λ t. Followed words before after t entries IsTold) is f in
       g.finished.journaled.fault g.finished.ends.0
 
   -- a run whose disk didn't fail leaves its entries
-  pub keeps_at_end : (s : Status) → Followed words source file held doing wire wire' s entries → (Rose old.faults new.faults → ⊥) → IfSome new.bytes (Keeps entries)
-  keeps_at_end s f none = first new.bytes (f.finished.journaled.kept (λ is. none (f.finished.journaled.fault is)))
+  pub keeps_at_end : (s : Status) → Followed words before after s entries IsTold → (Rose before.disk.faults after.disk.faults → ⊥) → IfSome after.disk.bytes (Keeps entries)
+  keeps_at_end s f none = first after.disk.bytes (f.finished.journaled.kept (λ is. none (f.finished.journaled.fault is)))
     where
-      first : (o : Option (List ℕ)) → IfSome o (λ b. Keeps entries b × ((c : List ℕ) → new.images c → Keeps entries c)) → IfSome o (Keeps entries)
+      first : (o : Option (List ℕ)) → IfSome o (λ b. Keeps entries b × ((c : List ℕ) → after.disk.images c → Keeps entries c)) → IfSome o (Keeps entries)
       first None k = tt
       first (Some b) k = k.0
 
@@ -168,34 +172,44 @@ deep_or_not (Some a) depth limit within (inr above) = omega (arith, within, abov
 no_pattern : (pattern : List ℕ) → IsPattern pattern → IsNoPattern pattern → ⊥
 no_pattern pattern is flaw = deep_or_not (read default_config (chars pattern)) (λ p. p.0.depth) default_config.nest_limit is flaw
 
-module _ (words : List (List ℕ)) (source : Option (List ℕ)) (faults faults' held : ℕ) (old new : DiskTells) (plan : Plan) (text : List ℕ) (conf : Conf) (b : List ℕ) (groups : List Group)
-    (plan_is : plan_of words ≡ Some plan) (some : 0 < plan.max_entries) (source_is : source ≡ Some text) (conf_is : flat_of text ≡ Ok conf) (file_is : old.bytes ≡ Some b)
-    (found : groups_of (kept b) ≡ Some groups) (accepted : IsAccepted conf groups) (enough : held ≤ length (opening_lines conf groups))
-    (source_well : Rose faults faults' → ⊥) (disk_well : Rose old.faults new.faults → ⊥) (patterns : All IsPattern conf.patterns) where
+module _ (words : List (List ℕ)) (before after : Objects) (plan : Plan) (text : List ℕ) (conf : Conf) (b : List ℕ) (groups : List Group)
+    (plan_is : plan_of words ≡ Some plan) (some : 0 < plan.max_entries) (source_is : before.source ≡ Some text) (conf_is : flat_of text ≡ Ok conf) (file_is : before.disk.bytes ≡ Some b)
+    (found : groups_of (kept b) ≡ Some groups) (accepted : IsAccepted conf groups) (mendable : IsMendable before.outbox (opening_lines conf groups)) (seen : (before.outbox.held ≡ 0) ⊎ IsSome before.outbox.bytes)
+    (source_well : Rose before.source_faults after.source_faults → ⊥) (disk_well : Rose before.disk.faults after.disk.faults → ⊥) (outbox_well : Rose before.outbox.faults after.outbox.faults → ⊥)
+    (patterns : All IsPattern conf.patterns) where
+  seen_at : (s : Status) → (before.outbox.held ≡ 0) ⊎ IsSeen before.outbox s
+  seen_at s = ⊎_elim (λ none. inl none) (λ told. inr (at s told)) seen
+    where
+      at : (s : Status) → IsSome before.outbox.bytes → IsSeen before.outbox s
+      at (status.OutboxDiffers place) told = told
+      at _ told = tt
+
   -- what is accepted isn't barred
-  isnt_barred : (s : Status) → IsBarred words source old.bytes held s → ⊥
+  isnt_barred : (s : Status) → IsBarred words before s → ⊥
   isnt_barred s barred =
-      let here = bar_here words source faults faults' held old new plan text conf b plan_is some source_is conf_is file_is s barred in
-      not_barred conf plan.max_entries held b some here.1 groups s found accepted enough here.0
+      let here = bar_here words before after plan text conf b plan_is some source_is conf_is file_is s barred in
+      not_barred conf plan.max_entries before.outbox b some here.1 groups found accepted s mendable (seen_at s) here.0
 
   -- so its run begins, unless memory is refused or a pattern is too large
-  pub begins_well : (s : Status) → Refuses words source faults faults' old new held s → (s ≡ status.OutOfMemory) ⊎ ((path : List ℕ) × (s ≡ status.PatternTooLarge path))
+  pub begins_well : (s : Status) → Refuses words before after s → (s ≡ status.OutOfMemory) ⊎ ((path : List ℕ) × (s ≡ status.PatternTooLarge path))
   begins_well status.Usage (inl none) = absurd (cc)
   begins_well status.SourceFault (inl why) = absurd (source_well why.1)
   begins_well status.OutOfMemory why = inl refl
   begins_well (status.PatternTooLarge path) (inl why) = inr (path, refl)
-  begins_well (status.PatternRefused path) (inl why) = absurd (flawed (of_source source text (HasFlawAt IsNoPattern path) source_is why.1))
+  begins_well (status.PatternRefused path) (inl why) = absurd (flawed (of_source before.source text (HasFlawAt IsNoPattern path) source_is why.1))
     where
       flawed : HasFlawAt IsNoPattern path text → ⊥
       flawed u =
           let same = conf_same text conf u.conf conf_is u.conf_is in
           no_pattern u.flawed.pattern (all_with_id IsPattern u.conf.patterns u.flawed.place u.flawed.pattern (subst (λ (k : Conf). All IsPattern k.patterns) same patterns) u.flawed.pattern_is) u.flawed.flaw
-  begins_well (status.ConfigRefused path cause) (inl why) = absurd (flat_not text conf path cause conf_is (of_source source text (λ x. flat_of x ≡ refuse path cause) source_is why.1))
+  begins_well (status.ConfigRefused path cause) (inl why) = absurd (flat_not text conf path cause conf_is (of_source before.source text (λ x. flat_of x ≡ refuse path cause) source_is why.1))
   begins_well status.DiskFault (inr why) = absurd (disk_well why.3)
+  begins_well status.OutboxFault (inr (plan', conf', c, (h, found', accepted', rose))) = absurd (outbox_well rose)
   begins_well status.NotOurs (inr why) = absurd (isnt_barred status.NotOurs why)
   begins_well (status.Damaged at) (inr why) = absurd (isnt_barred (status.Damaged at) why)
   begins_well (status.ConfigDiffers at) (inr why) = absurd (isnt_barred (status.ConfigDiffers at) why)
-  begins_well (status.OutboxAhead told lines) (inr why) = absurd (isnt_barred (status.OutboxAhead told lines) why)
+  begins_well (status.OutboxAhead told count) (inr why) = absurd (isnt_barred (status.OutboxAhead told count) why)
+  begins_well (status.OutboxDiffers at) (inr why) = absurd (isnt_barred (status.OutboxDiffers at) why)
   begins_well (status.Full entries bytes) (inr why) = absurd (isnt_barred (status.Full entries bytes) why)
   begins_well _ (inl none) = absurd none
   begins_well _ (inr why) = absurd why.3
@@ -264,15 +278,15 @@ fault_before s ended t (own, inl same) is spent cut = sym same ∙ is
 fault_before s ended t (own, inr (inl none)) is spent cut = absurd (spent (sym is ∙ none))
 fault_before s ended t (own, inr (inr (printed, well))) is spent cut = absurd (cut (sym is ∙ printed))
 
-module _ (words : List (List ℕ)) (source file : Option (List ℕ)) (held : ℕ) (did : Doing) (wire wire' : WireTells) (entries : List Numbered) (plan : Plan) (text : List ℕ) (conf : Conf) (b : List ℕ) (groups : List Group) (all : List WireEvent)
-    (plan_is : plan_of words ≡ Some plan) (source_is : source ≡ Some text) (conf_is : flat_of text ≡ Ok conf) (file_is : file ≡ Some b) (found : groups_of (kept b) ≡ Some groups) (left : wire.left ≡ Some all)
+module _ (words : List (List ℕ)) (before after : Objects) (entries : List Numbered) (IsTold : Counts → Type 0) (plan : Plan) (text : List ℕ) (conf : Conf) (b : List ℕ) (groups : List Group) (all : List WireEvent)
+    (plan_is : plan_of words ≡ Some plan) (source_is : before.source ≡ Some text) (conf_is : flat_of text ≡ Ok conf) (file_is : before.disk.bytes ≡ Some b) (found : groups_of (kept b) ≡ Some groups) (left : before.wire.left ≡ Some all)
     (closes : (served (limits_by plan) conf (opening_intake conf groups) (take plan.turns all)).stop ≡ Some stop.Closed) where
-  closes_too : {s : Status} (f : Followed words source file held did wire wire' s entries)
+  closes_too : {s : Status} (f : Followed words before after s entries IsTold)
       → (served (refusing (limits_by f.plan) 0) f.conf (opening_intake f.conf f.groups) (take f.plan.turns all)).stop ≡ Some stop.Closed
   closes_too f =
       let plans : plan ≡ f.plan = plan_same words plan f.plan plan_is f.configured.plan_is in
-      let confs : conf ≡ f.conf = sym (config_same words source f.plan f.conf conf text f.configured source_is conf_is) in
-      let same : groups ≡ f.groups = groups_same (sym found ∙ found_same file b f.groups file_is f.found) in
+      let confs : conf ≡ f.conf = sym (config_same words before.source f.plan f.conf conf text f.configured source_is conf_is) in
+      let same : groups ≡ f.groups = groups_same (sym found ∙ found_same before.disk.bytes b f.groups file_is f.found) in
       subst (λ (p : Plan). (served (limits_by p) f.conf (opening_intake f.conf f.groups) (take p.turns all)).stop ≡ Some stop.Closed) plans
       (subst (λ (k : Conf). (served (limits_by plan) k (opening_intake k f.groups) (take plan.turns all)).stop ≡ Some stop.Closed) confs
       (subst (λ gs. (served (limits_by plan) conf (opening_intake conf gs) (take plan.turns all)).stop ≡ Some stop.Closed) same closes))
@@ -281,7 +295,7 @@ module _ (words : List (List ℕ)) (source file : Option (List ℕ)) (held : ℕ
       groups_same e = cc
 
   -- a run whose wire is to be closed ends well, unless an object failed or memory was refused
-  pub ends_well : (s : Status) → (s ≡ status.WireFault → ⊥) → (s ≡ status.DiskFault → ⊥) → (s ≡ status.OutboxFault → ⊥) → (s ≡ status.PrintFault → ⊥) → Followed words source file held did wire wire' s entries
+  pub ends_well : (s : Status) → (s ≡ status.WireFault → ⊥) → (s ≡ status.DiskFault → ⊥) → (s ≡ status.OutboxFault → ⊥) → (s ≡ status.PrintFault → ⊥) → Followed words before after s entries IsTold
       → (s ≡ status.Ok) ⊎ (s ≡ status.OutOfMemory)
   ends_well status.Ok no_wire no_disk no_outbox no_print f = inl refl
   ends_well status.OutOfMemory no_wire no_disk no_outbox no_print f = inr refl
@@ -290,9 +304,9 @@ module _ (words : List (List ℕ)) (source file : Option (List ℕ)) (held : ℕ
   ends_well status.OutboxFault no_wire no_disk no_outbox no_print f = absurd (no_outbox refl)
   ends_well status.PrintFault no_wire no_disk no_outbox no_print f = absurd (no_print refl)
   ends_well status.TurnLimit no_wire no_disk no_outbox no_print f =
-      absurd (not_at_limit (limits_by f.plan) f.conf (numbered_of f.groups) (opening_intake f.conf f.groups) entries f.plan.turns did wire wire' all left (closes_too f) f.finished)
+      absurd (not_at_limit (limits_by f.plan) f.conf (numbered_of f.groups) (opening_intake f.conf f.groups) entries f.plan.turns _ before.wire after.wire all left (closes_too f) f.finished)
   ends_well (status.Full x y) no_wire no_disk no_outbox no_print f =
-      absurd (not_full (limits_by f.plan) f.conf (numbered_of f.groups) (opening_intake f.conf f.groups) entries f.plan.turns did wire wire' all left (closes_too f) x y f.finished)
+      absurd (not_full (limits_by f.plan) f.conf (numbered_of f.groups) (opening_intake f.conf f.groups) entries f.plan.turns _ before.wire after.wire all left (closes_too f) x y f.finished)
   ends_well _ no_wire no_disk no_outbox no_print f = absurd f.finished.ends
 
 -- ---- refusals that hang on the words and the configuration alone
@@ -305,15 +319,15 @@ not_flat words source text is path cause refused plan conf c =
     let same = told_text source text conf.text is c.text_is in
     flat_not text conf path cause (ap flat_of (sym same) ∙ c.conf_is) refused
 
-module _ (words : List (List ℕ)) (source : Option (List ℕ)) (faults faults' held : ℕ) (old new : DiskTells) where
+module _ (words : List (List ℕ)) (before after : Objects) where
   abbrev Refused_as : Status → Type 0
-  Refused_as s = Refuses words source faults faults' old new held s
+  Refused_as s = Refuses words before after s
 
   -- where the words have no plan
   pub no_plan : plan_of words ≡ None → (s : Status) → Refused_as s → (s ≡ status.Usage) ⊎ (s ≡ status.OutOfMemory)
   no_plan none status.Usage why = inl refl
   no_plan none status.OutOfMemory why = inr refl
-  no_plan none s (inr why) = absurd (unplanned words source why.0 why.1 none why.2)
+  no_plan none s (inr why) = absurd (unplanned words before.source why.0 why.1 none why.2)
   no_plan none status.SourceFault (inl why) = absurd (true≢false (sym why.0 ∙ ap is_some none))
   no_plan none (status.PatternRefused path) (inl why) = absurd (true≢false (sym why.0 ∙ ap is_some none))
   no_plan none (status.PatternTooLarge path) (inl why) = absurd (true≢false (sym why.0 ∙ ap is_some none))
@@ -321,23 +335,23 @@ module _ (words : List (List ℕ)) (source : Option (List ℕ)) (faults faults' 
   no_plan none _ (inl why) = absurd why
 
   -- where the text is refused
-  pub refused_text : (text : List ℕ) → source ≡ Some text → (path : List ℕ) (cause : Cause) → flat_of text ≡ refuse path cause → (s : Status) → Refused_as s
+  pub refused_text : (text : List ℕ) → before.source ≡ Some text → (path : List ℕ) (cause : Cause) → flat_of text ≡ refuse path cause → (s : Status) → Refused_as s
       → (s ≡ status.ConfigRefused path cause) ⊎ ((s ≡ status.SourceFault) ⊎ ((s ≡ status.Usage) ⊎ (s ≡ status.OutOfMemory)))
   refused_text text is path cause refused status.Usage why = inr (inr (inl refl))
   refused_text text is path cause refused status.OutOfMemory why = inr (inr (inr refl))
   refused_text text is path cause refused status.SourceFault why = inr (inl refl)
-  refused_text text is path cause refused s (inr why) = absurd (not_flat words source text is path cause refused why.0 why.1 why.2)
-  refused_text text is path cause refused (status.PatternRefused path') (inl why) = let u = of_source source text (HasFlawAt IsNoPattern path') is why.1 in absurd (flat_not text u.conf path cause u.conf_is refused)
-  refused_text text is path cause refused (status.PatternTooLarge path') (inl why) = let u = of_source source text (HasFlawAt HoldsBrace path') is why.1 in absurd (flat_not text u.conf path cause u.conf_is refused)
+  refused_text text is path cause refused s (inr why) = absurd (not_flat words before.source text is path cause refused why.0 why.1 why.2)
+  refused_text text is path cause refused (status.PatternRefused path') (inl why) = let u = of_source before.source text (HasFlawAt IsNoPattern path') is why.1 in absurd (flat_not text u.conf path cause u.conf_is refused)
+  refused_text text is path cause refused (status.PatternTooLarge path') (inl why) = let u = of_source before.source text (HasFlawAt HoldsBrace path') is why.1 in absurd (flat_not text u.conf path cause u.conf_is refused)
   refused_text text is path cause refused (status.ConfigRefused path' cause') (inl why) =
-      let other = of_source source text (λ x. flat_of x ≡ refuse path' cause') is why.1 in
+      let other = of_source before.source text (λ x. flat_of x ≡ refuse path' cause') is why.1 in
       inl (same_flaw path' path cause' cause (sym other ∙ refused))
   refused_text text is path cause refused _ (inl why) = absurd why
 
 -- a run that began was configured
-pub begun_planned : (words : List (List ℕ)) (source file : Option (List ℕ)) (held : ℕ) (did : Doing) (wire wire' : WireTells) (s : Status) (entries : List Numbered) → plan_of words ≡ None → Followed words source file held did wire wire' s entries → ⊥
-begun_planned words source file held did wire wire' s entries none f = unplanned words source f.plan f.conf none f.configured
+module _ (words : List (List ℕ)) (before after : Objects) (s : Status) (entries : List Numbered) (IsTold : Counts → Type 0) (f : Followed words before after s entries IsTold) where
+  pub begun_planned : plan_of words ≡ None → ⊥
+  begun_planned none = unplanned words before.source f.plan f.conf none f.configured
 
-pub begun_flat : (words : List (List ℕ)) (source file : Option (List ℕ)) (held : ℕ) (did : Doing) (wire wire' : WireTells) (s : Status) (entries : List Numbered) (text : List ℕ) → source ≡ Some text → (path : List ℕ) (cause : Cause)
-    → flat_of text ≡ refuse path cause → Followed words source file held did wire wire' s entries → ⊥
-begun_flat words source file held did wire wire' s entries text is path cause refused f = not_flat words source text is path cause refused f.plan f.conf f.configured
+  pub begun_flat : (text : List ℕ) → before.source ≡ Some text → (path : List ℕ) (cause : Cause) → flat_of text ≡ refuse path cause → ⊥
+  begun_flat text is path cause refused = not_flat words before.source text is path cause refused f.plan f.conf f.configured

@@ -14,7 +14,7 @@ use Rattle.outside.specs.declared.event.WireEvent.{WireEvent}
 use Rattle.outside.specs.declared.event.Trouble.{Trouble}
 use Rattle.book.specs.Ends.{HeadView}
 use Rattle.book.specs.Entries.{IsWholeLog}
-use Rattle.book.specs.Outgoing.{log_lines}
+use Rattle.book.specs.Outgoing.{IsMendable, log_lines}
 use Rattle.book.specs.Tally.{tally_of}
 use Rattle.book.specs.declared.errors.BookError.{BookError}
 use Rattle.book.specs.declared.errors.BookError.TheVariants as refusal
@@ -31,9 +31,9 @@ use Rattle.server_run.specs.declared.course.Course.{Course}
 use Rattle.server_run.specs.declared.serving.Taken.{Taken}
 use Rattle.server_run.specs.declared.serving.Taken.TheVariants as taken
 use Rattle.server_run.specs.Events.{Doing, Ran, Took, Ends, ending_of}
-use Rattle.server_run.specs.Going.{Reaches, TakesOn, IsServing, HasServed, IsEndedAt, IsSentAt, IsCause, IsJoined, IsWorse, IsOpened, IsAheadOf, HasGone, book_status}
-use Rattle.server_run.specs.Outbox.{LinesAre}
-use Rattle.server_run.specs.Tally.{counts_with}
+use Rattle.server_run.specs.Going.{Reaches, TakesOn, IsServing, HasServed, IsEndedAt, IsSentAt, IsCause, IsJoined, IsWorse, IsOpened, IsBookless, HasGone, book_status}
+use Rattle.server_run.specs.Outbox.{LinesAre, IsAhead, IsOther}
+use Rattle.server_run.specs.Tally.{run_counts}
 use Rattle.server_run.specs.Runs.{Finished}
 use Rattle.server_run.specs.Statuses.{at_limit, anywhere, at_refusal, course_of, ended_with, EndsAs, LeftIs, IsCourse, IsUnprinted}
 use Rattle.server_run.specs.Stops.{refusing, Journals}
@@ -151,7 +151,9 @@ is_wire status.NotOurs = inr (λ e. cc)
 is_wire (status.Damaged at) = inr (λ e. cc)
 is_wire (status.ConfigDiffers at) = inr (λ e. cc)
 is_wire (status.OutboxAhead held lines) = inr (λ e. cc)
+is_wire (status.OutboxDiffers at) = inr (λ e. cc)
 is_wire (status.BadLine at) = inr (λ e. cc)
+is_wire (status.MediaRefused path) = inr (λ e. cc)
 is_wire (status.MarksAhead marks messages) = inr (λ e. cc)
 is_wire status.LinesTooLong = inr (λ e. cc)
 
@@ -189,6 +191,14 @@ finished_worse limits conf recovered begun entries turns did w w' s t (inr (inr 
 -- a run that took events has a status of one that has begun
 pub course_taken : (limits : Limits) (conf : Conf) (recovered : List Numbered) (begun : Intake) (entries : List Numbered) (turns : ℕ) (did : Doing) (w w' : WireTells) (s : Status) → Finished limits conf recovered begun entries turns did w w' (course_of s).ending → IsCourse s
 course_taken limits conf recovered begun entries turns did w w' s f = is_ending (course_of s).ending turns _ _ f.lost f.ends
+
+-- why a run got no book, by what its book answered
+pub bookless : (lines : List ℕ) (outbox outbox' : SinkTells) (error : BookError) → ((h l : ℕ) → error ≡ refusal.OutboxAhead h l → IsAhead outbox lines h l)
+    → ((at : ℕ) → error ≡ refusal.OutboxDiffers at → IsOther outbox lines at) → (error ≡ refusal.OutboxFault → Rose outbox.faults outbox'.faults) → IsBookless lines outbox outbox' (book_status error)
+bookless lines outbox outbox' (refusal.OutboxAhead h l) ahead differs cause = ahead h l refl
+bookless lines outbox outbox' (refusal.OutboxDiffers at) ahead differs cause = differs at refl
+bookless lines outbox outbox' refusal.OutboxFault ahead differs cause = cause refl
+bookless lines outbox outbox' refusal.OutOfMemory ahead differs cause = tt
 
 -- ---- a run, part by part
 
@@ -369,13 +379,13 @@ module _ {D : Type 0} (tells : D → DiskTells) where
 
     -- one that got no book
     pub gone_held : course.began ≡ false → course.disk ≡ front.journal.disk → course.entries ≡ front.intake.entries → (error : BookError) → s ≡ book_status error
-        → ((h l : ℕ) → error ≡ refusal.OutboxAhead h l → (h ≡ outbox.held) × (l ≡ length (log_lines begins (log_of kept))) × (l < h)) → Gone
-    gone_held isnt disk_is entries_are error is ahead = record {
+        → IsBookless (log_lines begins (log_of kept)) outbox (shows course.outbox) (book_status error) → Gone
+    gone_held isnt disk_is entries_are error is why = record {
       wire = λ e. absurd (not_wire error (sym is ∙ e));
-      fault = λ e. absurd (not_fault error (sym is ∙ e));
+      fault = λ e. fault_of error (sym is ∙ e) why;
       unprinted = subst IsUnprinted (sym is) (own error);
-      held_back = λ f. record { disk_is = disk_is; entries_are = entries_are; why = subst (IsAheadOf begins kept outbox.held) (sym is) (why error ahead) };
-      enough = λ so. absurd (clash so);
+      held_back = λ f. record { disk_is = disk_is; entries_are = entries_are; why = subst (IsBookless (log_lines begins (log_of kept)) outbox (shows course.outbox)) (sym is) why };
+      mendable = λ so. absurd (clash so);
       finished = λ so. absurd (clash so);
       lines = λ so. absurd (clash so);
       counts_are = λ e. absurd (not_well error (sym is ∙ e));
@@ -386,40 +396,44 @@ module _ {D : Type 0} (tells : D → DiskTells) where
 
         not_wire : (e : BookError) → book_status e ≡ status.WireFault → ⊥
         not_wire (refusal.OutboxAhead h l) e = cc
+        not_wire (refusal.OutboxDiffers at) e = cc
+        not_wire refusal.OutboxFault e = cc
         not_wire refusal.OutOfMemory e = cc
 
-        not_fault : (e : BookError) → book_status e ≡ status.OutboxFault → ⊥
-        not_fault (refusal.OutboxAhead h l) e = cc
-        not_fault refusal.OutOfMemory e = cc
+        fault_of : (e : BookError) → book_status e ≡ status.OutboxFault → IsBookless (log_lines begins (log_of kept)) outbox (shows course.outbox) (book_status e) → Rose outbox.faults (shows course.outbox).faults
+        fault_of (refusal.OutboxAhead h l) e w = absurd cc
+        fault_of (refusal.OutboxDiffers at) e w = absurd cc
+        fault_of refusal.OutboxFault e w = w
+        fault_of refusal.OutOfMemory e w = absurd cc
 
         not_well : (e : BookError) → book_status e ≡ status.Ok → ⊥
         not_well (refusal.OutboxAhead h l) e = cc
+        not_well (refusal.OutboxDiffers at) e = cc
+        not_well refusal.OutboxFault e = cc
         not_well refusal.OutOfMemory e = cc
 
         own : (e : BookError) → IsUnprinted (book_status e)
         own (refusal.OutboxAhead h l) = tt
+        own (refusal.OutboxDiffers at) = tt
+        own refusal.OutboxFault = tt
         own refusal.OutOfMemory = tt
-
-        why : (e : BookError) → ((h l : ℕ) → e ≡ refusal.OutboxAhead h l → (h ≡ outbox.held) × (l ≡ length (log_lines begins (log_of kept))) × (l < h)) → IsAheadOf begins kept outbox.held (book_status e)
-        why (refusal.OutboxAhead h l) f = f h l refl
-        why refusal.OutOfMemory f = tt
 
     -- one that took events
     pub gone_course : (new : Fronted D) (t : Status) → course.began ≡ true → course.disk ≡ new.journal.disk → course.entries ≡ new.intake.entries → IsWorse t s → IsUnprinted t → (t ≡ status.WireFault → Rose w.faults w'.faults)
-        → outbox.held ≤ length (log_lines begins (log_of kept)) → Finished (limits_of front.journal 0) begins.stage.conf kept front.intake new.intake.entries turns (doing front.journal.disk new.journal.disk) w w' (course_of t).ending
-        → (s ≡ status.OutboxFault → Rose outbox.faults (shows course.outbox).faults) → LinesAre (course_of s).out outbox (shows course.outbox) (drop outbox.held (log_lines begins (log_of new.intake.entries)))
-        → (s ≡ status.Ok → course.counts ≡ counts_with (length new.intake.entries) (tally_of (replay begins (log_of new.intake.entries)))) → Gone
-    gone_course new t is_so disk_is entries_are worse own wire enough f fault lines counts_are = record {
+        → IsMendable outbox (log_lines begins (log_of kept)) → Finished (limits_of front.journal 0) begins.stage.conf kept front.intake new.intake.entries turns (doing front.journal.disk new.journal.disk) w w' (course_of t).ending
+        → (s ≡ status.OutboxFault → Rose outbox.faults (shows course.outbox).faults) → LinesAre (course_of s).out outbox (shows course.outbox) (log_lines begins (log_of new.intake.entries))
+        → (s ≡ status.Ok → course.counts ≡ run_counts begins new.intake.entries) → Gone
+    gone_course new t is_so disk_is entries_are worse own wire mendable f fault lines counts_are = record {
       wire = wire_worse worse;
       fault = fault;
       unprinted = own_worse worse;
       held_back = λ isnt. absurd (true≢false (sym is_so ∙ isnt));
-      enough = λ y. enough;
+      mendable = λ y. mendable;
       finished = λ y. subst (λ d. Finished (limits_of front.journal 0) begins.stage.conf kept front.intake course.entries turns (doing front.journal.disk d) w w' (course_of s).ending) (sym disk_is)
           (subst (λ es. Finished (limits_of front.journal 0) begins.stage.conf kept front.intake es turns (doing front.journal.disk new.journal.disk) w w' (course_of s).ending) (sym entries_are)
           (finished_worse (limits_of front.journal 0) begins.stage.conf kept front.intake new.intake.entries turns (doing front.journal.disk new.journal.disk) w w' t s worse wire f));
-      lines = λ y. subst (λ es. LinesAre (course_of s).out outbox (shows course.outbox) (drop outbox.held (log_lines begins (log_of es)))) (sym entries_are) lines;
-      counts_are = λ is. subst (λ es. course.counts ≡ counts_with (length es) (tally_of (replay begins (log_of es)))) (sym entries_are) (counts_are is);
+      lines = λ y. subst (λ es. LinesAre (course_of s).out outbox (shows course.outbox) (log_lines begins (log_of es))) (sym entries_are) lines;
+      counts_are = λ is. subst (λ es. course.counts ≡ run_counts begins es) (sym entries_are) (counts_are is);
     }
       where
         wire_worse : IsWorse t s → s ≡ status.WireFault → Rose w.faults w'.faults

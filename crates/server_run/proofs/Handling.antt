@@ -58,18 +58,18 @@ behind_same limits i ticks made last n less =
     ap (values_offered i ticks made last) (refused_same limits i made.group n (λ none. subst (λ o. (values_offered i ticks made last o).intake.groups < n) none less))
 
 tick_groups : (limits : Limits) (i : Intake) (ticks : List Entry) (made : _) (last o : Option Stop) → i.groups ≤ (tick_offered limits i ticks made last o).intake.groups
-tick_groups limits i ticks made last None = omega (arith, kept_groups i ticks, ticked_groups i ticks, behind_groups limits (ticked i ticks) (numbered_behind i.entries ticks) made last)
+tick_groups limits i ticks made last None = omega (arith, kept_groups i ticks, ticked_groups i ticks, behind_groups limits (ticked i ticks) (numbered_behind i.before i.entries ticks) made last)
 tick_groups limits i ticks made last (Some s) = omega arith
 
 ticks_same : (limits : Limits) (i : Intake) (ticks : List Entry) (made : _) (last : Option Stop) (n : ℕ)
     → (tick_offered (refusing limits 0) i ticks made last (refused (refusing limits 0) i ticks)).intake.groups < n → refused (refusing limits n) i ticks ≡ refused (refusing limits 0) i ticks
 ticks_same limits i ticks made last n less = refused_same limits i ticks n (λ none.
     let kept : (tick_offered (refusing limits 0) i ticks made last None).intake.groups < n = subst (λ o. (tick_offered (refusing limits 0) i ticks made last o).intake.groups < n) none less in
-    omega (arith, kept, ticked_groups i ticks, behind_groups (refusing limits 0) (ticked i ticks) (numbered_behind i.entries ticks) made last))
+    omega (arith, kept, ticked_groups i ticks, behind_groups (refusing limits 0) (ticked i ticks) (numbered_behind i.before i.entries ticks) made last))
 
 by_tick : (limits : Limits) (i : Intake) (ticks : List Entry) (made : _) (last : Option Stop) (n : ℕ) (o : Option Stop) → (tick_offered (refusing limits 0) i ticks made last o).intake.groups < n
     → tick_offered (refusing limits n) i ticks made last o ≡ tick_offered (refusing limits 0) i ticks made last o
-by_tick limits i ticks made last n None less = behind_same limits (ticked i ticks) (numbered_behind i.entries ticks) made last n less
+by_tick limits i ticks made last n None less = behind_same limits (ticked i ticks) (numbered_behind i.before i.entries ticks) made last n less
 by_tick limits i ticks made last n (Some s) less = refl
 
 offered_same : (limits : Limits) (i : Intake) (ticks : List Entry) (made : _) (last : Option Stop) (n : ℕ) → (offered (refusing limits 0) i ticks made last).intake.groups < n
@@ -155,7 +155,7 @@ unfolding behind_tick
 behind_grow limits i ticks made last = values_grow i ticks made last (refused limits i made.group)
 
 tick_grow : (limits : Limits) (i : Intake) (ticks : List Entry) (made : _) (last o : Option Stop) → Grows i (tick_offered limits i ticks made last o).intake
-tick_grow limits i ticks made last None = grows_on i (ticked i ticks) (behind_tick limits (ticked i ticks) (numbered_behind i.entries ticks) made last).intake (ticked_grows i ticks) (behind_grow limits (ticked i ticks) (numbered_behind i.entries ticks) made last)
+tick_grow limits i ticks made last None = grows_on i (ticked i ticks) (behind_tick limits (ticked i ticks) (numbered_behind i.before i.entries ticks) made last).intake (ticked_grows i ticks) (behind_grow limits (ticked i ticks) (numbered_behind i.before i.entries ticks) made last)
 tick_grow limits i ticks made last (Some s) = stays i
 
 offered_grow : (limits : Limits) (i : Intake) (ticks : List Entry) (made : _) (last : Option Stop) → Grows i (offered limits i ticks made last).intake
@@ -222,7 +222,7 @@ behind_stop limits i ticks made last other fault = values_stop i ticks made last
 
 tick_stop : (limits : Limits) (i : Intake) (ticks : List Entry) (made : _) (last o : Option Stop) → (last ≡ Some stop.DiskFault → ⊥) → (o ≡ Some stop.DiskFault → ⊥)
     → (tick_offered (refusing limits 0) i ticks made last o).answer.stop ≡ Some stop.DiskFault → ⊥
-tick_stop limits i ticks made last None other none fault = behind_stop limits (ticked i ticks) (numbered_behind i.entries ticks) made last other fault
+tick_stop limits i ticks made last None other none fault = behind_stop limits (ticked i ticks) (numbered_behind i.before i.entries ticks) made last other fault
 tick_stop limits i ticks made last (Some s) other none fault = none fault
 
 offered_stop : (limits : Limits) (i : Intake) (ticks : List Entry) (made : _) (last : Option Stop) → (last ≡ Some stop.DiskFault → ⊥)

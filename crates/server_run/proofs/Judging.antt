@@ -34,13 +34,13 @@ pub judged_still : (conf : Conf) (groups : List Group) (g : Group) (at : ℕ) (l
 judged_still conf groups g at last then are = record { misfit_is = more_misfit conf groups g at are.misfit_is; goes_on = λ none. absurd cc }
 
 -- a group that fits behind groups that fit
-pub judged_more : (conf : Conf) (groups : List Group) (g : Group) (last : Option ℕ) → HasReached conf (log_with (log_of (numbered_of groups)) g.entries) last → AreJudged conf (groups ++ g ∷ []) None last
+pub judged_more : (conf : Conf) (groups : List Group) (g : Group) (last : Option ℕ) → HasReached conf (log_with 0 (log_of (numbered_of groups)) g.entries) last → AreJudged conf (groups ++ g ∷ []) None last
 judged_more conf groups g last fits =
     let same = sym (log_group groups g) in
     record { misfit_is = subst (Fits (first_start conf)) same fits.0; goes_on = λ none. fits.1 ∙ ap reached same }
 
 -- and one that doesn't
-pub judged_misfit : (conf : Conf) (groups : List Group) (g : Group) (last : Option ℕ) → GroupsFit conf groups → ¬ (Fits (first_start conf) (log_with (log_of (numbered_of groups)) g.entries)) → AreJudged conf (groups ++ g ∷ []) (Some g.at) last
+pub judged_misfit : (conf : Conf) (groups : List Group) (g : Group) (last : Option ℕ) → GroupsFit conf groups → ¬ (Fits (first_start conf) (log_with 0 (log_of (numbered_of groups)) g.entries)) → AreJudged conf (groups ++ g ∷ []) (Some g.at) last
 judged_misfit conf groups g last fits misfits = record {
   misfit_is = (groups, g, [], refl, refl, fits, λ all. misfits (subst (Fits (first_start conf)) (log_group groups g) all));
   goes_on = λ none. absurd cc;
@@ -48,18 +48,18 @@ judged_misfit conf groups g last fits misfits = record {
 
 -- ---- what one more group adds
 
-numbered_more : (groups : List Group) (g : Group) → numbered_of (groups ++ g ∷ []) ≡ with_group (numbered_of groups) g.entries
+numbered_more : (groups : List Group) (g : Group) → numbered_of (groups ++ g ∷ []) ≡ with_group 0 (numbered_of groups) g.entries
 numbered_more groups g =
     let before = flat_map (λ (h : Group). h.entries) groups in
     let all : flat_map (λ (h : Group). h.entries) (groups ++ g ∷ []) ≡ before ++ g.entries = flat_map-append _ groups (g ∷ []) ∙ ap (λ (l : List Entry). before ++ l) (append-nil g.entries) in
-    let count : 1 + length before ≡ length (numbered_from 1 before) + 1 = omega (arith, length_numbered 1 before) in
+    let count : 1 + length before ≡ 0 + length (numbered_from 1 before) + 1 = omega (arith, length_numbered 1 before) in
     ap (numbered_from 1) all ∙ numbered-append 1 before g.entries ∙ ap (λ n. numbered_from 1 before ++ numbered_from n g.entries) count
 
-pub numbers_more : (conf : Conf) (groups : List Group) (g : Group) (old new : Numbering) → 0 < length g.entries → IsNumbered conf groups old → new.entries ≡ with_group old.entries g.entries
+pub numbers_more : (conf : Conf) (groups : List Group) (g : Group) (old new : Numbering) → 0 < length g.entries → IsNumbered conf groups old → new.entries ≡ with_group 0 old.entries g.entries
     → AreJudged conf (groups ++ g ∷ []) new.misfit new.judge → IsNumbered conf (groups ++ g ∷ []) new
 numbers_more conf groups g old new some are more judged = record {
   some = All-append (λ (h : Group). 0 < length h.entries) groups (g ∷ []) are.some single;
-  entries_are = more ∙ ap (λ (l : List Numbered). with_group l g.entries) are.entries_are ∙ sym (numbered_more groups g);
+  entries_are = more ∙ ap (λ (l : List Numbered). with_group 0 l g.entries) are.entries_are ∙ sym (numbered_more groups g);
   judged = judged;
 }
   where

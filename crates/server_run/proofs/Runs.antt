@@ -33,23 +33,26 @@ use Rattle.server_words.specs.declared.status.Status.{Status}
 use Rattle.server_words.specs.declared.status.Status.TheVariants as status
 use Rattle.server_words.specs.Words.{plan_of}
 use Rattle.server_words.specs.Printed.{printed_text}
-use Rattle.book.specs.Outgoing.{Grew, GrewByFront}
+use Rattle.book.specs.Outgoing.{Grew, GrewByFront, IsMendable}
 use Rattle.server_run.specs.Ports.{IsTextUpTo, ReadsUpTo}
 use Rattle.pattern_set.specs.Patterns.{IsNoPattern}
 use Rattle.server_run.specs.Patterns.{HasFlawAt, HoldsBrace}
 use Rattle.book.specs.Outgoing.{log_lines}
 use Rattle.server_run.specs.Replayed.{conf_in, conf_of_run}
-use Rattle.server_run.specs.Opening.{config_text, first_text, IsAccepted, FoundEntries, opening_lines, opening_entries}
-use Rattle.server_run.specs.Reasons.{Reason, no_reason, in_words, by_memory, by_source, in_text, by_disk, in_journal, in_outbox, reason_of, ends_opening, IsRefusal, names_object, IsBarring, IsUntaken, unconfigured_for, Unconfigured, bars_for, unopened_for, Unopened, has_for, enters_for}
+use Rattle.server_run.specs.Opening.{config_text, first_text, IsAccepted, FoundEntries, OfLines, opening_lines, opening_entries}
+use Rattle.server_run.specs.Reasons.{Reason, no_reason, in_words, by_memory, by_source, in_text, by_disk, in_journal, by_outbox, in_outbox, reason_of, ends_opening, IsRefusal, names_object, IsBarring, IsUntaken, unconfigured_for, Unconfigured, bars_for, unopened_for, Unopened, has_for, enters_for}
 use Rattle.server_run.specs.Resumed.{TurnedAway, HasBegun}
 use Rattle.server_run.specs.Statuses.{Ending, never, at_closed, at_limit, at_wire_fault, at_disk_fault, at_full, anywhere, at_refusal, course_of, cut_short, IsEnding, IsCourse, IsUnprinted, EndsPrinted, EndsAs, LeftIs}
 use Rattle.server_run.specs.Stops.{refusing, KeepsSome, IsEither, IsReached, Journals}
 use Rattle.server_run.specs.Events.{Doing}
-use Rattle.server_run.specs.Going.{IsOpened, IsHeldBack, IsAheadOf}
-use Rattle.server_run.specs.Runs.{IsConfigured, Refuses, IsBarred, FoundBy, BeginsBy, HasBy, EntersBy, Unbegun, Opened, Finished, Followed, Prints, limits_by, opening_intake}
+use Rattle.server_run.specs.Going.{IsOpened, IsHeldBack, IsBookless}
+use Rattle.server_run.specs.Outbox.{LinesAre, IsAhead, IsOther}
+use Rattle.server_run.specs.Tally.{run_counts}
+use Rattle.server_run.specs.Runs.{Objects, IsConfigured, Refuses, IsBarred, FoundBy, BeginsBy, HasBy, EntersBy, Unbegun, Opened, Finished, Followed, Prints, limits_by, opening_intake}
 use Rattle.book.proofs.Growing.{all_front, none_front}
 use Rattle.server_run.proofs.Handling.{served_grow, served_sound}
 use Rattle.server_run.proofs.Logs.{conf_front}
+use Rattle.server_run.proofs.Outbox.{lines_printed}
 use Rattle.server_run.proofs.Stopping.{journals_on, leaves_more}
 use Rattle.server_run.proofs.Texts.{text_told, text_kept, flaw_told, at_end_of}
 
@@ -107,16 +110,19 @@ none_had by_source words source faults faults' file Begins Found why = refl
 none_had (in_text Is) words source faults faults' file Begins Found why = refl
 none_had by_disk words source faults faults' file Begins Found none = absurd none
 none_had (in_journal Is) words source faults faults' file Begins Found none = absurd none
+none_had by_outbox words source faults faults' file Begins Found none = absurd none
 none_had (in_outbox Is) words source faults faults' file Begins Found none = absurd none
 
-pub unbegun_alone : (words : List (List ℕ)) (source : Option (List ℕ)) (source_faults source_faults' held : ℕ) (disk : DiskTells) (s : Status) → IsLawful disk
-    → Unconfigured words source source_faults source_faults' s → Unbegun words source source_faults source_faults' held disk disk [] s
-unbegun_alone words source source_faults source_faults' held disk s lawful why = record {
+pub unbegun_alone : (words : List (List ℕ)) (source source' : Option (List ℕ)) (faults faults' : ℕ) (wire wire' : WireTells) (disk : DiskTells) (outbox outbox' : SinkTells) (s : Status) → IsLawful disk
+    → Unconfigured words source faults faults' s
+    → Unbegun words (record { source = source; source_faults = faults; wire = wire; disk = disk; outbox = outbox })
+    (record { source = source'; source_faults = faults'; wire = wire'; disk = disk; outbox = outbox' }) [] s
+unbegun_alone words source source' faults faults' wire wire' disk outbox outbox' s lawful why = record {
   why = inl why;
   told = refl;
   later = omega arith;
   found = inl refl;
-  has = none_had (reason_of s) words source source_faults source_faults' disk.bytes (BeginsBy words source disk.bytes) (FoundBy words source disk.bytes) why;
+  has = none_had (reason_of s) words source faults faults' disk.bytes (BeginsBy words source disk.bytes) (FoundBy words source disk.bytes) why;
   left = left_alone (EntersBy words source disk.bytes s) disk lawful;
 }
 
@@ -129,16 +135,19 @@ has_more by_source file B C F G es b f has = has
 has_more (in_text Is) file B C F G es b f has = has
 has_more by_disk file B C F G es b f has = ⊎_elim (λ none. inl none) (λ some. inr (f some)) has
 has_more (in_journal Is) file B C F G es b f has = has
+has_more by_outbox file B C F G es b f has = b has
 has_more (in_outbox Is) file B C F G es b f has = b has
 
 enters_more : (r : Reason) (F G : List Numbered → Type 0) (es : List Numbered) → (F es → G es) → enters_for r F es → enters_for r G es
 enters_more (in_outbox Is) F G es f enters = f enters
+enters_more by_outbox F G es f enters = f enters
 enters_more by_memory F G es f enters = f enters
 enters_more by_disk F G es f enters = f enters
 enters_more _ F G es f none = absurd none
 
 enters_found : (r : Reason) (F : List Numbered → Type 0) (es : List Numbered) → enters_for r F es → F es
 enters_found (in_outbox Is) F es enters = enters
+enters_found by_outbox F es enters = enters
 enters_found by_memory F es enters = enters
 enters_found by_disk F es enters = enters
 enters_found _ F es none = absurd none
@@ -152,11 +161,12 @@ left_more old new A B goes = more old.bytes
     more None l = tt
     more (Some b) l = leaves_more old new _ _ (λ c. ⊎_elim (λ k. inl k) (λ k. inr (k.0, goes k.0 k.1, k.2))) l
 
-pub unbegun_turned : (words : List (List ℕ)) (source source' : Option (List ℕ)) (source_faults source_faults' held turns most : ℕ) (conf : Conf) (old new : DiskTells) (entries : List Numbered) (s : Status)
-    → IsConfigured words source source' turns most conf → TurnedAway conf most held old new entries s
-    → Unbegun words source source_faults source_faults' held old new entries s
-unbegun_turned words source source' source_faults source_faults' held turns most conf old new entries s c t = record {
-  why = inr (c.plan, conf, c.configured, subst (λ n. Unopened conf n old new held s) c.most_is t.why);
+pub unbegun_turned : (words : List (List ℕ)) (source source' : Option (List ℕ)) (faults faults' : ℕ) (wire wire' : WireTells) (outbox outbox' : SinkTells) (turns most : ℕ) (conf : Conf) (old new : DiskTells)
+    (entries : List Numbered) (s : Status) → IsConfigured words source source' turns most conf → TurnedAway conf most old new outbox outbox' entries s
+    → Unbegun words (record { source = source; source_faults = faults; wire = wire; disk = old; outbox = outbox })
+    (record { source = source'; source_faults = faults'; wire = wire'; disk = new; outbox = outbox' }) entries s
+unbegun_turned words source source' faults faults' wire wire' outbox outbox' turns most conf old new entries s c t = record {
+  why = inr (c.plan, conf, c.configured, subst (λ n. Unopened conf n old new outbox outbox' s) c.most_is t.why);
   told = t.told;
   later = t.later;
   found = ⊎_elim (λ none. inl none) (λ found. inr (by entries found)) t.found;
@@ -222,11 +232,18 @@ module _ {D : Type 0} (tells : D → DiskTells) (words : List (List ℕ)) (sourc
     kept_lines : (kept : List Numbered) → kept ≡ made.intake.entries → log_lines (first_start conf) (log_of kept) ≡ opening_lines conf o.begun.groups
     kept_lines kept same = ap (λ es. log_lines (first_start conf) (log_of es)) (same ∙ are)
 
+    -- what the objects tell before a run and behind it
+    abbrev at_first : ℕ → WireTells → D → SinkTells → Objects
+    at_first faults wire disk outbox = record { source = source; source_faults = faults; wire = wire; disk = tells disk; outbox = outbox }
+
+    abbrev at_last : ℕ → WireTells → D → SinkTells → Objects
+    at_last faults wire disk outbox = record { source = source'; source_faults = faults; wire = wire; disk = tells disk; outbox = outbox }
+
     -- a run that got no book didn't begin
-    pub unbegun_held : (source_faults source_faults' held : ℕ) (kept : List Numbered) → kept ≡ made.intake.entries → (new : D) (entries : List Numbered) (s : Status) → IsHeldBack (first_start conf) kept held made new entries s
-        → Unbegun words source source_faults source_faults' held (tells old) (tells new) entries s
-    unbegun_held source_faults source_faults' held kept same new entries s h =
-        subst (λ d. Unbegun words source source_faults source_faults' held (tells old) (tells d) entries s) (sym h.disk_is) (record {
+    pub unbegun_held : (faults faults' : ℕ) (wire wire' : WireTells) (outbox outbox' : SinkTells) (kept : List Numbered) → kept ≡ made.intake.entries → (new : D) (entries : List Numbered) (s : Status)
+        → IsHeldBack (log_lines (first_start conf) (log_of kept)) outbox outbox' made new entries s → Unbegun words (at_first faults wire old outbox) (at_last faults' wire' new outbox') entries s
+    unbegun_held faults faults' wire wire' outbox outbox' kept same new entries s h =
+        subst (λ d. Unbegun words (at_first faults wire old outbox) (at_last faults' wire' d outbox') entries s) (sym h.disk_is) (record {
           why = inr (o.plan, conf, o.configured, why s h.why);
           told = begun.journaled.told;
           later = begun.journaled.later;
@@ -244,31 +261,54 @@ module _ {D : Type 0} (tells : D → DiskTells) (words : List (List ℕ)) (sourc
         found : FoundBy words source (tells old).bytes entries
         found = (o.plan, conf, o.configured, (o.begun.groups, o.begun.found, inr entries_are))
 
-        why : (s : Status) → IsAheadOf (first_start conf) kept held s → Unopened conf o.plan.max_entries (tells old) (tells made.journal.disk) held s
-        why status.OutOfMemory ahead = tt
-        why (status.OutboxAhead told lines) ahead =
-            let size : lines ≡ length (opening_lines conf o.begun.groups) = ahead.1 ∙ ap (λ (l : List ℕ). length l) (kept_lines kept same) in
-            (o.begun.groups, o.begun.found, (o.begun.accepted, ahead.0, size, omega (arith, ahead.2, ahead.0)))
+        Bookless : Status → Type 0
+        Bookless s = IsBookless (log_lines (first_start conf) (log_of kept)) outbox outbox' s
+
+        over : (Is : List ℕ → Type 0) → Is (log_lines (first_start conf) (log_of kept)) → OfLines conf (tells old).bytes Is
+        over Is is = (o.begun.groups, o.begun.found, o.begun.accepted, subst Is (kept_lines kept same) is)
+
+        why : (s : Status) → Bookless s → Unopened conf o.plan.max_entries (tells old) (tells made.journal.disk) outbox outbox' s
+        why status.OutOfMemory spent = tt
+        why status.OutboxFault rose = over (λ lines. Rose outbox.faults outbox'.faults) rose
+        why (status.OutboxAhead told count) ahead = over (λ lines. IsAhead outbox lines told count) ahead
+        why (status.OutboxDiffers at) other = over (λ lines. IsOther outbox lines at) other
         why _ none = absurd none
 
-        has : (s : Status) → IsAheadOf (first_start conf) kept held s → HasBy words source (tells old).bytes s entries
-        has status.OutOfMemory ahead = inr found
-        has (status.OutboxAhead told lines) ahead = (o.plan, conf, o.configured, (o.begun.groups, o.begun.found, entries_are))
+        begins : BeginsBy words source (tells old).bytes entries
+        begins = (o.plan, conf, o.configured, (o.begun.groups, o.begun.found, entries_are))
+
+        has : (s : Status) → Bookless s → HasBy words source (tells old).bytes s entries
+        has status.OutOfMemory spent = inr found
+        has status.OutboxFault rose = begins
+        has (status.OutboxAhead told count) ahead = begins
+        has (status.OutboxDiffers at) other = begins
         has _ none = absurd none
 
-        enter : (s : Status) → IsAheadOf (first_start conf) kept held s → (es : List Numbered) → FoundBy words source (tells old).bytes es → EntersBy words source (tells old).bytes s es
-        enter status.OutOfMemory ahead es is = is
-        enter (status.OutboxAhead told lines) ahead es is = is
+        enter : (s : Status) → Bookless s → (es : List Numbered) → FoundBy words source (tells old).bytes es → EntersBy words source (tells old).bytes s es
+        enter status.OutOfMemory why es is = is
+        enter status.OutboxFault why es is = is
+        enter (status.OutboxAhead told count) why es is = is
+        enter (status.OutboxDiffers at) why es is = is
         enter _ none es is = absurd none
 
         among : (es : List Numbered) → IsEither (numbered_of o.begun.groups) made.intake.entries es → FoundBy words source (tells old).bytes es
         among es is = (o.plan, conf, o.configured, (o.begun.groups, o.begun.found, ⊎_elim (λ kept. inl kept) (λ here. inr (here ∙ are)) is))
 
+    -- the configuration of a run's entries is its own
+    pub conf_kept : (kept : List Numbered) → kept ≡ made.intake.entries → (did : Doing) (entries : List Numbered) (wire wire' : WireTells) (e : Ending)
+        → Finished (limits_of made.journal 0) conf kept made.intake entries turns did wire wire' e → conf_of_run entries ≡ Some conf
+    conf_kept kept same did entries wire wire' e f =
+        let grown = served_grow (refusing (limits_of made.journal 0) f.refused) conf made.intake f.handled in
+        let first : conf_of_run made.intake.entries ≡ Some conf = ap conf_of_run are ∙ conf_of_groups conf o.begun.groups o.configured.conf_is o.begun.accepted in
+        ap conf_of_run (f.entries_are ∙ grown.1) ∙ conf_front made.intake.entries grown.0 conf first
+
     -- one that got its book took events
-    pub followed : (held : ℕ) (kept : List Numbered) → kept ≡ made.intake.entries → held ≤ length (log_lines (first_start conf) (log_of kept)) → (new : D) (entries : List Numbered) (wire wire' : WireTells) (s : Status)
+    pub followed : (faults faults' : ℕ) (wire wire' : WireTells) (outbox outbox' : SinkTells) (kept : List Numbered) → kept ≡ made.intake.entries → IsMendable outbox (log_lines (first_start conf) (log_of kept))
+        → (new : D) (entries : List Numbered) (s : Status) (IsTold : Counts → Type 0)
         → Finished (limits_of made.journal 0) conf kept made.intake entries turns (Journals (λ c. ⊥) (tells made.journal.disk) (tells new)) wire wire' (course_of s).ending
-        → Followed words source (tells old).bytes held (Journals (KeepsAsOneOf (tells old)) (tells old) (tells new)) wire wire' s entries
-    followed held kept same enough new entries wire wire' s f =
+        → LinesAre (course_of s).out outbox outbox' (log_lines (first_start conf) (log_of entries)) → IsTold (run_counts (first_start conf) entries)
+        → Followed words (at_first faults wire old outbox) (at_last faults' wire' new outbox') s entries IsTold
+    followed faults faults' wire wire' outbox outbox' kept same mendable new entries s IsTold f lines counts =
         let begun = o.begun in
         let limits : limits_of made.journal 0 ≡ limits_by o.plan = ap₂ (λ a b. limits_at a b) begun.limits.0 begun.limits.1 in
         let sound : IsSound conf (served (refusing (limits_of made.journal 0) f.refused) conf made.intake f.handled).intake = served_sound (refusing (limits_of made.journal 0) f.refused) conf made.intake f.handled begun.sound in
@@ -279,14 +319,17 @@ module _ {D : Type 0} (tells : D → DiskTells) (words : List (List ℕ)) (sourc
           groups = begun.groups;
           found = begun.found;
           accepted = begun.accepted;
-          enough = omega (arith, enough, ap (λ (l : List ℕ). length l) (kept_lines kept same));
+          mendable = subst (IsMendable outbox) (kept_lines kept same) mendable;
           whole = subst (λ es. IsFull (log_of es)) (sym f.entries_are) sound.full;
           fits = subst (λ es. Fits (first_start conf) (log_of es)) (sym f.entries_are) sound.fits;
+          first = conf_kept kept same _ entries wire wire' (course_of s).ending f;
           finished =
               subst (λ (i : Intake). Finished (limits_by o.plan) conf (numbered_of begun.groups) i entries o.plan.turns (Journals (KeepsAsOneOf (tells old)) (tells old) (tells new)) wire wire' (course_of s).ending) begun.intake_is
               (subst (λ n. Finished (limits_by o.plan) conf (numbered_of begun.groups) made.intake entries n (Journals (KeepsAsOneOf (tells old)) (tells old) (tells new)) wire wire' (course_of s).ending) o.turns_are
               (subst (λ (l : Limits). Finished l conf (numbered_of begun.groups) made.intake entries turns (Journals (KeepsAsOneOf (tells old)) (tells old) (tells new)) wire wire' (course_of s).ending) limits
               (over (limits_of made.journal 0) begun.groups begun.journaled (subst (λ es. Finished (limits_of made.journal 0) conf es made.intake entries turns (Journals (λ c. ⊥) (tells made.journal.disk) (tells new)) wire wire' (course_of s).ending) same f))));
+          lines = lines;
+          counts = counts;
         }
       where
         over : (l : Limits) (groups : List Group) → Journals (KeepsAsOneOf (tells old)) (tells old) (tells made.journal.disk) (IsEither (numbered_of groups) made.intake.entries) None made.intake.entries
@@ -309,14 +352,6 @@ module _ {D : Type 0} (tells : D → DiskTells) (words : List (List ℕ)) (sourc
               None _ made.intake.entries entries (λ es is. ⊎_elim (λ kept. inl kept) (λ here. inr (inl ([], f.handled, refl, here))) is)
               (λ es is. ⊎_elim (λ here. inr (inl ([], f.handled, refl, here))) (λ later. inr later) is) j f.journaled;
         }
-
-    -- and its entries' configuration is its own
-    pub conf_kept : (kept : List Numbered) → kept ≡ made.intake.entries → (did : Doing) (entries : List Numbered) (wire wire' : WireTells) (e : Ending)
-        → Finished (limits_of made.journal 0) conf kept made.intake entries turns did wire wire' e → conf_of_run entries ≡ Some conf
-    conf_kept kept same did entries wire wire' e f =
-        let grown = served_grow (refusing (limits_of made.journal 0) f.refused) conf made.intake f.handled in
-        let first : conf_of_run made.intake.entries ≡ Some conf = ap conf_of_run are ∙ conf_of_groups conf o.begun.groups o.configured.conf_is o.begun.accepted in
-        ap conf_of_run (f.entries_are ∙ grown.1) ∙ conf_front made.intake.entries grown.0 conf first
 
 path_in : Result Conf Flaw → List ℕ
 path_in (Ok conf) = []
@@ -396,47 +431,20 @@ finished_refused limits conf recovered begun entries turns did wire wire' e f = 
     told None t = tt
     told (Some all) t = (t.0, t.1, ⊎_elim (λ is. inl (left_refused e turns (length f.handled) _ f.lost wire'.left t.0 f.ends is)) (λ rose. inr rose) t.2)
 
-module _ (words : List (List ℕ)) (source file : Option (List ℕ)) (held : ℕ) (did : Doing) (wire wire' : WireTells) (entries : List Numbered) where
-  abbrev Follows_at : Status → Type 0
-  Follows_at s = Followed words source file held did wire wire' s entries
-
-  pub followed_printed : (s ended : Status) → EndsPrinted s ended → Follows_at s → Follows_at ended
-  followed_printed s ended (own, inl same) f = subst Follows_at (sym same) f
-  followed_printed s ended (own, inr (inr (cut, well))) f =
-      let g : Follows_at status.Ok = subst Follows_at well f in
-      subst Follows_at (sym cut) (record { plan = g.plan; conf = g.conf; configured = g.configured; groups = g.groups; found = g.found; accepted = g.accepted; enough = g.enough; whole = g.whole; fits = g.fits; finished = g.finished })
-  followed_printed s ended (own, inr (inl spent)) f =
-      subst Follows_at (sym spent) (record {
-        plan = f.plan;
-        conf = f.conf;
-        configured = f.configured;
-        groups = f.groups;
-        found = f.found;
-        accepted = f.accepted;
-        enough = f.enough;
-        whole = f.whole;
-        fits = f.fits;
-        finished = finished_refused (limits_by f.plan) f.conf (numbered_of f.groups) (opening_intake f.conf f.groups) entries f.plan.turns did wire wire' (course_of s).ending f.finished;
-      })
-
-  -- a run that took events has a status of one that has begun
-  pub is_course : (s : Status) → Follows_at s → IsCourse s
-  is_course s f = is_ending (course_of s).ending _ _ _ _ f.finished.ends
-
 -- a status that ends the opening comes before anything is printed
 own_line_of : (s : Status) → IsRefusal s → IsUnprinted s
 own_line_of status.PrintFault none = absurd none
 own_line_of _ is = tt
 
-module _ (words : List (List ℕ)) (source : Option (List ℕ)) (faults faults' held : ℕ) (old new : DiskTells) where
+module _ (words : List (List ℕ)) (before after : Objects) where
   abbrev Refused_at : Status → Type 0
-  Refused_at s = Refuses words source faults faults' old new held s
+  Refused_at s = Refuses words before after s
 
-  at_words : (r : Reason) → unconfigured_for r words source faults faults' → ends_opening r
+  at_words : (r : Reason) → unconfigured_for r words before.source before.source_faults after.source_faults → ends_opening r
   at_words no_reason none = none
   at_words _ why = tt
 
-  at_objects : (r : Reason) (conf : Conf) (most : ℕ) → unopened_for r conf most old new held → ends_opening r
+  at_objects : (r : Reason) (conf : Conf) (most : ℕ) → unopened_for r conf most before.disk after.disk before.outbox after.outbox → ends_opening r
   at_objects no_reason conf most none = none
   at_objects _ conf most why = tt
 
@@ -445,40 +453,45 @@ module _ (words : List (List ℕ)) (source : Option (List ℕ)) (faults faults' 
   is_refusal s (inl why) = at_words (reason_of s) why
   is_refusal s (inr (plan, conf, c, why)) = at_objects (reason_of s) conf plan.max_entries why
 
+  -- one that was refused for its outbox saw it fail
+  outbox_failed : Refused_at status.OutboxFault → Rose before.outbox.faults after.outbox.faults
+  outbox_failed (inl none) = absurd none
+  outbox_failed (inr (plan, conf, c, (groups, found, accepted, rose))) = rose
+
   -- which comes before anything is printed, and isn't that of one that takes events
-  pub never_begun : (s : Status) → Refused_at s → IsUnprinted s × ((s ≡ status.WireFault → ⊥) × ((s ≡ status.OutboxFault → ⊥) × (s ≡ status.Ok → ⊥)))
+  pub never_begun : (s : Status) → Refused_at s → IsUnprinted s × ((s ≡ status.WireFault → ⊥) × ((s ≡ status.OutboxFault → Rose before.outbox.faults after.outbox.faults) × (s ≡ status.Ok → ⊥)))
   never_begun s why =
       let is = is_refusal s why in
-      (own_line_of s is, ((λ e. subst IsRefusal e is), ((λ e. subst IsRefusal e is), (λ e. subst IsRefusal e is))))
+      (own_line_of s is, ((λ e. subst IsRefusal e is), ((λ e. outbox_failed (subst Refused_at e why)), (λ e. subst IsRefusal e is))))
 
   not_well : Refused_at status.Ok → ⊥
   not_well why = is_refusal status.Ok why
 
-  no_bar : (r : Reason) → names_object r → unconfigured_for r words source faults faults' → ⊥
+  no_bar : (r : Reason) → names_object r → unconfigured_for r words before.source before.source_faults after.source_faults → ⊥
   no_bar (in_journal Is) names none = none
   no_bar (in_outbox Is) names none = none
   no_bar _ none why = none
 
-  bar_of : (r : Reason) (conf : Conf) (most : ℕ) → names_object r → unopened_for r conf most old new held → bars_for r conf most old.bytes held
+  bar_of : (r : Reason) (conf : Conf) (most : ℕ) → names_object r → unopened_for r conf most before.disk after.disk before.outbox after.outbox → bars_for r conf most before.disk.bytes before.outbox
   bar_of (in_journal Is) conf most names why = why
   bar_of (in_outbox Is) conf most names why = why
   bar_of _ conf most none why = absurd none
 
   -- a status that names what barred a run comes where that did
-  pub barred_of : (s : Status) → IsBarring s → Refused_at s → IsBarred words source old.bytes held s
+  pub barred_of : (s : Status) → IsBarring s → Refused_at s → IsBarred words before s
   barred_of s names (inl why) = absurd (no_bar (reason_of s) names why)
   barred_of s names (inr (plan, conf, c, why)) = (plan, conf, c, bar_of (reason_of s) conf plan.max_entries names why)
 
   -- printing makes of a run that didn't begin one to which memory was refused, or nothing else
-  pub unbegun_printed : (s ended : Status) (entries : List Numbered) → EndsPrinted s ended → Unbegun words source faults faults' held old new entries s → Unbegun words source faults faults' held old new entries ended
-  unbegun_printed s ended entries (own, inl same) u = subst (λ t. Unbegun words source faults faults' held old new entries t) (sym same) u
-  unbegun_printed s ended entries (own, inr (inl spent)) u = subst (λ t. Unbegun words source faults faults' held old new entries t) (sym spent) (record {
+  pub unbegun_printed : (s ended : Status) (entries : List Numbered) → EndsPrinted s ended → Unbegun words before after entries s → Unbegun words before after entries ended
+  unbegun_printed s ended entries (own, inl same) u = subst (λ t. Unbegun words before after entries t) (sym same) u
+  unbegun_printed s ended entries (own, inr (inl spent)) u = subst (λ t. Unbegun words before after entries t) (sym spent) (record {
     why = inl tt;
     told = u.told;
     later = u.later;
     found = u.found;
     has = u.found;
-    left = left_more old new _ _ (λ es. enters_found (reason_of s) _ es) u.left;
+    left = left_more before.disk after.disk _ _ (λ es. enters_found (reason_of s) _ es) u.left;
   })
   unbegun_printed s ended entries (own, inr (inr (cut, well))) u = absurd (not_well (subst Refused_at well u.why))
 
@@ -516,3 +529,50 @@ prints_counts s ended c c' print print' (own, inr (inl spent)) same printed =
     let front : Prints status.OutOfMemory c print print' = subst (λ t. Prints t c print print') spent printed in
     subst (λ t. Prints t c' print print') (sym spent) front
 prints_counts s ended c c' print print' (own, inr (inr (cut, well))) same printed = subst (λ k. Prints ended k print print') (same well) printed
+
+-- the line of a run that hasn't begun has no counts
+pub prints_any : (s : Status) (c c' : Counts) (line line' : SinkTells) → IsRefusal s → Prints s c line line' → Prints s c' line line'
+prints_any status.Ok c c' line line' none printed = absurd none
+prints_any status.PrintFault c c' line line' none printed = absurd none
+prints_any _ c c' line line' is printed = printed
+
+-- ---- a run that took events, behind its line
+
+module _ (words : List (List ℕ)) (before after : Objects) (entries : List Numbered) where
+  -- the same run, of whose counts something else is told
+  abbrev told_as : {s t : Status} {Is Other : Counts → Type 0} → (f : Followed words before after s entries Is) → Other (run_counts (first_start f.conf) entries)
+      → Finished (limits_by f.plan) f.conf (numbered_of f.groups) (opening_intake f.conf f.groups) entries f.plan.turns (Journals (KeepsAsOneOf before.disk) before.disk after.disk) before.wire after.wire (course_of t).ending
+      → LinesAre (course_of t).out before.outbox after.outbox (log_lines (first_start f.conf) (log_of entries)) → Followed words before after t entries Other
+  told_as f counts finished lines = record {
+    plan = f.plan;
+    conf = f.conf;
+    configured = f.configured;
+    groups = f.groups;
+    found = f.found;
+    accepted = f.accepted;
+    mendable = f.mendable;
+    whole = f.whole;
+    fits = f.fits;
+    first = f.first;
+    finished = finished;
+    lines = lines;
+    counts = counts;
+  }
+
+  pub followed_printed : (s ended : Status) (counts : Counts) (line line' : SinkTells) → EndsPrinted s ended → Prints ended counts line line' → Followed words before after s entries (λ c. s ≡ status.Ok → counts ≡ c)
+      → Followed words before after ended entries (λ c. Prints ended c line line')
+  followed_printed s ended counts line line' ends prints f =
+      told_as f (prints_counts s ended counts _ line line' ends f.counts prints) (finished ends) (lines_printed s ended before.outbox after.outbox _ ends f.lines)
+    where
+      Ends_as : Status → Type 0
+      Ends_as t = Finished (limits_by f.plan) f.conf (numbered_of f.groups) (opening_intake f.conf f.groups) entries f.plan.turns (Journals (KeepsAsOneOf before.disk) before.disk after.disk) before.wire after.wire (course_of t).ending
+
+      finished : EndsPrinted s ended → Ends_as ended
+      finished (own, inl same) = subst Ends_as (sym same) f.finished
+      finished (own, inr (inr (cut, well))) = let g : Ends_as status.Ok = subst Ends_as well f.finished in subst Ends_as (sym cut) g
+      finished (own, inr (inl spent)) =
+          subst Ends_as (sym spent) (finished_refused (limits_by f.plan) f.conf (numbered_of f.groups) (opening_intake f.conf f.groups) entries f.plan.turns _ before.wire after.wire (course_of s).ending f.finished)
+
+  -- a run that took events has a status of one that has begun
+  pub is_course : (s : Status) (IsTold : Counts → Type 0) → Followed words before after s entries IsTold → IsCourse s
+  is_course s IsTold f = is_ending (course_of s).ending _ _ _ _ f.finished.ends

@@ -9,12 +9,10 @@ use Rattle.outside.specs.Disk.{DiskTells}
 use Rattle.outside.specs.Tells.{SinkTells, WireTells}
 use Rattle.entry_step.specs.Log.{log_of}
 use Rattle.book.specs.Ends.{HeadView}
-use Rattle.entry_step.specs.Records.{replay}
-use Rattle.book.specs.Outgoing.{log_lines}
-use Rattle.book.specs.Tally.{tally_of}
+use Rattle.book.specs.Outgoing.{IsMendable, log_lines}
 use Rattle.server_words.specs.declared.status.Counts.{Counts}
-use Rattle.server_run.specs.Outbox.{LinesAre}
-use Rattle.server_run.specs.Tally.{counts_with}
+use Rattle.server_run.specs.Outbox.{LinesAre, IsAhead, IsOther}
+use Rattle.server_run.specs.Tally.{run_counts}
 use Rattle.book.specs.declared.errors.BookError.{BookError}
 use Rattle.book.specs.declared.errors.BookError.TheVariants as refusal
 use Rattle.intake_journal.specs.declared.state.State.TheVariants.{Ready}
@@ -119,23 +117,27 @@ pub record IsOpened {D : Type 0} (tells : D → DiskTells) (conf : Conf) (kept :
   pub entries_are : front.intake.entries ≡ kept
   pub durable : IsKept (tells front.journal.disk) front.intake.entries
 
--- a run that got no book: memory was refused, or its outbox holds more bytes than the lines of the kept entries have
-abbrev pub IsAheadOf : Start → List Numbered → ℕ → Status → Type 0
-IsAheadOf start kept held status.OutOfMemory = ⊤
-IsAheadOf start kept held (status.OutboxAhead told lines) =
-    (told ≡ held) × (lines ≡ length (log_lines start (log_of kept))) × (lines < told)
-IsAheadOf start kept held _ = ⊥
+-- why a run got no book over an outbox for kept entries with these lines: memory was refused; or the outbox failed, or
+-- isn't one of them
+abbrev pub IsBookless : List ℕ → SinkTells → SinkTells → Status → Type 0
+IsBookless lines outbox outbox' status.OutOfMemory = ⊤
+IsBookless lines outbox outbox' status.OutboxFault = Rose outbox.faults outbox'.faults
+IsBookless lines outbox outbox' (status.OutboxAhead held count) = IsAhead outbox lines held count
+IsBookless lines outbox outbox' (status.OutboxDiffers at) = IsOther outbox lines at
+IsBookless lines outbox outbox' _ = ⊥
 
 -- and has its disk and its entries
-pub record IsHeldBack {D : Type 0} (start : Start) (kept : List Numbered) (held : ℕ) (front : Fronted D) (disk : D)
+pub record IsHeldBack {D : Type 0} (lines : List ℕ) (outbox outbox' : SinkTells) (front : Fronted D) (disk : D)
     (entries : List Numbered) (s : Status) : Type 0 where
   pub disk_is : disk ≡ front.journal.disk
   pub entries_are : entries ≡ front.intake.entries
-  pub why : IsAheadOf start kept held s
+  pub why : IsBookless lines outbox outbox' s
 
 -- the status of a run that got no book
 abbrev pub book_status : BookError → Status
 book_status (refusal.OutboxAhead held lines) = status.OutboxAhead held lines
+book_status (refusal.OutboxDiffers at) = status.OutboxDiffers at
+book_status refusal.OutboxFault = status.OutboxFault
 book_status refusal.OutOfMemory = status.OutOfMemory
 
 -- what becomes of a status where the last lines aren't written, or memory is refused: want of memory stands before a
@@ -152,11 +154,10 @@ pub record HasGone {D O : Type 0} (tells : D → DiskTells) (shows : O → SinkT
   pub fault : course.status ≡ status.OutboxFault → Rose outbox.faults (shows course.outbox).faults
   pub unprinted : IsUnprinted course.status
   pub held_back : course.began ≡ false
-      → IsHeldBack start kept outbox.held front course.disk course.entries course.status
-  pub enough : course.began ≡ true → outbox.held ≤ length (log_lines start (log_of kept))
+      → IsHeldBack (log_lines start (log_of kept)) outbox (shows course.outbox) front course.disk course.entries course.status
+  pub mendable : course.began ≡ true → IsMendable outbox (log_lines start (log_of kept))
   pub finished : course.began ≡ true → Finished (limits_of front.journal 0) start.stage.conf kept front.intake course.entries turns
       (Journals (λ c. ⊥) (tells front.journal.disk) (tells course.disk)) w w' (course_of course.status).ending
   pub lines : course.began ≡ true → LinesAre (course_of course.status).out outbox (shows course.outbox)
-      (drop outbox.held (log_lines start (log_of course.entries)))
-  pub counts_are : course.status ≡ status.Ok → course.counts ≡ counts_with (length course.entries)
-      (tally_of (replay start (log_of course.entries)))
+      (log_lines start (log_of course.entries))
+  pub counts_are : course.status ≡ status.Ok → course.counts ≡ run_counts start course.entries

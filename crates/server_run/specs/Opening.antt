@@ -87,10 +87,10 @@ opening_entries conf groups = (start conf.text (numbered_of groups) (journal_byt
 abbrev pub opening_lines : Conf → List Group → List ℕ
 opening_lines conf groups = log_lines (first_start conf) (log_of (opening_entries conf groups))
 
--- an outbox of so many bytes holds more than these lines of the groups
-abbrev pub IsAhead : Conf → List Group → ℕ → ℕ → ℕ → Type 0
-IsAhead conf groups held told lines =
-    IsAccepted conf groups × (told ≡ held) × (lines ≡ length (opening_lines conf groups)) × (lines < held)
+-- a file keeps groups that are accepted, and of their lines this is so
+abbrev pub OfLines : Conf → Option (List ℕ) → (List ℕ → Type 0) → Type 0
+OfLines conf file Is =
+    (groups : List Group) × FoundGroups file groups × IsAccepted conf groups × Is (opening_lines conf groups)
 
 -- with the configuration alone a journal of at most so many entries would be full: it would have so many entries and
 -- bytes

@@ -1,12 +1,12 @@
 -- The contract of a run: what holds of its status, over what its objects tell before and after it.
-use Rattle.std.specs.Prelude.{◌≡◌, ◌⊎◌, ◌≤◌, ℕ, Bool, true, false, List, [], take, drop, length, Option, Some, None, Ok, is_some, All, IfSome}
+use Rattle.std.specs.Prelude.{◌≡◌, ◌⊎◌, ℕ, Bool, true, false, List, [], take, Some, None, Ok, is_some, All, IfSome, IsSome}
 use Rattle.std.specs.Io.KnownBytes.{IsAtEnd}
 use Rattle.zbx_types.specs.declared.causes.Cause.{Cause}
 use Rattle.zbx_types.specs.declared.conf.Conf.{Conf}
 use Rattle.zbx_types.specs.declared.entries.Numbered.{Numbered}
 use Rattle.outside.specs.Causes.{Rose}
 use Rattle.outside.specs.Disk.{DiskTells, LeavesOnly}
-use Rattle.outside.specs.Tells.{SinkTells, WireTells}
+use Rattle.outside.specs.Tells.{SinkTells}
 use Rattle.outside.specs.declared.event.WireEvent.{WireEvent}
 use Rattle.config_templates.specs.Flat.{flat_of}
 use Rattle.config_templates.specs.Places.{refuse}
@@ -23,24 +23,13 @@ use Rattle.server_words.specs.declared.status.Status.{Status}
 use Rattle.server_words.specs.declared.status.Status.TheVariants as status
 use Rattle.pattern_set.specs.Patterns.{IsPattern, IsNoPattern}
 use Rattle.server_run.specs.Patterns.{HasFlawAt, HoldsBrace}
-use Rattle.server_run.specs.Statuses.{course_of, YieldsTo, IsCourse, IsUnprinted}
-use Rattle.server_run.specs.Stops.{KeepsSome, Journals}
+use Rattle.server_run.specs.Statuses.{YieldsTo, IsCourse, IsUnprinted}
+use Rattle.server_run.specs.Stops.{KeepsSome}
+use Rattle.book.specs.Outgoing.{IsLeft, IsMendable}
 use Rattle.server_run.specs.Opening.{IsAccepted, opening_lines}
-use Rattle.server_run.specs.Reasons.{IsRefusal, IsBarring, Bars}
-use Rattle.server_run.specs.Outbox.{LinesAre, SizeIs}
+use Rattle.server_run.specs.Reasons.{IsRefusal, IsBarring, NamesOutbox, IsSeen, Bars}
 use Rattle.server_run.specs.Ports.{ReadsUpTo}
-use Rattle.server_run.specs.Replayed.{run_lines}
-use Rattle.server_run.specs.Runs.{IsBarred, FoundBy, HasBy, EntersBy, Unbegun, Followed, Prints, limits_by, opening_intake}
-use Rattle.server_run.specs.Tally.{run_counts}
-
--- what the objects of a run tell at one moment, but for its printer: what its source has left and how often that has
--- failed, and what the wire, the disk of its journal and its outbox tell
-pub record Objects : Type 1 where
-  pub source : Option (List ℕ)
-  pub source_faults : ℕ
-  pub wire : WireTells
-  pub disk : DiskTells
-  pub outbox : SinkTells
+use Rattle.server_run.specs.Runs.{Objects, IsBarred, FoundBy, HasBy, EntersBy, Unbegun, Followed, Prints, limits_by, opening_intake}
 
 -- no count of faults rose
 pub record NoneRose (before after : Objects) (line line' : SinkTells) : Type 0 where
@@ -59,14 +48,9 @@ pub record IsUpToLine (words : List (List ℕ)) (before after : Objects) (began 
   pub wire : s ≡ status.WireFault → Rose before.wire.faults after.wire.faults
   pub outbox : s ≡ status.OutboxFault → Rose before.outbox.faults after.outbox.faults
   pub unprinted : IsUnprinted s
-  pub unbegun : began ≡ false → Unbegun words before.source before.source_faults after.source_faults
-      before.outbox.held before.disk after.disk entries s
-  pub untouched : began ≡ false → (after.wire ≡ before.wire) × (after.outbox ≡ before.outbox)
-  pub followed : began ≡ true → Followed words before.source before.disk.bytes before.outbox.held
-      (Journals (KeepsAsOneOf before.disk) before.disk after.disk) before.wire after.wire s entries
-  pub lines : began ≡ true → LinesAre (course_of s).out before.outbox after.outbox
-      (drop before.outbox.held (run_lines entries))
-  pub counts_are : s ≡ status.Ok → counts ≡ run_counts entries
+  pub unbegun : began ≡ false → Unbegun words before after entries s
+  pub untouched : began ≡ false → (after.wire ≡ before.wire) × IsLeft before.outbox after.outbox
+  pub followed : began ≡ true → Followed words before after s entries (λ c. s ≡ status.Ok → counts ≡ c)
 
 -- A run over these objects, which began or not and has these entries, ended with a status and printed its line. All
 -- clauses of the two calls are here.
@@ -90,22 +74,23 @@ pub record IsRun (words : List (List ℕ)) (before after : Objects) (line line' 
       → IfSome before.source (HasFlawAt IsNoPattern path)
   pub pattern_too_large : (path : List ℕ) → s ≡ status.PatternTooLarge path
       → IfSome before.source (HasFlawAt HoldsBrace path)
-  -- NotOurs, Damaged, ConfigDiffers, OutboxAhead, and Full at the opening, come exactly where the journal or the outbox
-  -- is so, with the place or the numbers
-  pub barred : began ≡ false → IsBarring s → IsBarred words before.source before.disk.bytes before.outbox.held s
+  -- NotOurs, Damaged, ConfigDiffers, OutboxAhead, OutboxDiffers, and Full at the opening, come exactly where the journal
+  -- or the outbox is so, with the place or the numbers; a fault of the outbox stands before the two that name it
+  pub barred : began ≡ false → IsBarring s → IsBarred words before s
   pub bars : (plan : Plan) (text : List ℕ) (conf : Conf) (file : List ℕ) (t : Status) → plan_of words ≡ Some plan
       → before.source ≡ Some text → flat_of text ≡ Ok conf → before.disk.bytes ≡ Some file
-      → Bars conf plan.max_entries (Some file) before.outbox.held t → (s ≡ t) ⊎ YieldsTo s
+      → Bars conf plan.max_entries (Some file) before.outbox t → IsSeen before.outbox t
+      → (s ≡ t) ⊎ (YieldsTo s ⊎ (NamesOutbox t × (s ≡ status.OutboxFault)))
   -- a fault comes only where the count of its object rose
   pub source : s ≡ status.SourceFault → Rose before.source_faults after.source_faults
   pub wire : s ≡ status.WireFault → Rose before.wire.faults after.wire.faults
   pub disk : s ≡ status.DiskFault → Rose before.disk.faults after.disk.faults
   pub outbox : s ≡ status.OutboxFault → Rose before.outbox.faults after.outbox.faults
   pub print : s ≡ status.PrintFault → Rose line.faults line'.faults
-  -- A run that hasn't begun was refused at its opening, and left the wire and the outbox alone. It has no entries, or
-  -- those that it found, by its status. A crash at any moment of it left what one before it might have, or, where it
-  -- came so far, entries that it found.
-  pub not_begun : began ≡ false → IsRefusal s × (after.wire ≡ before.wire) × (after.outbox ≡ before.outbox)
+  -- A run that hasn't begun was refused at its opening, left the wire alone, and in the outbox what it held. It has no
+  -- entries, or those that it found, by its status. A crash at any moment of it left what one before it might have, or,
+  -- where it came so far, entries that it found.
+  pub not_begun : began ≡ false → IsRefusal s × (after.wire ≡ before.wire) × IsLeft before.outbox after.outbox
   pub has_found : began ≡ false → (entries ≡ []) ⊎ FoundBy words before.source before.disk.bytes entries
   pub has : began ≡ false → HasBy words before.source before.disk.bytes s entries
   pub stopped : began ≡ false → IfSome before.disk.bytes (λ _. LeavesOnly before.disk after.disk
@@ -114,23 +99,20 @@ pub record IsRun (words : List (List ℕ)) (before after : Objects) (line line' 
   -- Events taken, replies, closings and entries behind those that the journal kept; reading to the end; the limits of
   -- turns, entries and bytes. A crash at any moment left what one before the run might have, or the entries behind some
   -- of the events, those of the opening among them, or all that the events add whose groups the disk refused; and
-  -- unless it did, the disk keeps the run's entries, and each crash leaves them.
-  pub followed : began ≡ true → Followed words before.source before.disk.bytes before.outbox.held
-      (Journals (KeepsAsOneOf before.disk) before.disk after.disk) before.wire after.wire s entries
+  -- unless it did, the disk keeps the run's entries, and each crash leaves them. The outbox has the lines of one thread
+  -- that replays the entries, whatever it held. The printed line is that of the status, over the counts of the entries;
+  -- that of a run that hasn't begun has no counts.
+  pub followed : began ≡ true → Followed words before after s entries (λ counts. Prints s counts line line')
+  pub printed : began ≡ false → (counts : Counts) → Prints s counts line line'
   pub keeps : began ≡ true → (Rose before.disk.faults after.disk.faults → ⊥) → IfSome after.disk.bytes (Keeps entries)
   pub told : is_some after.disk.bytes ≡ is_some before.disk.bytes
-  -- the outbox has the lines of one thread that replays the entries, but for as many of their first bytes as it held
-  pub lines : began ≡ true → LinesAre (course_of s).out before.outbox after.outbox
-      (drop before.outbox.held (run_lines entries))
-  pub size : began ≡ true → SizeIs (course_of s).out before.outbox after.outbox
-      (drop before.outbox.held (run_lines entries))
-  -- the printed line is that of the status, over the counts of the entries
-  pub printed : Prints s (run_counts entries) line line'
-  -- what is accepted and doesn't fail ends well, if memory is there
+  -- What is accepted and doesn't fail ends well, if memory is there. An outbox is accepted that holds nothing, or that
+  -- tells its bytes and can be completed.
   pub complete : (plan : Plan) (text : List ℕ) (conf : Conf) (file : List ℕ) (groups : List Group)
       (all : List WireEvent) → plan_of words ≡ Some plan → before.source ≡ Some text
       → flat_of text ≡ Ok conf → before.disk.bytes ≡ Some file → groups_of (kept file) ≡ Some groups
-      → IsAccepted conf groups → before.outbox.held ≤ length (opening_lines conf groups)
+      → IsAccepted conf groups → IsMendable before.outbox (opening_lines conf groups)
+      → (before.outbox.held ≡ 0) ⊎ IsSome before.outbox.bytes
       → before.wire.left ≡ Some all → (served (limits_by plan) conf (opening_intake conf groups)
       (take plan.turns all)).stop ≡ Some stop.Closed → NoneRose before after line line' → All IsPattern conf.patterns
       → (s ≡ status.Ok) ⊎ ((s ≡ status.OutOfMemory) ⊎ ((path : List ℕ) × (s ≡ status.PatternTooLarge path)))

@@ -4,6 +4,7 @@ use Rattle.zbx_types.specs.declared.conf.Conf.{Conf}
 use Rattle.zbx_types.specs.declared.entries.Numbered.{Numbered}
 use Rattle.outside.specs.Causes.{Rose}
 use Rattle.outside.specs.Disk.{DiskTells}
+use Rattle.outside.specs.Tells.{SinkTells}
 use Rattle.intake_journal.specs.Kept.{kept}
 use Rattle.intake_journal.specs.Kept.Kept.{NotOurs, Damaged}
 use Rattle.intake_journal.specs.declared.format.Group.{Group}
@@ -15,11 +16,12 @@ use Rattle.server_words.specs.Words.{plan_of}
 use Rattle.server_words.specs.declared.status.Status.{Status}
 use Rattle.server_words.specs.declared.status.Status.TheVariants as status
 use Rattle.server_run.specs.Patterns.{HasFlawAt, HoldsBrace}
-use Rattle.server_run.specs.Opening.{FoundGroups, IsRejected, IsAhead, IsFullAtFirst}
+use Rattle.server_run.specs.Opening.{FoundGroups, IsRejected, IsFullAtFirst, OfLines}
+use Rattle.server_run.specs.Outbox.{IsAhead, IsOther}
 
 -- a run doesn't end so before it has begun; its words have no plan; memory was refused; its source failed; its
 -- configuration's text is like this; its disk failed; the file of its journal is like this, for its configuration and
--- for so many entries at most; its outbox holds so many bytes that this is so, for its configuration and that file
+-- for so many entries at most; its outbox failed; its outbox is like this beside the lines of the kept entries
 pub data Reason : Type 1 where
   no_reason : Reason
   in_words : Reason
@@ -28,7 +30,8 @@ pub data Reason : Type 1 where
   in_text : (List ℕ → Type 0) → Reason
   by_disk : Reason
   in_journal : (Conf → ℕ → Option (List ℕ) → Type 0) → Reason
-  in_outbox : (Conf → Option (List ℕ) → ℕ → Type 0) → Reason
+  by_outbox : Reason
+  in_outbox : (SinkTells → List ℕ → Type 0) → Reason
 
 -- a file's groups, which aren't those of a run with this configuration
 abbrev pub Rejects : Conf → Option (List ℕ) → Status → Type 0
@@ -49,8 +52,9 @@ reason_of (status.Damaged at) =
 reason_of (status.ConfigDiffers at) = in_journal (λ conf most file. Rejects conf file (status.ConfigDiffers at))
 reason_of (status.Full entries bytes) =
     in_journal (λ conf most file. FoundGroups file [] × IsFullAtFirst most conf entries bytes)
-reason_of (status.OutboxAhead told lines) =
-    in_outbox (λ conf file held. (groups : List Group) × FoundGroups file groups × IsAhead conf groups held told lines)
+reason_of status.OutboxFault = by_outbox
+reason_of (status.OutboxAhead held count) = in_outbox (λ outbox lines. IsAhead outbox lines held count)
+reason_of (status.OutboxDiffers at) = in_outbox (λ outbox lines. IsOther outbox lines at)
 reason_of _ = no_reason
 
 -- a status of a run that hasn't begun
@@ -69,6 +73,19 @@ names_object _ = ⊥
 
 abbrev pub IsBarring : Status → Type 0
 IsBarring s = names_object (reason_of s)
+
+-- one that names what the outbox was
+abbrev pub names_outbox : Reason → Type 0
+names_outbox (in_outbox Is) = ⊤
+names_outbox _ = ⊥
+
+abbrev pub NamesOutbox : Status → Type 0
+NamesOutbox s = names_outbox (reason_of s)
+
+-- an outbox of which a status is said tells as much: its bytes, where one of them differs
+abbrev pub IsSeen : SinkTells → Status → Type 0
+IsSeen outbox (status.OutboxDiffers at) = IsSome outbox.bytes
+IsSeen outbox _ = ⊤
 
 -- why the text of a configuration couldn't be taken: memory was refused, it is refused for its first fault, or a
 -- pattern of it isn't one, or holds a brace and is too large
@@ -92,26 +109,27 @@ unconfigured_for _ words source faults faults' = ⊥
 abbrev pub Unconfigured : List (List ℕ) → Option (List ℕ) → ℕ → ℕ → Status → Type 0
 Unconfigured words source faults faults' s = unconfigured_for (reason_of s) words source faults faults'
 
--- what bars a run with this configuration, which allows so many entries: what its file keeps, or how many bytes its
--- outbox holds
-abbrev pub bars_for : Reason → Conf → ℕ → Option (List ℕ) → ℕ → Type 0
-bars_for (in_journal Is) conf most file held = Is conf most file
-bars_for (in_outbox Is) conf most file held = Is conf file held
-bars_for _ conf most file held = ⊥
+-- what bars a run with this configuration, which allows so many entries: what its file keeps, or what its outbox holds
+abbrev pub bars_for : Reason → Conf → ℕ → Option (List ℕ) → SinkTells → Type 0
+bars_for (in_journal Is) conf most file outbox = Is conf most file
+bars_for (in_outbox Is) conf most file outbox = OfLines conf file (Is outbox)
+bars_for _ conf most file outbox = ⊥
 
-abbrev pub Bars : Conf → ℕ → Option (List ℕ) → ℕ → Status → Type 0
-Bars conf most file held s = bars_for (reason_of s) conf most file held
+abbrev pub Bars : Conf → ℕ → Option (List ℕ) → SinkTells → Status → Type 0
+Bars conf most file outbox s = bars_for (reason_of s) conf most file outbox
 
--- why a run that was configured doesn't begin: memory was refused, or its disk failed, or it was barred
-abbrev pub unopened_for : Reason → Conf → ℕ → DiskTells → DiskTells → ℕ → Type 0
-unopened_for by_memory conf most old new held = ⊤
-unopened_for by_disk conf most old new held = Rose old.faults new.faults
-unopened_for (in_journal Is) conf most old new held = Is conf most old.bytes
-unopened_for (in_outbox Is) conf most old new held = Is conf old.bytes held
-unopened_for _ conf most old new held = ⊥
+-- why a run that was configured doesn't begin: memory was refused, or its disk failed, or it was barred, or its outbox
+-- failed behind a journal that was accepted
+abbrev pub unopened_for : Reason → Conf → ℕ → DiskTells → DiskTells → SinkTells → SinkTells → Type 0
+unopened_for by_memory conf most old new outbox outbox' = ⊤
+unopened_for by_disk conf most old new outbox outbox' = Rose old.faults new.faults
+unopened_for by_outbox conf most old new outbox outbox' = OfLines conf old.bytes (λ lines. Rose outbox.faults outbox'.faults)
+unopened_for (in_journal Is) conf most old new outbox outbox' = Is conf most old.bytes
+unopened_for (in_outbox Is) conf most old new outbox outbox' = OfLines conf old.bytes (Is outbox)
+unopened_for _ conf most old new outbox outbox' = ⊥
 
-abbrev pub Unopened : Conf → ℕ → DiskTells → DiskTells → ℕ → Status → Type 0
-Unopened conf most old new held s = unopened_for (reason_of s) conf most old new held
+abbrev pub Unopened : Conf → ℕ → DiskTells → DiskTells → SinkTells → SinkTells → Status → Type 0
+Unopened conf most old new outbox outbox' s = unopened_for (reason_of s) conf most old new outbox outbox'
 
 -- Which entries a run has that ended so at its opening: what its file keeps, and none where that is no journal; those
 -- with which it was to begin; where memory or its disk failed it none, or some that it found; else none.
@@ -119,6 +137,7 @@ abbrev pub has_for : Reason → Option (List ℕ) → (List Numbered → Type 0)
     → Type 0
 has_for (in_journal Is) file Begins Found entries = IfSome file (λ b. entries ≡ unwrap_or (kept_entries b) [])
 has_for (in_outbox Is) file Begins Found entries = Begins entries
+has_for by_outbox file Begins Found entries = Begins entries
 has_for by_memory file Begins Found entries = (entries ≡ []) ⊎ Found entries
 has_for by_disk file Begins Found entries = (entries ≡ []) ⊎ Found entries
 has_for _ file Begins Found entries = entries ≡ []
@@ -127,6 +146,7 @@ has_for _ file Begins Found entries = entries ≡ []
 -- came as far as to open the journal
 abbrev pub enters_for : Reason → (List Numbered → Type 0) → List Numbered → Type 0
 enters_for (in_outbox Is) Found entries = Found entries
+enters_for by_outbox Found entries = Found entries
 enters_for by_memory Found entries = Found entries
 enters_for by_disk Found entries = Found entries
 enters_for _ Found entries = ⊥

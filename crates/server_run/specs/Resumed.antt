@@ -7,6 +7,7 @@ use Rattle.intake_journal.specs.declared.format.Group.{Group}
 use Rattle.intake_journal.specs.Settled.{Journaled, KeepsAsOneOf}
 use Rattle.intake_journal.specs.declared.state.State.TheVariants.{Ready}
 use Rattle.outside.specs.Disk.{DiskTells, LeavesOnly}
+use Rattle.outside.specs.Tells.{SinkTells}
 use Rattle.intake_front.specs.Intake.{start, IsSound}
 use Rattle.intake_front.specs.Fronted.{Fronted, numbered_of}
 use Rattle.intake_front.specs.Batch.{IsIdle}
@@ -25,13 +26,13 @@ status_for (front.Full entries bytes) = status.Full entries bytes
 status_for front.DiskFault = status.DiskFault
 status_for front.OutOfMemory = status.OutOfMemory
 
--- A run that was configured, with an outbox of so many bytes, and didn't begin: why, and the entries that it has. A
--- crash meanwhile left what one before it might have, or, where the run came so far, entries that it found.
-pub record TurnedAway (conf : Conf) (most held : ℕ) (old new : DiskTells) (entries : List Numbered)
+-- A run that was configured, with an outbox, and didn't begin: why, and the entries that it has. A crash meanwhile left
+-- what one before it might have, or, where the run came so far, entries that it found.
+pub record TurnedAway (conf : Conf) (most : ℕ) (old new : DiskTells) (outbox outbox' : SinkTells) (entries : List Numbered)
     (s : Status) : Type 0 where
   pub told : is_some new.bytes ≡ is_some old.bytes
   pub later : old.faults ≤ new.faults
-  pub why : Unopened conf most old new held s
+  pub why : Unopened conf most old new outbox outbox' s
   pub found : (entries ≡ []) ⊎ FoundEntries old.bytes conf entries
   pub has : has_for (reason_of s) old.bytes (BeginningEntries old.bytes conf) (FoundEntries old.bytes conf) entries
   pub left : IfSome old.bytes (λ _. LeavesOnly old new

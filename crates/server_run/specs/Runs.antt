@@ -28,9 +28,12 @@ use Rattle.server_run.specs.Recovered.{journal_bytes}
 use Rattle.server_run.specs.Opening.{FoundGroups, IsAccepted, BeginningEntries, FoundEntries, opening_lines}
 use Rattle.server_run.specs.Reasons.{reason_of, Unconfigured, Bars, Unopened, has_for, enters_for}
 use Rattle.server_run.specs.Resumed.{HasBegun}
-use Rattle.server_run.specs.Stops.{refusing, RunsOn, IsReached, KeepsSome}
+use Rattle.server_run.specs.Stops.{refusing, RunsOn, IsReached, KeepsSome, Journals}
+use Rattle.server_run.specs.Outbox.{LinesAre}
+use Rattle.server_run.specs.Replayed.{conf_of_run}
+use Rattle.server_run.specs.Tally.{run_counts}
 use Rattle.server_run.specs.Events.{Doing}
-use Rattle.book.specs.Outgoing.{Grew, GrewByFront}
+use Rattle.book.specs.Outgoing.{Grew, GrewByFront, IsMendable, log_lines}
 use Rattle.server_run.specs.Sending.{Shows}
 use Rattle.server_run.specs.Statuses.{Ending, Printing, whole_line, own_line, front_of_line, front_of_ok, course_of, EndsAs, LeftIs}
 
@@ -49,17 +52,27 @@ pub record IsConfigured (words : List (List ℕ)) (source source' : Option (List
   pub most_is : most ≡ plan.max_entries
   pub at_end : IsAtEnd source'
 
--- a run that was configured, and is barred by what its file keeps or its outbox holds
-abbrev pub IsBarred : List (List ℕ) → Option (List ℕ) → Option (List ℕ) → ℕ → Status → Type 0
-IsBarred words source file held s =
-    (plan : Plan) × (conf : Conf) × Configured words source plan conf × Bars conf plan.max_entries file held s
+-- what the objects of a run tell at one moment, but for its printer: what its source has left and how often that has
+-- failed, and what the wire, the disk of its journal and its outbox tell
+pub record Objects : Type 1 where
+  pub source : Option (List ℕ)
+  pub source_faults : ℕ
+  pub wire : WireTells
+  pub disk : DiskTells
+  pub outbox : SinkTells
 
--- why a run didn't begin: it wasn't configured, or it was, and its journal wasn't opened, or it was barred
-abbrev pub Refuses : List (List ℕ) → Option (List ℕ) → ℕ → ℕ → DiskTells → DiskTells → ℕ → Status → Type 0
-Refuses words source faults faults' old new held s =
-    Unconfigured words source faults faults' s
-    ⊎ ((plan : Plan) × (conf : Conf) × Configured words source plan conf
-    × Unopened conf plan.max_entries old new held s)
+-- a run that was configured, and is barred by what its file keeps or its outbox holds
+abbrev pub IsBarred : List (List ℕ) → Objects → Status → Type 0
+IsBarred words before s =
+    (plan : Plan) × (conf : Conf) × Configured words before.source plan conf
+    × Bars conf plan.max_entries before.disk.bytes before.outbox s
+
+-- why a run didn't begin: it wasn't configured, or it was, and its journal or its outbox wasn't opened, or it was barred
+abbrev pub Refuses : List (List ℕ) → Objects → Objects → Status → Type 0
+Refuses words before after s =
+    Unconfigured words before.source before.source_faults after.source_faults s
+    ⊎ ((plan : Plan) × (conf : Conf) × Configured words before.source plan conf
+    × Unopened conf plan.max_entries before.disk after.disk before.outbox after.outbox s)
 
 -- entries that a run found at its opening, which was configured
 abbrev pub FoundBy : List (List ℕ) → Option (List ℕ) → Option (List ℕ) → List Numbered → Type 0
@@ -111,21 +124,26 @@ pub record Finished (limits : Limits) (conf : Conf) (recovered : List Numbered) 
   pub journaled : did (IsReached (refusing limits refused) conf recovered begun handled)
       (served (refusing limits refused) conf begun handled).stop entries
 
--- A run that began: its words had a plan, its configuration is flat, its journal kept groups of it, its outbox held
--- no more than their lines, and it took events. Its entries are numbered 1, 2, 3 and so on, and fit its configuration.
-pub record Followed (words : List (List ℕ)) (source file : Option (List ℕ)) (held : ℕ) (did : Doing)
-    (wire wire' : WireTells) (s : Status) (entries : List Numbered) : Type 0 where
+-- A run that began: its words had a plan, its configuration is flat, its journal kept groups of it, its outbox could be
+-- completed to their lines, and it took events. Its entries are numbered 1, 2, 3 and so on, and fit its configuration,
+-- which the first of them holds. The outbox has the lines of one thread that replays them, and what is told of their
+-- counts is so.
+pub record Followed (words : List (List ℕ)) (before after : Objects) (s : Status) (entries : List Numbered)
+    (IsTold : Counts → Type 0) : Type 0 where
   pub plan : Plan
   pub conf : Conf
-  pub configured : Configured words source plan conf
+  pub configured : Configured words before.source plan conf
   pub groups : List Group
-  pub found : FoundGroups file groups
+  pub found : FoundGroups before.disk.bytes groups
   pub accepted : IsAccepted conf groups
-  pub enough : held ≤ length (opening_lines conf groups)
+  pub mendable : IsMendable before.outbox (opening_lines conf groups)
   pub whole : IsFull (log_of entries)
   pub fits : Fits (first_start conf) (log_of entries)
+  pub first : conf_of_run entries ≡ Some conf
   pub finished : Finished (limits_by plan) conf (numbered_of groups) (opening_intake conf groups) entries plan.turns
-      did wire wire' (course_of s).ending
+      (Journals (KeepsAsOneOf before.disk) before.disk after.disk) before.wire after.wire (course_of s).ending
+  pub lines : LinesAre (course_of s).out before.outbox after.outbox (log_lines (first_start conf) (log_of entries))
+  pub counts : IsTold (run_counts (first_start conf) entries)
 
 -- What a run has begun with: the plan's turns, the configuration of the text that the source told, all of which was
 -- read, and the intake behind its journal.
@@ -139,15 +157,14 @@ pub record Opened {D : Type 0} (tells : D → DiskTells) (words : List (List ℕ
 
 -- What became of a run that didn't begin: why, and the entries that it has. A crash meanwhile left what one before it
 -- might have, or, where the run came so far, entries that it found.
-pub record Unbegun (words : List (List ℕ)) (source : Option (List ℕ)) (source_faults source_faults' held : ℕ)
-    (old new : DiskTells) (entries : List Numbered) (s : Status) : Type 0 where
-  pub why : Refuses words source source_faults source_faults' old new held s
-  pub told : is_some new.bytes ≡ is_some old.bytes
-  pub later : old.faults ≤ new.faults
-  pub found : (entries ≡ []) ⊎ FoundBy words source old.bytes entries
-  pub has : HasBy words source old.bytes s entries
-  pub left : IfSome old.bytes (λ _. LeavesOnly old new
-      (λ c. KeepsAsOneOf old c ⊎ KeepsSome (EntersBy words source old.bytes s) c))
+pub record Unbegun (words : List (List ℕ)) (before after : Objects) (entries : List Numbered) (s : Status) : Type 0 where
+  pub why : Refuses words before after s
+  pub told : is_some after.disk.bytes ≡ is_some before.disk.bytes
+  pub later : before.disk.faults ≤ after.disk.faults
+  pub found : (entries ≡ []) ⊎ FoundBy words before.source before.disk.bytes entries
+  pub has : HasBy words before.source before.disk.bytes s entries
+  pub left : IfSome before.disk.bytes (λ _. LeavesOnly before.disk after.disk
+      (λ c. KeepsAsOneOf before.disk c ⊎ KeepsSome (EntersBy words before.source before.disk.bytes s) c))
 
 -- some of a text from the front was printed, since the printer failed
 abbrev pub CutShort : SinkTells → SinkTells → List ℕ → Type 0

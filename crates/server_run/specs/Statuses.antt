@@ -92,9 +92,11 @@ course_of status.NotOurs = refusal
 course_of (status.Damaged at) = refusal
 course_of (status.ConfigDiffers at) = refusal
 course_of (status.OutboxAhead held lines) = refusal
+course_of (status.OutboxDiffers at) = refusal
 course_of status.DiskFault = ends at_disk_fault all_lines own_line
 course_of (status.Full entries bytes) = ends (at_full entries bytes) all_lines own_line
 course_of (status.BadLine at) = refusal
+course_of (status.MediaRefused path) = refusal
 course_of (status.MarksAhead marks messages) = refusal
 course_of status.LinesTooLong = refusal
 

@@ -1,18 +1,18 @@
 //! The course of a run over its book, from its opening to its last line.
 
-ghost use Rattle.std.specs.Prelude.{◌≡◌, ◌⊎◌, ◌<◌, ◌++◌, List, IsTrue, IfOk, true, false, drop, length};
+ghost use Rattle.std.specs.Prelude.{◌≡◌, ◌⊎◌, ◌<◌, ◌++◌, List, IsTrue, IfOk, true, false, length};
 ghost use Rattle.zbx_types.specs.declared.entries.Numbered.{Numbered};
 ghost use Rattle.outside.specs.Causes.{Rose};
 ghost use Rattle.entry_step.specs.Log.{log_of};
 ghost use Rattle.entry_step.specs.Records.{replay};
-ghost use Rattle.book.specs.Outgoing.{log_lines};
+ghost use Rattle.book.specs.Outgoing.{IsLeft, log_lines};
 ghost use Rattle.book.specs.Tally.{tally_of};
 ghost use Rattle.intake_front.specs.Batch.{IsIdle};
 ghost use Rattle.server_run.specs.Going.{IsServing, TakesOn, IsEndedAt, IsSentAt, IsOpened, IsWorse, HasGone, book_status};
 ghost use Rattle.server_run.specs.declared.serving.Taken.TheVariants as Taken;
 ghost use Rattle.server_run.specs.Outbox.{LinesAre};
 ghost use Rattle.server_run.specs.Statuses.{course_of, IsCourse};
-ghost use Rattle.server_run.specs.Tally.{counts_with};
+ghost use Rattle.server_run.specs.Tally.{counts_with, run_counts};
 
 use crate::crew::{Alone, serve_syncers};
 use crate::serving::{Taken, serve};
@@ -214,8 +214,7 @@ fn finish<S: StartName, N: RunName, O: Sink>(
     requires fault { status ≡ Status.OutboxFault → Rose S.outbox.faults book.sink.faults }
     ensures status { IsWorse status result.status }
     ensures lines { (entries : List Numbered) → IsSentAt S.kept head.sent entries status
-        → LinesAre (course_of result.status).out S.outbox (O.tells result.outbox)
-        (drop S.outbox.held (log_lines S.start (log_of entries))) }
+        → LinesAre (course_of result.status).out S.outbox (O.tells result.outbox) (log_lines S.start (log_of entries)) }
     ensures outbox { result.status ≡ Status.OutboxFault → Rose S.outbox.faults (O.tells result.outbox).faults }
     ensures counts { result.status ≡ Status.Ok → result.tally ≡ tally_of
         (replay S.start (log_of (S.kept ++ head.sent))) }
@@ -246,6 +245,8 @@ fn refused(error: BookError) -> Status
 {
     match error {
         BookError::OutboxAhead { held, lines } => Status::OutboxAhead { held, lines },
+        BookError::OutboxDiffers { at } => Status::OutboxDiffers { at },
+        BookError::OutboxFault => Status::OutboxFault,
         BookError::OutOfMemory => Status::OutOfMemory,
     }
 }
@@ -268,10 +269,9 @@ fn close<S: StartName, N: RunName, D: Disk, O: Sink>(
     ensures entries { result.entries ≡ front.intake.entries }
     ensures status { IsWorse status result.status }
     ensures lines { LinesAre (course_of result.status).out S.outbox (O.tells result.outbox)
-        (drop S.outbox.held (log_lines S.start (log_of front.intake.entries))) }
+        (log_lines S.start (log_of front.intake.entries)) }
     ensures outbox { result.status ≡ Status.OutboxFault → Rose S.outbox.faults (O.tells result.outbox).faults }
-    ensures counts { result.status ≡ Status.Ok → result.counts ≡ counts_with (length front.intake.entries)
-        (tally_of (replay S.start (log_of front.intake.entries))) }
+    ensures counts { result.status ≡ Status.Ok → result.counts ≡ run_counts S.start front.intake.entries }
 {
     let Written {
         status,
@@ -309,7 +309,7 @@ fn named<S: StartName, N: RunName, W: Wire, D: Disk, O: Sink>(
     requires outbox { O.tells outbox ≡ S.outbox }
     ensures gone { HasGone D.tells O.tells S.start S.kept S.outbox front turns (W.tells wire.old) (W.tells wire.new)
         result }
-    ensures untouched { result.began ≡ false → (wire.new ≡ wire.old) × (result.outbox ≡ outbox) }
+    ensures untouched { result.began ≡ false → (wire.new ≡ wire.old) × IsLeft (O.tells outbox) (O.tells result.outbox) }
 {
     let (head, end) = ring.named::<N>();
     let book = match Book::new(alloc, prepared.ready(), front.entries(), end, outbox) {
@@ -346,7 +346,7 @@ pub(crate) fn started<S: StartName, W: Wire, D: Disk, O: Sink>(
     requires outbox { O.tells outbox ≡ S.outbox }
     ensures gone { HasGone D.tells O.tells S.start S.kept S.outbox front turns (W.tells wire.old) (W.tells wire.new)
         result }
-    ensures untouched { result.began ≡ false → (wire.new ≡ wire.old) × (result.outbox ≡ outbox) }
+    ensures untouched { result.began ≡ false → (wire.new ≡ wire.old) × IsLeft (O.tells outbox) (O.tells result.outbox) }
 {
     let prepared = Prepared::<S>::new(ready);
     match Ring::<S>::new(alloc, RING_CAPACITY) {
@@ -387,7 +387,7 @@ where
     requires outbox { O.tells outbox ≡ S.outbox }
     ensures gone { HasGone D.tells O.tells S.start S.kept S.outbox front turns (W.tells wire.old) (W.tells wire.new)
         result }
-    ensures untouched { result.began ≡ false → (wire.new ≡ wire.old) × (result.outbox ≡ outbox) }
+    ensures untouched { result.began ≡ false → (wire.new ≡ wire.old) × IsLeft (O.tells outbox) (O.tells result.outbox) }
 {
     let before = outbox.faults();
     let (head, end) = ring.named::<N>();
@@ -430,7 +430,7 @@ where
     requires outbox { O.tells outbox ≡ S.outbox }
     ensures gone { HasGone D.tells O.tells S.start S.kept S.outbox front turns (W.tells wire.old) (W.tells wire.new)
         result }
-    ensures untouched { result.began ≡ false → (wire.new ≡ wire.old) × (result.outbox ≡ outbox) }
+    ensures untouched { result.began ≡ false → (wire.new ≡ wire.old) × IsLeft (O.tells outbox) (O.tells result.outbox) }
 {
     let prepared = Prepared::<S>::new(ready);
     match Ring::<S>::new(alloc, RING_CAPACITY) {

@@ -39,7 +39,7 @@ fn misfit_with(conf: &Conf, misfit: Option<u64>, judge: &mut Judge, group: &Grou
 
 /// Adds entries, with the numbers behind those that are there.
 fn number_group(numbered: &mut Many<Numbered>, entries: Many<Entry>) -> Result<(), OutOfMemory>
-    ensures { OnOk result (numbered.new ≡ with_group numbered.old entries) }
+    ensures { OnOk result (numbered.new ≡ with_group 0 numbered.old entries) }
 {
     for entry in entries.into_vec() {
         let number = numbered.as_slice().len() as u64 + 1;

@@ -1,6 +1,7 @@
 //! The opening of a run: its words, its configuration, its journal, and what its outbox lacks.
 
-ghost use Rattle.std.specs.Prelude.{ℕ, ◌≡◌, ◌≤◌, Ok, Some, None, All, IfOk, IfErr};
+ghost use Rattle.std.specs.Prelude.{◌≡◌, ◌≤◌, Ok, Some, None, All, IfOk, IfErr};
+ghost use Rattle.outside.specs.Tells.{SinkTells, WireTells};
 ghost use Rattle.zbx_types.specs.Ids.{at_id};
 ghost use Rattle.pattern_set.specs.Patterns.{IsPattern};
 ghost use Rattle.config_templates.specs.Flat.{flat_of};
@@ -135,8 +136,8 @@ fn set_up<S: Source>(alloc: Global, words: &[Text], config: &mut S) -> Result<Se
 fn resume_setup<D: Disk>(alloc: Global, setup: Setup, disk: D) -> Result<Begun<D>, Refused<D>>
     ensures ok { IfOk result (λ b. (b.turns ≡ setup.turns) × (b.ready ≡ setup.ready)
         × HasBegun D.tells setup.ready.conf setup.max_entries disk b.front) }
-    ensures err { IfErr result (λ r. (held : ℕ) → TurnedAway setup.ready.conf setup.max_entries held
-        (D.tells disk) (D.tells r.disk) r.entries r.status) }
+    ensures err { IfErr result (λ r. (outbox outbox' : SinkTells) → TurnedAway setup.ready.conf setup.max_entries
+        (D.tells disk) (D.tells r.disk) outbox outbox' r.entries r.status) }
 {
     match resume(alloc, &setup.ready, disk, setup.max_entries) {
         Ok(front) => Ok(Begun {
@@ -164,8 +165,20 @@ pub(crate) fn open<S: Source, D: Disk>(
     ensures taken { ReadsUpTo 16777216 (S.left config.old) (S.left config.new) }
     ensures ok { IfOk result (λ b. Opened D.tells words.now
         (S.left config.old) (S.left config.new) disk b.turns b.ready.conf b.front) }
-    ensures err { IfErr result (λ r. (held : ℕ) → Unbegun words.now (S.left config.old) (S.faults config.old)
-        (S.faults config.new) held (D.tells disk) (D.tells r.disk) r.entries r.status) }
+    ensures err { IfErr result (λ r. (wire wire' : WireTells) (outbox outbox' : SinkTells) → Unbegun words.now
+        (record {
+          source = S.left config.old;
+          source_faults = S.faults config.old;
+          wire = wire;
+          disk = D.tells disk;
+          outbox = outbox;
+        }) (record {
+          source = S.left config.new;
+          source_faults = S.faults config.new;
+          wire = wire';
+          disk = D.tells r.disk;
+          outbox = outbox';
+        }) r.entries r.status) }
 {
     match set_up(alloc, words, config) {
         Ok(setup) => resume_setup(alloc, setup, disk),

@@ -1,6 +1,7 @@
 //! What a run's journal kept is compared with its configuration, and gone on with.
 
 ghost use Rattle.std.specs.Prelude.{◌≡◌, ◌+◌, ℕ, List, IfOk, IfErr};
+ghost use Rattle.outside.specs.Tells.{SinkTells};
 ghost use Rattle.intake_journal.specs.declared.state.State.TheVariants as state;
 ghost use Rattle.intake_front.specs.Fronted.{HasJournaled};
 ghost use Rattle.intake_journal.specs.declared.format.Group.{Group};
@@ -83,8 +84,8 @@ fn accepted<D: Disk>(
 ) -> Result<(Journal<D>, Many<Numbered>), Refused<D>>
     ensures ok { IfOk result (λ made. IsTakenUp D.tells conf.now
         max_entries disk made.0 made.1) }
-    ensures err { IfErr result (λ r. (held : ℕ) → TurnedAway conf.now max_entries held (D.tells disk)
-        (D.tells r.disk) r.entries r.status) }
+    ensures err { IfErr result (λ r. (outbox outbox' : SinkTells) → TurnedAway conf.now max_entries
+        (D.tells disk) (D.tells r.disk) outbox outbox' r.entries r.status) }
 {
     let (journal, numbering) = match recover(alloc, conf, disk, max_entries) {
         Ok(recovered) => recovered,
@@ -129,9 +130,9 @@ fn begin<D: Disk>(
     ensures ok { IfOk result (λ f. (most : ℕ) (old : D)
         → IsTakenUp D.tells ready.now.conf most old journal kept
         → HasBegun D.tells ready.now.conf most old f) }
-    ensures err { IfErr result (λ r. (most held : ℕ) (old : D)
+    ensures err { IfErr result (λ r. (most : ℕ) (old : D) (outbox outbox' : SinkTells)
         → IsTakenUp D.tells ready.now.conf most old journal kept
-        → TurnedAway ready.now.conf most held (D.tells old) (D.tells r.disk) r.entries
+        → TurnedAway ready.now.conf most (D.tells old) (D.tells r.disk) outbox outbox' r.entries
         r.status) }
 {
     match Front::new(alloc, ready, journal, kept) {
@@ -152,8 +153,8 @@ pub(crate) fn resume<D: Disk>(
     max_entries: u64,
 ) -> Result<Front<D>, Refused<D>>
     ensures ok { IfOk result (HasBegun D.tells ready.now.conf max_entries disk) }
-    ensures err { IfErr result (λ r. (held : ℕ) → TurnedAway ready.now.conf max_entries held (D.tells disk)
-        (D.tells r.disk) r.entries r.status) }
+    ensures err { IfErr result (λ r. (outbox outbox' : SinkTells) → TurnedAway ready.now.conf max_entries
+        (D.tells disk) (D.tells r.disk) outbox outbox' r.entries r.status) }
 {
     let (journal, kept) = match accepted(alloc, ready.conf(), disk, max_entries) {
         Ok(taken) => taken,

@@ -2,6 +2,7 @@
 
 ghost use Rattle.std.specs.Prelude.{◌≡◌, false, None};
 ghost use Rattle.outside.specs.Causes.{Rose};
+ghost use Rattle.book.specs.Outgoing.{IsLeft};
 ghost use Rattle.server_words.specs.Words.{plan_of};
 ghost use Rattle.server_run.specs.Ran.{IsUpToLine, IsRun};
 ghost use Rattle.server_run.specs.Runs.{Prints};
@@ -61,7 +62,7 @@ fn go<S: Source, W: Wire, D: Disk, O: Sink>(
           outbox = O.tells result.outbox;
         }) result.began result.entries result.counts result.status }
     ensures unread { plan_of words.now ≡ None → config.new ≡ config.old }
-    ensures untouched { result.began ≡ false → (wire.new ≡ wire.old) × (result.outbox ≡ outbox) }
+    ensures untouched { result.began ≡ false → (wire.new ≡ wire.old) × IsLeft (O.tells outbox) (O.tells result.outbox) }
 {
     let Begun {
         turns,
@@ -122,7 +123,7 @@ where
           outbox = O.tells result.outbox;
         }) result.began result.entries result.counts result.status }
     ensures unread { plan_of words.now ≡ None → config.new ≡ config.old }
-    ensures untouched { result.began ≡ false → (wire.new ≡ wire.old) × (result.outbox ≡ outbox) }
+    ensures untouched { result.began ≡ false → (wire.new ≡ wire.old) × IsLeft (O.tells outbox) (O.tells result.outbox) }
 {
     let Begun {
         turns,
@@ -222,7 +223,7 @@ pub fn run_single<S: Source, W: Wire, D: Disk, O: Sink, P: Sink>(
 
     // Where the words have no plan nothing was read, and a run that hasn't begun left its wire and its outbox alone.
     ensures unread { plan_of words.now ≡ None → config.new ≡ config.old }
-    ensures untouched { result.began ≡ false → (wire.new ≡ wire.old) × (result.outbox ≡ outbox) }
+    ensures untouched { result.began ≡ false → (wire.new ≡ wire.old) × IsLeft (O.tells outbox) (O.tells result.outbox) }
 {
     let course = go(alloc, words, config, wire, disk, outbox);
     let status = report(alloc, course.status, &course.counts, print);
@@ -278,7 +279,7 @@ where
 
     // Where the words have no plan nothing was read, and a run that hasn't begun left its wire and its outbox alone.
     ensures unread { plan_of words.now ≡ None → config.new ≡ config.old }
-    ensures untouched { result.began ≡ false → (wire.new ≡ wire.old) × (result.outbox ≡ outbox) }
+    ensures untouched { result.began ≡ false → (wire.new ≡ wire.old) × IsLeft (O.tells outbox) (O.tells result.outbox) }
 {
     let course = go_beside(rt, alloc, words, config, wire, disk, outbox, gate);
     let status = report(alloc, course.status, &course.counts, print);

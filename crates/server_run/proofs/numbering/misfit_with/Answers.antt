@@ -10,11 +10,11 @@ returns-then-judge c = λ groups are.
     let conf = c.args.conf.now in
     let is : c.args.misfit ≡ None = search rules in
     let fits = subst (IsFirstMisfit conf groups) is are.misfit_is in
-    judged_more conf groups c.args.group.now c.judge.new.self (c.if-judge.ensures (log_of (numbered_of groups)) (fits, are.goes_on is))
+    judged_more conf groups c.args.group.now c.judge.new.self (c.if-judge.ensures 0 (log_of (numbered_of groups)) (fits, are.goes_on is))
 
 pub returns-else-judge : goal.returns-else-judge
 returns-else-judge c = λ groups are.
     let conf = c.args.conf.now in
     let is : c.args.misfit ≡ None = search rules in
     let fits = subst (IsFirstMisfit conf groups) is are.misfit_is in
-    judged_misfit conf groups c.args.group.now c.judge.new.self fits (c.if-judge.ensures (log_of (numbered_of groups)) (fits, are.goes_on is))
+    judged_misfit conf groups c.args.group.now c.judge.new.self fits (c.if-judge.ensures 0 (log_of (numbered_of groups)) (fits, are.goes_on is))
