@@ -1,3 +1,4 @@
+pub mod GoingOut
 pub mod InTurn
 pub mod Longest
 pub mod Rereading

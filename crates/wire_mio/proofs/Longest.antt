@@ -1,12 +1,12 @@
 -- The connection that is of a kind for longest, found one after another.
-use Rattle.std.proofs.Common.{◌≡◌, ◌<◌, ◌≤◌, ℕ, ◌+◌, Bool, true, false, Option, Some, None, List, IfSome, nat_lt, nat_eq, slice_index_or, if◌then◌else◌, refl, sym, ap, subst, ◌∙◌, true≢false, arith}
+use Rattle.std.proofs.Common.{◌≡◌, ◌<◌, ◌≤◌, ℕ, ◌+◌, Bool, true, false, Option, Some, None, IfSome, nat_lt, nat_eq, slice_index_or, if◌then◌else◌, refl, sym, ap, subst, ◌∙◌, true≢false, arith}
 use Rattle.std.proofs.lemmas.Map.Views.{IfSome-lookup_from_All}
 use Rattle.wire_mio.specs.declared.peer.Stage.{Stage}
 use Rattle.wire_mio.specs.declared.peer.Stage.TheVariants as stage
 use Rattle.wire_mio.specs.declared.peer.Kind.{Kind}
 use Rattle.wire_mio.specs.declared.peer.Kind.TheVariants as kind
 use Rattle.wire_mio.proofs.Telling.{changed_live}
-use Rattle.wire_mio.specs.Tables.{Table, Held, is_kind, is_active, longest_silence, all_in, held_in, Changes, KeepsLive, IsSince, IsAt, HasNo, IsLongestBelow, earlier_of, is_live, is_open, parted_at}
+use Rattle.wire_mio.specs.Tables.{Table, Held, is_kind, is_active, longest_silence, all_in, held_in, Changes, KeepsLive, IsSince, IsAt, HasNo, IsLongestBelow, earlier_of, is_live, is_open, parted_at, ending_at, is_closing, is_over}
 
 -- what holds below a number and at it holds below the next
 pub below_or_at : (P : ℕ → Type 0) (i : ℕ) → ((n : ℕ) → n < i → P n) → P i → (n : ℕ) → n < i + 1 → P n
@@ -38,22 +38,40 @@ one_is k t conn since there none = true≢false (sym there.2 ∙ subst (λ o. If
 
 -- a connection that doesn't give its place at once, whose end wasn't seen, and of which a byte came no earlier than of one that
 -- was silent for no longer than may be
-pub active_of : (moment since : ℕ) (h : Held) → is_kind kind.Parted moment h ≡ false → is_kind kind.Ending moment h ≡ false → (is_kind kind.Open moment h ≡ true → since ≤ h.since) → (since + longest_silence < moment → ⊥) → is_active moment h ≡ true
-active_of moment since h parted ending longest silence = grind arith
+pub active_of : (moment since : ℕ) (h : Held) → is_kind kind.Parted moment h ≡ false → is_kind kind.Closing moment h ≡ false → is_kind kind.Ending moment h ≡ false → (is_kind kind.Open moment h ≡ true → since ≤ h.since) → (since + longest_silence < moment → ⊥) → is_active moment h ≡ true
+active_of moment since h parted closing ending longest silence = grind arith
 
--- one that gives its place at once isn't open
-pub parted_is_over : (t : Table) (conn since : ℕ) → IsSince kind.Parted t conn since → is_live (held_in t conn) ≡ false
-parted_is_over t conn since there = ap is_live there.1 ∙ by there.0.stage there.2
+-- one of a kind that is over isn't open
+pub over_not_open : (k : Kind) (moment : ℕ) (h : Held) → is_over k ≡ true → is_kind k moment h ≡ true → is_open h.stage ≡ false
+over_not_open kind.Open moment h over of = absurd (true≢false (sym over))
+over_not_open kind.Ending moment h over of = by h.stage of
   where
-    by : (s : Stage) → parted_at t.moment there.0.since s ≡ true → is_open s ≡ false
+    by : (s : Stage) → ending_at moment h.since s ≡ true → is_open s ≡ false
     by stage.Open e = sym e
     by stage.Ended e = refl
+    by stage.Closing e = refl
+    by stage.Closed e = refl
+    by stage.Left e = refl
+over_not_open kind.Parted moment h over of = by h.stage of
+  where
+    by : (s : Stage) → parted_at moment h.since s ≡ true → is_open s ≡ false
+    by stage.Open e = sym e
+    by stage.Ended e = refl
+    by stage.Closing e = refl
+    by stage.Closed e = refl
+    by stage.Left e = refl
+over_not_open kind.Closing moment h over of = by h.stage of
+  where
+    by : (s : Stage) → is_closing s ≡ true → is_open s ≡ false
+    by stage.Open e = sym e
+    by stage.Ended e = refl
+    by stage.Closing e = refl
     by stage.Closed e = refl
     by stage.Left e = refl
 
--- where one goes that gives its place at once, as many are open as before, and the same
-pub parted_goes : (t new : Table) (conn since : ℕ) → IsSince kind.Parted t conn since → Changes conn None t new → KeepsLive t new
-parted_goes t new conn since there changes = changed_live conn None t new changes (sym (parted_is_over t conn since there))
+-- where one goes of a kind that is over, as many are open as before, and the same
+pub over_goes : (k : Kind) (t new : Table) (conn since : ℕ) → IsSince k t conn since → is_over k ≡ true → Changes conn None t new → KeepsLive t new
+over_goes k t new conn since there over changes = changed_live conn None t new changes (sym (ap is_live there.1 ∙ over_not_open k t.moment there.0 over there.2))
 
 -- one of the open ones is open
 pub open_is_live : (t : Table) (conn since : ℕ) → IsSince kind.Open t conn since → is_live (held_in t conn) ≡ true

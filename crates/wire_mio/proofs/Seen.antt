@@ -6,7 +6,7 @@ use Rattle.std.proofs.lemmas.Map.Made.{lookup-map_values}
 use Rattle.std.specs.Prelude.{nat_eq}
 use Rattle.wire_mio.specs.declared.peer.Peer.{Peer}
 use Rattle.wire_mio.specs.declared.peer.Kind.{Kind}
-use Rattle.wire_mio.specs.Tables.{Held, Table, held_of, seen, is_kind, IsAt}
+use Rattle.wire_mio.specs.Tables.{Held, held_of, seen, is_kind, IsAt}
 
 -- what a number has is what the map has there
 pub held_seen : (conn : ℕ) (entries : List (ℕ × Peer)) → lookup (nat_eq conn) (map seen entries) ≡ option_map held_of (lookup (nat_eq conn) entries)

@@ -70,6 +70,14 @@ changed_live conn to old new changes is c = live_changed conn to old new changes
     by true e = let same : conn ≡ c = grind arith in is ∙ ap (λ d. is_live (held_in old d)) same
     by false e = refl
 
+-- one may have changed, and is open where it was
+pub only_live : (conn : ℕ) (old new : Table) → is_live (held_in new conn) ≡ is_live (held_in old conn) → ((c : ℕ) → c ≢ conn → held_in new c ≡ held_in old c) → KeepsLive old new
+only_live conn old new one others c = by (conn == c) refl
+  where
+    by : (b : Bool) → (conn == c) ≡ b → is_live (held_in new c) ≡ is_live (held_in old c)
+    by true e = let same : conn ≡ c = grind arith in subst (λ d. is_live (held_in new d) ≡ is_live (held_in old d)) same one
+    by false e = let other : c ≢ conn = grind arith in ap is_live (others c other)
+
 -- a byte leaves a connection open where it was
 pub heard_live : (moment : ℕ) (o : Option Held) → is_live (option_map (heard moment) o) ≡ is_live o
 heard_live moment None = refl

@@ -1,5 +1,5 @@
 -- What a read of a connection comes to.
-use Rattle.std.specs.Prelude.{◌≡◌, ℕ, ◌<◌, ◌≤◌, List, length, Option, ⊤}
+use Rattle.std.specs.Prelude.{◌≡◌, ℕ, ◌<◌, ◌≤◌, ◌++◌, List, length, Option, Some, None, ⊤}
 use Rattle.std.specs.Io.KnownBytes.{Consumes, IsAtEnd, Keeps}
 use Rattle.wire_mio.specs.Queues.{longest_piece}
 use Rattle.wire_mio.specs.declared.piece.Got.{Got}
@@ -21,3 +21,9 @@ IsBounded End = ⊤
 IsBounded Nothing = ⊤
 IsBounded Again = ⊤
 IsBounded Lost = ⊤
+
+-- where what has gone out is told, that and what waits behind it, one after the other, stay what they were
+abbrev pub GoesOut : Option (List ℕ) → List ℕ → Option (List ℕ) → List ℕ → Type 0
+GoesOut None waits gone_now waits_now = ⊤
+GoesOut (Some gone) waits None waits_now = ⊥
+GoesOut (Some gone) waits (Some gone_now) waits_now = gone_now ++ waits_now ≡ gone ++ waits

@@ -11,24 +11,30 @@ use Rattle.wire_mio.specs.Tables.{Table}
 abbrev pub longest_piece : ℕ
 longest_piece = 65536
 
--- a wire: the events that stand in its queue, the latest connection of which it has told, the connections that are there,
--- whether it listens, and its counts
+-- how many bytes may wait to go out on one connection: those of a longest frame
+abbrev pub most_waiting : ℕ
+most_waiting = 16777229
+
+-- a wire: the events that stand in its queue, the latest connection of which it has told, the connections that are there, those
+-- that were there each time that a newcomer was turned away, the latest first, whether it listens, and its counts
 pub record WireState : Type 0 where
   pub waiting : List WireEvent
   pub told : ℕ
   pub connections : Table
+  pub turned_away : List Table
   pub listens : Bool
   pub given : ℕ
   pub sends : ℕ
   pub faults : ℕ
   pub unsent : ℕ
 
--- a queue: its events, the latest connection of which was told before them, the latest of which they tell, and for how
--- many more there is room
+-- a queue: its events, the latest connection of which was told before them, the latest of which they tell, the connections that
+-- were there each time that a newcomer was turned away, and for how many more events there is room
 pub record Queued : Type 0 where
   pub events : List WireEvent
   pub told : ℕ
   pub opened : ℕ
+  pub turned_away : List Table
   pub room : ℕ
 
 -- a connection of which was told, where the latest is this one
@@ -68,6 +74,7 @@ told_after_all told events = fold told_after told events
 pub record LeavesQueue (old new : WireState) : Type 0 where
   pub waiting : new.waiting ≡ old.waiting
   pub told : new.told ≡ old.told
+  pub turned_away : new.turned_away ≡ old.turned_away
   pub listens : new.listens ≡ old.listens
   pub given : new.given ≡ old.given
   pub faults : new.faults ≡ old.faults

@@ -1,5 +1,5 @@
 -- What contracts see of the connections that are there.
-use Rattle.std.specs.Prelude.{◌≡◌, ◌≢◌, ℕ, ◌+◌, ◌-◌, ◌^◌, ◌<◌, ◌≤◌, Bool, true, false, not, ◌&&◌, ◌==◌, nat_lt, nat_eq, List, [], ◌∷◌, length, fold, slice_index_or, if◌then◌else◌, ◌⊎◌, Option, Some, None, IfSome, Result, Ok, Err, ⊤}
+use Rattle.std.specs.Prelude.{◌≡◌, ◌≢◌, ℕ, ◌+◌, ◌-◌, ◌^◌, ◌<◌, ◌≤◌, Bool, true, false, not, ◌&&◌, ◌==◌, nat_lt, nat_eq, List, [], ◌∷◌, length, fold, slice_index_or, if◌then◌else◌, ◌⊎◌, Option, Some, None, Result, Ok, Err, ⊤}
 use Rattle.std.specs.Option.{option_map}
 use Rattle.std.specs.Map.{lookup, values_of}
 use Rattle.std.specs.List.{All}
@@ -56,6 +56,7 @@ seen entry = (entry.0, held_of entry.1)
 abbrev pub is_open : Stage → Bool
 is_open stage.Open = true
 is_open stage.Ended = false
+is_open stage.Closing = false
 is_open stage.Closed = false
 is_open stage.Left = false
 
@@ -69,6 +70,7 @@ is_live (Some h) = is_open h.stage
 abbrev pub parted_at : ℕ → ℕ → Stage → Bool
 parted_at moment since stage.Open = false
 parted_at moment since stage.Ended = nat_lt since moment
+parted_at moment since stage.Closing = false
 parted_at moment since stage.Closed = true
 parted_at moment since stage.Left = true
 
@@ -76,14 +78,31 @@ parted_at moment since stage.Left = true
 abbrev pub ending_at : ℕ → ℕ → Stage → Bool
 ending_at moment since stage.Open = false
 ending_at moment since stage.Ended = not (nat_lt since moment)
+ending_at moment since stage.Closing = false
 ending_at moment since stage.Closed = false
 ending_at moment since stage.Left = false
+
+-- the program has closed a connection behind bytes that still wait to go out
+abbrev pub is_closing : Stage → Bool
+is_closing stage.Open = false
+is_closing stage.Ended = false
+is_closing stage.Closing = true
+is_closing stage.Closed = false
+is_closing stage.Left = false
+
+-- those of this kind aren't open
+abbrev pub is_over : Kind → Bool
+is_over kind.Open = false
+is_over kind.Ending = true
+is_over kind.Parted = true
+is_over kind.Closing = true
 
 -- a connection is of this kind at a moment
 abbrev pub is_kind : Kind → ℕ → Held → Bool
 is_kind kind.Open moment h = is_open h.stage
 is_kind kind.Ending moment h = ending_at moment h.since h.stage
 is_kind kind.Parted moment h = parted_at moment h.since h.stage
+is_kind kind.Closing moment h = is_closing h.stage
 
 -- a connection is of this kind since a moment
 abbrev pub IsSince : Kind → Table → ℕ → ℕ → Type 0
@@ -144,31 +163,37 @@ pub record Changes (conn : ℕ) (to : Option Held) (old new : Table) : Type 0 wh
 abbrev pub KeepsLive : Table → Table → Type 0
 KeepsLive old new = (c : ℕ) → is_live (held_in new c) ≡ is_live (held_in old c)
 
--- the connection has gone that parted first, and no other
-pub record DropsFirst (old new : Table) : Type 0 where
-  pub gone : (conn : ℕ) × (since : ℕ) × IsLongest kind.Parted old conn since × Changes conn None old new
+-- the connection has gone that was of this kind for longest, and no other
+pub record DropsFirst (k : Kind) (old new : Table) : Type 0 where
+  pub gone : (conn : ℕ) × (since : ℕ) × IsLongest k old conn since × Changes conn None old new
   pub live : KeepsLive old new
   pub count : (count_in new) + 1 ≡ (count_in old)
   pub room : old.room ≤ new.room
 
--- where a connection parted, the first of those has gone, and else nothing changed
-abbrev pub DropsParted : Bool → Table → Table → Type 0
-DropsParted true old new = DropsFirst old new
-DropsParted false old new = (new ≡ old) × HasNo kind.Parted old
+-- where a connection is of this kind, the one has gone that was so for longest, and else nothing changed
+abbrev pub DropsLongest : Kind → Bool → Table → Table → Type 0
+DropsLongest k true old new = DropsFirst k old new
+DropsLongest k false old new = (new ≡ old) × HasNo k old
 
 -- an open connection has gone that was silent for longer than one may be, and longer than any other
 pub record DropsSilent (conn : ℕ) (old new : Table) : Type 0 where
   pub gone : (since : ℕ) × IsLongest kind.Open old conn since × (since + longest_silence < old.moment)
   pub only : Changes conn None old new
-  pub none : HasNo kind.Parted old
+  pub none : HasNo kind.Parted old × HasNo kind.Closing old
   pub full : most_connections ≤ (count_in old)
   pub count : (count_in new) + 1 ≡ (count_in old)
   pub room : old.room ≤ new.room
 
--- a newcomer has a place where there is room; else that of the connection that parted first; where none parted, that of the
--- open one that was silent for longest, and longer than one may be; and else there is none
+-- one has gone that gives its place at once: that which parted first, or where none parted, that which was closed first of those
+-- on which bytes still wait
+abbrev pub DropsOver : Table → Table → Type 0
+DropsOver old new = DropsFirst kind.Parted old new ⊎ (HasNo kind.Parted old × DropsFirst kind.Closing old new)
+
+-- a newcomer has a place where there is room; else that of the connection that parted first; where none parted, that of the one
+-- that was closed first of those on which bytes wait; where none is so, that of the open one that was silent for longest, and
+-- longer than one may be; and else there is none
 abbrev pub GivesPlace : Place → Table → Table → Type 0
-GivesPlace place.Free old new = ((nat_lt (count_in old) most_connections ≡ true) × (new ≡ old)) ⊎ DropsFirst old new
+GivesPlace place.Free old new = ((nat_lt (count_in old) most_connections ≡ true) × (new ≡ old)) ⊎ DropsOver old new
 GivesPlace (place.Instead conn) old new = DropsSilent conn old new
 GivesPlace place.Missing old new = IsTakenUp old × (new ≡ old)
 
@@ -188,9 +213,9 @@ HasPlace place.Free old new = HasRoom old new
 HasPlace (place.Instead conn) old new = HasRoom old new
 HasPlace place.Missing old new = ⊤
 
--- a newcomer that isn't taken, so that the latest number stays, comes where all numbers were given or no place can be made
-abbrev pub Admits : ℕ → Table → ℕ → Type 0
-Admits opened t now = now ≡ opened → opened < 2 ^ 64 - 1 → IsTakenUp t
+-- a newcomer that isn't taken, so that the latest number stays, comes where all numbers were given, or is turned away
+abbrev pub Admits : Table → ℕ → List Table → ℕ → List Table → Type 0
+Admits t opened away opened_now away_now = opened_now ≡ opened → opened < 2 ^ 64 - 1 → away_now ≡ t ∷ away
 
 -- something more was sent on it
 abbrev pub sent_once : Held → Held

@@ -5,14 +5,14 @@ ghost use Rattle.std.specs.Option.{option_map};
 ghost use Rattle.zbx_types.specs.Limits.{most_connections};
 ghost use Rattle.wire_mio.specs.Queues.{longest_piece};
 ghost use Rattle.wire_mio.specs.Pieces.{IsBounded};
-ghost use Rattle.wire_mio.specs.Tables.{Changes, KeepsLive, GivesPlace, LeavesLive, HasPlace, HasRoom, DropsParted, IsAt, IsLongest, earlier_of, HasSettled, HasNo, held_in, count_in, is_live, heard, ended_at, fresh, sent_once};
+ghost use Rattle.wire_mio.specs.Tables.{Changes, KeepsLive, GivesPlace, LeavesLive, HasPlace, HasRoom, DropsLongest, IsAt, IsLongest, earlier_of, HasSettled, HasNo, held_in, count_in, is_live, is_over, heard, ended_at, fresh, sent_once};
 
-use crate::peer::{Kind, Peer, Place, Stage};
-use crate::piece::{Away, Got, read_away, read_piece};
+use crate::peer::{Flushed, Kind, Peer, Place, Stage};
+use crate::piece::{Away, Got, read_away};
 use crate::room::Room;
 use indexmap::IndexMap;
 use mio::net::TcpStream;
-use mio::{Interest, Registry, Token};
+use mio::{Registry, Token};
 use outside::Failed;
 use std::alloc::Global;
 use std::marker::Model;
@@ -34,6 +34,7 @@ const LONGEST_SILENCE: u64 = 60_000_000;
 /// Moments are microseconds of a clock that doesn't go back, and each look has a later one than the look before.
 #[derive(Drop)]
 pub(crate) struct Connections {
+    alloc: Global,
     peers: IndexMap<u64, Peer>,
     moment: u64,
     swept: u64,
@@ -60,6 +61,7 @@ impl Connections {
         ensures held { (c : ℕ) → held_in result c ≡ None }
     {
         Connections {
+            alloc,
             peers: IndexMap::new(alloc),
             moment: 0,
             swept: 0,
@@ -111,7 +113,7 @@ impl Connections {
         requires room { 0 < self.old.room }
         ensures { Changes conn (Some (fresh self.old.moment)) self.old self.new }
     {
-        let peer = Peer::new(stream, self.moment);
+        let peer = Peer::new(self.alloc, stream, self.moment);
         let _ = self.peers.insert(conn, peer);
     }
 
@@ -126,15 +128,25 @@ impl Connections {
     }
 
     /// Reads once from a connection into a buffer.
-    #[tactic(auto, using(crate::proofs::Seen::held_seen, crate::proofs::Telling::changed_live, crate::proofs::Telling::heard_live, crate::proofs::Telling::ended_live))]
+    #[tactic(auto, using(crate::proofs::Telling::changed_live))]
     pub(crate) fn read(&mut self, alloc: Global, conn: u64, buffer: &mut Vec<u8>) -> Got
         requires { length buffer.old.items ≡ longest_piece }
         ensures same { Changes conn (held_in self.old conn) self.old self.new }
         ensures live { KeepsLive self.old self.new }
         ensures bounds { IsBounded result }
     {
+        self.read_there(alloc, conn, buffer)
+    }
+
+    /// Reads once from a connection, if it is there.
+    #[tactic(auto, using(crate::proofs::Seen::held_seen))]
+    fn read_there(&mut self, alloc: Global, conn: u64, buffer: &mut Vec<u8>) -> Got
+        requires { length buffer.old.items ≡ longest_piece }
+        ensures same { Changes conn (held_in self.old conn) self.old self.new }
+        ensures bounds { IsBounded result }
+    {
         match self.peers.get_mut(&conn) {
-            Some(peer) => read_piece(alloc, buffer, &mut peer.stream),
+            Some(peer) => peer.read(alloc, buffer),
             None => Got::Nothing,
         }
     }
@@ -151,23 +163,15 @@ impl Connections {
         }
     }
 
-    /// Has a connection reported when something comes, and also where something is there already. Answers whether the system
-    /// does so.
+    /// Has a connection reported when something comes, or, where bytes wait on it, when there is room for some; and also where
+    /// that is so already. Answers whether the system does so.
     #[tactic(auto, using(crate::proofs::Seen::held_seen, crate::proofs::Telling::changed_live, crate::proofs::Telling::heard_live, crate::proofs::Telling::ended_live))]
     pub(crate) fn watch(&mut self, conn: u64, registry: &Registry) -> bool
         ensures same { Changes conn (held_in self.old conn) self.old self.new }
         ensures live { KeepsLive self.old self.new }
     {
         match self.peers.get_mut(&conn) {
-            Some(peer) => {
-                let watched = if peer.watched {
-                    registry.reregister(&mut peer.stream, Token(conn as usize), Interest::READABLE)
-                } else {
-                    registry.register(&mut peer.stream, Token(conn as usize), Interest::READABLE)
-                };
-                peer.watched = peer.watched || watched.is_ok();
-                watched.is_ok()
-            }
+            Some(peer) => peer.watch(registry, Token(conn as usize)),
             None => true,
         }
     }
@@ -180,14 +184,47 @@ impl Connections {
         }
     }
 
-    /// Sends bytes on a connection. It fails where the connection isn't there.
+    /// Whether bytes wait to go out on a connection.
+    pub(crate) fn has_waiting(&self, conn: u64) -> bool {
+        match self.peers.get(&conn) {
+            Some(peer) => !peer.waiting.is_empty(),
+            None => false,
+        }
+    }
+
+    /// Lets bytes go out that wait on a connection, as many as there is room for at once. It goes where it was to be closed
+    /// behind them, and is lost.
+    #[tactic(auto, using(crate::proofs::Seen::held_seen))]
+    pub(crate) fn flush(&mut self, conn: u64) -> Flushed
+        ensures one { is_live (held_in self.new conn) ≡ is_live (held_in self.old conn) }
+        ensures others { (c : ℕ) → c ≢ conn → held_in self.new c ≡ held_in self.old c }
+    {
+        let moment = self.moment;
+        let flushed = match self.peers.get_mut(&conn) {
+            Some(peer) => peer.flush(moment),
+            None => Flushed::All,
+        };
+        if let Flushed::Lost = flushed {
+            self.remove(conn);
+        }
+        flushed
+    }
+
+    /// Sends bytes on a connection, of which some may wait. It fails where the connection isn't there.
     #[tactic(auto, using(crate::proofs::Seen::held_seen, crate::proofs::Telling::changed_live, crate::proofs::Telling::sent_live))]
-    pub(crate) fn send(&mut self, conn: u64, room: &mut Room, bytes: &[u8]) -> Result<(), Failed>
+    pub(crate) fn send(
+        &mut self,
+        conn: u64,
+        room: &mut Room,
+        registry: &Registry,
+        can_wait: bool,
+        bytes: &[u8],
+    ) -> Result<(), Failed>
         ensures one { Changes conn (option_map sent_once (held_in self.old conn)) self.old self.new }
         ensures live { KeepsLive self.old self.new }
     {
         match self.peers.get_mut(&conn) {
-            Some(peer) => room.send(peer, bytes),
+            Some(peer) => room.send(peer, registry, Token(conn as usize), can_wait, bytes),
             None => Err(Failed),
         }
     }
@@ -217,12 +254,12 @@ impl Connections {
     /// A closed connection was closed before the last look.
     #[tactic(auto, using(crate::proofs::Seen::held_seen))]
     pub(crate) fn leave(&mut self, conn: u64)
-        ensures { KeepsLive self.old self.new }
+        ensures one { is_live (held_in self.new conn) ≡ is_live (held_in self.old conn) }
+        ensures others { (c : ℕ) → c ≢ conn → held_in self.new c ≡ held_in self.old c }
     {
-        if let Some(peer) = self.peers.get_mut(&conn) {
-            if peer.stage == Stage::Closed {
-                peer.stage = Stage::Left;
-            }
+        match self.peers.get_mut(&conn) {
+            Some(peer) => peer.leave(),
+            None => {}
         }
     }
 
@@ -243,6 +280,13 @@ impl Connections {
         }
     }
 
+    /// Takes the moment at which a look begins.
+    pub(crate) fn begin(&mut self, now: Option<Duration>)
+        ensures { KeepsLive self.old self.new }
+    {
+        self.moment = later(self.moment, now);
+    }
+
     /// Takes the moment of a look, and lets those go that have parted for long enough.
     pub(crate) fn part(&mut self, now: Option<Duration>)
         ensures { KeepsLive self.old self.new }
@@ -250,17 +294,19 @@ impl Connections {
         self.moment = later(self.moment, now);
         if self.swept.saturating_add(SWEEP) <= self.moment {
             self.swept = self.moment;
-            self.sweep();
+            self.sweep(Kind::Parted);
+            self.sweep(Kind::Closing);
         }
     }
 
-    /// Lets those go that have parted for long enough.
-    #[tactic(auto, using(crate::proofs::Longest::parted_goes))]
-    fn sweep(&mut self)
+    /// Lets those of a kind go that are so for long enough.
+    #[tactic(auto, using(crate::proofs::Longest::over_goes))]
+    fn sweep(&mut self, kind: Kind)
+        requires { is_over kind ≡ true }
         ensures { KeepsLive self.old self.new }
     {
         'places: for _ in 0..self.peers.len() {
-            match self.longest(Kind::Parted) {
+            match self.longest(kind) {
                 Some((conn, since)) if since.saturating_add(PARTING) <= self.moment => {
                     self.remove(conn);
                 }
@@ -269,13 +315,14 @@ impl Connections {
         }
     }
 
-    /// Lets the one go that parted first, if there is one. Answers whether there was one.
-    #[tactic(auto, using(crate::proofs::Longest::parted_goes))]
-    pub(crate) fn drop_parted(&mut self) -> bool
-        ensures parted { DropsParted result self.old self.new }
+    /// Lets the one of a kind go that is so for longest, if there is one. Answers whether there was one.
+    #[tactic(auto, using(crate::proofs::Longest::over_goes))]
+    pub(crate) fn drop_longest(&mut self, kind: Kind) -> bool
+        requires { is_over kind ≡ true }
+        ensures dropped { DropsLongest kind result self.old self.new }
         ensures room { result ≡ true → HasRoom self.old self.new }
     {
-        match self.longest(Kind::Parted) {
+        match self.longest(kind) {
             Some((conn, _)) => {
                 let _ = &self.peers;
                 self.remove(conn);
@@ -327,8 +374,8 @@ impl Connections {
         }
     }
 
-    /// Makes room for a newcomer where there is none: the one goes that parted first, or else the open one that has been
-    /// silent longest, where that is 60 seconds.
+    /// Makes room for a newcomer where there is none: the one goes that parted first, or else the one that was closed first of
+    /// those on which bytes still wait, or else the open one that has been silent longest, where that is 60 seconds.
     #[tactic(auto, using(crate::proofs::Longest::active_of, crate::proofs::Longest::open_is_live))]
     pub(crate) fn make_room(&mut self) -> Place
         requires { HasSettled self.old }
@@ -339,7 +386,10 @@ impl Connections {
         if self.has_room() {
             return Place::Free;
         }
-        if self.drop_parted() {
+        if self.drop_longest(Kind::Parted) {
+            return Place::Free;
+        }
+        if self.drop_longest(Kind::Closing) {
             return Place::Free;
         }
         match self.longest(Kind::Open) {

@@ -32,12 +32,21 @@
 //!           back the reply. It goes when the peer ends, after ten seconds, or where its place is needed
 //! ```
 //!
-//! Where one more comes than may be there, that one goes first that ended or was closed first, then the open one that has
-//! been silent longest. Where all are open, and each has brought a byte, or opened, in the last 60 seconds, the newcomer is
-//! closed. So a program that answers before it asks for an event while none is ready can answer each peer that has ended.
+//! Bytes that are sent wait where the peer takes no more at once, up to 16 MiB and a header for a connection, and go out as the
+//! sockets are looked at. So a peer that reads slowly holds up no other. A connection that is closed is so behind its bytes;
+//! it goes where none of them has gone out for ten seconds. Where there is no memory for them, or more come, `send` itself waits for that one peer, 10
+//! seconds at most.
+//!
+//! Where one more comes than may be there, that one goes first that ended or was closed first, then the one that was closed first
+//! of those on which bytes still wait, then the open one that has been silent longest. Where all are open, and each has brought a
+//! byte, or opened, in the last 60 seconds, the newcomer is closed. So a program that answers before it asks for an event while
+//! none is ready can answer each peer that has ended.
 //!
 //! A look at the sockets reads each one that has something once, so no peer holds up another, and takes time by the
-//! sockets that have something, not by those that are there. Only `send` waits for one peer, 10 seconds at most.
+//! sockets that have something, not by those that are there.
+//!
+//! Moments begin with the system's time and go on as the monotonic clock does. Once a minute the system's time is looked at, and
+//! taken where it is ahead. So moments never fall, and don't stand still where the system's time is put back.
 //!
 //! A connection is read as soon as it is accepted. The system is asked to watch it where nothing has come then, or where it
 //! is still open at the next look. One that was closed is read at the second look after that, or at the first where more
@@ -59,6 +68,8 @@ mod sockets;
 mod source;
 mod standard;
 mod stored;
+mod turned;
+mod waiting;
 mod wire;
 mod writer;
 

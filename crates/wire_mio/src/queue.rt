@@ -1,8 +1,12 @@
 //! The events of a wire that stand ready.
 
 ghost use Rattle.std.specs.Prelude.{◌≡◌, ◌<◌, ◌+◌, ◌++◌, ◌∷◌, [], length, option_to_list, IfSome, IfNone, OnOk, ◌==◌};
+ghost use Rattle.std.specs.List.{All};
 ghost use Rattle.wire_mio.specs.Queues.{MayFollow, told_after};
+ghost use Rattle.wire_mio.specs.Tables.{IsTakenUp};
 
+use crate::connections::Connections;
+use crate::turned::TurnedAway;
 use outside::WireEvent;
 use std::alloc::Global;
 use std::collections::VecDeque;
@@ -16,6 +20,7 @@ pub(crate) struct Queue {
     events: VecDeque<WireEvent>,
     told: u64,
     opened: u64,
+    turned_away: TurnedAway,
 }
 
 impl Model for Queue {
@@ -25,7 +30,7 @@ impl Model for Queue {
 
     ghost Value = { Queued };
 
-    ghost view = { λ q. record { events = q.events.items; told = q.told; opened = q.opened; room = deque_capacity q.events - deque_len q.events } };
+    ghost view = { λ q. record { events = q.events.items; told = q.told; opened = q.opened; turned_away = q.turned_away; room = deque_capacity q.events - deque_len q.events } };
 
     ghost invariant = { λ q. AreInTurn q.told q.events.items × (q.opened ≡ told_after_all q.told q.events.items) };
 }
@@ -35,11 +40,13 @@ impl Queue {
     pub(crate) fn new(alloc: Global) -> Queue
         ensures events { result.events ≡ [] }
         ensures told { result.told ≡ 0 }
+        ensures away { result.turned_away ≡ [] }
     {
         Queue {
             events: VecDeque::new(alloc),
             told: 0,
             opened: 0,
+            turned_away: TurnedAway::none(),
         }
     }
 
@@ -63,6 +70,7 @@ impl Queue {
         ensures events { self.new.events ≡ self.old.events }
         ensures told { self.new.told ≡ self.old.told }
         ensures opened { self.new.opened ≡ self.old.opened }
+        ensures away { self.new.turned_away ≡ self.old.turned_away }
     {
         match self.events.reserve(2) {
             Ok(()) => Ok(()),
@@ -79,6 +87,7 @@ impl Queue {
         ensures told { self.new.told ≡ self.old.told }
         ensures opened { self.new.opened ≡ told_after self.old.opened event }
         ensures left { self.new.room + 1 ≡ self.old.room }
+        ensures away { self.new.turned_away ≡ self.old.turned_away }
     {
         if let WireEvent::Opened { conn, .. } = &event {
             self.opened = *conn;
@@ -86,11 +95,31 @@ impl Queue {
         self.events.push_back_reserved(event);
     }
 
+    /// A newcomer was turned away, where these connections were there.
+    pub(crate) fn turn_away(&mut self, there: &Connections)
+        requires { IsTakenUp there.now }
+        ensures events { self.new.events ≡ self.old.events }
+        ensures told { self.new.told ≡ self.old.told }
+        ensures opened { self.new.opened ≡ self.old.opened }
+        ensures away { self.new.turned_away ≡ there.now ∷ self.old.turned_away }
+        ensures room { self.new.room ≡ self.old.room }
+    {
+        self.turned_away.add(there);
+    }
+
+    /// Each time that a newcomer was turned away all places were taken up.
+    pub(crate) fn were_taken_up(&self)
+        ensures { All IsTakenUp self.now.turned_away }
+    {
+        self.turned_away.were_taken_up();
+    }
+
     /// Takes the first event, if there is one.
     pub(crate) fn pop(&mut self) -> Option<WireEvent>
         ensures events { self.old.events ≡ option_to_list result ++ self.new.events }
         ensures some { IfSome result (λ event. MayFollow self.old.told event × (self.new.told ≡ told_after self.old.told event)) }
         ensures opened { self.new.opened ≡ self.old.opened }
+        ensures away { self.new.turned_away ≡ self.old.turned_away }
         ensures none { IfNone result ((self.old.events ≡ []) × (self.new.told ≡ self.old.told)) }
     {
         let event = self.events.pop_front()?;

@@ -1,13 +1,13 @@
-//! Sends bytes on a connection, and waits for room where there is none.
+//! Sends bytes on a connection. Those for which there is no room wait.
 
 ghost use Rattle.std.specs.Prelude.{◌≡◌};
 ghost use Rattle.wire_mio.specs.Tables.{held_of, sent_once};
 
 use crate::peer::Peer;
+use crate::waiting::Waiting;
 use mio::net::TcpStream;
-use mio::{Events, Interest, Poll, Token};
+use mio::{Events, Interest, Poll, Registry, Token};
 use outside::Failed;
-use std::io::{ErrorKind, Write};
 use std::time::Duration;
 
 /// How often a send waits for room, and how many milliseconds each time.
@@ -28,20 +28,37 @@ impl Room {
         Room { poll, events }
     }
 
-    /// Sends bytes on a connection, and waits for room where there is none.
-    pub(crate) fn send(&mut self, peer: &mut Peer, bytes: &[u8]) -> Result<(), Failed>
+    /// Sends bytes on a connection, behind those that wait. Those for which there is no room at once wait too, where they may and
+    /// can, and it is reported under a number when there is room; else it waits for room itself.
+    pub(crate) fn send(
+        &mut self,
+        peer: &mut Peer,
+        registry: &Registry,
+        token: Token,
+        can_wait: bool,
+        bytes: &[u8],
+    ) -> Result<(), Failed>
         ensures { held_of peer.new ≡ sent_once (held_of peer.old) }
     {
         peer.sends.rise();
-        self.write(&mut peer.stream, bytes)
-    }
-
-    /// Writes bytes to a stream, and waits for room where there is none.
-    fn write(&mut self, stream: &mut TcpStream, bytes: &[u8]) -> Result<(), Failed> {
-        let mut left = write_front(stream, bytes)?;
+        let left = peer.waiting.write_behind(&mut peer.stream, bytes)?;
         if left.is_empty() {
             return Ok(());
         }
+        if can_wait && peer.waiting.add(left).is_ok() {
+            peer.watch(registry, token);
+            return Ok(());
+        }
+        self.wait(&mut peer.waiting, &mut peer.stream, left)
+    }
+
+    /// Writes bytes behind those that wait, and waits for room.
+    fn wait(
+        &mut self,
+        waiting: &mut Waiting,
+        stream: &mut TcpStream,
+        bytes: &[u8],
+    ) -> Result<(), Failed> {
         let registry = self.poll.registry();
         if registry
             .register(stream, Token(0), Interest::WRITABLE)
@@ -49,6 +66,7 @@ impl Room {
         {
             return Err(Failed);
         }
+        let mut left = bytes;
         for _ in 0..ROOM_WAITS {
             if self
                 .poll
@@ -57,7 +75,7 @@ impl Room {
             {
                 break;
             }
-            match write_front(stream, left) {
+            match waiting.write_behind(stream, left) {
                 Ok(rest) => left = rest,
                 Err(Failed) => break,
             }
@@ -67,16 +85,5 @@ impl Room {
         }
         let _ = self.poll.registry().deregister(stream);
         if left.is_empty() { Ok(()) } else { Err(Failed) }
-    }
-}
-
-/// Writes bytes from the front of a slice, as many as there is room for, and answers those that are left.
-fn write_front<'a, W: Write>(to: &mut W, bytes: &'a [u8]) -> Result<&'a [u8], Failed> {
-    match to.write(bytes) {
-        Ok(count) => Ok(&bytes[count..]),
-        Err(error) => match error.kind() {
-            ErrorKind::WouldBlock | ErrorKind::Interrupted => Ok(bytes),
-            _ => Err(Failed),
-        },
     }
 }

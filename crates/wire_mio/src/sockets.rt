@@ -1,14 +1,14 @@
 //! The sockets of a wire, and what they bring.
 
-ghost use Rattle.std.specs.Prelude.{◌≡◌, ◌<◌, length, true, false, OnOk};
+ghost use Rattle.std.specs.Prelude.{◌≡◌, ◌<◌, ◌∷◌, length, true, false, OnOk};
 ghost use Rattle.std.specs.Option.{option_map};
 ghost use Rattle.std.specs.VecDeque.{deque_len, deque_capacity};
 ghost use Rattle.wire_mio.specs.Queues.{IsTold, longest_piece};
 ghost use Rattle.wire_mio.specs.Tables.{GoesOn, IsNumbered, KeepsLive, Changes, Admits, HasRoom, HasSettled, IsTakenUp, held_in, is_live, sent_once};
 
-use crate::clock::moment;
+use crate::clock::WireClock;
 use crate::connections::Connections;
-use crate::peer::{Place, Stage};
+use crate::peer::{Flushed, Kind, Place, Stage};
 use crate::piece::{Away, Got, fill_out};
 use crate::queue::Queue;
 use crate::room::Room;
@@ -52,6 +52,9 @@ pub(crate) struct Sockets {
     reported: VecDeque<u64>,
     /// Those on which more may come, or have come already, than is reported.
     unsettled: VecDeque<u64>,
+    /// Those on which bytes wait to go out.
+    sending: VecDeque<u64>,
+    clock: WireClock,
     /// Whether one may wait that couldn't be accepted.
     short: bool,
     buffer: Vec<u8>,
@@ -125,6 +128,8 @@ impl Sockets {
             listener,
             reported,
             unsettled: VecDeque::new(alloc),
+            sending: VecDeque::new(alloc),
+            clock: WireClock::new(),
             short: false,
             buffer: Vec::new(alloc),
             room: Room::new(room, room_events),
@@ -149,9 +154,10 @@ impl Sockets {
         ensures goes_on { GoesOn peers.old queue.old.events peers.new queue.new.events }
         ensures numbered { IsNumbered peers.new queue.new.opened }
     {
+        peers.begin(clock.monotonic().ok());
         self.gather(alloc, peers)?;
         peers.part(clock.monotonic().ok());
-        let at = moment(clock)?;
+        let at = self.clock.moment(clock)?;
         self.take_all(alloc, at, peers, queue)?;
         Ok(at)
     }
@@ -210,6 +216,7 @@ impl Sockets {
             return Err(Trouble::OutOfMemory);
         }
         self.settle_all(alloc, peers)?;
+        self.flush_all(peers);
         self.poll
             .poll(&mut self.events, Some(Duration::from_millis(LOOK)))
             .or(Err(Trouble::Failed))?;
@@ -239,8 +246,36 @@ impl Sockets {
         Ok(())
     }
 
+    /// Lets bytes go out that wait, on each connection as many as there is room for at once.
+    fn flush_all(&mut self, peers: &mut Connections)
+        ensures { KeepsLive peers.old peers.new }
+    {
+        'sending: for _ in 0..self.sending.len() {
+            if let Some(conn) = self.sending.pop_front() {
+                self.flush(conn, peers);
+            }
+        }
+    }
+
+    /// Lets bytes go out that wait on a connection. One that is closed behind them is settled at the next look.
+    #[tactic(auto, using(crate::proofs::Telling::only_live))]
+    fn flush(&mut self, conn: u64, peers: &mut Connections)
+        ensures { KeepsLive peers.old peers.new }
+    {
+        match peers.flush(conn) {
+            Flushed::Some => {
+                let _ = self.sending.push_back(conn);
+            }
+            Flushed::Closed => {
+                let _ = self.unsettled.push_back(conn);
+            }
+            Flushed::All | Flushed::Lost => {}
+        }
+    }
+
     /// Has an open connection watched, and reads away what one brings that was closed. Most peers have ended by the second
     /// look after that, so it waits for that one, where there are few connections.
+    #[tactic(auto, using(crate::proofs::Telling::only_live))]
     fn settle(&mut self, conn: u64, peers: &mut Connections)
         ensures { KeepsLive peers.old peers.new }
     {
@@ -251,7 +286,7 @@ impl Sockets {
                 let _ = self.unsettled.push_back(conn);
             }
             Some(Stage::Closed | Stage::Left) => self.read_closed(conn, peers),
-            Some(Stage::Ended) | None => {}
+            Some(Stage::Ended | Stage::Closing) | None => {}
         }
     }
 
@@ -330,7 +365,7 @@ impl Sockets {
                 ErrorKind::Interrupted | ErrorKind::ConnectionAborted => Ok(true),
                 ErrorKind::WouldBlock => Ok(false),
                 _ => {
-                    let dropped = peers.drop_parted();
+                    let dropped = peers.drop_longest(Kind::Parted);
                     self.short = !dropped;
                     Ok(dropped)
                 }
@@ -369,7 +404,7 @@ impl Sockets {
         ensures told { queue.new.told ≡ queue.old.told }
         ensures goes_on { GoesOn peers.old queue.old.events peers.new queue.new.events }
         ensures numbered { IsNumbered peers.new queue.new.opened }
-        ensures away { Admits queue.old.opened peers.old queue.new.opened }
+        ensures away { Admits peers.old queue.old.opened queue.old.turned_away queue.new.opened queue.new.turned_away }
     {
         let Some(next) = queue.opened().checked_add(1) else {
             return;
@@ -408,7 +443,7 @@ impl Sockets {
         match peers.stage(conn) {
             Some(Stage::Open) => self.read_open(alloc, conn, at, peers, queue),
             Some(Stage::Closed | Stage::Left) => self.read_closed(conn, peers),
-            Some(Stage::Ended) | None => {}
+            Some(Stage::Ended | Stage::Closing) | None => {}
         }
         Ok(())
     }
@@ -482,7 +517,8 @@ impl Sockets {
         }
     }
 
-    /// Sends bytes on a connection, and waits for room where there is none. It fails where the connection isn't there.
+    /// Sends bytes on a connection. Those for which there is no room at once go out at later looks; where there is no memory for
+    /// them, or where too many wait, it waits for room. It fails where the connection isn't there.
     pub(crate) fn send(
         &mut self,
         peers: &mut Connections,
@@ -492,7 +528,14 @@ impl Sockets {
         ensures one { Changes conn (option_map sent_once (held_in peers.old conn)) peers.old peers.new }
         ensures live { KeepsLive peers.old peers.new }
     {
-        peers.send(conn, &mut self.room, bytes)
+        let had_waiting = peers.has_waiting(conn);
+        let can_wait = had_waiting || self.sending.reserve(1).is_ok();
+        let registry = self.poll.registry();
+        let sent = peers.send(conn, &mut self.room, registry, can_wait, bytes);
+        if !had_waiting && peers.has_waiting(conn) {
+            let _ = self.sending.push_back(conn);
+        }
+        sent
     }
 }
 
@@ -508,7 +551,7 @@ fn make_place(at: Moment, peers: &mut Connections, queue: &mut Queue) -> bool
     ensures goes_on { GoesOn peers.old queue.old.events peers.new queue.new.events }
     ensures numbered { IsNumbered peers.new queue.new.opened }
     ensures free { result ≡ true → HasRoom peers.old peers.new }
-    ensures none { result ≡ false → IsTakenUp peers.old }
+    ensures none { result ≡ false → queue.new.turned_away ≡ peers.old ∷ queue.old.turned_away }
 {
     match peers.make_room() {
         Place::Free => true,
@@ -516,7 +559,10 @@ fn make_place(at: Moment, peers: &mut Connections, queue: &mut Queue) -> bool
             queue.push(WireEvent::Broke { conn, at });
             true
         }
-        Place::Missing => false,
+        Place::Missing => {
+            queue.turn_away(peers);
+            false
+        }
     }
 }
 

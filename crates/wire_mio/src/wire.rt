@@ -1,13 +1,14 @@
 //! The wire over sockets.
 
 ghost use Rattle.std.specs.Prelude.{◌≡◌, ◌≢◌, ◌≤◌, ◌<◌, ◌+◌, ℕ, [], None, IfOk, IsErrOf, false, true, is_some, not, length, ◌==◌};
+ghost use Rattle.std.specs.List.{All};
 ghost use Rattle.std.specs.Option.{option_map};
 ghost use Rattle.outside.specs.Causes.{HasCause};
 ghost use Rattle.outside.specs.Events.{Gives, CountsGiven, HasNextCause, Sends};
 ghost use Rattle.outside.specs.declared.event.Trouble.TheVariants as trouble;
 ghost use Rattle.wire_mio.specs.Adapters.{faults_behind};
 ghost use Rattle.wire_mio.specs.Queues.{MayFollow, GivesFirst, LeavesQueue, told_behind, failed_behind};
-ghost use Rattle.wire_mio.specs.Tables.{GoesOn, IsNumbered, KeepsLive, Tells, IsSentOn, answered, held_in, count_in, is_live};
+ghost use Rattle.wire_mio.specs.Tables.{GoesOn, IsNumbered, KeepsLive, Tells, IsSentOn, IsTakenUp, answered, held_in, count_in, is_live};
 ghost use Rattle.zbx_types.specs.Limits.{most_connections};
 
 use crate::connections::Connections;
@@ -27,8 +28,10 @@ const LOOKS: u32 = 10;
 /// A wire over TCP sockets. It tells neither its events nor what it sent and closed, and never closes itself.
 ///
 /// Contracts see the events that stand in its queue, which `next` gives in their order, and the latest connection of which
-/// `next` has told. Each moment is the clock's, at the look at the sockets that found the event, so it falls where the clock
-/// goes back.
+/// `next` has told. Each moment is that of the look at the sockets that found the event. Moments begin with the system's time and
+/// go on as the monotonic clock does; once a minute the system's time is looked at, and taken where it is ahead. So they never
+/// fall, and go on where the system's time is put back. Contracts also see which connections were there each time that a newcomer
+/// was turned away, the latest first: 128, of which each was open and had brought a byte, or opened, in the last 60 seconds.
 #[derive(Drop)]
 pub struct MioWire<C: Clock> {
     clock: C,
@@ -48,7 +51,7 @@ impl<C: Clock> Model for MioWire<C> {
 
     ghost Value = { WireState };
 
-    ghost view = { λ w. record { waiting = w.queue.events; told = w.queue.told; connections = w.peers; listens = is_some w.sockets; given = w.given; sends = w.sends; faults = w.faults; unsent = w.unsent } };
+    ghost view = { λ w. record { waiting = w.queue.events; told = w.queue.told; connections = w.peers; turned_away = w.queue.turned_away; listens = is_some w.sockets; given = w.given; sends = w.sends; faults = w.faults; unsent = w.unsent } };
 
     ghost invariant = { λ w. IsNumbered w.peers w.queue.opened };
 }
@@ -57,7 +60,7 @@ impl<C: Clock + Net + Drop> MioWire<C> {
     /// A wire that listens on an address, as `0.0.0.0:10051` or `[::]:10051`. Where no socket is to be had there, each call
     /// of `next` fails.
     pub fn listen(rt: C, alloc: Global, address: &Text) -> Result<MioWire<C>, OutOfMemory>
-        ensures new { IfOk result (λ wire. wire ≡ record { waiting = []; told = 0; connections = wire.connections; listens = wire.listens; given = 0; sends = 0; faults = 0; unsent = 0 }) }
+        ensures new { IfOk result (λ wire. wire ≡ record { waiting = []; told = 0; connections = wire.connections; turned_away = []; listens = wire.listens; given = 0; sends = 0; faults = 0; unsent = 0 }) }
         ensures none { IfOk result (λ wire. (count_in wire.connections ≡ 0) × ((c : ℕ) → held_in wire.connections c ≡ None)) }
     {
         let sockets = Sockets::listen(&rt, alloc, address.as_str())?;
@@ -112,7 +115,8 @@ impl<C: Clock> Wire for MioWire<C> {
         ensures follows { IfOk result (MayFollow self.old.told) }
         ensures told { self.new.told ≡ told_behind self.old.told result }
         ensures ends { self.old.waiting ≡ [] → (c : ℕ) → Tells c (is_live (held_in self.old.connections c)) (is_live (held_in self.new.connections c)) (answered result self.new.waiting) }
-        ensures stays { 0 < length self.old.waiting → self.new.connections ≡ self.old.connections }
+        ensures stays { 0 < length self.old.waiting → (self.new.connections ≡ self.old.connections) × (self.new.turned_away ≡ self.old.turned_away) }
+        ensures away { All IsTakenUp self.new.turned_away }
         ensures failed { self.new.faults ≡ failed_behind self.old.faults result }
         ensures deaf { self.old.listens ≡ false → self.old.waiting ≡ [] → IsErrOf result trouble.Failed }
         ensures listens { self.new.listens ≡ self.old.listens }
@@ -122,6 +126,7 @@ impl<C: Clock> Wire for MioWire<C> {
         ensures sends { self.new.sends ≡ self.old.sends }
         ensures unsent { self.new.unsent ≡ self.old.unsent }
     {
+        self.queue.were_taken_up();
         if let Some(event) = self.queue.pop() {
             self.given.rise();
             return Ok(event);
@@ -133,6 +138,7 @@ impl<C: Clock> Wire for MioWire<C> {
             &mut self.peers,
             &mut self.queue,
         );
+        self.queue.were_taken_up();
         match waited {
             Ok(event) => {
                 self.given.rise();
@@ -146,8 +152,10 @@ impl<C: Clock> Wire for MioWire<C> {
         }
     }
 
-    /// Sends bytes to a connection, and waits for room at most 1,000 times, 10 milliseconds each. It fails where there is no
-    /// room then, where the connection is lost, closed or not there, and where the system fails.
+    /// Sends bytes to a connection. Those for which there is no room at once wait, at most 16,777,229 for a connection, and go out
+    /// as `next` looks at the sockets; a close comes behind them. Where there is no memory for them, or too many wait, it waits for
+    /// room at most 1,000 times, 10 milliseconds each. It fails where there is no room then, where the connection is lost, closed
+    /// or not there, and where the system fails.
     #[tactic(auto, using(crate::proofs::Telling::numbered_same))]
     fn send(&mut self, conn: u64, bytes: &[u8]) -> Result<(), Failed>
         ensures queue { LeavesQueue self.old self.new }
