@@ -25,7 +25,7 @@ other_bit s k n other = bit_at_or s (2 ^ k) n ∙ ap (λ (b : ℕ). max (bit_at 
     none b = omega arith
 
 -- one mark more
-marked_push : (marks : List NoteMark) (m : NoteMark) (n : ℕ) → has_mark (marks ++ m ∷ []) n ≡ (has_mark marks n || (m.note == n))
+pub marked_push : (marks : List NoteMark) (m : NoteMark) (n : ℕ) → has_mark (marks ++ m ∷ []) n ≡ (has_mark marks n || (m.note == n))
 marked_push marks m n = list_any-append (λ (x : NoteMark). x.note == n) marks (m ∷ []) ∙ ap (λ (b : Bool). has_mark marks n || b) (or_false (m.note == n))
   where
     or_false : (b : Bool) → (b || false) ≡ b

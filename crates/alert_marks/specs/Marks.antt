@@ -1,5 +1,5 @@
 -- Files of marks: first those of the notes in their order, and behind a switch those of any notes.
-use Rattle.std.specs.Prelude.{◌≡◌, ◌⊎◌, ◌≤◌, ℕ, ◌+◌, ◌-◌, ◌*◌, ◌^◌, ◌==◌, ◌||◌, ◌&&◌, not, nat_le, Bool, true, false, List, [], ◌∷◌, ◌++◌, length, get_or, Option, Some, None, option_map, IfSome, Result, Ok, Err, if◌then◌else◌, codes}
+use Rattle.std.specs.Prelude.{◌≡◌, ◌⊎◌, ◌≤◌, ℕ, ◌+◌, ◌-◌, ◌*◌, ◌^◌, ◌==◌, ◌||◌, ◌&&◌, not, nat_le, Bool, true, false, List, [], ◌∷◌, ◌++◌, length, get_or, Option, Some, None, option_map, IfSome, Result, Ok, Err, ⊤, if◌then◌else◌, codes}
 use Rattle.std.specs.List.{list_any}
 use Rattle.std.specs.Int.{bit_at, from_le_bytes, to_le_bytes, w32}
 use Rattle.std.specs.Int.Bits.{bit_or}
@@ -96,6 +96,11 @@ KeepsAsOneOf disk c = (d : List ℕ) × disk.images d × (kept mark_form c ≡ k
 -- a note has a mark among these
 abbrev pub has_mark : List NoteMark → ℕ → Bool
 has_mark marks note = list_any (λ (m : NoteMark). m.note == note) marks
+
+-- each mark is of a note from 1 on, and no note has two
+abbrev pub AreOnce : List NoteMark → Type 0
+AreOnce [] = ⊤
+AreOnce (mark ∷ marks) = (1 ≤ mark.note) × (has_mark marks mark.note ≡ false) × AreOnce marks
 
 -- the state is that of these marks
 pub record IsCoded (state : ℕ) (switched : Bool) (marks : List NoteMark) : Type 0 where

@@ -6,7 +6,7 @@ use Rattle.alert_queue.specs.declared.types.Mark.{Mark}
 use Rattle.alert_queue.specs.declared.types.Mark.TheVariants.{Done, Failed}
 use Rattle.alert_queue.specs.declared.types.NoteMark.{NoteMark}
 use Rattle.alert_marks.specs.declared.reading.Reader.{Reader}
-use Rattle.alert_marks.specs.Marks.{mark_form, listed, number_in, IsCoded}
+use Rattle.alert_marks.specs.Marks.{mark_form, listed, number_in, AreOnce, IsCoded}
 
 -- the mark of a byte, where it is one of a mark
 abbrev pub mark_at : ℕ → Option Mark
@@ -25,6 +25,11 @@ plain_behind (byte ∷ gate ∷ rest) = byte
 -- the notes of marks
 abbrev pub notes_of : List NoteMark → List ℕ
 notes_of marks = map (λ (m : NoteMark). m.note) marks
+
+-- no note was counted twice, and the notes that were met are those of the marks
+pub record AreMet (reader : Reader) : Type 0 where
+  pub seen_are : reader.seen ≡ notes_of reader.list.items
+  pub once : AreOnce reader.list.items
 
 -- bytes that begin as a file of marks does, with a gate
 abbrev pub IsOurs : List ℕ → Type 0

@@ -4,7 +4,7 @@ ghost use Rattle.std.specs.Prelude.{◌≡◌, ◌≢◌, ◌⊎◌, ◌<◌, �
 ghost use Rattle.outside.specs.Causes.{Rose, HasCause};
 ghost use Rattle.outside.specs.Disk.{LeavesOnly};
 ghost use Rattle.alert_queue.specs.declared.types.NoteMark.{NoteMark as Marking};
-ghost use Rattle.alert_marks.specs.Marks.{mark_form, marks_in, KeepsAsOneOf, disk_of, byte_of, group_of, has_mark, IsSettled, EachKeeps, KeepsBeforeOrWith};
+ghost use Rattle.alert_marks.specs.Marks.{mark_form, marks_in, KeepsAsOneOf, disk_of, byte_of, group_of, has_mark, AreOnce, IsSettled, EachKeeps, KeepsBeforeOrWith};
 ghost use Rattle.gated_file.specs.Groups.{kept};
 ghost use Rattle.gated_file.specs.Groups.Kept.{NotOurs, Damaged};
 ghost use Rattle.alert_marks.specs.declared.types.AddError.TheVariants as add_error;
@@ -127,6 +127,7 @@ impl<D: Disk> Marks<D> {
         ensures kept { IfOk result (λ marks. IfSome (D.tells disk).bytes (λ b. marks_in b ≡ Some marks.list)) }
         ensures going { IfOk result (λ marks. marks.is_broken ≡ false) }
         ensures durable { IfOk result (λ marks. EachKeeps (D.tells marks.disk) marks.list) }
+        ensures once { IfOk result (λ marks. AreOnce marks.list) }
 
         ensures not_ours { IfErr result (λ e. e.1 ≡ error.NotOurs → IfSome (D.tells disk).bytes (λ b. kept mark_form b ≡ NotOurs)) }
         ensures damaged { IfErr result (λ e. (at : ℕ) → e.1 ≡ error.Damaged at → IfSome (D.tells disk).bytes (λ b. kept mark_form b ≡ Damaged at)) }

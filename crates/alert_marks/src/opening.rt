@@ -8,7 +8,7 @@ ghost use Rattle.gated_file.specs.Moments.{IsAsBefore};
 ghost use Rattle.gated_file.specs.Groups.{kept, kept_from};
 ghost use Rattle.gated_file.specs.Groups.Kept.{NotOurs, Damaged};
 ghost use Rattle.alert_marks.specs.Marks.{mark_form, marks_in, KeepsAsOneOf, IsSettled};
-ghost use Rattle.alert_marks.specs.Reading.{IsOpened};
+ghost use Rattle.alert_marks.specs.Reading.{IsOpened, AreMet};
 ghost use Rattle.alert_marks.specs.declared.types.MarksError.TheVariants as error;
 
 use crate::reading::{Reader, read_groups};
@@ -48,6 +48,7 @@ fn read_marks<D: Disk>(alloc: Global, disk: &mut D) -> Result<Reader, MarksError
     requires { IsOpened (D.tells disk.old) }
     ensures kept { IfOk result (λ reader. IfSome (D.tells disk.old).bytes (λ b. marks_in b ≡ Some reader.list.items)) }
     ensures settled { IfOk result (λ reader. IsSettled false (D.tells disk.new) reader.gate reader.is_numbered reader.list.items) }
+    ensures met { IfOk result AreMet }
     ensures damaged { (at : ℕ) → result ≡ Err (error.Damaged at) → IfSome (D.tells disk.old).bytes (λ b. kept_from mark_form b ≡ Damaged at) }
     ensures ours { result ≢ Err error.NotOurs }
     ensures fault { result ≡ Err error.DiskFault → Rose (D.tells disk.old).faults (D.tells disk.new).faults }
@@ -65,6 +66,7 @@ fn read_marks<D: Disk>(alloc: Global, disk: &mut D) -> Result<Reader, MarksError
 pub(crate) fn open<D: Disk>(alloc: Global, disk: &mut D) -> Result<Reader, MarksError>
     ensures kept { IfOk result (λ reader. IfSome (D.tells disk.old).bytes (λ b. marks_in b ≡ Some reader.list.items)) }
     ensures settled { IfOk result (λ reader. IsSettled false (D.tells disk.new) reader.gate reader.is_numbered reader.list.items) }
+    ensures met { IfOk result AreMet }
     ensures not_ours { result ≡ Err error.NotOurs → IfSome (D.tells disk.old).bytes (λ b. kept mark_form b ≡ NotOurs) }
     ensures damaged { (at : ℕ) → result ≡ Err (error.Damaged at) → IfSome (D.tells disk.old).bytes (λ b. kept mark_form b ≡ Damaged at) }
     ensures fault { result ≡ Err error.DiskFault → Rose (D.tells disk.old).faults (D.tells disk.new).faults }

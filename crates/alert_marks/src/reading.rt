@@ -1,11 +1,11 @@
 //! The marks of a file.
 
-ghost use Rattle.std.specs.Prelude.{◌≡◌, ◌≢◌, ◌<◌, ◌==◌, ◌+◌, ◌++◌, ◌∷◌, [], ℕ, List, not, true, false, Some, Err, length, drop, get_or, IfOk, OnOk, OnErr};
+ghost use Rattle.std.specs.Prelude.{◌≡◌, ◌≢◌, ◌≤◌, ◌<◌, ◌==◌, ◌+◌, ◌++◌, ◌∷◌, [], ℕ, List, not, true, false, Some, Err, length, drop, get_or, IfOk, OnOk, OnErr};
 ghost use Rattle.gated_file.specs.Groups.{kept_from};
 ghost use Rattle.gated_file.specs.Groups.Kept.{Damaged};
 ghost use Rattle.alert_marks.specs.Marks.{mark_form};
 ghost use Rattle.std.specs.List.{list_any};
-ghost use Rattle.alert_marks.specs.Reading.{mark_at, numbered_behind, plain_behind, IsOurs, IsRead};
+ghost use Rattle.alert_marks.specs.Reading.{mark_at, numbered_behind, plain_behind, AreMet, IsOurs, IsRead};
 ghost use Rattle.alert_marks.specs.declared.types.MarksError.TheVariants as error;
 
 use crate::seen::Seen;
@@ -82,7 +82,8 @@ impl Reader {
     /// A file of which nothing was read.
     #[tactic(auto, using(crate::proofs::Readings::none_read))]
     fn new(alloc: Global) -> Reader
-        ensures { (bytes : List ℕ) → IsOurs bytes → IsRead bytes result }
+        ensures read { (bytes : List ℕ) → IsOurs bytes → IsRead bytes result }
+        ensures met { AreMet result }
     {
         Reader {
             list: Reserved::new(alloc),
@@ -93,10 +94,12 @@ impl Reader {
     }
 
     /// One mark more. False is a note that has one already.
+    #[tactic(auto, using(crate::proofs::Once::met_same))]
     fn add(&mut self, mark: NoteMark) -> Result<bool, MarksError>
         ensures fresh { IfOk result (λ fresh. fresh ≡ not (list_any (λ n. n == mark.note) self.old.seen)) }
         ensures seen { IfOk result (λ fresh. fresh ≡ true → self.new.seen ≡ self.old.seen ++ mark.note ∷ []) }
         ensures list { IfOk result (λ fresh. fresh ≡ true → self.new.list.items ≡ self.old.list.items ++ mark ∷ []) }
+        ensures met { OnOk result (1 ≤ mark.note → AreMet self.old → AreMet self.new) }
         ensures same { (self.new.gate ≡ self.old.gate) × (self.new.is_numbered ≡ self.old.is_numbered) }
         ensures memory { OnErr result (result ≡ Err error.OutOfMemory) }
     {
@@ -113,6 +116,7 @@ impl Reader {
     fn count(&mut self, bytes: &[u8], mark: Mark) -> Result<(), MarksError>
         requires inside { self.old.gate < length bytes.now }
         ensures read { OnOk result (IsRead bytes.now self.old → get_or bytes.now self.old.gate 0 ≡ 1 → self.old.is_numbered ≡ false → mark_at (plain_behind (drop (self.old.gate + 1) bytes.now)) ≡ Some mark → IsRead bytes.now self.new) }
+        ensures met { OnOk result (AreMet self.old → AreMet self.new) }
         ensures rises { OnOk result (self.old.gate < self.new.gate) }
         ensures memory { OnErr result (result ≡ Err error.OutOfMemory) }
     {
@@ -129,6 +133,7 @@ impl Reader {
     fn pass_plain(&mut self, bytes: &[u8]) -> Result<(), MarksError>
         requires inside { self.old.gate < length bytes.now }
         ensures read { OnOk result (IsRead bytes.now self.old → get_or bytes.now self.old.gate 0 ≡ 1 → self.old.is_numbered ≡ false → IsRead bytes.now self.new) }
+        ensures met { OnOk result (AreMet self.old → AreMet self.new) }
         ensures rises { OnOk result (self.old.gate < self.new.gate) }
         ensures damaged { (at : ℕ) → result ≡ Err (error.Damaged at) → IsRead bytes.now self.old → get_or bytes.now self.old.gate 0 ≡ 1 → self.old.is_numbered ≡ false → kept_from mark_form bytes.now ≡ Damaged at }
         ensures ours { result ≢ Err error.NotOurs }
@@ -153,6 +158,7 @@ impl Reader {
     fn pass_numbered(&mut self, bytes: &[u8]) -> Result<(), MarksError>
         requires inside { self.old.gate < length bytes.now }
         ensures read { OnOk result (IsRead bytes.now self.old → get_or bytes.now self.old.gate 0 ≡ 1 → self.old.is_numbered ≡ true → IsRead bytes.now self.new) }
+        ensures met { OnOk result (AreMet self.old → AreMet self.new) }
         ensures rises { OnOk result (self.old.gate < self.new.gate) }
         ensures damaged { (at : ℕ) → result ≡ Err (error.Damaged at) → IsRead bytes.now self.old → get_or bytes.now self.old.gate 0 ≡ 1 → self.old.is_numbered ≡ true → kept_from mark_form bytes.now ≡ Damaged at }
         ensures ours { result ≢ Err error.NotOurs }
@@ -178,6 +184,7 @@ impl Reader {
     fn pass(&mut self, bytes: &[u8]) -> Result<(), MarksError>
         requires inside { self.old.gate < length bytes.now }
         ensures read { OnOk result (IsRead bytes.now self.old → get_or bytes.now self.old.gate 0 ≡ 1 → IsRead bytes.now self.new) }
+        ensures met { OnOk result (AreMet self.old → AreMet self.new) }
         ensures rises { OnOk result (self.old.gate < self.new.gate) }
         ensures damaged { (at : ℕ) → result ≡ Err (error.Damaged at) → IsRead bytes.now self.old → get_or bytes.now self.old.gate 0 ≡ 1 → kept_from mark_form bytes.now ≡ Damaged at }
         ensures ours { result ≢ Err error.NotOurs }
@@ -194,6 +201,7 @@ impl Reader {
 /// The marks of a file's bytes, up to the first gate that isn't open.
 pub(crate) fn read_groups(alloc: Global, bytes: &[u8]) -> Result<Reader, MarksError>
     ensures read { IfOk result (λ reader. IsOurs bytes.now → IsRead bytes.now reader) }
+    ensures met { IfOk result AreMet }
     ensures shut { IfOk result (λ reader. get_or bytes.now reader.gate 0 ≢ 1) }
     ensures damaged { (at : ℕ) → result ≡ Err (error.Damaged at) → IsOurs bytes.now → kept_from mark_form bytes.now ≡ Damaged at }
     ensures ours { result ≢ Err error.NotOurs }

@@ -1,16 +1,23 @@
-//! Programs of the system that are run to their end, as alert scripts.
+//! Programs of the system that are run to their end, as alert scripts, and the system's clock between them.
 //!
 //! [`ChildSpawner`] meets the trait of spawners: a run is Ok exactly where the program was started, waited for and ended with
 //! status 0. It tells nothing of its runs, so what a program does with what it is given is outside of every contract.
 //!
+//! [`SystemClock`] meets the trait of clocks. Of its moments no contract says anything.
+//!
 //! ```text
 //! let mut spawner = ChildSpawner::new(&rt, alloc);
 //! spawner.run(&program, &texts)?;
+//! let mut clock = SystemClock::new(&rt);
+//! let then = clock.rest(until);
 //! ```
 #![tactic(auto)]
 
+mod clock;
+
 ghost use Rattle.std.specs.Prelude.{◌≡◌, None};
 
+pub use clock::SystemClock;
 use outside::{Failed, Spawner};
 use std::alloc::Global;
 use std::convert::AsStr;

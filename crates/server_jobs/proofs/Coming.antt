@@ -1,21 +1,32 @@
 -- What a call for alerts comes to, step by step.
 use Rattle.std.proofs.Common.{◌≡◌, ◌≢◌, ◌⊎◌, ◌∙◌, inl, inr, ℕ, ◌+◌, ◌<◌, ◌≤◌, List, [], ◌∷◌, length, Option, Some, None, IfSome, Result, Ok, Err, refl, sym, ap, subst, arith, true≢false}
-use Rattle.std.specs.Prelude.{IsSome, ⊤}
+use Rattle.std.specs.Prelude.{IsSome, ⊤, nat_le, false}
+use Rattle.std.proofs.lemmas.Bool.{lt-leb}
 use Rattle.outside.specs.Causes.{Rose}
 use Rattle.outside.specs.Disk.{DiskTells}
 use Rattle.outside.specs.Spawning.{SpawnerTells}
 use Rattle.gated_file.proofs.Moments.{if_some, told_of}
-use Rattle.alert_run.specs.Marks.{marks_in, EachKeeps}
+use Rattle.serde_json.specs.Data.{Data}
+use Rattle.zbx_types.specs.declared.causes.Cause.TheVariants.{TooLong}
+use Rattle.json_form.specs.Faults.{Fault, ◌>>=◌}
+use Rattle.json_form.specs.Places.{nowhere, refuse}
+use Rattle.json_form.specs.Json.{json_within}
+use Rattle.alert_marks.specs.Marks.{marks_in, EachKeeps}
+use Rattle.alert_media.specs.Media.{media_of, entries_of, path_of, IsFaultOf}
+use Rattle.alert_media.specs.declared.fault.MediaError.{MediaError}
+use Rattle.alert_media.specs.declared.fault.MediaError.TheVariants as media_error
+use Rattle.alert_media.specs.declared.media.Media.{Media}
+use Rattle.alert_media.specs.declared.media.Medium.{Medium}
 use Rattle.alert_run.specs.Notes.{notes_of}
-use Rattle.alert_queue.specs.declared.types.Mark.{Mark}
+use Rattle.alert_queue.specs.declared.types.NoteMark.{NoteMark}
 use Rattle.alert_run.specs.declared.types.Note.{Note}
 use Rattle.server_words.specs.Words.{alerts_plan_of}
 use Rattle.server_words.specs.declared.words.Plan.{Plan}
 use Rattle.server_words.specs.declared.status.Status.{Status}
 use Rattle.server_words.specs.declared.status.Status.TheVariants as status
 use Rattle.whole_texts.specs.Reads.{IsTextUpTo}
-use Rattle.server_jobs.specs.Working.{Works, EndsTries}
-use Rattle.server_jobs.specs.Alerts.{most_bytes, HasNotes, IsUnread, IsUnopened, Around, IsRefused, command_of, EndsWork, IsCut, IsWorked, ComesTo, Opens}
+use Rattle.server_jobs.specs.Working.{WorksIfAny, EndsTries}
+use Rattle.server_jobs.specs.Alerts.{most_bytes, HasNotes, HasMedia, IsUnread, IsUnknown, IsUnopened, Around, HasBoth, IsRefused, command_of, EndsWork, IsCut, IsWorked, ComesTo, Opens, Under, Goes}
 use Rattle.server_jobs.specs.Reports.{EndsPrinted}
 
 -- ---- reading
@@ -38,72 +49,103 @@ pub has_bad : (left : Option (List ℕ)) (bytes : List ℕ) (at : ℕ) → IfSom
 has_bad None bytes at read is = tt
 has_bad (Some all) bytes at read is = (read.1, ap notes_of (sym read.0) ∙ is)
 
+-- ---- media
+
+within_long : (text : List ℕ) → 16777216 < length text → json_within 16777216 text ≡ refuse nowhere TooLong
+unfolding json_within
+within_long text long = rw (lt-leb (length text) 16777216 long) refl
+
+-- a document that is too long is refused as the beginning of it that was read
+pub same_media : (left : Option (List ℕ)) (text : List ℕ) → IfSome left (λ all. IsTextUpTo 16777216 all text) → IfSome left (λ all. media_of text ≡ media_of all)
+same_media None text is = tt
+same_media (Some all) text (inl same) = ap media_of same
+same_media (Some all) text (inr long) = ap (λ (r : Result Data Fault). r >>= entries_of) (within_long text long.0 ∙ sym (within_long all long.1))
+
+pub has_media : (left : Option (List ℕ)) (plan : Plan) (text command : List ℕ) (media : Media) → IfSome left (λ all. media_of text ≡ media_of all) → media_of text ≡ Ok media.entries
+    → (media.command ≡ command) × (media.attempts ≡ plan.attempts) → command ≡ command_of plan → IfSome left (HasMedia plan media)
+has_media None plan text command media same read others is = tt
+has_media (Some all) plan text command media same read others is = record { entries = sym same ∙ read; command = others.0 ∙ is; attempts = others.1 }
+
+pub has_fault : (left : Option (List ℕ)) (text path : List ℕ) → IfSome left (λ all. media_of text ≡ media_of all) → IsFaultOf (media_of text) (media_error.Refused path) → IfSome left (λ all. path_of (media_of all) ≡ Some path)
+has_fault None text path same fault = tt
+has_fault (Some all) text path same fault = ap path_of (sym same) ∙ fault
+
 -- ---- working
 
 -- a count that rose behind an earlier moment rose since that
-pub ends_earlier : (notes : List Note) (before now : List Mark) (f0 f1 f2 : ℕ) (s : Status) → f0 ≤ f1 → EndsTries notes before now f1 f2 s → EndsTries notes before now f0 f2 s
-ends_earlier notes before now f0 f1 f2 status.Ok le why = why
-ends_earlier notes before now f0 f1 f2 (status.MarksAhead marks messages) le why = why
-ends_earlier notes before now f0 f1 f2 status.DiskFault le why = omega (arith, le, why)
-ends_earlier notes before now f0 f1 f2 status.OutOfMemory le why = tt
-ends_earlier notes before now f0 f1 f2 _ le why = absurd why
+pub ends_earlier : (notes : List Note) (before now : List NoteMark) (f0 f1 f2 : ℕ) (s0 s2 : SpawnerTells) (s : Status) → f0 ≤ f1 → EndsTries notes before now f1 f2 s0 s2 s → EndsTries notes before now f0 f2 s0 s2 s
+ends_earlier notes before now f0 f1 f2 s0 s2 status.Ok le why = why
+ends_earlier notes before now f0 f1 f2 s0 s2 (status.MarksAhead marks messages) le why = why
+ends_earlier notes before now f0 f1 f2 s0 s2 status.DiskFault le why = omega (arith, le, why)
+ends_earlier notes before now f0 f1 f2 s0 s2 status.OutOfMemory le why = tt
+ends_earlier notes before now f0 f1 f2 s0 s2 _ le why = absurd why
 
-pub opens : (plan : Plan) (notes : List Note) (d0 d1 d2 : DiskTells) (s0 s2 : SpawnerTells) (s : Status) (before now : List Mark)
-    → IfSome d0.bytes (λ b. marks_in b ≡ Some before) → d0.faults ≤ d1.faults → Works (command_of plan) plan.attempts notes s0 s2 before now
-    → EndsTries notes before now d1.faults d2.faults s → (s ≢ status.DiskFault → EachKeeps d2 now) → Opens plan notes d0 d2 s0 s2 s now
-opens plan notes d0 d1 d2 s0 s2 s before now recovered later works why keeps = record {
+pub opens : (media : Media) (notes : List Note) (d0 d1 d2 : DiskTells) (s0 s2 : SpawnerTells) (s : Status) (before now : List NoteMark)
+    → IfSome d0.bytes (λ b. marks_in b ≡ Some before) → d0.faults ≤ d1.faults → WorksIfAny media notes s0 s2 before now
+    → EndsTries notes before now d1.faults d2.faults s0 s2 s → (s ≢ status.DiskFault → EachKeeps d2 now) → Opens media notes d0 d2 s0 s2 s now
+opens media notes d0 d1 d2 s0 s2 s before now recovered later works why keeps = record {
   before = before;
   recovered = recovered;
   works = works;
-  why = ends_earlier notes before now d0.faults d1.faults d2.faults s later why;
+  why = ends_earlier notes before now d0.faults d1.faults d2.faults s0 s2 s later why;
   keeps = keeps;
 }
 
-kept_or_cut : (notes : List Note) (before now : List Mark) (d0 d2 : DiskTells) (s : Status) → EndsTries notes before now d0.faults d2.faults s → (s ≢ status.DiskFault → EachKeeps d2 now) → EachKeeps d2 now ⊎ (IsCut s × Rose d0.faults d2.faults)
-kept_or_cut notes before now d0 d2 status.Ok why keeps = inl (keeps (λ e. cc))
-kept_or_cut notes before now d0 d2 (status.MarksAhead marks messages) why keeps = inl (keeps (λ e. cc))
-kept_or_cut notes before now d0 d2 status.DiskFault why keeps = inr (tt, why)
-kept_or_cut notes before now d0 d2 status.OutOfMemory why keeps = inl (keeps (λ e. cc))
-kept_or_cut notes before now d0 d2 _ why keeps = absurd why
+kept_or_cut : (notes : List Note) (before now : List NoteMark) (d0 d2 : DiskTells) (s0 s2 : SpawnerTells) (s : Status) → EndsTries notes before now d0.faults d2.faults s0 s2 s → (s ≢ status.DiskFault → EachKeeps d2 now)
+    → EachKeeps d2 now ⊎ (IsCut s × Rose d0.faults d2.faults)
+kept_or_cut notes before now d0 d2 s0 s2 status.Ok why keeps = inl (keeps (λ e. cc))
+kept_or_cut notes before now d0 d2 s0 s2 (status.MarksAhead marks messages) why keeps = inl (keeps (λ e. cc))
+kept_or_cut notes before now d0 d2 s0 s2 status.DiskFault why keeps = inr (tt, why)
+kept_or_cut notes before now d0 d2 s0 s2 status.OutOfMemory why keeps = inl (keeps (λ e. cc))
+kept_or_cut notes before now d0 d2 s0 s2 _ why keeps = absurd why
 
-works_so : (notes : List Note) (before now : List Mark) (a : Around) (s : Status) → EndsTries notes before now a.disk.faults a.disk'.faults s → EndsWork notes before now a s
+works_so : (notes : List Note) (before now : List NoteMark) (a : Around) (s : Status) → EndsTries notes before now a.disk.faults a.disk'.faults a.spawner a.spawner' s → EndsWork notes before now a s
 works_so notes before now a status.Ok why = why
 works_so notes before now a (status.MarksAhead marks messages) why = why
 works_so notes before now a status.DiskFault why = why
 works_so notes before now a status.OutOfMemory why = why
 works_so notes before now a _ why = absurd why
 
-pub worked : (words : List (List ℕ)) (plan : Plan) (notes : List Note) (a : Around) (s : Status) (marks : List Mark) → alerts_plan_of words ≡ Some plan → IfSome a.lines (HasNotes notes)
-    → Opens plan notes a.disk a.disk' a.spawner a.spawner' s marks → ComesTo words a s marks
-worked words plan notes a s marks plan_is notes_are o = inr (record {
+-- what a call was given behind its outbox
+abbrev under : Around → Under
+under a = record { document = a.document; document_faults = a.document_faults; document_faults' = a.document_faults'; disk = a.disk; disk' = a.disk'; spawner = a.spawner; spawner' = a.spawner' }
+
+is_some_of : (o : Option Plan) (plan : Plan) → o ≡ Some plan → IsSome o
+is_some_of None plan e = cc
+is_some_of (Some p) plan e = refl
+
+pub worked : (words : List (List ℕ)) (plan : Plan) (notes : List Note) (a : Around) (s : Status) (marks : List NoteMark) → alerts_plan_of words ≡ Some plan → IfSome a.lines (HasNotes notes)
+    → Goes plan notes (under a) s marks → ComesTo words a s marks
+worked words plan notes a s marks plan_is notes_are (inl (media, media_are, inl o)) = inr (record {
   plan = plan;
   plan_is = plan_is;
   notes = notes;
   notes_are = notes_are;
   before = o.before;
   recovered = o.recovered;
+  media = media;
+  media_are = media_are;
   works = o.works;
   why = works_so notes o.before marks a s o.why;
-  keeps = kept_or_cut notes o.before marks a.disk a.disk' s o.why o.keeps;
+  keeps = kept_or_cut notes o.before marks a.disk a.disk' a.spawner a.spawner' s o.why o.keeps;
 })
+worked words plan notes a s marks plan_is notes_are (inl (media, media_are, inr u)) =
+    inl (inr (inr (inr (inr ((notes, media, (notes_are, (plan, plan_is, media_are))), u.0)))), u.1, u.2)
+worked words plan notes a s marks plan_is notes_are (inr u) =
+    inl (inr (inr (inr (inl (is_some_of (alerts_plan_of words) plan plan_is, (notes, notes_are), u.0)))), u.1, u.2)
 
-is_some_of : (o : Option Plan) (plan : Plan) → o ≡ Some plan → IsSome o
-is_some_of None plan e = cc
-is_some_of (Some p) plan e = refl
-
--- a call whose progress was opened, or wasn't
-pub comes_of : {Same : Type 0} (words : List (List ℕ)) (plan : Plan) (notes : List Note) (a : Around) (s : Status) (marks : List Mark) → alerts_plan_of words ≡ Some plan → IfSome a.lines (HasNotes notes)
-    → Opens plan notes a.disk a.disk' a.spawner a.spawner' s marks ⊎ (IsUnopened a.disk.bytes a.disk.faults a.disk'.faults s × (marks ≡ []) × Same) → (Same → a.spawner' ≡ a.spawner) → ComesTo words a s marks
-comes_of words plan notes a s marks plan_is notes_are (inl o) same = worked words plan notes a s marks plan_is notes_are o
-comes_of words plan notes a s marks plan_is notes_are (inr u) same =
-    inl (inr (inr (inr (is_some_of (alerts_plan_of words) plan plan_is, (notes, notes_are), u.0))), u.1, same u.2)
+-- a call whose media were known
+pub done_of : {Same : Type 0} (plan : Plan) (notes : List Note) (u : Under) (s : Status) (marks : List NoteMark) (media : Media) → IfSome u.document (HasMedia plan media)
+    → Opens media notes u.disk u.disk' u.spawner u.spawner' s marks ⊎ (IsUnopened u.disk.bytes u.disk.faults u.disk'.faults s × (marks ≡ []) × Same) → (Same → u.spawner' ≡ u.spawner) → Goes plan notes u s marks
+done_of plan notes u s marks media are (inl o) same = inl (media, are, inl o)
+done_of plan notes u s marks media are (inr un) same = inl (media, are, inr (un.0, un.1, same un.2))
 
 -- ---- printing
 
 refused_spent : (words : List (List ℕ)) (a : Around) (s : Status) → IsRefused words a s → IsRefused words a status.OutOfMemory
 refused_spent words a s is = inr (inl refl)
 
-to_spent : (words : List (List ℕ)) (a : Around) (s : Status) (marks : List Mark) → ComesTo words a s marks → ComesTo words a status.OutOfMemory marks
+to_spent : (words : List (List ℕ)) (a : Around) (s : Status) (marks : List NoteMark) → ComesTo words a s marks → ComesTo words a status.OutOfMemory marks
 to_spent words a s marks (inl refusal) = inl (refused_spent words a s refusal.0, refusal.1, refusal.2)
 to_spent words a s marks (inr w) = inr (record {
   plan = w.plan;
@@ -112,6 +154,8 @@ to_spent words a s marks (inr w) = inr (record {
   notes_are = w.notes_are;
   before = w.before;
   recovered = w.recovered;
+  media = w.media;
+  media_are = w.media_are;
   works = w.works;
   why = tt;
   keeps = cut w.keeps;
@@ -125,9 +169,10 @@ not_refused : (words : List (List ℕ)) (a : Around) → IsRefused words a statu
 not_refused words a (inl p) = cc
 not_refused words a (inr (inl p)) = cc
 not_refused words a (inr (inr (inl p))) = p.1
-not_refused words a (inr (inr (inr p))) = p.2
+not_refused words a (inr (inr (inr (inl p)))) = p.2
+not_refused words a (inr (inr (inr (inr p)))) = p.1
 
-to_print_fault : (words : List (List ℕ)) (a : Around) (marks : List Mark) → ComesTo words a status.Ok marks → ComesTo words a status.PrintFault marks
+to_print_fault : (words : List (List ℕ)) (a : Around) (marks : List NoteMark) → ComesTo words a status.Ok marks → ComesTo words a status.PrintFault marks
 to_print_fault words a marks (inl refusal) = absurd (not_refused words a refusal.0)
 to_print_fault words a marks (inr w) = inr (record {
   plan = w.plan;
@@ -136,6 +181,8 @@ to_print_fault words a marks (inr w) = inr (record {
   notes_are = w.notes_are;
   before = w.before;
   recovered = w.recovered;
+  media = w.media;
+  media_are = w.media_are;
   works = w.works;
   why = w.why;
   keeps = kept w.keeps;
@@ -145,29 +192,31 @@ to_print_fault words a marks (inr w) = inr (record {
     kept (inl k) = inl k
     kept (inr r) = absurd r.0
 
-pub comes_printed : (words : List (List ℕ)) (a : Around) (s ended : Status) (marks : List Mark) → ComesTo words a s marks → EndsPrinted s ended → ComesTo words a ended marks
+pub comes_printed : (words : List (List ℕ)) (a : Around) (s ended : Status) (marks : List NoteMark) → ComesTo words a s marks → EndsPrinted s ended → ComesTo words a ended marks
 comes_printed words a s ended marks comes (inl same) = subst (λ (t : Status). ComesTo words a t marks) (sym same) comes
 comes_printed words a s ended marks comes (inr (inl spent)) = subst (λ (t : Status). ComesTo words a t marks) (sym spent) (to_spent words a s marks comes)
 comes_printed words a s ended marks comes (inr (inr cut)) = subst (λ (t : Status). ComesTo words a t marks) (sym cut.1) (to_print_fault words a marks (subst (λ (t : Status). ComesTo words a t marks) cut.0 comes))
 
 -- ---- words
 
-pub usage_of : (words : List (List ℕ)) (a : Around) (s : Status) (marks : List Mark) → ComesTo words a s marks → s ≡ status.Usage → alerts_plan_of words ≡ None
+pub usage_of : (words : List (List ℕ)) (a : Around) (s : Status) (marks : List NoteMark) → ComesTo words a s marks → s ≡ status.Usage → alerts_plan_of words ≡ None
 usage_of words a s marks comes is = go (subst (λ (t : Status). ComesTo words a t marks) is comes)
   where
     go : ComesTo words a status.Usage marks → alerts_plan_of words ≡ None
     go (inl ((inl p), _, _)) = p.1
     go (inl ((inr (inl p)), _, _)) = cc
     go (inl ((inr (inr (inl p))), _, _)) = absurd p.1
-    go (inl ((inr (inr (inr p))), _, _)) = absurd p.2
+    go (inl ((inr (inr (inr (inl p)))), _, _)) = absurd p.2
+    go (inl ((inr (inr (inr (inr p)))), _, _)) = absurd p.1
     go (inr w) = absurd w.why
 
 some_not : (words : List (List ℕ)) → alerts_plan_of words ≡ None → IsSome (alerts_plan_of words) → ⊥
 some_not words none is = absurd (true≢false (sym (subst IsSome none is)))
 
-pub no_plan : (words : List (List ℕ)) (a : Around) (s : Status) (marks : List Mark) → ComesTo words a s marks → alerts_plan_of words ≡ None → (s ≡ status.Usage) ⊎ (s ≡ status.OutOfMemory)
+pub no_plan : (words : List (List ℕ)) (a : Around) (s : Status) (marks : List NoteMark) → ComesTo words a s marks → alerts_plan_of words ≡ None → (s ≡ status.Usage) ⊎ (s ≡ status.OutOfMemory)
 no_plan words a s marks (inl ((inl p), _, _)) none = inl p.0
 no_plan words a s marks (inl ((inr (inl p)), _, _)) none = inr p
 no_plan words a s marks (inl ((inr (inr (inl p))), _, _)) none = absurd (some_not words none p.0)
-no_plan words a s marks (inl ((inr (inr (inr p))), _, _)) none = absurd (some_not words none p.0)
+no_plan words a s marks (inl ((inr (inr (inr (inl p)))), _, _)) none = absurd (some_not words none p.0)
+no_plan words a s marks (inl ((inr (inr (inr (inr p)))), _, _)) none = absurd (some_not words none (is_some_of (alerts_plan_of words) p.0.2.1.0 p.0.2.1.1))
 no_plan words a s marks (inr w) none = absurd (some_not words none (is_some_of (alerts_plan_of words) w.plan w.plan_is))

@@ -1,4 +1,11 @@
 pub mod Runs
-pub mod Queueing
+pub mod Numbering
+pub mod Starting
+pub mod Lanes
+pub mod Turning
+pub mod Ending
 pub mod Going
+pub mod Beginning
+pub mod Crashes
 pub mod Coming
+pub mod Printing

@@ -1,5 +1,6 @@
 pub mod Tries
-pub mod Queueing
+pub mod Numbering
 pub mod Working
+pub mod Turning
 pub mod Alerts
 pub mod Reports

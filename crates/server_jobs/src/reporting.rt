@@ -5,7 +5,7 @@ ghost use Rattle.outside.specs.Causes.{Rose};
 ghost use Rattle.server_words.specs.declared.status.Status.TheVariants as Status;
 ghost use Rattle.server_jobs.specs.Reports.{is_done, is_failed, count_done, count_failed, line_of, cut_short, EndsPrinted, Prints};
 
-use alert_run::Mark;
+use alert_queue::{Mark, NoteMark};
 use outside::{Failed, Sink};
 use server_words::{Counts, Status, printed, printed_alerts};
 use std::alloc::Global;
@@ -34,21 +34,21 @@ fn is_failed(mark: Mark) -> bool
 }
 
 /// How many marks say that a note was sent.
-fn count_done(marks: &[Mark]) -> usize
+fn count_done(marks: &[NoteMark]) -> usize
     ensures { result ≡ count_done marks.now }
 {
-    marks.iter().filter(|mark| is_done(**mark)).count()
+    marks.iter().filter(|mark| is_done(mark.mark)).count()
 }
 
 /// How many say that it failed.
-fn count_failed(marks: &[Mark]) -> usize
+fn count_failed(marks: &[NoteMark]) -> usize
     ensures { result ≡ count_failed marks.now }
 {
-    marks.iter().filter(|mark| is_failed(**mark)).count()
+    marks.iter().filter(|mark| is_failed(mark.mark)).count()
 }
 
 /// The line of a status.
-fn line_of(alloc: Global, status: &Status, marks: &[Mark]) -> Result<Text, OutOfMemory>
+fn line_of(alloc: Global, status: &Status, marks: &[NoteMark]) -> Result<Text, OutOfMemory>
     ensures { IfOk result (λ line. line ≡ line_of status.now marks.now) }
 {
     if *status == Status::Ok {
@@ -81,7 +81,7 @@ fn cut_short(status: Status) -> Status
 pub(crate) fn report<P: Sink>(
     alloc: Global,
     status: Status,
-    marks: &[Mark],
+    marks: &[NoteMark],
     print: &mut P,
 ) -> Status
     requires { status ≢ Status.PrintFault }

@@ -1,18 +1,22 @@
 //! The tries of notes.
 
-ghost use Rattle.std.specs.Prelude.{◌≡◌, ◌≤◌, ◌<◌, ◌+◌, ◌-◌, ◌^◌, ◌∷◌, [], ◌++◌, ℕ, true, false, length, replicate, IfOk};
-ghost use Rattle.alert_queue.specs.Queues.{HasOpen};
-ghost use Rattle.server_jobs.specs.Queueing.{limit_of, IsIdleAt, IsTriedAt, Continues, Turns};
-ghost use Rattle.server_jobs.specs.Tries.{TriesOne};
+ghost use Rattle.std.specs.Prelude.{◌≡◌, ◌≤◌, ◌∷◌, [], ◌++◌, IfOk, OnErr};
+ghost use Rattle.alert_queue.specs.Queues.{HasOpen, IsLeastMoment};
+ghost use Rattle.alert_queue.specs.Events.{moved};
+ghost use Rattle.server_jobs.specs.Tries.{medium_for};
+ghost use Rattle.server_jobs.specs.Turning.{NoneOpen, Continues, Ends};
 
-use alert_queue::{Kind, Mark, Queue, Taken};
+use crate::hand::Hand;
+use crate::recipients::command_for;
+use alert_media::Media;
+use alert_queue::{Mark, Queue, Taken};
 use alert_run::Note;
-use outside::Spawner;
-use std::alloc::{AllocError, Global};
+use outside::{Clock, Spawner};
+use std::alloc::Global;
 use zbx_types::{Many, Moment, OutOfMemory, Text};
 
 /// The three texts of a note, as what a script is given.
-pub(crate) fn texts_of(alloc: Global, note: &Note) -> Result<Many<Text>, OutOfMemory>
+fn texts_of(alloc: Global, note: &Note) -> Result<Many<Text>, OutOfMemory>
     ensures { IfOk result (λ texts. texts ≡ note.now.recipient ∷ note.now.subject ∷ note.now.body ∷ []) }
 {
     let mut texts = Many::new(alloc);
@@ -22,85 +26,52 @@ pub(crate) fn texts_of(alloc: Global, note: &Note) -> Result<Many<Text>, OutOfMe
     Ok(texts)
 }
 
-/// For each of so many notes whether it has a mark: the first ones do.
-#[tactic(auto, using(crate::proofs::Queueing::marked_more))]
-fn marked_to(alloc: Global, count: usize, total: usize) -> Result<Vec<bool>, AllocError>
-    requires { count ≤ total }
-    ensures { IfOk result (λ marked. marked.items ≡ replicate count true ++ replicate (total - count) false) }
+/// Waits until the least moment at which a note is due, and begins a try of the next one then.
+#[tactic(auto, using(crate::proofs::Turning::begins_now, crate::proofs::Turning::not_later, crate::proofs::Turning::not_busy, crate::proofs::Turning::not_nothing))]
+fn next_later<C: Clock>(queue: &mut Queue, at: Moment, clock: &mut C) -> Option<u32>
+    requires closed { NoneOpen queue.old }
+    requires least { IsLeastMoment queue.old at }
+    ensures { Continues queue.old queue.new result }
 {
-    let mut marked = vec![in alloc; true; count]?;
-    for _ in count..total {
-        marked.push(false)?;
-    }
-    Ok(marked)
-}
-
-/// The queue of so many notes behind those that have marks, all in one lane.
-pub(crate) fn queue_behind(
-    alloc: Global,
-    limit: u32,
-    total: usize,
-    count: usize,
-) -> Result<Queue, OutOfMemory>
-    requires limited { 0 < limit }
-    requires few { total < 2 ^ 32 }
-    requires some { count ≤ total }
-    ensures { IfOk result (IsIdleAt limit total (count + 1) 0) }
-{
-    let homes = vec![in alloc; 0u32; total]?;
-    let marked = marked_to(alloc, count, total)?;
-    let kinds = [Kind { limit, interval: 0 }];
-    Queue::new(alloc, &homes, &marked, &kinds)
-}
-
-/// Begins a try of the next note, where one is left, and answers its number.
-pub(crate) fn next(queue: &mut Queue) -> Option<u32>
-    ensures { (limit last note failed : ℕ) → IsIdleAt limit last note failed queue.old → 1 ≤ note → Continues limit last note failed queue.new result }
-{
-    match queue.take(Moment::zero()) {
+    let now = clock.rest(at).later(at);
+    match queue.take(now) {
         Taken::Try { note } => Some(note),
-        Taken::Later { at: _ } | Taken::Busy | Taken::Nothing => None,
+        Taken::Later { at: _ } => None,
+        Taken::Busy => None,
+        Taken::Nothing => None,
     }
 }
 
-/// Runs the open try of a note. Answers its mark, where that was the last one; else the next one begins.
-fn turn<W: Spawner>(
-    queue: &mut Queue,
-    note: u32,
-    spawner: &mut W,
-    command: &Text,
-    texts: &Many<Text>,
-) -> Option<Mark>
-    requires { HasOpen queue.old note }
-    ensures { (limit last failed : ℕ) → IsTriedAt limit last note failed queue.old → failed < limit → Turns limit last note failed command.now texts.now (W.tells spawner.old) (W.tells spawner.new) queue.new result }
+/// Begins a try of the next note, where one is left, and answers its number. Where none is due it waits for the first one.
+#[tactic(auto, using(crate::proofs::Turning::begins_now, crate::proofs::Turning::never_busy, crate::proofs::Turning::over, crate::proofs::Turning::least_of, crate::proofs::Turning::closed_later, crate::proofs::Turning::continues_later))]
+pub(crate) fn next<C: Clock>(queue: &mut Queue, clock: &mut C) -> Option<u32>
+    requires { NoneOpen queue.old }
+    ensures { Continues queue.old queue.new result }
 {
-    let ok = spawner.run(command, texts).is_ok();
-    match queue.done(note, ok, Moment::zero()) {
-        Some(mark) => Some(mark),
-        None => {
-            next(queue);
-            None
-        }
+    match queue.take(clock.now()) {
+        Taken::Try { note } => Some(note),
+        Taken::Later { at } => next_later(queue, at, clock),
+        Taken::Busy => None,
+        Taken::Nothing => None,
     }
 }
 
-/// Makes the tries of a note of which one is open, up to the first run that succeeds, at most as often as the limit says.
-pub(crate) fn try_note<W: Spawner>(
+/// Runs the open try of a note. Answers the note's mark, where that was its last one.
+#[tactic(auto, using(crate::proofs::Turning::ends_so))]
+pub(crate) fn try_note<W: Spawner, C: Clock>(
+    alloc: Global,
+    media: &Media,
+    note: &Note,
+    number: u32,
     queue: &mut Queue,
-    note: u32,
-    spawner: &mut W,
-    command: &Text,
-    texts: &Many<Text>,
-) -> Mark
-    requires tried { IsTriedAt (limit_of queue.old) (length queue.old.homes) note 0 queue.old }
-    requires limited { 0 < limit_of queue.old }
-    ensures tries { TriesOne command.now texts.now (limit_of queue.old) (W.tells spawner.old) (W.tells spawner.new) result }
-    ensures passed { IsIdleAt (limit_of queue.old) (length queue.old.homes) (note + 1) 0 queue.new }
+    hand: &mut Hand<W, C>,
+) -> Result<Option<Mark>, OutOfMemory>
+    requires { HasOpen queue.old number }
+    ensures ends { IfOk result (Ends (medium_for media.now note.now.recipient).command note.now number (W.tells hand.old.spawner) (W.tells hand.new.spawner) queue.old queue.new) }
+    ensures untried { OnErr result (hand.new ≡ hand.old) }
 {
-    loop {
-        match turn(queue, note, spawner, command, texts) {
-            Some(mark) => return mark,
-            None => {}
-        }
-    }
+    let texts = texts_of(alloc, note)?;
+    let command = command_for(media, &note.recipient);
+    let ok = hand.spawner.run(command, &texts).is_ok();
+    Ok(queue.done(number, ok, hand.clock.now()))
 }

@@ -3,17 +3,18 @@ use Rattle.std.proofs.Common.{◌≡◌, ◌⊎◌, inl, inr, ℕ, List, Bool, O
 use Rattle.std.specs.Prelude.{IfSome}
 use Rattle.zbx_types.specs.declared.entries.Numbered.{Numbered}
 use Rattle.outside.specs.Disk.{DiskTells, LeavesOnly}
-use Rattle.outside.specs.Tells.{SinkTells, WireTells}
+use Rattle.outside.specs.Tells.{SinkTells}
 use Rattle.intake_front.specs.Fronted.{Keeps, IsKept}
 use Rattle.intake_front.specs.declared.answer.Stop.{Stop}
 use Rattle.intake_journal.specs.Settled.{KeepsAsOneOf}
 use Rattle.server_words.specs.declared.status.Status.{Status}
-use Rattle.server_run.specs.Ran.{Objects, IsRun}
-use Rattle.server_run.specs.Runs.{Followed}
+use Rattle.server_run.specs.Ran.{IsRun}
+use Rattle.server_run.specs.Runs.{Objects, Followed}
+use Rattle.server_words.specs.declared.status.Counts.{Counts}
 use Rattle.server_run.specs.Stops.{Journals}
 use Rattle.outside.specs.Causes.{Rose}
-use Rattle.alert_run.specs.Marks.{marks_in, EachKeeps}
-use Rattle.alert_queue.specs.declared.types.Mark.{Mark}
+use Rattle.alert_marks.specs.Marks.{marks_in, EachKeeps}
+use Rattle.alert_queue.specs.declared.types.NoteMark.{NoteMark}
 use Rattle.server_jobs.specs.Alerts.{Around, IsCut, ComesTo}
 use Rattle.server_jobs.specs.Reports.{Prints}
 use Rattle.zabbix_server.specs.Program.{Seen, without_images, objects_of, IsAlertsOf}
@@ -47,19 +48,19 @@ journals_too old new among reason entries j = record {
   told = j.told;
 }
 
-followed_too : (words : List (List ℕ)) (source : Option (List ℕ)) (held : ℕ) (old new : DiskTells) (wire wire' : WireTells) (s : Status) (entries : List Numbered)
-    → Followed words source old.bytes held (Journals (KeepsAsOneOf old) old new) wire wire' s entries
-    → Followed words source old.bytes held (Journals (KeepsAsOneOf (untold old)) (untold old) (untold new)) wire wire' s entries
-followed_too words source held old new wire wire' s entries f = record {
+followed_too : (words : List (List ℕ)) (before after : Objects) (s : Status) (entries : List Numbered) (IsTold : Counts → Type 0) → Followed words before after s entries IsTold
+    → Followed words (objects_of (seen_of before)) (objects_of (seen_of after)) s entries IsTold
+followed_too words before after s entries IsTold f = record {
   plan = f.plan;
   conf = f.conf;
   configured = f.configured;
   groups = f.groups;
   found = f.found;
   accepted = f.accepted;
-  enough = f.enough;
+  mendable = f.mendable;
   whole = f.whole;
   fits = f.fits;
+  first = f.first;
   finished = record {
     handled = f.finished.handled;
     lost = f.finished.lost;
@@ -72,8 +73,10 @@ followed_too words source held old new wire wire' s entries f = record {
     ends = f.finished.ends;
     refused_is = f.finished.refused_is;
     shows = f.finished.shows;
-    journaled = journals_too old new _ _ entries f.finished.journaled;
+    journaled = journals_too before.disk after.disk _ _ entries f.finished.journaled;
   };
+  lines = f.lines;
+  counts = f.counts;
 }
 
 pub run_too : (words : List (List ℕ)) (before after : Objects) (line line' : SinkTells) (began : Bool) (entries : List Numbered) (s : Status) → IsRun words before after line line' began entries s
@@ -99,19 +102,17 @@ run_too words before after line line' began entries s r = record {
   has = r.has;
   stopped = λ n. nothing_left before.disk after.disk before.disk.bytes _;
   begun = r.begun;
-  followed = λ y. followed_too words before.source before.outbox.held before.disk after.disk before.wire after.wire s entries (r.followed y);
+  followed = λ y. followed_too words before after s entries _ (r.followed y);
+  printed = r.printed;
   keeps = r.keeps;
   told = r.told;
-  lines = r.lines;
-  size = r.size;
-  printed = r.printed;
-  complete = λ plan text conf file groups all a b d e f g h i j none patterns.
-      r.complete plan text conf file groups all a b d e f g h i j (record { source = none.source; wire = none.wire; disk = none.disk; outbox = none.outbox; printer = none.printer }) patterns;
+  complete = λ plan text conf file groups all a b d e f g h i j k none patterns.
+      r.complete plan text conf file groups all a b d e f g h i j k (record { source = none.source; wire = none.wire; disk = none.disk; outbox = none.outbox; printer = none.printer }) patterns;
 }
 
 -- ---- alerts
 
-alerts_keep : (disk : DiskTells) (marks : List Mark) → EachKeeps disk marks → EachKeeps (untold disk) marks
+alerts_keep : (disk : DiskTells) (marks : List NoteMark) → EachKeeps disk marks → EachKeeps (untold disk) marks
 alerts_keep disk marks = by disk.bytes
   where
     by : (o : Option (List ℕ)) → IfSome o (λ _. (c : List ℕ) → disk.images c → marks_in c ≡ Some marks) → IfSome o (λ _. (c : List ℕ) → ⊥ → marks_in c ≡ Some marks)
@@ -122,12 +123,12 @@ alerts_keep disk marks = by disk.bytes
 abbrev pub around_too : Around → Around
 around_too a = record a { disk = untold a.disk; disk' = untold a.disk' }
 
-keeps_too : (a : Around) (s : Status) (marks : List Mark) → EachKeeps a.disk' marks ⊎ (IsCut s × Rose a.disk.faults a.disk'.faults)
+keeps_too : (a : Around) (s : Status) (marks : List NoteMark) → EachKeeps a.disk' marks ⊎ (IsCut s × Rose a.disk.faults a.disk'.faults)
     → EachKeeps (untold a.disk') marks ⊎ (IsCut s × Rose a.disk.faults a.disk'.faults)
 keeps_too a s marks (inl k) = inl (alerts_keep a.disk' marks k)
 keeps_too a s marks (inr cut) = inr cut
 
-pub comes_too : (words : List (List ℕ)) (a : Around) (s : Status) (marks : List Mark) → ComesTo words a s marks → ComesTo words (around_too a) s marks
+pub comes_too : (words : List (List ℕ)) (a : Around) (s : Status) (marks : List NoteMark) → ComesTo words a s marks → ComesTo words (around_too a) s marks
 comes_too words a s marks (inl refusal) = inl refusal
 comes_too words a s marks (inr w) = inr (record {
   plan = w.plan;
@@ -136,12 +137,14 @@ comes_too words a s marks (inr w) = inr (record {
   notes_are = w.notes_are;
   before = w.before;
   recovered = w.recovered;
+  media = w.media;
+  media_are = w.media_are;
   works = w.works;
   why = w.why;
   keeps = keeps_too a s marks w.keeps;
 })
 
-pub alerts_too : (words : List (List ℕ)) (a : Around) (s : Status) (marks : List Mark) (line line' : SinkTells) → ComesTo words a s marks → Prints s marks line line'
-    → IsAlertsOf words (record { lines = a.lines; lines_faults = a.faults; file = a.disk.bytes; disk_faults = a.disk.faults; spawner = a.spawner }) line s
+pub alerts_too : (words : List (List ℕ)) (a : Around) (s : Status) (marks : List NoteMark) (line line' : SinkTells) → ComesTo words a s marks → Prints s marks line line'
+    → IsAlertsOf words (record { lines = a.lines; lines_faults = a.faults; document = a.document; document_faults = a.document_faults; file = a.disk.bytes; disk_faults = a.disk.faults; spawner = a.spawner }) line s
 alerts_too words a s marks line line' comes prints =
-    (record { lines = None; lines_faults = a.faults'; file = a.disk'.bytes; disk_faults = a.disk'.faults; spawner = a.spawner' }, line', marks, comes_too words a s marks comes, prints)
+    (record { lines = None; lines_faults = a.faults'; document = None; document_faults = a.document_faults'; file = a.disk'.bytes; disk_faults = a.disk'.faults; spawner = a.spawner' }, line', marks, comes_too words a s marks comes, prints)

@@ -2,7 +2,7 @@
 use Rattle.std.specs.Prelude.{◌≡◌, ◌⊎◌, Ok, Err, Result, Bool, List, Option, None, IsSome, ℕ}
 use Rattle.zbx_types.specs.declared.entries.Numbered.{Numbered}
 use Rattle.zbx_types.specs.declared.memory.OutOfMemory.{OutOfMemory}
-use Rattle.alert_queue.specs.declared.types.Mark.{Mark}
+use Rattle.alert_queue.specs.declared.types.NoteMark.{NoteMark}
 use Rattle.outside.specs.Disk.{DiskTells}
 use Rattle.outside.specs.Spawning.{SpawnerTells}
 use Rattle.outside.specs.Tells.{SinkTells, WireTells}
@@ -11,7 +11,8 @@ use Rattle.server_jobs.specs.Reports.{Prints}
 use Rattle.server_words.specs.Words.{alerts_plan_of}
 use Rattle.server_words.specs.declared.status.Status.{Status}
 use Rattle.server_words.specs.declared.status.Status.TheVariants as status
-use Rattle.server_run.specs.Ran.{Objects, IsRun}
+use Rattle.server_run.specs.Ran.{IsRun}
+use Rattle.server_run.specs.Runs.{Objects}
 
 -- the status of a run, or of one for whose objects there was no memory
 abbrev pub status_in : Result Status OutOfMemory → Status
@@ -57,6 +58,8 @@ IsRunStatus words s = (before : Seen) × (line : SinkTells) × IsStatusOf words 
 pub record AlertsSeen : Type 0 where
   pub lines : Option (List ℕ)
   pub lines_faults : ℕ
+  pub document : Option (List ℕ)
+  pub document_faults : ℕ
   pub file : Option (List ℕ)
   pub disk_faults : ℕ
   pub spawner : SpawnerTells
@@ -67,6 +70,9 @@ around_of before after = record {
   lines = before.lines;
   faults = before.lines_faults;
   faults' = after.lines_faults;
+  document = before.document;
+  document_faults = before.document_faults;
+  document_faults' = after.document_faults;
   disk = without_images before.file before.disk_faults;
   disk' = without_images after.file after.disk_faults;
   spawner = before.spawner;
@@ -76,7 +82,7 @@ around_of before after = record {
 -- a status is that of a call for alerts over objects that told this, and a printer
 abbrev pub IsAlertsOf : List (List ℕ) → AlertsSeen → SinkTells → Status → Type 0
 IsAlertsOf words before line s =
-    (after : AlertsSeen) × (line' : SinkTells) × (marks : List Mark)
+    (after : AlertsSeen) × (line' : SinkTells) × (marks : List NoteMark)
     × ComesTo words (around_of before after) s marks × Prints s marks line line'
 
 -- a status is that of a call for alerts over some objects, which the caller made itself

@@ -16,8 +16,10 @@
 //! same lines whatever their number.
 //!
 //! With `--mode alerts --outbox OUTBOX --progress PROGRESS --command PROGRAM` it reads the file OUTBOX instead and runs the
-//! PROGRAM for each message in it, and keeps in the file PROGRESS what became of each. That is
-//! [`server_jobs::run_alerts`] over files and [`ChildSpawner`](child_spawner::ChildSpawner).
+//! PROGRAM for each message in it, and keeps in the file PROGRESS what became of each. With `--media MEDIA` the document in
+//! the file MEDIA says of recipients by which program, how often and at which interval. That is
+//! [`server_jobs::run_alerts`] over files, [`ChildSpawner`](child_spawner::ChildSpawner) and
+//! [`SystemClock`](child_spawner::SystemClock). `--sessions` is taken, and one session does the work whatever it is.
 //!
 //! It exits with the number of the status, 0 for Ok; `docs/FORMATS.md` has them all. Nothing goes to standard error.
 //!

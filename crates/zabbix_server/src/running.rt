@@ -9,10 +9,11 @@ use outside::{
     Disk, MemSink, MemSource, OpenGate, RamDisk, ScriptWire, Sink, Source, Wire, WorkWire,
     work_source,
 };
-use server_run::run_syncers;
+use server_run::{Ended, run_syncers};
 use server_words::{Mode, Plan, PlanError, Status, plan};
 use std::alloc::Global;
 use std::convert::AsStr;
+use std::mem::forget;
 use std::sync::Wait;
 use std::thread::Threads;
 use wire_mio::{FileDisk, FileSink, FileSource, MioWire, StdSink};
@@ -224,7 +225,13 @@ pub(crate) fn status_of<
     let mut config = config;
     let mut wire = wire;
     let mut printer = printer;
-    run_syncers(
+    let Ended {
+        status,
+        began: _,
+        disk: _,
+        outbox: _,
+        entries,
+    } = run_syncers(
         threads,
         alloc,
         words,
@@ -234,6 +241,8 @@ pub(crate) fn status_of<
         outbox,
         &mut printer,
         &OpenGate,
-    )
-    .status
+    );
+    // They hold nothing but memory, which the system takes back whole where the process ends.
+    forget(entries);
+    status
 }

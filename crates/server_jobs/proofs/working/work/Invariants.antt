@@ -1,17 +1,15 @@
-use Rattle.std.proofs.Common.{◌≡◌, ◌≤◌, ◌+◌, ◌-◌, false, length, IfSome}
+use Rattle.std.proofs.Common.{◌≡◌, ◌≤◌, false, IfSome}
 use Rattle.std.specs.Prelude.{is_some}
 use Rattle.outside.specs.Disk.{LeavesOnly}
-use Rattle.alert_run.specs.Marks.{EachKeeps}
-use Rattle.server_jobs.specs.Queueing.{limit_of, IsIdleAt}
+use Rattle.alert_marks.specs.Marks.{EachKeeps}
+use Rattle.server_jobs.specs.Turning.{weigh}
 use Rattle.server_jobs.specs.Working.{KeepsFront}
-use Rattle.server_jobs.proofs.Going.{Made}
+use Rattle.server_jobs.proofs.Going.{Going}
 use Rattle.server_jobs.proofs.working.work.Given as goal
 
 abbrev pub invariant-loop-number : goal.invariant-loop-number
 invariant-loop-number g l = record {
-  idle : IsIdleAt (limit_of l.fn.queue) (length l.notes) (length l.marks.list + 1) 0 l.queue;
-  made : Made l.command (limit_of l.fn.queue) l.notes (g.W.Spawner.tells l.fn.spawner) (g.W.Spawner.tells l.spawner) l.fn.marks.list l.marks.list;
-  few : length l.marks.list ≤ length l.notes;
+  goes : Going l.media l.notes l.fn.queue l.queue (g.W.Spawner.tells l.fn.hand.spawner) (g.W.Spawner.tells l.hand.spawner) l.fn.marks.list l.marks.list;
   going : l.marks.is_broken ≡ false;
   keeps : EachKeeps (g.D.Disk.tells l.marks.disk) l.marks.list;
   later : (g.D.Disk.tells l.fn.marks.disk).faults ≤ (g.D.Disk.tells l.marks.disk).faults;
@@ -20,4 +18,4 @@ invariant-loop-number g l = record {
 }
 
 abbrev pub decreases-loop-number : goal.decreases-loop-number
-decreases-loop-number g l = length l.notes - length l.marks.list
+decreases-loop-number g l = weigh l.queue

@@ -10,8 +10,11 @@ returns g c =
       lines = g.S.Source.left c.args.lines;
       faults = g.S.Source.faults c.args.lines;
       faults' = g.S.Source.faults r.new.lines;
+      document = g.M.Source.left c.args.media;
+      document_faults = g.M.Source.faults c.args.media;
+      document_faults' = g.M.Source.faults r.new.media;
       disk = g.D.Disk.tells c.args.progress;
       disk' = g.D.Disk.tells r.result.progress;
-      spawner = g.W.Spawner.tells c.args.spawner;
-      spawner' = g.W.Spawner.tells r.new.spawner;
+      spawner = g.W.Spawner.tells c.args.hand.spawner;
+      spawner' = g.W.Spawner.tells r.new.hand.spawner;
     } in alerts_too c.args.words.now around r.result.status r.result.marks (g.P.Sink.tells c.args.printer) (g.P.Sink.tells r.new.print) r.ensures.comes r.ensures.printed

@@ -1,11 +1,11 @@
 -- The status is that of the run, of which all its clauses are true.
-use Rattle.server_run.specs.Ran.{Objects}
+use Rattle.server_run.specs.Runs.{Objects}
 use Rattle.zabbix_server.proofs.Untold.{seen_of, run_too}
 use Rattle.zabbix_server.proofs.running.status_of.Goals as goal
 
 pub returns : goal.returns
 returns g c =
-    let r = c.run_syncers in
+    let r = c.run_syncers-status in
     let before : Objects = record {
       source = g.S.Source.left c.args.config;
       source_faults = g.S.Source.faults c.args.config;
