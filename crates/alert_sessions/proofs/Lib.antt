@@ -1,0 +1,4 @@
+pub mod Settling
+pub mod Sums
+pub mod Marking
+pub mod Keeping
