@@ -73,6 +73,24 @@ def restart(program, kept):
     same("its outbox", held("outbox"), LINE)
 
 
+def spoilt_outbox(program, syncers):
+    """A run cuts its outbox where a power cut left zero bytes, and leaves one alone that holds anything else."""
+    words = ["--journal", "journal", "--outbox", "outbox", "--syncers", syncers]
+    same("the first run", feed(program, *words), (0, ONE_PROBLEM))
+    put("script", b"100.000000000 closed\n")
+    for kept, zeros in ((34, 0), (10, 24), (10, 1), (0, 34), (33, 1)):
+        put("outbox", LINE[:kept] + bytes(zeros))
+        same(f"{kept} bytes and {zeros} zeros", (feed(program, *words), held("outbox")), ((0, ONE_PROBLEM), LINE))
+    for at, other in ((10, LINE[:10] + b"x"), (0, b"x" * 34), (33, LINE[:33] + b"\r"), (5, LINE[:5] + b"1" + bytes(9))):
+        put("outbox", other)
+        refused = (27, b"status: OutboxDiffers; at: %d\n" % at)
+        same(f"another byte at {at}", (feed(program, *words), held("outbox")), (refused, other))
+    longer = LINE + bytes(1)
+    put("outbox", longer)
+    refused = (9, b"status: OutboxAhead; held: 35; lines: 34\n")
+    same("a zero byte too many", (feed(program, *words), held("outbox")), (refused, longer))
+
+
 def restarts_keep_the_file(program):
     """Each run over a journal reads what the one before added, and one that adds nothing leaves the file as it was."""
     feed(program, "--journal", "journal")
@@ -304,8 +322,9 @@ def real_agent(program, syncers):
                     same_reply(conn, len(asks["data"]) - failed, failed)
 
 
-def the_most_items(program):
-    """A list that fills the data of a frame to the last byte is told; with one byte more there are too many items."""
+def longest_list():
+    """A configuration of which the list of the host `h` fills the data of a frame to the last byte, and that of the host `more` is a
+    byte longer; and the first of both lists."""
     head, tail, count = b'{"response":"success","data":[', b"]}", 8060
     item = b'{"key":"%s","delay":60,"lastlogsize":0,"mtime":0}'
     room = (1 << 24) - len(head + tail) - count * len(item % b"") - (count - 1)
@@ -313,15 +332,42 @@ def the_most_items(program):
     ends = [b"%06d%s" % (at, b"-" if at < room % count else b"") for at in range(count)]
     items = [b",".join(b'{"key":"{$L}%s","kind":"active"}' % end for end in (ends, [*ends[:-1], ends[-1] + b"-"])[more]) for more in (0, 1)]
     hosts = b",".join(b'{"name":"%s","items":[%s]}' % pair for pair in zip((b"h", b"more"), items))
-    put("config.json", b'{"macros":[{"name":"{$L}","value":"%s"}],"hosts":[%s]}' % (prefix, hosts))
     told = head + b",".join(item % (prefix + end) for end in ends) + tail
     same("bytes of the longest list", len(told), 1 << 24)
+    return b'{"macros":[{"name":"{$L}","value":"%s"}],"hosts":[%s]}' % (prefix, hosts), told
+
+
+def the_most_items(program):
+    """A list that fills the data of a frame to the last byte is told; with one byte more there are too many items."""
+    config, told = longest_list()
+    put("config.json", config)
     with Server(program) as server:
         for host, wanted in ((b'"h"', frame(told)), (b'"more"', refusal(b"too many items"))):
             with server.connect() as conn:
                 conn.sendall(checks_of(host))
                 if rest(conn) != wanted:
                     raise Differs(f"another list for the agent of {host!r}")
+
+
+def late_reader(program):
+    """While an agent doesn't read its long list others are answered; and then it reads all of it."""
+    config, told = longest_list()
+    put("config.json", config)
+    with Server(program) as server, socket.socket() as late:
+        late.settimeout(60)
+        late.setsockopt(socket.SOL_SOCKET, socket.SO_RCVBUF, 65536)
+        late.connect(("127.0.0.1", server.port))
+        late.sendall(checks_of(b'"h"'))
+        late.recv(1, socket.MSG_PEEK)
+        asked_at = time.monotonic()
+        with server.connect() as conn:
+            conn.sendall(asked('"10"'))
+            same_reply(conn, 0, 1)
+        waited = time.monotonic() - asked_at
+        if waited > 5:
+            raise Differs(f"another was answered after {waited:.1f} seconds")
+        if rest(late) != frame(told):
+            raise Differs("another list for an agent that reads late")
 
 
 def reset(program):
@@ -354,18 +400,35 @@ def alerts(program, outbox, *words):
     return run(program, "--mode", "alerts", "--outbox", "lines", "--progress", "progress", *words)
 
 
+def marks(letters):
+    """A progress with these marks of the messages in order."""
+    return b"ZTSALR01\x012\x01" + b"\x01".join(struct.pack("<I", at) + letter.encode() for at, letter in enumerate(letters, 1)) + b"\0"
+
+
 def sent(program):
     """A program that ends well takes each message, and a second call finds nothing to do."""
     for _ in range(2):
         same("the call", alerts(program, MESSAGES, "--command", "echo"), (0, b"status: Ok; messages: 2; done: 2; failed: 0\n"))
-        same("the progress", held("progress"), b"ZTSALR01\x01d\x01d\0")
+        same("the progress", held("progress"), marks("dd"))
 
 
 def unsent(program):
-    """With a program that isn't there each message fails."""
-    words = ["--command", "/there/is/no/such/program", "--attempts", "2"]
+    """With a program that isn't there each message fails; by the media they are tried again at once."""
+    entry = b'{"recipient":"%s","command":"/there/is/no/such/program","attempts":2,"interval":"0s"}'
+    put("media.json", b'{"media":[%s]}' % b",".join(entry % name for name in (b"ops", b"boss")))
+    words = ["--command", "true", "--media", "media.json", "--sessions", "4"]
     same("the call", alerts(program, MESSAGES, *words), (0, b"status: Ok; messages: 2; done: 0; failed: 2\n"))
-    same("the progress", held("progress"), b"ZTSALR01\x01f\x01f\0")
+    same("the progress", held("progress"), marks("ff"))
+
+
+def by_media(program):
+    """Each recipient's messages go to its own program, and a try that failed is made again behind its interval."""
+    put("media.json", b'{"media":[{"recipient":"ops","command":"false","attempts":2,"interval":"1s"}]}')
+    began = time.monotonic()
+    same("the call", alerts(program, MESSAGES, "--command", "true", "--media", "media.json"), (0, b"status: Ok; messages: 2; done: 1; failed: 1\n"))
+    if time.monotonic() - began < 1:
+        raise Differs("a try came before its interval")
+    same("the progress", held("progress"), b"ZTSALR01\x012\x01\x02\0\0\0d\x01\x01\0\0\0f\0")
 
 
 def refused_alerts(program):
@@ -374,6 +437,11 @@ def refused_alerts(program):
     same("a bad line", alerts(program, LINE + bad, "--command", "echo"), (22, b"status: BadLine; at: 34\n"))
     put("progress", b"ZTSALR01\x01d\0")
     same("marks ahead", alerts(program, LINE, "--command", "echo"), (23, b"status: MarksAhead; marks: 1; messages: 0\n"))
+    put("progress", marks("d"))
+    same("a mark ahead", alerts(program, LINE, "--command", "echo"), (23, b"status: MarksAhead; marks: 1; messages: 0\n"))
+    put("media.json", b'{"media":[{"recipient":"ops","command":"a"},{"recipient":"ops","command":"b"}]}')
+    same("media", alerts(program, LINE, "--command", "echo", "--media", "media.json"), (25, b"status: MediaRefused; path: /media/1/recipient\n"))
+    same("media that aren't there", alerts(program, LINE, "--command", "echo", "--media", "none"), (5, b"status: SourceFault\n"))
     put("progress", b"ZTSALR01\x01x\0")
     same("damage", alerts(program, LINE, "--command", "echo"), (7, b"status: Damaged; at: 8\n"))
     put("progress", bytes(10))
@@ -388,6 +456,8 @@ CASES = [
     ("a restart behind no line", restart, 0),
     ("a restart behind a third of a line", restart, 10),
     ("a restart behind all lines", restart, 34),
+    ("outboxes with other bytes", spoilt_outbox, "4"),
+    ("outboxes with other bytes, on one thread", spoilt_outbox, "0"),
     ("a restart that adds nothing", restarts_keep_the_file),
     ("a workload of 2,000 values", workload, 7, 2000, 2002),
     ("a workload of 250 values", workload, 1, 250, 252),
@@ -400,10 +470,12 @@ CASES = [
     ("what a real agent sent", real_agent, "4"),
     ("what a real agent sent, on one thread", real_agent, "0"),
     ("an agent with as many items as a frame has room for", the_most_items),
+    ("an agent that reads late", late_reader),
     ("a connection that is reset", reset),
     ("an address that is taken", taken_port),
     ("alerts that are sent", sent),
     ("alerts that fail", unsent),
+    ("alerts by media", by_media),
     ("alerts that are refused", refused_alerts),
 ]
 
