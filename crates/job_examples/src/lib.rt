@@ -8,3 +8,7 @@ mod alerts;
 mod media;
 #[cfg(test)]
 mod queues;
+#[cfg(test)]
+mod refusing;
+#[cfg(test)]
+mod sessions;

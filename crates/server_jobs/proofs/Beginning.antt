@@ -1,8 +1,8 @@
 -- A queue that was made of notes and their marks.
-use Rattle.std.proofs.Common.{◌≡◌, ◌≢◌, ◌∙◌, inl, inr, ℕ, zero, suc, ◌+◌, ◌-◌, ◌<◌, ◌≤◌, ◌==◌, ◌&&◌, ◌||◌, Bool, true, false, cond, List, [], ◌∷◌, ◌++◌, length, map, slice_index, slice_index_or, refl, sym, ap, ap₂, subst, arith, eq-eqb}
+use Rattle.std.proofs.Common.{◌≡◌, ◌∙◌, inr, ℕ, zero, suc, ◌+◌, ◌-◌, ◌<◌, ◌==◌, ◌&&◌, ◌||◌, Bool, true, false, List, [], ◌∷◌, length, map, slice_index, refl, sym, ap, subst, arith, eq-eqb}
 use Rattle.std.specs.Prelude.{not}
 use Rattle.std.specs.List.{list_any, range_with_len}
-use Rattle.std.proofs.lemmas.Bool.{cases_eq, ne_eqb}
+use Rattle.std.proofs.lemmas.Bool.{ne_eqb}
 use Rattle.std.proofs.lemmas.List.{get_or-map, length-map}
 use Rattle.outside.specs.Spawning.{SpawnerTells}
 use Rattle.alert_marks.specs.Marks.{has_mark, AreOnce}
@@ -14,10 +14,10 @@ use Rattle.alert_queue.specs.New.{notes_of, kind_at, IsNew}
 use Rattle.alert_queue.specs.declared.types.Kind.{Kind}
 use Rattle.alert_queue.specs.declared.types.NoteMark.{NoteMark}
 use Rattle.alert_run.specs.declared.types.Note.{Note}
-use Rattle.server_jobs.specs.Tries.{Attempt, AreInOrder, tries_at, medium_for}
+use Rattle.server_jobs.specs.Tries.{AreInOrder, tries_at, medium_for}
 use Rattle.server_jobs.specs.Numbering.{recipient_at, kind_for, IsNumbering, marked_in, AreWithin}
 use Rattle.server_jobs.specs.Turning.{IsMarkedSo}
-use Rattle.server_jobs.specs.Working.{Works, WorksIfAny, Worked}
+use Rattle.server_jobs.specs.Working.{WorksIfAny, Worked}
 use Rattle.server_jobs.specs.declared.recipients.Numbered.{Numbered}
 
 -- the notes of a recipient behind an earlier number

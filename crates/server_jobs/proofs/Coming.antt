@@ -1,11 +1,9 @@
 -- What a call for alerts comes to, step by step.
-use Rattle.std.proofs.Common.{◌≡◌, ◌≢◌, ◌⊎◌, ◌∙◌, inl, inr, ℕ, ◌+◌, ◌<◌, ◌≤◌, List, [], ◌∷◌, length, Option, Some, None, IfSome, Result, Ok, Err, refl, sym, ap, subst, arith, true≢false}
-use Rattle.std.specs.Prelude.{IsSome, ⊤, nat_le, false}
+use Rattle.std.proofs.Common.{◌≡◌, ◌≢◌, ◌⊎◌, ◌∙◌, inl, inr, ℕ, ◌<◌, ◌≤◌, List, [], length, Option, Some, None, IfSome, Result, Ok, Err, refl, sym, ap, subst, arith, true≢false}
+use Rattle.std.specs.Prelude.{IsSome}
 use Rattle.std.proofs.lemmas.Bool.{lt-leb}
 use Rattle.outside.specs.Causes.{Rose}
 use Rattle.outside.specs.Disk.{DiskTells}
-use Rattle.outside.specs.Spawning.{SpawnerTells}
-use Rattle.gated_file.proofs.Moments.{if_some, told_of}
 use Rattle.serde_json.specs.Data.{Data}
 use Rattle.zbx_types.specs.declared.causes.Cause.TheVariants.{TooLong}
 use Rattle.json_form.specs.Faults.{Fault, ◌>>=◌}
@@ -13,10 +11,8 @@ use Rattle.json_form.specs.Places.{nowhere, refuse}
 use Rattle.json_form.specs.Json.{json_within}
 use Rattle.alert_marks.specs.Marks.{marks_in, EachKeeps}
 use Rattle.alert_media.specs.Media.{media_of, entries_of, path_of, IsFaultOf}
-use Rattle.alert_media.specs.declared.fault.MediaError.{MediaError}
 use Rattle.alert_media.specs.declared.fault.MediaError.TheVariants as media_error
 use Rattle.alert_media.specs.declared.media.Media.{Media}
-use Rattle.alert_media.specs.declared.media.Medium.{Medium}
 use Rattle.alert_run.specs.Notes.{notes_of}
 use Rattle.alert_queue.specs.declared.types.NoteMark.{NoteMark}
 use Rattle.alert_run.specs.declared.types.Note.{Note}
@@ -25,8 +21,8 @@ use Rattle.server_words.specs.declared.words.Plan.{Plan}
 use Rattle.server_words.specs.declared.status.Status.{Status}
 use Rattle.server_words.specs.declared.status.Status.TheVariants as status
 use Rattle.whole_texts.specs.Reads.{IsTextUpTo}
-use Rattle.server_jobs.specs.Working.{WorksIfAny, EndsTries}
-use Rattle.server_jobs.specs.Alerts.{most_bytes, HasNotes, HasMedia, IsUnread, IsUnknown, IsUnopened, Around, HasBoth, IsRefused, command_of, EndsWork, IsCut, IsWorked, ComesTo, Opens, Under, Goes}
+use Rattle.server_jobs.specs.Working.{EndsTries}
+use Rattle.server_jobs.specs.Alerts.{HasNotes, HasMedia, IsUnread, IsUnknown, IsUnopened, Reading, Around, HasBoth, HasNeither, IsRefused, command_of, EndsWork, IsCut, ComesTo, Opens}
 use Rattle.server_jobs.specs.Reports.{EndsPrinted}
 
 -- ---- reading
@@ -70,20 +66,41 @@ pub has_fault : (left : Option (List ℕ)) (text path : List ℕ) → IfSome lef
 has_fault None text path same fault = tt
 has_fault (Some all) text path same fault = ap path_of (sym same) ∙ fault
 
+-- what a call read, where it read its plan
+
+is_some_of : (o : Option Plan) (plan : Plan) → o ≡ Some plan → IsSome o
+is_some_of None plan e = cc
+is_some_of (Some p) plan e = refl
+
+pub has_both : (words : List (List ℕ)) (r : Reading) (plan : Plan) (notes : List Note) (media : Media) → alerts_plan_of words ≡ Some plan → IfSome r.lines (HasNotes notes) → IfSome r.document (HasMedia plan media)
+    → HasBoth words r notes media
+has_both words r plan notes media plan_is notes_are media_are = (notes_are, (plan, plan_is, media_are))
+
+pub has_neither : (words : List (List ℕ)) (r : Reading) (plan : Plan) (s : Status) → alerts_plan_of words ≡ Some plan
+    → IsUnread r.lines r.faults r.faults' s ⊎ (((notes : List Note) × IfSome r.lines (HasNotes notes)) × IsUnknown r.document r.document_faults r.document_faults' s) → HasNeither words r s
+has_neither words r plan s plan_is (inl unread) = inr (inr (inl (is_some_of (alerts_plan_of words) plan plan_is, unread)))
+has_neither words r plan s plan_is (inr unknown) = inr (inr (inr (is_some_of (alerts_plan_of words) plan plan_is, unknown.0, unknown.1)))
+
+pub has_no_plan : (words : List (List ℕ)) (r : Reading) → alerts_plan_of words ≡ None → HasNeither words r status.Usage
+has_no_plan words r none = inl (refl, none)
+
+pub has_no_room : (words : List (List ℕ)) (r : Reading) → HasNeither words r status.OutOfMemory
+has_no_room words r = inr (inl refl)
+
 -- ---- working
 
 -- a count that rose behind an earlier moment rose since that
-pub ends_earlier : (notes : List Note) (before now : List NoteMark) (f0 f1 f2 : ℕ) (s0 s2 : SpawnerTells) (s : Status) → f0 ≤ f1 → EndsTries notes before now f1 f2 s0 s2 s → EndsTries notes before now f0 f2 s0 s2 s
+pub ends_earlier : {T : Type 0} (notes : List Note) (before now : List NoteMark) (f0 f1 f2 : ℕ) (s0 s2 : T) (s : Status) → f0 ≤ f1 → EndsTries notes before now f1 f2 s0 s2 s → EndsTries notes before now f0 f2 s0 s2 s
 ends_earlier notes before now f0 f1 f2 s0 s2 status.Ok le why = why
 ends_earlier notes before now f0 f1 f2 s0 s2 (status.MarksAhead marks messages) le why = why
 ends_earlier notes before now f0 f1 f2 s0 s2 status.DiskFault le why = omega (arith, le, why)
 ends_earlier notes before now f0 f1 f2 s0 s2 status.OutOfMemory le why = tt
 ends_earlier notes before now f0 f1 f2 s0 s2 _ le why = absurd why
 
-pub opens : (media : Media) (notes : List Note) (d0 d1 d2 : DiskTells) (s0 s2 : SpawnerTells) (s : Status) (before now : List NoteMark)
-    → IfSome d0.bytes (λ b. marks_in b ≡ Some before) → d0.faults ≤ d1.faults → WorksIfAny media notes s0 s2 before now
-    → EndsTries notes before now d1.faults d2.faults s0 s2 s → (s ≢ status.DiskFault → EachKeeps d2 now) → Opens media notes d0 d2 s0 s2 s now
-opens media notes d0 d1 d2 s0 s2 s before now recovered later works why keeps = record {
+pub opens : {T : Type 0} (Works : List Note → T → T → List NoteMark → List NoteMark → Type 0) (notes : List Note) (d0 d1 d2 : DiskTells) (s0 s2 : T) (s : Status) (before now : List NoteMark)
+    → IfSome d0.bytes (λ b. marks_in b ≡ Some before) → d0.faults ≤ d1.faults → Works notes s0 s2 before now
+    → EndsTries notes before now d1.faults d2.faults s0 s2 s → (s ≢ status.DiskFault → EachKeeps d2 now) → Opens Works notes d0 d2 s0 s2 s now
+opens Works notes d0 d1 d2 s0 s2 s before now recovered later works why keeps = record {
   before = before;
   recovered = recovered;
   works = works;
@@ -91,7 +108,7 @@ opens media notes d0 d1 d2 s0 s2 s before now recovered later works why keeps = 
   keeps = keeps;
 }
 
-kept_or_cut : (notes : List Note) (before now : List NoteMark) (d0 d2 : DiskTells) (s0 s2 : SpawnerTells) (s : Status) → EndsTries notes before now d0.faults d2.faults s0 s2 s → (s ≢ status.DiskFault → EachKeeps d2 now)
+kept_or_cut : {T : Type 0} (notes : List Note) (before now : List NoteMark) (d0 d2 : DiskTells) (s0 s2 : T) (s : Status) → EndsTries notes before now d0.faults d2.faults s0 s2 s → (s ≢ status.DiskFault → EachKeeps d2 now)
     → EachKeeps d2 now ⊎ (IsCut s × Rose d0.faults d2.faults)
 kept_or_cut notes before now d0 d2 s0 s2 status.Ok why keeps = inl (keeps (λ e. cc))
 kept_or_cut notes before now d0 d2 s0 s2 (status.MarksAhead marks messages) why keeps = inl (keeps (λ e. cc))
@@ -99,63 +116,42 @@ kept_or_cut notes before now d0 d2 s0 s2 status.DiskFault why keeps = inr (tt, w
 kept_or_cut notes before now d0 d2 s0 s2 status.OutOfMemory why keeps = inl (keeps (λ e. cc))
 kept_or_cut notes before now d0 d2 s0 s2 _ why keeps = absurd why
 
-works_so : (notes : List Note) (before now : List NoteMark) (a : Around) (s : Status) → EndsTries notes before now a.disk.faults a.disk'.faults a.spawner a.spawner' s → EndsWork notes before now a s
+works_so : {T : Type 0} (notes : List Note) (before now : List NoteMark) (a : Around T) (s : Status) → EndsTries notes before now a.disk.faults a.disk'.faults a.spawner a.spawner' s → EndsWork notes before now a s
 works_so notes before now a status.Ok why = why
 works_so notes before now a (status.MarksAhead marks messages) why = why
 works_so notes before now a status.DiskFault why = why
 works_so notes before now a status.OutOfMemory why = why
 works_so notes before now a _ why = absurd why
 
--- what a call was given behind its outbox
-abbrev under : Around → Under
-under a = record { document = a.document; document_faults = a.document_faults; document_faults' = a.document_faults'; disk = a.disk; disk' = a.disk'; spawner = a.spawner; spawner' = a.spawner' }
+-- what a call does to its spawners, in one way or another
+abbrev Way : Type 0 → Type 1
+Way T = Media → List Note → T → T → List NoteMark → List NoteMark → Type 0
 
-is_some_of : (o : Option Plan) (plan : Plan) → o ≡ Some plan → IsSome o
-is_some_of None plan e = cc
-is_some_of (Some p) plan e = refl
-
-pub worked : (words : List (List ℕ)) (plan : Plan) (notes : List Note) (a : Around) (s : Status) (marks : List NoteMark) → alerts_plan_of words ≡ Some plan → IfSome a.lines (HasNotes notes)
-    → Goes plan notes (under a) s marks → ComesTo words a s marks
-worked words plan notes a s marks plan_is notes_are (inl (media, media_are, inl o)) = inr (record {
-  plan = plan;
-  plan_is = plan_is;
+pub worked : {T Same : Type 0} (Works : Way T) (words : List (List ℕ)) (notes : List Note) (media : Media) (a : Around T) (s : Status) (marks : List NoteMark) → HasBoth words a.read notes media
+    → Opens (Works media) notes a.disk a.disk' a.spawner a.spawner' s marks ⊎ (IsUnopened a.disk.bytes a.disk.faults a.disk'.faults s × (marks ≡ []) × Same)
+    → (Same → a.spawner' ≡ a.spawner) → ComesTo Works words a s marks
+worked Works words notes media a s marks both (inl o) same = inr (record {
   notes = notes;
-  notes_are = notes_are;
+  media = media;
+  both = both;
   before = o.before;
   recovered = o.recovered;
-  media = media;
-  media_are = media_are;
   works = o.works;
   why = works_so notes o.before marks a s o.why;
   keeps = kept_or_cut notes o.before marks a.disk a.disk' a.spawner a.spawner' s o.why o.keeps;
 })
-worked words plan notes a s marks plan_is notes_are (inl (media, media_are, inr u)) =
-    inl (inr (inr (inr (inr ((notes, media, (notes_are, (plan, plan_is, media_are))), u.0)))), u.1, u.2)
-worked words plan notes a s marks plan_is notes_are (inr u) =
-    inl (inr (inr (inr (inl (is_some_of (alerts_plan_of words) plan plan_is, (notes, notes_are), u.0)))), u.1, u.2)
-
--- a call whose media were known
-pub done_of : {Same : Type 0} (plan : Plan) (notes : List Note) (u : Under) (s : Status) (marks : List NoteMark) (media : Media) → IfSome u.document (HasMedia plan media)
-    → Opens media notes u.disk u.disk' u.spawner u.spawner' s marks ⊎ (IsUnopened u.disk.bytes u.disk.faults u.disk'.faults s × (marks ≡ []) × Same) → (Same → u.spawner' ≡ u.spawner) → Goes plan notes u s marks
-done_of plan notes u s marks media are (inl o) same = inl (media, are, inl o)
-done_of plan notes u s marks media are (inr un) same = inl (media, are, inr (un.0, un.1, same un.2))
+worked Works words notes media a s marks both (inr un) same = inl (inr ((notes, media, both), un.0), un.1, same un.2)
 
 -- ---- printing
 
-refused_spent : (words : List (List ℕ)) (a : Around) (s : Status) → IsRefused words a s → IsRefused words a status.OutOfMemory
-refused_spent words a s is = inr (inl refl)
-
-to_spent : (words : List (List ℕ)) (a : Around) (s : Status) (marks : List NoteMark) → ComesTo words a s marks → ComesTo words a status.OutOfMemory marks
-to_spent words a s marks (inl refusal) = inl (refused_spent words a s refusal.0, refusal.1, refusal.2)
-to_spent words a s marks (inr w) = inr (record {
-  plan = w.plan;
-  plan_is = w.plan_is;
+to_spent : {T : Type 0} (Works : Way T) (words : List (List ℕ)) (a : Around T) (s : Status) (marks : List NoteMark) → ComesTo Works words a s marks → ComesTo Works words a status.OutOfMemory marks
+to_spent Works words a s marks (inl refusal) = inl (inl (inr (inl refl)), refusal.1, refusal.2)
+to_spent Works words a s marks (inr w) = inr (record {
   notes = w.notes;
-  notes_are = w.notes_are;
+  media = w.media;
+  both = w.both;
   before = w.before;
   recovered = w.recovered;
-  media = w.media;
-  media_are = w.media_are;
   works = w.works;
   why = tt;
   keeps = cut w.keeps;
@@ -165,24 +161,21 @@ to_spent words a s marks (inr w) = inr (record {
     cut (inl k) = inl k
     cut (inr r) = inr (tt, r.1)
 
-not_refused : (words : List (List ℕ)) (a : Around) → IsRefused words a status.Ok → ⊥
-not_refused words a (inl p) = cc
-not_refused words a (inr (inl p)) = cc
-not_refused words a (inr (inr (inl p))) = p.1
-not_refused words a (inr (inr (inr (inl p)))) = p.2
-not_refused words a (inr (inr (inr (inr p)))) = p.1
+not_refused : {T : Type 0} (words : List (List ℕ)) (a : Around T) → IsRefused words a status.Ok → ⊥
+not_refused words a (inl (inl p)) = cc
+not_refused words a (inl (inr (inl p))) = cc
+not_refused words a (inl (inr (inr (inl p)))) = p.1
+not_refused words a (inl (inr (inr (inr p)))) = p.2
+not_refused words a (inr p) = p.1
 
-to_print_fault : (words : List (List ℕ)) (a : Around) (marks : List NoteMark) → ComesTo words a status.Ok marks → ComesTo words a status.PrintFault marks
-to_print_fault words a marks (inl refusal) = absurd (not_refused words a refusal.0)
-to_print_fault words a marks (inr w) = inr (record {
-  plan = w.plan;
-  plan_is = w.plan_is;
+to_print_fault : {T : Type 0} (Works : Way T) (words : List (List ℕ)) (a : Around T) (marks : List NoteMark) → ComesTo Works words a status.Ok marks → ComesTo Works words a status.PrintFault marks
+to_print_fault Works words a marks (inl refusal) = absurd (not_refused words a refusal.0)
+to_print_fault Works words a marks (inr w) = inr (record {
   notes = w.notes;
-  notes_are = w.notes_are;
+  media = w.media;
+  both = w.both;
   before = w.before;
   recovered = w.recovered;
-  media = w.media;
-  media_are = w.media_are;
   works = w.works;
   why = w.why;
   keeps = kept w.keeps;
@@ -192,31 +185,31 @@ to_print_fault words a marks (inr w) = inr (record {
     kept (inl k) = inl k
     kept (inr r) = absurd r.0
 
-pub comes_printed : (words : List (List ℕ)) (a : Around) (s ended : Status) (marks : List NoteMark) → ComesTo words a s marks → EndsPrinted s ended → ComesTo words a ended marks
-comes_printed words a s ended marks comes (inl same) = subst (λ (t : Status). ComesTo words a t marks) (sym same) comes
-comes_printed words a s ended marks comes (inr (inl spent)) = subst (λ (t : Status). ComesTo words a t marks) (sym spent) (to_spent words a s marks comes)
-comes_printed words a s ended marks comes (inr (inr cut)) = subst (λ (t : Status). ComesTo words a t marks) (sym cut.1) (to_print_fault words a marks (subst (λ (t : Status). ComesTo words a t marks) cut.0 comes))
+pub comes_printed : {T : Type 0} (Works : Way T) (words : List (List ℕ)) (a : Around T) (s ended : Status) (marks : List NoteMark) → ComesTo Works words a s marks → EndsPrinted s ended → ComesTo Works words a ended marks
+comes_printed Works words a s ended marks comes (inl same) = subst (λ (t : Status). ComesTo Works words a t marks) (sym same) comes
+comes_printed Works words a s ended marks comes (inr (inl spent)) = subst (λ (t : Status). ComesTo Works words a t marks) (sym spent) (to_spent Works words a s marks comes)
+comes_printed Works words a s ended marks comes (inr (inr cut)) = subst (λ (t : Status). ComesTo Works words a t marks) (sym cut.1) (to_print_fault Works words a marks (subst (λ (t : Status). ComesTo Works words a t marks) cut.0 comes))
 
 -- ---- words
 
-pub usage_of : (words : List (List ℕ)) (a : Around) (s : Status) (marks : List NoteMark) → ComesTo words a s marks → s ≡ status.Usage → alerts_plan_of words ≡ None
-usage_of words a s marks comes is = go (subst (λ (t : Status). ComesTo words a t marks) is comes)
+pub usage_of : {T : Type 0} (Works : Way T) (words : List (List ℕ)) (a : Around T) (s : Status) (marks : List NoteMark) → ComesTo Works words a s marks → s ≡ status.Usage → alerts_plan_of words ≡ None
+usage_of Works words a s marks comes is = go (subst (λ (t : Status). ComesTo Works words a t marks) is comes)
   where
-    go : ComesTo words a status.Usage marks → alerts_plan_of words ≡ None
-    go (inl ((inl p), _, _)) = p.1
-    go (inl ((inr (inl p)), _, _)) = cc
-    go (inl ((inr (inr (inl p))), _, _)) = absurd p.1
-    go (inl ((inr (inr (inr (inl p)))), _, _)) = absurd p.2
-    go (inl ((inr (inr (inr (inr p)))), _, _)) = absurd p.1
+    go : ComesTo Works words a status.Usage marks → alerts_plan_of words ≡ None
+    go (inl ((inl (inl p)), _, _)) = p.1
+    go (inl ((inl (inr (inl p))), _, _)) = cc
+    go (inl ((inl (inr (inr (inl p)))), _, _)) = absurd p.1
+    go (inl ((inl (inr (inr (inr p)))), _, _)) = absurd p.2
+    go (inl ((inr p), _, _)) = absurd p.1
     go (inr w) = absurd w.why
 
 some_not : (words : List (List ℕ)) → alerts_plan_of words ≡ None → IsSome (alerts_plan_of words) → ⊥
 some_not words none is = absurd (true≢false (sym (subst IsSome none is)))
 
-pub no_plan : (words : List (List ℕ)) (a : Around) (s : Status) (marks : List NoteMark) → ComesTo words a s marks → alerts_plan_of words ≡ None → (s ≡ status.Usage) ⊎ (s ≡ status.OutOfMemory)
-no_plan words a s marks (inl ((inl p), _, _)) none = inl p.0
-no_plan words a s marks (inl ((inr (inl p)), _, _)) none = inr p
-no_plan words a s marks (inl ((inr (inr (inl p))), _, _)) none = absurd (some_not words none p.0)
-no_plan words a s marks (inl ((inr (inr (inr (inl p)))), _, _)) none = absurd (some_not words none p.0)
-no_plan words a s marks (inl ((inr (inr (inr (inr p)))), _, _)) none = absurd (some_not words none (is_some_of (alerts_plan_of words) p.0.2.1.0 p.0.2.1.1))
-no_plan words a s marks (inr w) none = absurd (some_not words none (is_some_of (alerts_plan_of words) w.plan w.plan_is))
+pub no_plan : {T : Type 0} (Works : Way T) (words : List (List ℕ)) (a : Around T) (s : Status) (marks : List NoteMark) → ComesTo Works words a s marks → alerts_plan_of words ≡ None → (s ≡ status.Usage) ⊎ (s ≡ status.OutOfMemory)
+no_plan Works words a s marks (inl ((inl (inl p)), _, _)) none = inl p.0
+no_plan Works words a s marks (inl ((inl (inr (inl p))), _, _)) none = inr p
+no_plan Works words a s marks (inl ((inl (inr (inr (inl p)))), _, _)) none = absurd (some_not words none p.0)
+no_plan Works words a s marks (inl ((inl (inr (inr (inr p)))), _, _)) none = absurd (some_not words none p.0)
+no_plan Works words a s marks (inl ((inr p), _, _)) none = absurd (some_not words none (is_some_of (alerts_plan_of words) p.0.2.1.0 p.0.2.1.1))
+no_plan Works words a s marks (inr w) none = absurd (some_not words none (is_some_of (alerts_plan_of words) w.both.1.0 w.both.1.1))

@@ -1,7 +1,7 @@
 -- How the tries of notes go on.
-use Rattle.std.proofs.Common.{◌≡◌, ◌≢◌, ◌∙◌, inl, inr, ℕ, zero, suc, ◌+◌, ◌-◌, ◌<◌, ◌≤◌, ◌==◌, ◌||◌, Bool, true, false, cond, List, [], ◌∷◌, ◌++◌, length, map, drop, get_or, slice_index, slice_index_or, slice_set, Option, Some, None, Result, Ok, Err, refl, sym, ap, ap₂, subst, arith, append_assoc, append-nil, length-set, eq-eqb, get_or-set_same, get_or-set_other, true≢false}
-use Rattle.std.specs.Prelude.{is_ok, is_some, not, All, if◌then◌else◌}
-use Rattle.std.specs.List.{filter, list_any, sum_by}
+use Rattle.std.proofs.Common.{◌≡◌, ◌≢◌, ◌∙◌, inl, inr, ℕ, suc, ◌+◌, ◌<◌, ◌≤◌, ◌==◌, ◌||◌, Bool, true, false, cond, List, [], ◌∷◌, ◌++◌, length, map, drop, slice_index, Option, Some, None, Result, Ok, Err, refl, sym, ap, subst, arith, append_assoc, append-nil, length-set, eq-eqb, get_or-set_same, get_or-set_other, true≢false}
+use Rattle.std.specs.Prelude.{is_ok, is_some, not, if◌then◌else◌}
+use Rattle.std.specs.List.{list_any}
 use Rattle.std.proofs.lemmas.Bool.{cases_eq, ne_eqb}
 use Rattle.std.proofs.lemmas.List.{map-append}
 use Rattle.std.proofs.lemmas.List.Elements.{filter-append, All-from_get_or}
@@ -10,7 +10,7 @@ use Rattle.std.proofs.lemmas.List.Sums.{sum_by-set}
 use Rattle.outside.specs.Causes.{Rose}
 use Rattle.outside.specs.Spawning.{SpawnerTells}
 use Rattle.outside.specs.declared.spawner.Run.{Run}
-use Rattle.alert_marks.specs.Marks.{has_mark, AreOnce}
+use Rattle.alert_marks.specs.Marks.{has_mark}
 use Rattle.alert_marks.specs.declared.types.AddError.{AddError}
 use Rattle.alert_marks.proofs.Once.{once_more}
 use Rattle.alert_marks.proofs.States.{marked_push}
@@ -26,7 +26,7 @@ use Rattle.server_jobs.specs.Tries.{Attempt, tries_at, count_failed, medium_for,
 use Rattle.server_jobs.specs.Numbering.{AreWithin}
 use Rattle.server_jobs.specs.Turning.{NoneOpen, begun, Begins, Ends, with_mark, IsMarkedSo, weigh_lane, weigh}
 use Rattle.server_jobs.specs.Working.{AreMarked, Worked}
-use Rattle.server_jobs.proofs.Runs.{adds_none, adds_both, adds_one, risen_more, risen_later}
+use Rattle.server_jobs.proofs.Runs.{adds_none, adds_both, adds_one}
 use Rattle.server_jobs.proofs.Lanes.{LaneTried, in_order, lane_fresh, lane_opened, lane_settled, left_by, lane_lighter}
 use Rattle.server_jobs.proofs.Ending.{marked_all}
 

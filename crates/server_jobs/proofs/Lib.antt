@@ -7,5 +7,7 @@ pub mod Ending
 pub mod Going
 pub mod Beginning
 pub mod Crashes
+pub mod Commands
+pub mod Together
 pub mod Coming
 pub mod Printing

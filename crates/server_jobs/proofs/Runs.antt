@@ -1,5 +1,5 @@
 -- Runs that are made one after the other.
-use Rattle.std.proofs.Common.{◌≡◌, ◌∙◌, ℕ, zero, suc, ◌+◌, ◌-◌, ◌<◌, ◌≤◌, true, false, List, [], ◌∷◌, ◌++◌, replicate, Option, Some, None, Result, Ok, Err, true≢false, refl, sym, ap, arith, append_assoc, append-nil}
+use Rattle.std.proofs.Common.{◌≡◌, ◌∙◌, ℕ, zero, suc, ◌+◌, ◌≤◌, false, List, [], ◌∷◌, ◌++◌, replicate, Option, Some, None, Result, Ok, Err, true≢false, refl, sym, ap, arith, append_assoc, append-nil}
 use Rattle.std.specs.Prelude.{is_ok, OnErr}
 use Rattle.outside.specs.Causes.{Rose}
 use Rattle.outside.specs.Spawning.{AddsRun}

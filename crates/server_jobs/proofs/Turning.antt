@@ -1,10 +1,10 @@
 -- What a queue hands out where no try is open.
-use Rattle.std.proofs.Common.{◌≡◌, ◌∙◌, ℕ, ◌<◌, ◌≤◌, max, Bool, true, false, List, [], ◌∷◌, length, Some, None, Option, refl, sym, subst, arith, true≢false}
-use Rattle.std.specs.Prelude.{is_ok, OnErr, Result}
+use Rattle.std.proofs.Common.{◌≡◌, ◌∙◌, ℕ, ◌≤◌, max, Bool, true, List, [], ◌∷◌, length, Some, None, Option, refl, sym, subst, arith, true≢false}
+use Rattle.std.specs.Prelude.{is_ok, Result}
 use Rattle.outside.specs.Causes.{Rose, HasCause}
 use Rattle.outside.specs.Spawning.{SpawnerTells, AddsRun}
 use Rattle.outside.specs.declared.event.Failed.{Failed}
-use Rattle.alert_queue.specs.Lanes.{mark_of, IsIdle, IsDue}
+use Rattle.alert_queue.specs.Lanes.{mark_of, IsDue}
 use Rattle.alert_queue.specs.Queues.{Queued, lane_at, home, HandsOut, IsLeastMoment, IsOver}
 use Rattle.alert_queue.specs.Events.{Take, End, moved, happens, MayHappen}
 use Rattle.alert_queue.specs.declared.types.Mark.{Mark}
@@ -12,7 +12,7 @@ use Rattle.alert_queue.specs.declared.types.Taken.{Taken}
 use Rattle.alert_queue.specs.declared.types.Taken.TheVariants.{Try, Later, Busy, Nothing}
 use Rattle.alert_run.specs.declared.types.Note.{Note}
 use Rattle.server_jobs.specs.Tries.{run_with}
-use Rattle.server_jobs.specs.Turning.{NoneOpen, begun, Begins, Continues, Ends}
+use Rattle.server_jobs.specs.Turning.{NoneOpen, Begins, Continues, Ends}
 use Rattle.server_jobs.proofs.Runs.{rose_of}
 
 begins_try : (queue : Queued) (now n : ℕ) → HandsOut (moved queue now) (Try n) → Begins queue (happens queue (Take now (Try n))) n

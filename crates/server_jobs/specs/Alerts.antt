@@ -1,8 +1,7 @@
 -- What a call for alerts comes to.
-use Rattle.std.specs.Prelude.{◌≡◌, ◌≢◌, ◌⊎◌, ◌<◌, ◌≤◌, ℕ, List, [], ◌∷◌, ◌++◌, length, Option, Some, None, IfSome, IsSome, Result, Ok, Err, unwrap_or, ⊤}
+use Rattle.std.specs.Prelude.{◌≡◌, ◌≢◌, ◌⊎◌, ◌<◌, ◌≤◌, ℕ, List, [], length, Option, Some, None, IfSome, IsSome, Ok, Err, unwrap_or, ⊤}
 use Rattle.outside.specs.Causes.{Rose}
 use Rattle.outside.specs.Disk.{DiskTells}
-use Rattle.outside.specs.Spawning.{SpawnerTells}
 use Rattle.gated_file.specs.Groups.{kept}
 use Rattle.gated_file.specs.Groups.Kept.{NotOurs, Damaged}
 use Rattle.alert_marks.specs.Marks.{mark_form, marks_in, EachKeeps, KeepsAsOneOf}
@@ -17,7 +16,7 @@ use Rattle.server_words.specs.Words.{alerts_plan_of}
 use Rattle.server_words.specs.declared.words.Plan.{Plan}
 use Rattle.server_words.specs.declared.status.Status.{Status}
 use Rattle.server_words.specs.declared.status.Status.TheVariants as status
-use Rattle.server_jobs.specs.Working.{WorksIfAny, AreMarked, EndsTries, KeepsSome}
+use Rattle.server_jobs.specs.Working.{AreMarked, EndsTries, KeepsSome}
 
 -- the most bytes of an outbox
 abbrev pub most_bytes : ℕ
@@ -60,35 +59,43 @@ IsUnopened file faults faults' status.DiskFault = Rose faults faults'
 IsUnopened file faults faults' status.OutOfMemory = ⊤
 IsUnopened file faults faults' _ = ⊥
 
--- what a call was given and what it left: the bytes of the outbox and of the document of media with the counts of their
--- sources before and after, the disk of the progress, and the spawner
-pub record Around : Type 1 where
+-- what a call read: the bytes of the outbox and of the document of media, with the counts of their sources before and after
+pub record Reading : Type 0 where
   pub lines : Option (List ℕ)
   pub faults : ℕ
   pub faults' : ℕ
   pub document : Option (List ℕ)
   pub document_faults : ℕ
   pub document_faults' : ℕ
+
+-- what a call was given and what it left: what it read, the disk of the progress, and what its spawner tells, or its spawners
+pub record Around (T : Type 0) : Type 1 where
+  pub read : Reading
   pub disk : DiskTells
   pub disk' : DiskTells
-  pub spawner : SpawnerTells
-  pub spawner' : SpawnerTells
+  pub spawner : T
+  pub spawner' : T
 
 -- these are the notes of the outbox, and these the media
-abbrev pub HasBoth : List (List ℕ) → Around → List Note → Media → Type 0
-HasBoth words a notes media = IfSome a.lines (HasNotes notes) × ((plan : Plan) × (alerts_plan_of words ≡ Some plan) × IfSome a.document (HasMedia plan media))
+abbrev pub HasBoth : List (List ℕ) → Reading → List Note → Media → Type 0
+HasBoth words r notes media = IfSome r.lines (HasNotes notes) × ((plan : Plan) × (alerts_plan_of words ≡ Some plan) × IfSome r.document (HasMedia plan media))
 
--- a call that had no notes to be tried: its words, its outbox, its media or its progress refused it, in this order
-abbrev pub IsRefused : List (List ℕ) → Around → Status → Type 0
-IsRefused words a s =
+-- why a call has no notes or no media: its words, its outbox or its media refused it, in this order; or memory was refused
+abbrev pub HasNeither : List (List ℕ) → Reading → Status → Type 0
+HasNeither words r s =
     ((s ≡ status.Usage) × (alerts_plan_of words ≡ None))
     ⊎ ((s ≡ status.OutOfMemory)
-    ⊎ ((IsSome (alerts_plan_of words) × IsUnread a.lines a.faults a.faults' s)
-    ⊎ ((IsSome (alerts_plan_of words) × ((notes : List Note) × IfSome a.lines (HasNotes notes)) × IsUnknown a.document a.document_faults a.document_faults' s)
-    ⊎ (((notes : List Note) × (media : Media) × HasBoth words a notes media) × IsUnopened a.disk.bytes a.disk.faults a.disk'.faults s))))
+    ⊎ ((IsSome (alerts_plan_of words) × IsUnread r.lines r.faults r.faults' s)
+    ⊎ (IsSome (alerts_plan_of words) × ((notes : List Note) × IfSome r.lines (HasNotes notes)) × IsUnknown r.document r.document_faults r.document_faults' s)))
+
+-- a call that had no notes to be tried: what it read refused it, or behind that its progress
+abbrev pub IsRefused : {T : Type 0} → List (List ℕ) → Around T → Status → Type 0
+IsRefused words a s =
+    HasNeither words a.read s
+    ⊎ (((notes : List Note) × (media : Media) × HasBoth words a.read notes media) × IsUnopened a.disk.bytes a.disk.faults a.disk'.faults s)
 
 -- why a call that had read its notes and its marks ended; one whose line couldn't be printed ended as one that ended well
-abbrev pub EndsWork : List Note → List NoteMark → List NoteMark → Around → Status → Type 0
+abbrev pub EndsWork : {T : Type 0} → List Note → List NoteMark → List NoteMark → Around T → Status → Type 0
 EndsWork notes before now a status.PrintFault = AreMarked (length notes) now
 EndsWork notes before now a s = EndsTries notes before now a.disk.faults a.disk'.faults a.spawner a.spawner' s
 
@@ -98,51 +105,32 @@ IsCut status.DiskFault = ⊤
 IsCut status.OutOfMemory = ⊤
 IsCut _ = ⊥
 
--- a call that read its notes and the marks that were kept, and tried the notes behind these
-pub record IsWorked (words : List (List ℕ)) (a : Around) (s : Status) (marks : List NoteMark) : Type 0 where
-  pub plan : Plan
-  pub plan_is : alerts_plan_of words ≡ Some plan
+-- a call that read its notes and the marks that were kept, and tried the notes behind these, in this way
+pub record IsWorked {T : Type 0} (Works : Media → List Note → T → T → List NoteMark → List NoteMark → Type 0)
+    (words : List (List ℕ)) (a : Around T) (s : Status) (marks : List NoteMark) : Type 0 where
   pub notes : List Note
-  pub notes_are : IfSome a.lines (HasNotes notes)
+  pub media : Media
+  pub both : HasBoth words a.read notes media
   pub before : List NoteMark
   pub recovered : IfSome a.disk.bytes (λ b. marks_in b ≡ Some before)
-  pub media : Media
-  pub media_are : IfSome a.document (HasMedia plan media)
-  pub works : WorksIfAny media notes a.spawner a.spawner' before marks
+  pub works : Works media notes a.spawner a.spawner' before marks
   pub why : EndsWork notes before marks a s
   -- each crash leaves the marks, unless the disk failed
   pub keeps : EachKeeps a.disk' marks ⊎ (IsCut s × Rose a.disk.faults a.disk'.faults)
 
--- what a call comes to: it is refused, and has no marks and tried nothing; or it worked
-abbrev pub ComesTo : List (List ℕ) → Around → Status → List NoteMark → Type 0
-ComesTo words a s marks =
-    (IsRefused words a s × (marks ≡ []) × (a.spawner' ≡ a.spawner)) ⊎ IsWorked words a s marks
+-- what a call comes to that tries notes in this way: it is refused, and has no marks and tried nothing; or it worked
+abbrev pub ComesTo : {T : Type 0} → (Media → List Note → T → T → List NoteMark → List NoteMark → Type 0) → List (List ℕ) → Around T → Status → List NoteMark → Type 0
+ComesTo Works words a s marks =
+    (IsRefused words a s × (marks ≡ []) × (a.spawner' ≡ a.spawner)) ⊎ IsWorked Works words a s marks
 
--- a call that opened its progress, which kept some marks, and worked
-pub record Opens (media : Media) (notes : List Note) (disk disk' : DiskTells) (spawner spawner' : SpawnerTells) (s : Status) (marks : List NoteMark) : Type 0 where
+-- a call that opened its progress, which kept some marks, and tried notes in this way
+pub record Opens {T : Type 0} (Works : List Note → T → T → List NoteMark → List NoteMark → Type 0) (notes : List Note)
+    (disk disk' : DiskTells) (spawner spawner' : T) (s : Status) (marks : List NoteMark) : Type 0 where
   pub before : List NoteMark
   pub recovered : IfSome disk.bytes (λ b. marks_in b ≡ Some before)
-  pub works : WorksIfAny media notes spawner spawner' before marks
+  pub works : Works notes spawner spawner' before marks
   pub why : EndsTries notes before marks disk.faults disk'.faults spawner spawner' s
   pub keeps : s ≢ status.DiskFault → EachKeeps disk' marks
-
--- what a call was given behind its outbox, and what it left
-pub record Under : Type 1 where
-  pub document : Option (List ℕ)
-  pub document_faults : ℕ
-  pub document_faults' : ℕ
-  pub disk : DiskTells
-  pub disk' : DiskTells
-  pub spawner : SpawnerTells
-  pub spawner' : SpawnerTells
-
--- a call that had read its notes: it knew its media, and opened its progress or couldn't; or it knew none
-abbrev pub Goes : Plan → List Note → Under → Status → List NoteMark → Type 0
-Goes plan notes u s marks =
-    ((media : Media) × IfSome u.document (HasMedia plan media)
-    × (Opens media notes u.disk u.disk' u.spawner u.spawner' s marks
-    ⊎ (IsUnopened u.disk.bytes u.disk.faults u.disk'.faults s × (marks ≡ []) × (u.spawner' ≡ u.spawner))))
-    ⊎ (IsUnknown u.document u.document_faults u.document_faults' s × (marks ≡ []) × (u.spawner' ≡ u.spawner))
 
 -- a file keeps what one of a disk's images does, or some of these marks from the front, or all and one more
 abbrev pub KeepsThrough : DiskTells → List NoteMark → List ℕ → Type 0

@@ -62,7 +62,7 @@ pub record AreMarked (total : ℕ) (marks : List NoteMark) : Type 0 where
 
 -- why the tries ended: each note has its mark; there were more marks than notes, or one of a note that isn't there, and
 -- nothing was tried; the disk failed; or memory was refused
-abbrev pub EndsTries : List Note → List NoteMark → List NoteMark → ℕ → ℕ → SpawnerTells → SpawnerTells → Status → Type 0
+abbrev pub EndsTries : {T : Type 0} → List Note → List NoteMark → List NoteMark → ℕ → ℕ → T → T → Status → Type 0
 EndsTries notes before now faults faults' spawner spawner' status.Ok = AreMarked (length notes) now
 EndsTries notes before now faults faults' spawner spawner' (status.MarksAhead marks messages) =
     (ahead_of (length notes) before ≡ Some marks) × (messages ≡ length notes) × (now ≡ before) × (spawner' ≡ spawner)

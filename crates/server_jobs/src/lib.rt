@@ -16,12 +16,15 @@
 #![tactic(auto)]
 
 mod alerts;
-mod hand;
+mod ordering;
 mod queueing;
+mod reading;
 mod recipients;
 mod reporting;
+mod sessions;
 mod trying;
 mod working;
 
+pub use alert_sessions::Hand;
 pub use alerts::{Alerted, run_alerts};
-pub use hand::Hand;
+pub use sessions::run_sessions;

@@ -1,10 +1,11 @@
 //! Recipients by number.
 
-ghost use Rattle.std.specs.Prelude.{◌≡◌, ◌≤◌, ◌<◌, ◌++◌, ◌∷◌, [], List, length, not, if◌then◌else◌, IfOk, OnOk};
+ghost use Rattle.std.specs.Prelude.{◌≡◌, ◌≤◌, ◌<◌, ◌++◌, ◌∷◌, [], List, length, not, if◌then◌else◌, IfOk, OnOk, map, string_bytes};
 ghost use Rattle.alert_run.specs.declared.types.Note.{Note as Noted};
 ghost use Rattle.json_form.specs.Places.{has_name};
 ghost use Rattle.server_jobs.specs.Tries.{medium_for};
 ghost use Rattle.server_jobs.specs.Numbering.{IsNumbering, kind_for, recipient_at};
+ghost use Rattle.server_jobs.specs.Sessions.{command_for as commanded};
 
 use alert_media::Media;
 use alert_queue::Kind;
@@ -13,7 +14,7 @@ use indexmap::IndexSet;
 use std::alloc::Global;
 use std::convert::AsStr;
 use std::marker::Model;
-use zbx_types::{OutOfMemory, Text};
+use zbx_types::{Many, OutOfMemory, Text};
 
 /// The interval of a recipient without an entry, in seconds.
 const INTERVAL: u32 = 10;
@@ -41,6 +42,13 @@ impl Recipients {
         Recipients {
             met: IndexSet::new(alloc),
         }
+    }
+
+    /// They, in their order.
+    pub(crate) fn names(&self) -> &[String]
+        ensures { map string_bytes result.now ≡ self.now }
+    {
+        self.met.as_slice()
     }
 
     /// Meets a recipient. Answers its number, and whether it is the first time.
@@ -144,4 +152,21 @@ pub(crate) fn number(alloc: Global, media: &Media, notes: &[Note]) -> Result<Num
         numbered.add(alloc, media, note)?;
     }
     Ok(numbered)
+}
+
+/// The command that is run for each of these recipients.
+#[tactic(auto, using(crate::proofs::Commands::command_next, crate::proofs::Commands::command_all))]
+pub(crate) fn commands_of(
+    alloc: Global,
+    media: &Media,
+    names: &[String],
+) -> Result<Many<Text>, OutOfMemory>
+    ensures { IfOk result (λ commands. commands ≡ map (commanded media.now) (map string_bytes names.now)) }
+{
+    let mut commands = Many::new(alloc);
+    for name in names {
+        let recipient = Text::of(alloc, name.as_str())?;
+        commands.push(command_for(media, &recipient).copy(alloc)?)?;
+    }
+    Ok(commands)
 }

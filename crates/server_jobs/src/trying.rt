@@ -6,11 +6,11 @@ ghost use Rattle.alert_queue.specs.Events.{moved};
 ghost use Rattle.server_jobs.specs.Tries.{medium_for};
 ghost use Rattle.server_jobs.specs.Turning.{NoneOpen, Continues, Ends};
 
-use crate::hand::Hand;
 use crate::recipients::command_for;
 use alert_media::Media;
 use alert_queue::{Mark, Queue, Taken};
 use alert_run::Note;
+use alert_sessions::Hand;
 use outside::{Clock, Spawner};
 use std::alloc::Global;
 use zbx_types::{Many, Moment, OutOfMemory, Text};

@@ -12,7 +12,6 @@ ghost use Rattle.server_jobs.specs.Turning.{IsMarkedSo, with_mark};
 ghost use Rattle.server_jobs.specs.Numbering.{AreWithin};
 ghost use Rattle.server_jobs.specs.Working.{WorksIfAny, Worked, AreMarked, KeepsFront, KeepsSome, EndsTries};
 
-use crate::hand::Hand;
 use crate::queueing::{ahead_of, queue_of};
 use crate::recipients::number;
 use crate::trying::{next, try_note};
@@ -20,6 +19,7 @@ use alert_marks::{AddError, Marks};
 use alert_media::Media;
 use alert_queue::{Mark, NoteMark, Queue};
 use alert_run::Note;
+use alert_sessions::Hand;
 use outside::{Clock, Disk, Spawner};
 use server_words::Status;
 use std::alloc::Global;

@@ -1,6 +1,9 @@
 -- A run over objects is one over objects that tell no image of the disk.
-use Rattle.std.proofs.Common.{◌≡◌, ◌⊎◌, inl, inr, ℕ, List, Bool, Option, Some, None, arith}
+use Rattle.std.proofs.Common.{◌≡◌, ◌⊎◌, ◌∙◌, inl, inr, ℕ, List, length, map, Bool, Option, Some, None, ap, arith}
 use Rattle.std.specs.Prelude.{IfSome}
+use Rattle.std.proofs.lemmas.List.{length-map}
+use Rattle.outside.specs.Spawning.{SpawnerTells}
+use Rattle.server_jobs.specs.Sessions.{WorkTogetherIfAny}
 use Rattle.zbx_types.specs.declared.entries.Numbered.{Numbered}
 use Rattle.outside.specs.Disk.{DiskTells, LeavesOnly}
 use Rattle.outside.specs.Tells.{SinkTells}
@@ -14,10 +17,12 @@ use Rattle.server_words.specs.declared.status.Counts.{Counts}
 use Rattle.server_run.specs.Stops.{Journals}
 use Rattle.outside.specs.Causes.{Rose}
 use Rattle.alert_marks.specs.Marks.{marks_in, EachKeeps}
+use Rattle.alert_media.specs.declared.media.Media.{Media}
 use Rattle.alert_queue.specs.declared.types.NoteMark.{NoteMark}
+use Rattle.alert_run.specs.declared.types.Note.{Note}
 use Rattle.server_jobs.specs.Alerts.{Around, IsCut, ComesTo}
 use Rattle.server_jobs.specs.Reports.{Prints}
-use Rattle.zabbix_server.specs.Program.{Seen, without_images, objects_of, IsAlertsOf}
+use Rattle.zabbix_server.specs.Program.{Seen, without_images, objects_of, AlertsSeen, IsAlertsOf, IsSessionsStatus}
 
 -- what objects tell but for the images of the disk
 abbrev pub seen_of : Objects → Seen
@@ -120,31 +125,37 @@ alerts_keep disk marks = by disk.bytes
     by (Some b) k = λ c none. absurd none
 
 -- what objects told of a call, but for the images of the disk
-abbrev pub around_too : Around → Around
+abbrev pub around_too : {T : Type 0} → Around T → Around T
 around_too a = record a { disk = untold a.disk; disk' = untold a.disk' }
 
-keeps_too : (a : Around) (s : Status) (marks : List NoteMark) → EachKeeps a.disk' marks ⊎ (IsCut s × Rose a.disk.faults a.disk'.faults)
+keeps_too : {T : Type 0} (a : Around T) (s : Status) (marks : List NoteMark) → EachKeeps a.disk' marks ⊎ (IsCut s × Rose a.disk.faults a.disk'.faults)
     → EachKeeps (untold a.disk') marks ⊎ (IsCut s × Rose a.disk.faults a.disk'.faults)
 keeps_too a s marks (inl k) = inl (alerts_keep a.disk' marks k)
 keeps_too a s marks (inr cut) = inr cut
 
-pub comes_too : (words : List (List ℕ)) (a : Around) (s : Status) (marks : List NoteMark) → ComesTo words a s marks → ComesTo words (around_too a) s marks
-comes_too words a s marks (inl refusal) = inl refusal
-comes_too words a s marks (inr w) = inr (record {
-  plan = w.plan;
-  plan_is = w.plan_is;
+-- what a call does to its spawners, in one way or another
+abbrev Way : Type 0 → Type 1
+Way T = Media → List Note → T → T → List NoteMark → List NoteMark → Type 0
+
+pub comes_too : {T : Type 0} (Works : Way T) (words : List (List ℕ)) (a : Around T) (s : Status) (marks : List NoteMark) → ComesTo Works words a s marks → ComesTo Works words (around_too a) s marks
+comes_too Works words a s marks (inl refusal) = inl refusal
+comes_too Works words a s marks (inr w) = inr (record {
   notes = w.notes;
-  notes_are = w.notes_are;
+  media = w.media;
+  both = w.both;
   before = w.before;
   recovered = w.recovered;
-  media = w.media;
-  media_are = w.media_are;
   works = w.works;
   why = w.why;
   keeps = keeps_too a s marks w.keeps;
 })
 
-pub alerts_too : (words : List (List ℕ)) (a : Around) (s : Status) (marks : List NoteMark) (line line' : SinkTells) → ComesTo words a s marks → Prints s marks line line'
-    → IsAlertsOf words (record { lines = a.lines; lines_faults = a.faults; document = a.document; document_faults = a.document_faults; file = a.disk.bytes; disk_faults = a.disk.faults; spawner = a.spawner }) line s
-alerts_too words a s marks line line' comes prints =
-    (record { lines = None; lines_faults = a.faults'; document = None; document_faults = a.document_faults'; file = a.disk'.bytes; disk_faults = a.disk'.faults; spawner = a.spawner' }, line', marks, comes_too words a s marks comes, prints)
+pub alerts_too : {T : Type 0} (Works : Way T) (words : List (List ℕ)) (a : Around T) (s : Status) (marks : List NoteMark) (line line' : SinkTells) → ComesTo Works words a s marks → Prints s marks line line'
+    → IsAlertsOf Works words (record { lines = a.read.lines; lines_faults = a.read.faults; document = a.read.document; document_faults = a.read.document_faults; file = a.disk.bytes; disk_faults = a.disk.faults; spawner = a.spawner }) line s
+alerts_too Works words a s marks line line' comes prints =
+    (record { lines = None; lines_faults = a.read.faults'; document = None; document_faults = a.read.document_faults'; file = a.disk'.bytes; disk_faults = a.disk'.faults; spawner = a.spawner' }, line', marks, comes_too Works words a s marks comes, prints)
+
+-- a call by so many sessions
+pub several : {H : Type 0} (f : H → SpawnerTells) (hands : List H) (words : List (List ℕ)) (count : ℕ) (before : AlertsSeen (List SpawnerTells)) (line : SinkTells) (s : Status)
+    → before.spawner ≡ map f hands → length hands ≡ count → IsAlertsOf WorkTogetherIfAny words before line s → IsSessionsStatus words count s
+several f hands words count before line s are many of = (before, line, ap length are ∙ length-map hands f ∙ many, of)

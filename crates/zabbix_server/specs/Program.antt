@@ -1,5 +1,7 @@
 -- The status of the program's run, and the number with which it exits.
-use Rattle.std.specs.Prelude.{◌≡◌, ◌⊎◌, Ok, Err, Result, Bool, List, Option, None, IsSome, ℕ}
+use Rattle.std.specs.Prelude.{◌≡◌, ◌⊎◌, ◌<◌, Ok, Err, Result, Bool, List, length, Option, Some, None, ℕ}
+use Rattle.alert_media.specs.declared.media.Media.{Media}
+use Rattle.alert_run.specs.declared.types.Note.{Note}
 use Rattle.zbx_types.specs.declared.entries.Numbered.{Numbered}
 use Rattle.zbx_types.specs.declared.memory.OutOfMemory.{OutOfMemory}
 use Rattle.alert_queue.specs.declared.types.NoteMark.{NoteMark}
@@ -8,7 +10,10 @@ use Rattle.outside.specs.Spawning.{SpawnerTells}
 use Rattle.outside.specs.Tells.{SinkTells, WireTells}
 use Rattle.server_jobs.specs.Alerts.{Around, ComesTo}
 use Rattle.server_jobs.specs.Reports.{Prints}
+use Rattle.server_jobs.specs.Sessions.{WorkTogetherIfAny}
+use Rattle.server_jobs.specs.Working.{WorksIfAny}
 use Rattle.server_words.specs.Words.{alerts_plan_of}
+use Rattle.server_words.specs.declared.words.Plan.{Plan}
 use Rattle.server_words.specs.declared.status.Status.{Status}
 use Rattle.server_words.specs.declared.status.Status.TheVariants as status
 use Rattle.server_run.specs.Ran.{IsRun}
@@ -54,42 +59,53 @@ abbrev pub IsRunStatus : List (List ℕ) → Status → Type 0
 IsRunStatus words s = (before : Seen) × (line : SinkTells) × IsStatusOf words before line s
 
 -- what the objects of a call for alerts told at one moment, but for its printer, and for what a crash would leave of its
--- disk
-pub record AlertsSeen : Type 0 where
+-- disk; of several sessions each spawner
+pub record AlertsSeen (T : Type 0) : Type 0 where
   pub lines : Option (List ℕ)
   pub lines_faults : ℕ
   pub document : Option (List ℕ)
   pub document_faults : ℕ
   pub file : Option (List ℕ)
   pub disk_faults : ℕ
-  pub spawner : SpawnerTells
+  pub spawner : T
 
 -- objects that told the one before a call and the other after it
-abbrev pub around_of : AlertsSeen → AlertsSeen → Around
+abbrev pub around_of : {T : Type 0} → AlertsSeen T → AlertsSeen T → Around T
 around_of before after = record {
-  lines = before.lines;
-  faults = before.lines_faults;
-  faults' = after.lines_faults;
-  document = before.document;
-  document_faults = before.document_faults;
-  document_faults' = after.document_faults;
+  read = record {
+    lines = before.lines;
+    faults = before.lines_faults;
+    faults' = after.lines_faults;
+    document = before.document;
+    document_faults = before.document_faults;
+    document_faults' = after.document_faults;
+  };
   disk = without_images before.file before.disk_faults;
   disk' = without_images after.file after.disk_faults;
   spawner = before.spawner;
   spawner' = after.spawner;
 }
 
--- a status is that of a call for alerts over objects that told this, and a printer
-abbrev pub IsAlertsOf : List (List ℕ) → AlertsSeen → SinkTells → Status → Type 0
-IsAlertsOf words before line s =
-    (after : AlertsSeen) × (line' : SinkTells) × (marks : List NoteMark)
-    × ComesTo words (around_of before after) s marks × Prints s marks line line'
+-- a status is that of a call for alerts that tries notes in this way, over objects that told this, and a printer
+abbrev pub IsAlertsOf : {T : Type 0} → (Media → List Note → T → T → List NoteMark → List NoteMark → Type 0) → List (List ℕ) → AlertsSeen T → SinkTells → Status → Type 0
+IsAlertsOf Works words before line s =
+    (after : AlertsSeen _) × (line' : SinkTells) × (marks : List NoteMark)
+    × ComesTo Works words (around_of before after) s marks × Prints s marks line line'
 
--- a status is that of a call for alerts over some objects, which the caller made itself
-abbrev pub IsAlertsStatus : List (List ℕ) → Status → Type 0
-IsAlertsStatus words s = (before : AlertsSeen) × (line : SinkTells) × IsAlertsOf words before line s
+-- a status is that of a call for alerts by one session over some objects, which the caller made itself
+abbrev pub IsOneStatus : List (List ℕ) → Status → Type 0
+IsOneStatus words s = (before : AlertsSeen SpawnerTells) × (line : SinkTells) × IsAlertsOf WorksIfAny words before line s
+
+-- it is that of one by so many sessions, each with a spawner of its own
+abbrev pub IsSessionsStatus : List (List ℕ) → ℕ → Status → Type 0
+IsSessionsStatus words count s =
+    (before : AlertsSeen (List SpawnerTells)) × (line : SinkTells) × (length before.spawner ≡ count) × IsAlertsOf WorkTogetherIfAny words before line s
+
+-- it is that of one by as many sessions as a plan asks for
+abbrev pub IsAlertsStatus : List (List ℕ) → Plan → Status → Type 0
+IsAlertsStatus words plan s = ((plan.sessions ≡ 1) × IsOneStatus words s) ⊎ ((1 < plan.sessions) × IsSessionsStatus words plan.sessions s)
 
 -- the status of the program over its words: that of a call for alerts where they have a plan for it, else of a run
 abbrev pub IsProgramStatus : List (List ℕ) → Status → Type 0
 IsProgramStatus words s =
-    (IsSome (alerts_plan_of words) × IsAlertsStatus words s) ⊎ ((alerts_plan_of words ≡ None) × IsRunStatus words s)
+    ((plan : Plan) × (alerts_plan_of words ≡ Some plan) × IsAlertsStatus words plan s) ⊎ ((alerts_plan_of words ≡ None) × IsRunStatus words s)

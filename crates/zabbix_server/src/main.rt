@@ -19,7 +19,8 @@
 //! PROGRAM for each message in it, and keeps in the file PROGRESS what became of each. With `--media MEDIA` the document in
 //! the file MEDIA says of recipients by which program, how often and at which interval. That is
 //! [`server_jobs::run_alerts`] over files, [`ChildSpawner`](child_spawner::ChildSpawner) and
-//! [`SystemClock`](child_spawner::SystemClock). `--sessions` is taken, and one session does the work whatever it is.
+//! [`SystemClock`](child_spawner::SystemClock). With `--sessions N`, where N is above 1, it is
+//! [`server_jobs::run_sessions`] with as many of both, each session in a thread of its own.
 //!
 //! It exits with the number of the status, 0 for Ok; `docs/FORMATS.md` has them all. Nothing goes to standard error.
 //!
@@ -82,7 +83,7 @@ fn status_over<R: Threads + Wait + Sync>(
     ensures { IfOk result (IsProgramStatus words.now) }
 {
     match alerts_plan(alloc, words) {
-        Ok(plan) => alerting::run(rt, alloc, words, &plan),
+        Ok(plan) => alerting::run(rt, threads, alloc, words, &plan),
         Err(PlanError::Usage) => running::run(rt, threads, alloc, words),
         Err(PlanError::OutOfMemory) => Err(OutOfMemory),
     }

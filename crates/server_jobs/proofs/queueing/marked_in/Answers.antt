@@ -1,4 +1,4 @@
-use Rattle.std.proofs.Common.{◌≡◌, ◌∙◌, ◌<◌, ◌≤◌, ◌-◌, true, length, slice_index_or, slice_set, refl, arith, length-set}
+use Rattle.std.proofs.Common.{◌≡◌, ◌∙◌, ◌<◌, ◌-◌, true, length, slice_index_or, slice_set, refl, arith, length-set}
 use Rattle.alert_queue.specs.declared.types.Mark.TheVariants.{Done}
 use Rattle.alert_queue.specs.declared.types.NoteMark.{NoteMark}
 use Rattle.server_jobs.proofs.Starting.{note_low, note_high, one_marked}

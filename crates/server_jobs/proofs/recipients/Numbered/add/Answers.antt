@@ -1,4 +1,4 @@
-use Rattle.std.proofs.Common.{rules, ◌≡◌, ◌∙◌, ◌<◌, ◌++◌, ◌∷◌, [], ℕ, Bool, length, refl}
+use Rattle.std.proofs.Common.{rules, ◌≡◌, ◌<◌, ◌++◌, ◌∷◌, [], ℕ, Bool, length}
 use Rattle.std.specs.Prelude.{not, if◌then◌else◌}
 use Rattle.json_form.specs.Places.{has_name}
 use Rattle.server_jobs.specs.Numbering.{kind_for, recipient_at}

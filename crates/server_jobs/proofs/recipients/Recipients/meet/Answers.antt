@@ -1,4 +1,4 @@
-use Rattle.std.proofs.Common.{rules, ◌≡◌, ◌∙◌, List, ap, sym}
+use Rattle.std.proofs.Common.{rules, ◌≡◌, ◌∙◌, ap}
 use Rattle.std.specs.Prelude.{map, not, string_bytes}
 use Rattle.json_form.specs.Places.{has_name}
 use Rattle.json_form.proofs.Taken.{names_any}
