@@ -87,7 +87,7 @@ fn hands(rt: &HostRuntime, alloc: Global, count: u32) -> Result<Vec<SystemHand<'
     ensures { IfOk result (λ hands. length hands.items ≡ count) }
 {
     let mut hands = Vec::new(alloc);
-    for _ in 0..count {
+    for _hand in 0..count {
         hands.push(hand(rt, alloc))?;
     }
     Ok(hands)
@@ -111,7 +111,6 @@ fn run_one<M: Source + Drop>(
 }
 
 /// Runs scripts in as many sessions as a plan asks for.
-#[tactic(auto, using(crate::proofs::Untold::several))]
 fn run_several<M: Source + Drop, R: Threads + Wait + Sync>(
     rt: &HostRuntime,
     threads: &R,
