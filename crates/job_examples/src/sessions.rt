@@ -46,9 +46,48 @@ fn hand() -> Hand<RefusingSpawner, MemClock> {
     }
 }
 
-/// What a call with these hands comes to, where these calls of its disk fail: its exit, how many marks there are, and what is
-/// printed.
+/// An exit, how many marks there are, and what was printed.
+fn reported(alloc: Global, exit: u8, marks: usize, printed: &[u8]) -> Result<Text, OutOfMemory> {
+    let mut report = Text::new(alloc);
+    report.push_decimal(u64::from(exit))?;
+    report.push_str(" ")?;
+    report.push_decimal(marks as u64)?;
+    report.push_str(" ")?;
+    if let Some(printed) = Text::from_utf8(alloc, printed)? {
+        report.push_str(printed.as_str())?;
+    }
+    Ok(report)
+}
+
+/// What a call over these words, outbox and media comes to, where these calls of its disk fail.
 fn called<R: Threads + Wait + Sync>(
+    rt: &R,
+    alloc: Global,
+    words: &[Text],
+    outbox: Bytes,
+    document: Bytes,
+    fails: Many<u64>,
+    hands: &mut [Hand<RefusingSpawner, MemClock>],
+) -> Result<Text, OutOfMemory>
+    requires { 0 < length hands.old }
+{
+    let mut lines = MemSource::new(outbox, Many::new(alloc));
+    let mut media = MemSource::new(document, Many::new(alloc));
+    let disk = MemDisk::new(alloc, Bytes::new(alloc), fails);
+    let mut print = MemSink::new(Bytes::new(alloc), Many::new(alloc));
+    let ended = run_sessions(
+        rt, alloc, words, &mut lines, &mut media, disk, hands, &mut print,
+    );
+    reported(
+        alloc,
+        ended.status.exit(),
+        ended.marks.len(),
+        print.bytes().as_slice(),
+    )
+}
+
+/// What a call with these hands comes to, where these calls of its disk fail.
+fn alerted<R: Threads + Wait + Sync>(
     rt: &R,
     alloc: Global,
     text: &str,
@@ -60,29 +99,8 @@ fn called<R: Threads + Wait + Sync>(
     let words = words(alloc, text)?;
     let outbox = Bytes::of(alloc, OUTBOX.as_bytes())?;
     let document = Bytes::of(alloc, MEDIA.as_bytes())?;
-    let mut lines = MemSource::new(outbox, Many::new(alloc));
-    let mut media = MemSource::new(document, Many::new(alloc));
-    let disk = MemDisk::new(alloc, Bytes::new(alloc), numbers(alloc, fails)?);
-    let mut print = MemSink::new(Bytes::new(alloc), Many::new(alloc));
-    let ended = run_sessions(
-        rt,
-        alloc,
-        words.as_slice(),
-        &mut lines,
-        &mut media,
-        disk,
-        hands,
-        &mut print,
-    );
-    let mut report = Text::new(alloc);
-    report.push_decimal(u64::from(ended.status.exit()))?;
-    report.push_str(" ")?;
-    report.push_decimal(ended.marks.len() as u64)?;
-    report.push_str(" ")?;
-    if let Some(printed) = Text::from_utf8(alloc, print.bytes().as_slice())? {
-        report.push_str(printed.as_str())?;
-    }
-    Ok(report)
+    let fails = numbers(alloc, fails)?;
+    called(rt, alloc, words.as_slice(), outbox, document, fails, hands)
 }
 
 /// What a call by two sessions comes to, and how often programs failed.
@@ -92,7 +110,7 @@ fn by_two<R: Threads + Wait + Sync>(
     text: &str,
 ) -> Result<Text, OutOfMemory> {
     let mut hands = [hand(), hand()];
-    let mut report = called(rt, alloc, text, &[], &mut hands)?;
+    let mut report = alerted(rt, alloc, text, &[], &mut hands)?;
     let [first, second] = &hands;
     report.push_decimal(
         first
@@ -110,7 +128,7 @@ fn by_one<R: Threads + Wait + Sync>(
     text: &str,
 ) -> Result<Text, OutOfMemory> {
     let mut hands = [hand()];
-    called(rt, alloc, text, &[12], &mut hands)
+    alerted(rt, alloc, text, &[12], &mut hands)
 }
 
 /// The words of a call for alerts.
