@@ -4,21 +4,32 @@
 usage: bench/sizing.py PROGRAM [--bytes]    with --bytes the tables of bytes alone, which are the same on each machine
 
 The bytes are those of the files that runs of a few values leave, so they are exact. The memory is the difference of the most
-that was held between two openings, of journals of 200,000 and of 1,200,000 entries in groups of 250; it hangs on the machine.
+that was held between two openings, of journals of 200,000 and of 1,200,000 entries in groups of 250, and what is resident more
+behind each of 8,000 values that a program took which serves; it hangs on the machine.
 """
 
 import os
+import socket
 import subprocess
 import sys
 import tempfile
-
-sys.dont_write_bytecode = True
-import opening  # noqa: E402
+import time
 
 TOP = os.path.dirname(os.path.dirname(os.path.abspath(__file__)))
+sys.dont_write_bytecode = True
+sys.path.insert(0, f"{TOP}/tools")
+import opening  # noqa: E402
+import served  # noqa: E402
+
 FIRST = f"{TOP}/contrib/first.json"
 MOST_ENTRIES, MOST_BYTES = 4_000_000, 1_073_741_824  # as docs/FORMATS.md has them
 VALUE = "12.345"
+# of which item the values are, the value of each number, and what it makes
+KEPT = [
+    (1, lambda number: number % 100, "a value that makes no problem"),
+    (1, lambda number: 1000 * (number % 2), "a value of which each second one makes a problem, and the next its recovery"),
+    (0, lambda number: 1000 + number, "a value that makes a problem which stays open, of one trigger"),
+]
 RATES = [(10, 1), (1_000, 1), (1_000, 250), (100_000, 250)]
 
 
@@ -101,6 +112,43 @@ def held(program, entries):
         return usage.ru_maxrss * 1024
 
 
+def asked(port, bytes_):
+    """Sends some bytes over a connection of its own, and waits until it is ended. Answers whether it was taken."""
+    try:
+        with socket.create_connection(("127.0.0.1", port)) as connection:
+            connection.sendall(bytes_)
+            while connection.recv(4096):
+                pass
+    except OSError:
+        return False
+    return True
+
+
+def resident(process):
+    with open(f"/proc/{process.pid}/status") as it:
+        return next(int(line.split()[1]) for line in it if line.startswith("VmRSS")) * 1024
+
+
+def kept(program, item, value):
+    """How many bytes more are resident behind each of 8,000 values, one a frame, behind 2,000 others."""
+    with tempfile.TemporaryDirectory() as path:
+        process, port = served.Folder(program, path).serve()
+        try:
+            while not asked(port, served.frame(item, [value(0)])):
+                time.sleep(0.1)
+            for number in range(1, 10_000):
+                if number == 2_000:
+                    time.sleep(1)
+                    before = resident(process)
+                asked(port, served.frame(item, [value(number)]))
+            time.sleep(1)
+            return (resident(process) - before) / 8_000
+        finally:
+            process.kill()
+            process.wait()
+            process.stdout.close()
+
+
 def main(words):
     if not words or words[1:] not in ([], ["--bytes"]):
         print(__doc__.strip(), file=sys.stderr)
@@ -108,8 +156,11 @@ def main(words):
     program = os.path.realpath(words[0])
     print("\n".join(tables(*bytes_of(program))))
     if not words[1:]:
+        print()
+        for item, value, what in KEPT:
+            print(f"{kept(program, item, value):.0f} bytes of memory {what}")
         few, many = held(program, 200_000), held(program, 1_200_000)
-        print(f"\n{(many - few) / 1_000_000:.0f} bytes of memory an entry of ten bytes, and {size_of(few - (many - few) / 5)} beside them")
+        print(f"{(many - few) / 1_000_000:.0f} bytes of memory an entry of ten bytes, and {size_of(few - (many - few) / 5)} beside them")
     return 0
 
 
