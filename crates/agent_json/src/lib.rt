@@ -16,7 +16,8 @@
 //!
 //! An element of agent data is an asked value as a sender's, and `unsupported` where its `state` is the number 1: the
 //! agent doesn't support the item, and the value is a text about that. Other members, among them `session` and `id`,
-//! are ignored. A body is read in one pass, as `sender_json` reads one, in which the members stand in any order.
+//! are ignored. A body is read in one pass, as `sender_json` reads one, in which the members stand in any order, and
+//! `gather` hands each element to a `Gatherer` as soon as it is read; `read` gathers a list of the elements.
 //!
 //! Nothing is known here of which hosts there are or what is done with a value: a host is told by its id.
 #![tactic(auto)]
@@ -27,6 +28,6 @@ mod refusing;
 mod request;
 
 pub use listing::{checks, tells_items};
-pub use reading::read;
+pub use reading::{gather, read};
 pub use refusing::{ChecksRefusal, refusal};
 pub use request::{AgentAsked, AgentRequest};

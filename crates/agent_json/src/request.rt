@@ -1,7 +1,7 @@
 //! Requests of agents.
 
 use sender_json::Asked;
-use zbx_types::{Many, Text};
+use zbx_types::Text;
 
 /// An element of agent data.
 #[derive(Debug, Drop)]
@@ -12,9 +12,9 @@ pub struct AgentAsked {
     pub unsupported: bool,
 }
 
-/// What the data of a frame asks as a request of an agent.
+/// What the data of a frame asks as a request of an agent, where `T` is gathered of the elements of agent data.
 #[derive(Debug, Drop)]
-pub enum AgentRequest {
+pub enum AgentRequest<T> {
     /// No request of an agent: bytes that aren't JSON, or JSON of another form.
     Neither,
     /// Which items the agent of a host is to bring.
@@ -22,6 +22,6 @@ pub enum AgentRequest {
         /// The host's name, where it is a text.
         host: Option<Text>,
     },
-    /// The elements of `data`, in order.
-    Data(Many<AgentAsked>),
+    /// What is gathered of the elements of `data`, in order.
+    Data(T),
 }

@@ -24,7 +24,7 @@ pub(crate) enum Ask {
     Data(Many<AgentAsked>),
 }
 
-fn agent_ask(request: AgentRequest) -> Ask
+fn agent_ask(request: AgentRequest<Many<AgentAsked>>) -> Ask
     ensures { result ≡ agent_ask request }
 {
     match request {

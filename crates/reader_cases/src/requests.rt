@@ -7,7 +7,7 @@ use sender_json::{
 };
 use std::alloc::Global;
 use std::convert::AsStr;
-use zbx_types::{OutOfMemory, Text};
+use zbx_types::{Many, OutOfMemory, Text};
 
 fn word(part: &Option<Text>) -> &str {
     match part {
@@ -64,7 +64,11 @@ fn put_last(out: &mut Text, all: &[Asked]) -> Result<(), OutOfMemory> {
 }
 
 /// What a request is: its asked values, or how many there are with the last one.
-fn told(alloc: Global, request: &Request, is_last: bool) -> Result<String, OutOfMemory> {
+fn told(
+    alloc: Global,
+    request: &Request<Many<Asked>>,
+    is_last: bool,
+) -> Result<String, OutOfMemory> {
     let mut out = Text::new(alloc);
     match request {
         Request::NotJson => out.push_str("not JSON")?,

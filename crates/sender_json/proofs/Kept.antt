@@ -1,17 +1,14 @@
 -- What is kept of a value is all that a request asks for.
-use Rattle.std.proofs.Common.{◌≡◌, ℕ, List, true, false, Option, Some, None, option_map, option_and_then, codes, refl, sym, ap, ap₂, ◌∙◌, true≢false}
+use Rattle.std.proofs.Common.{◌≡◌, ℕ, List, false, Option, Some, None, option_map, option_and_then, codes, refl, sym, ap, ap₂, ◌∙◌, true≢false}
 use Rattle.std.proofs.lemmas.Slice.Eq.{bytes_eq-Decides}
 use Rattle.serde_json.specs.Data.{unsigned, negative, float, Data, null, boolean, number, string, array, object, Items, Members, put}
 use Rattle.serde_json.specs.Find.{get, get_member, as_str, as_array}
 use Rattle.serde_json.proofs.Views.{get_member-put, get_member-put_other}
-use Rattle.sender_json.specs.declared.asked.Asked.{Asked}
 use Rattle.sender_json.specs.declared.asked.Clock.{Clock}
 use Rattle.sender_json.specs.declared.element.Parts.{Parts}
-use Rattle.sender_json.specs.declared.body.Body.{Body}
 use Rattle.sender_json.specs.declared.reading.Top.{Top}
-use Rattle.sender_json.specs.declared.request.Request.TheVariants.{Other, Values}
 use Rattle.sender_json.specs.declared.seen.Seen.{Seen}
-use Rattle.sender_json.specs.Requests.{value_text, whole_within, ns_of, moment_of, clock_of, asked_of, all_asked, all_by, body_of, is_one, is_one_at, is_unsupported, is_sender_data, values_or_other, sender_request}
+use Rattle.sender_json.specs.Requests.{value_text, whole_within, ns_of, moment_of, clock_of, asked_of, body_by, is_one, is_one_at, is_unsupported}
 use Rattle.sender_json.specs.Seen.{data_of, plain, Holds, HoldsParts, HoldsTop}
 use Rattle.sender_json.proofs.Firsts.{is_object, is_array}
 
@@ -125,44 +122,19 @@ no_items-as_array (object ms) e = refl
 -- ---- a body
 
 -- what is made of what was kept of a body is what is read of it
-pub body-held : {E : Type 0} (of : Data → E) (top : Top E) (d : Data) (request host : Option (List ℕ)) → HoldsTop of top d
+pub body-held : {T : Type 0} (of : Items → T) (top : Top T) (d : Data) (request host : Option (List ℕ)) → HoldsTop of top d
     → request ≡ option_and_then as_str (option_map data_of top.request) → host ≡ option_and_then as_str (option_map data_of top.host)
-    → record { request = request; host = host; elements = top.elements } ≡ body_of of d
-unfolding body_of
+    → record { request = request; host = host; elements = top.elements } ≡ body_by of d
+unfolding body_by
 body-held of top d request host h r n =
     let r2 = r ∙ text-held (codes "request") top.request d h.request in
     let n2 = n ∙ text-held (codes "host") top.host d h.host in
     rw (r2, n2, h.elements) refl
 
 -- of another value than an object nothing is read
-pub not_an_object : {E : Type 0} (of : Data → E) (d : Data) → is_object d ≡ false → body_of of d ≡ record { request = None; host = None; elements = None }
-unfolding body_of
+pub not_an_object : {T : Type 0} (of : Items → T) (d : Data) → is_object d ≡ false → body_by of d ≡ record { request = None; host = None; elements = None }
+unfolding body_by
 not_an_object of d e = rw (no_members-get (codes "request") d e, no_members-get (codes "host") d e, no_members-get (codes "data") d e) refl
-
--- the request that is made of what is read of a body is the request that the body is
-pub request-other : (body : Body Asked) (d : Data) → body ≡ body_of asked_of d → is_sender_data body.request ≡ false → sender_request d ≡ Other
-unfolding sender_request body_of
-request-other body d is other = let same : is_sender_data (option_and_then as_str (get (codes "request") d)) ≡ false = sym (ap (λ b. is_sender_data b.request) is) ∙ other in rw same refl
-
-values-there : (o : Option Items) (vs : List Asked) → Some vs ≡ option_map all_asked o → values_or_other o ≡ Values vs
-values-there None vs e = cc
-values-there (Some ds) vs e = cc
-
-values-absent : (o : Option Items) → None ≡ option_map all_asked o → values_or_other o ≡ Other
-values-absent None e = refl
-values-absent (Some ds) e = cc
-
-pub request-values : (body : Body Asked) (d : Data) (vs : List Asked) → body ≡ body_of asked_of d → is_sender_data body.request ≡ true → body.elements ≡ Some vs → sender_request d ≡ Values vs
-unfolding sender_request body_of
-request-values body d vs is named there =
-    let same : is_sender_data (option_and_then as_str (get (codes "request") d)) ≡ true = sym (ap (λ b. is_sender_data b.request) is) ∙ named in
-    rw same (values-there _ vs (sym there ∙ ap (λ b. b.elements) is))
-
-pub request-no_values : (body : Body Asked) (d : Data) → body ≡ body_of asked_of d → is_sender_data body.request ≡ true → body.elements ≡ None → sender_request d ≡ Other
-unfolding sender_request body_of
-request-no_values body d is named none =
-    let same : is_sender_data (option_and_then as_str (get (codes "request") d)) ≡ true = sym (ap (λ b. is_sender_data b.request) is) ∙ named in
-    rw same (values-absent _ (sym none ∙ ap (λ b. b.elements) is))
 
 pub request-not_data : codes "request" ≡ codes "data" → ⊥
 request-not_data h = true≢false (sym ((bytes_eq-Decides (codes "request") (codes "data")).1 h))
@@ -174,16 +146,16 @@ host-not_data h = true≢false (sym ((bytes_eq-Decides (codes "host") (codes "da
 pub nothing-held : (name : List ℕ) (held : Option Seen) (d : Data) → held ≡ None → is_object d ≡ false → Holds name held d
 nothing-held name held d e n = ap (option_map data_of) e ∙ sym (ap (option_map plain) (no_members-get name d n))
 
-module _ {E : Type 0} (of : Data → E) where
-  abbrev kept_data : Option Data → Option (List E)
-  kept_data o = option_map (all_by of) (option_and_then as_array o)
+module _ {T : Type 0} (of : Items → T) where
+  abbrev kept_data : Option Data → Option T
+  kept_data o = option_map of (option_and_then as_array o)
 
   -- `data` is the last of its name
-  pub data-kept : (name : List ℕ) (d : Data) (found : Members) (elements : Option (List E)) → name ≡ codes "data" → elements ≡ option_map (all_by of) (as_array d)
+  pub data-kept : (name : List ℕ) (d : Data) (found : Members) (elements : Option T) → name ≡ codes "data" → elements ≡ option_map of (as_array d)
       → elements ≡ kept_data (get (codes "data") (object (put name d found)))
   data-kept name d found elements named e = e ∙ sym (ap kept_data (ap (λ w. get_member w (put name d found)) (sym named) ∙ get_member-put name d found))
 
-  pub data-stays : (name : List ℕ) (d : Data) (found : Members) (elements : Option (List E)) → (name ≡ codes "data" → ⊥) → elements ≡ kept_data (get (codes "data") (object found))
+  pub data-stays : (name : List ℕ) (d : Data) (found : Members) (elements : Option T) → (name ≡ codes "data" → ⊥) → elements ≡ kept_data (get (codes "data") (object found))
       → elements ≡ kept_data (get (codes "data") (object (put name d found)))
   data-stays name d found elements other e = e ∙ sym (ap kept_data (get_member-put_other (codes "data") name d found (λ h. other (sym h))))
 

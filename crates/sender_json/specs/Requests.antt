@@ -90,13 +90,21 @@ abbrev pub all_by : {E : Type 0} → (Data → E) → Items → List E
 all_by of no_items = []
 all_by of (item d ds) = of d ∷ all_by of ds
 
+-- what is gathered of all elements, where it is said what is kept of each
+abbrev pub gathered_by : {E T : Type 0} → (List E → T) → (Data → E) → Items → T
+gathered_by gather of ds = gather (all_by of ds)
+
 -- what is read of a body's JSON value: texts `request` and `host`, and what is made of the elements of an array `data`
-unfoldable pub body_of : {E : Type 0} → (Data → E) → Data → Body E
-body_of of d = record {
+unfoldable pub body_by : {T : Type 0} → (Items → T) → Data → Body T
+body_by of d = record {
   request = option_and_then as_str (get (codes "request") d);
   host = option_and_then as_str (get (codes "host") d);
-  elements = option_map (all_by of) (option_and_then as_array (get (codes "data") d));
+  elements = option_map of (option_and_then as_array (get (codes "data") d));
 }
+
+-- the same with a list of what is made of each element
+abbrev pub body_of : {E : Type 0} → (Data → E) → Data → Body (List E)
+body_of of = body_by (all_by of)
 
 -- the asked values of all elements
 abbrev pub all_asked : Items → List Asked
@@ -107,22 +115,32 @@ abbrev pub is_sender_data : Option (List ℕ) → Bool
 is_sender_data None = false
 is_sender_data (Some name) = bytes_eq name (codes "sender data")
 
--- the request with the values of these elements, or another request where there is no list of them
-abbrev pub values_or_other : Option Items → Request
+-- the request with these values, or another request where there are none
+abbrev pub values_or_other : {T : Type 0} → Option T → Request T
 values_or_other None = Other
-values_or_other (Some ds) = Values (all_asked ds)
+values_or_other (Some all) = Values all
+
+-- the request that is made of what is read of a body
+abbrev pub request_made : {T : Type 0} → Body T → Request T
+request_made body = if is_sender_data body.request then values_or_other body.elements else Other
+
+-- a request with what is made of its values
+abbrev pub request_with : {A B : Type 0} → (A → B) → Request A → Request B
+request_with f NotJson = NotJson
+request_with f Other = Other
+request_with f (Values all) = Values (f all)
 
 -- the request that a JSON value is
-unfoldable pub sender_request : Data → Request
+unfoldable pub sender_request : Data → Request (List Asked)
 sender_request d =
     if is_sender_data (option_and_then as_str (get (codes "request") d))
-    then values_or_other (option_and_then as_array (get (codes "data") d)) else Other
+    then values_or_other (option_map all_asked (option_and_then as_array (get (codes "data") d))) else Other
 
 -- the request that a body is, told by the JSON value that it is, if it is one
-abbrev pub request_of_json : Option Data → Request
+abbrev pub request_of_json : Option Data → Request (List Asked)
 request_of_json None = NotJson
 request_of_json (Some d) = sender_request d
 
 -- the request that a body is
-unfoldable pub request_of : List ℕ → Request
+unfoldable pub request_of : List ℕ → Request (List Asked)
 request_of body = request_of_json (json_of body)

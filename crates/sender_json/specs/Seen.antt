@@ -1,12 +1,11 @@
 -- What is kept of a JSON value that is passed over: a text or a whole number, and else only that it was there.
 use Rattle.std.specs.Prelude.{◌≡◌, ℕ, List, Option, option_map, option_and_then, codes}
-use Rattle.serde_json.specs.Data.{Num, unsigned, negative, float, Data, null, boolean, number, string, array, object}
+use Rattle.serde_json.specs.Data.{Num, unsigned, negative, float, Data, null, boolean, number, string, array, object, Items}
 use Rattle.serde_json.specs.Find.{get, as_array}
 use Rattle.sender_json.specs.declared.seen.Seen.{Seen}
 use Rattle.sender_json.specs.declared.seen.Seen.TheVariants.{Text, Unsigned, Negative, Other}
 use Rattle.sender_json.specs.declared.element.Parts.{Parts}
 use Rattle.sender_json.specs.declared.reading.Top.{Top}
-use Rattle.sender_json.specs.Requests.{all_by}
 
 -- the value that was kept
 abbrev pub data_of : Seen → Data
@@ -45,7 +44,7 @@ pub record HoldsParts (parts : Parts) (d : Data) : Type 0 where
 
 -- what was kept of a body is its `request`, its `host`, and what is made of the elements of its `data` where that is an
 -- array
-pub record HoldsTop {E : Type 0} (of : Data → E) (top : Top E) (d : Data) : Type 0 where
+pub record HoldsTop {T : Type 0} (of : Items → T) (top : Top T) (d : Data) : Type 0 where
   pub request : Holds (codes "request") top.request d
   pub host : Holds (codes "host") top.host d
-  pub elements : top.elements ≡ option_map (all_by of) (option_and_then as_array (get (codes "data") d))
+  pub elements : top.elements ≡ option_map of (option_and_then as_array (get (codes "data") d))

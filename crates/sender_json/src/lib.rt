@@ -11,8 +11,9 @@
 //! ```
 //!
 //! A body is read in one pass over its tokens. Of an element nothing but its host, key, value, clock and ns is kept,
-//! and no tree is made, so that a body takes room for its length and for the asked values, whatever stands in it.
-//! `read_body` is this pass, over what an `Element` keeps of each element: requests of agents are read by it too.
+//! and no tree is made. `gather` hands each asked value to a `Gatherer` as soon as it is read, so that a body takes room
+//! for its length and for what is gathered, whatever stands in it. `read` gathers a list of the asked values.
+//! `gather_body` is this pass, over what an `Element` keeps of each element: requests of agents are read by it too.
 //!
 //! A body is `NotJson`, `Other` (JSON of another form) or `Values`. An element of any form is an asked value: a part
 //! that isn't of its form is `None`, and its `Clock` says whether a moment is absent, bad or there. Other members are
@@ -31,6 +32,7 @@ mod asked;
 mod body;
 mod element;
 mod failed;
+mod gatherer;
 mod parts;
 mod passing;
 mod reading;
@@ -43,7 +45,8 @@ pub use asked::{Asked, Clock};
 pub use body::Body;
 pub use element::{Element, read_agent_element, read_element};
 pub use failed::ElementError;
-pub use reading::{read, read_body};
+pub use gatherer::{Gatherer, Listing};
+pub use reading::{gather, gather_body, read, read_body};
 pub use refused::Refusal;
 pub use replying::{refusal, reply};
 pub use request::Request;

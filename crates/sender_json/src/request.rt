@@ -1,15 +1,12 @@
 //! Requests.
 
-use crate::asked::Asked;
-use zbx_types::Many;
-
-/// What the data of a frame is.
+/// What the data of a frame is, where `T` is gathered of asked values.
 #[derive(Debug, Drop)]
-pub enum Request {
+pub enum Request<T> {
     /// Bytes that aren't JSON, by the reading of `serde_json`.
     NotJson,
     /// JSON that is no object with `"request":"sender data"` and an array `data`.
     Other,
-    /// The asked values, one for each element of `data`, in order.
-    Values(Many<Asked>),
+    /// What is gathered of the asked values, one for each element of `data`, in order.
+    Values(T),
 }

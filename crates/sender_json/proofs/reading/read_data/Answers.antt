@@ -2,7 +2,7 @@ use Rattle.std.proofs.Common.{◌≡◌, ◌-◌, [], ◌∷◌, false, Some, op
 use Rattle.json.specs.Json.{parse_map}
 use Rattle.json.specs.Reads.{token_of}
 use Rattle.serde_json.specs.Data.{array}
-use Rattle.sender_json.specs.Requests.{all_by}
+use Rattle.sender_json.specs.Requests.{gathered_by}
 use Rattle.sender_json.specs.Tokens.{value_first, items_first}
 use Rattle.sender_json.specs.declared.failed.ElementError.TheVariants.{NotJson}
 use Rattle.sender_json.proofs.Firsts.{first-nothing, first-array, deep-array, kind_of, opens_array}
@@ -43,7 +43,7 @@ returns-in_ok-pass_rest-in_default g c =
     let other : opens_array (token_of c.in_ok-token.token) ≡ false = grind arith in
     let kind = (kind_of _ _ _ _ _ done.ok.1).1 ∙ other in
     record {
-      ok = (done.ok.0, ap (value_first c.args.depth) first ∙ done.ok.1, ap (option_map (all_by g.E.Element.of)) (sym (no_items-as_array done.ok.0 kind)));
+      ok = (done.ok.0, ap (value_first c.args.depth) first ∙ done.ok.1, ap (option_map (gathered_by (g.G.Gatherer.of c.args.gatherer.now) g.E.Element.of)) (sym (no_items-as_array done.ok.0 kind)));
       shorter = rw first (omega (arith, done.shorter));
       err = tt;
     }

@@ -6,7 +6,7 @@ use Rattle.sender_json.specs.declared.failed.ElementError.TheVariants.{NotJson}
 use Rattle.sender_json.proofs.reading.read_items.Goals as goal
 
 pub items-init : goal.items-init
-items-init g c = record { turns = length c.args.reader.now; enough = omega arith; before = λ a. a; reads = map_id _; kept = λ ds. rw c.new-found.ensures refl; shorter = omega arith }
+items-init g c = record { turns = length c.args.reader.now; enough = omega arith; before = λ a. a; reads = map_id _; ones = []; gathered = c.none-found.ensures; kept = λ ds. refl; shorter = omega arith }
 
 pub returns-in_err-element-clause-err : goal.returns-in_err-element-clause-err
 returns-in_err-element-clause-err g c =
@@ -15,8 +15,8 @@ returns-in_err-element-clause-err g c =
     passed_on _ NotJson c.in_err-element.field-0.0 c.from_residual.ensures.1
     (λ e. at.reads ∙ ap (parse_map at.before) (items_refused (value c.args.depth) at.turns c.items.reader going.0 (rw (← going.1) (c.in_err-element.ensures.err e))))
 
-pushed : {E : Type 0} (found new : List E) (a b : E) (rest whole : List E) → whole ≡ found ++ b ∷ rest → a ≡ b → new ≡ found ++ a ∷ [] → whole ≡ new ++ rest
-pushed found new a b rest whole w same n = rw (n, append_assoc, same) w
+added : {E : Type 0} (ones : List E) (a b : E) (rest whole : List E) → whole ≡ ones ++ b ∷ rest → a ≡ b → whole ≡ (ones ++ a ∷ []) ++ rest
+added ones a b rest whole w same = rw (append_assoc, same) w
 
 pub items-preserved : goal.items-preserved
 items-preserved g c =
@@ -32,11 +32,13 @@ items-preserved g c =
       enough = omega (arith, at.enough);
       before = λ a. at.before (item d a);
       reads = at.reads ∙ ap (parse_map at.before) turn ∙ map_twice at.before (item d) _;
-      kept = λ ds. pushed c.items.found _ _ _ _ _ (at.kept (item d ds)) done.ok.2 c.in_ok-push.ensures.ok;
+      ones = at.ones ++ c.in_ok-element.element ∷ [];
+      gathered = c.in_ok-add.ensures at.ones at.gathered;
+      kept = λ ds. added at.ones _ _ _ _ (at.kept (item d ds)) done.ok.2;
       shorter = omega (arith, at.shorter);
     }
 
 pub returns-clause-ok : goal.returns-clause-ok
 returns-clause-ok g c =
     let at = c.items.invariant in
-    (at.before no_items, at.reads ∙ ap (parse_map at.before) (items_over (value c.args.depth) at.turns c.items.reader c.take_end_array.new.self at.enough (grind arith)), sym (at.kept no_items ∙ append-nil c.items.found))
+    (at.before no_items, at.reads ∙ ap (parse_map at.before) (items_over (value c.args.depth) at.turns c.items.reader c.take_end_array.new.self at.enough (grind arith)), at.gathered ∙ sym (ap (g.G.Gatherer.of c.args.gatherer.now) (at.kept no_items ∙ append-nil at.ones)))

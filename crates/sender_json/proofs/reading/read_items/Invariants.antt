@@ -1,4 +1,4 @@
-use Rattle.std.proofs.Common.{◌≡◌, ℕ, ◌≤◌, ◌++◌, length}
+use Rattle.std.proofs.Common.{◌≡◌, ℕ, ◌≤◌, List, ◌++◌, length}
 use Rattle.json.specs.Json.{items, value, parse_map}
 use Rattle.serde_json.specs.Data.{Items}
 use Rattle.serde_json.specs.Read.{of_items, converted}
@@ -12,7 +12,9 @@ invariant-items g l = record {
   enough : length l.reader ≤ turns;
   before : Items → Items;
   reads : items_first l.depth l.initial.reader ≡ parse_map before (converted of_items (items (value l.depth) turns l.reader));
-  kept : (ds : Items) → all_by g.E.Element.of (before ds) ≡ l.found ++ all_by g.E.Element.of ds;
+  ones : List g.row.E.Denot;
+  gathered : l.found ≡ g.G.Gatherer.of l.gatherer ones;
+  kept : (ds : Items) → all_by g.E.Element.of (before ds) ≡ ones ++ all_by g.E.Element.of ds;
   shorter : length l.reader ≤ length l.initial.reader;
 }
 

@@ -2,6 +2,7 @@ use Rattle.std.proofs.Common.{◌≡◌, ◌-◌, [], ◌∷◌, false, sym, ap,
 use Rattle.json.specs.Json.{parse_map}
 use Rattle.json.specs.Reads.{token_of}
 use Rattle.serde_json.specs.Data.{object}
+use Rattle.sender_json.specs.Requests.{gathered_by}
 use Rattle.sender_json.specs.Tokens.{value_first, members_first}
 use Rattle.sender_json.specs.declared.failed.ElementError.TheVariants.{NotJson}
 use Rattle.sender_json.proofs.Firsts.{first-nothing, first-object, deep-object, kind_of, opens_object}
@@ -26,7 +27,7 @@ returns-in_ok-body_of-in-BeginObject-clause-ok g c =
     let opened : value_first c.args.depth c.args.reader.now ≡ parse_map object (members_first (c.args.depth - 1) c.next.new.self) =
     ap (value_first c.args.depth) (first ∙ ap (λ k. token_of k ∷ c.next.new.self) c.in-BeginObject.is) ∙ first-object c.args.depth c.next.new.self (omega arith) in
     let read = c.in_ok-top-in-BeginObject.ensures.ok in
-    (object read.0, opened ∙ ap (parse_map object) read.1, c.in_ok-body_of-in-BeginObject.ensures (object read.0) read.2)
+    (object read.0, opened ∙ ap (parse_map object) read.1, c.in_ok-body_of-in-BeginObject.ensures (gathered_by (g.G.Gatherer.of c.args.gatherer.now) g.E.Element.of) (object read.0) read.2)
 
 pub returns-in_err-top-in-BeginObject-clause-err : goal.returns-in_err-top-in-BeginObject-clause-err
 returns-in_err-top-in-BeginObject-clause-err g c =
@@ -42,6 +43,6 @@ returns-in_ok-pass_rest-in_default g c =
     let other : opens_object (token_of c.in_ok-token.token) ≡ false = grind arith in
     let kind = (kind_of _ _ _ _ _ done.ok.1).0 ∙ other in
     record {
-      ok = (done.ok.0, ap (value_first c.args.depth) first ∙ done.ok.1, sym (not_an_object g.E.Element.of done.ok.0 kind));
+      ok = (done.ok.0, ap (value_first c.args.depth) first ∙ done.ok.1, sym (not_an_object (gathered_by (g.G.Gatherer.of c.args.gatherer.now) g.E.Element.of) done.ok.0 kind));
       err = tt;
     }

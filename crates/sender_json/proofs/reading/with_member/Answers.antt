@@ -1,5 +1,6 @@
 use Rattle.std.proofs.Common.{◌≡◌, codes, sym, ◌∙◌, true≢false}
 use Rattle.std.proofs.lemmas.Slice.Eq.{bytes_eq-Decides}
+use Rattle.sender_json.specs.Requests.{gathered_by}
 use Rattle.sender_json.proofs.Kept.{data-kept, text-stays, data-stays, request-not_data, host-not_data}
 use Rattle.sender_json.proofs.reading.with_member.Goals as goal
 
@@ -13,7 +14,7 @@ returns-then-eq-clause-ok g c =
       λ found h. record {
         request = text-stays (codes "request") name read.0 found c.args.top.request (λ e. request-not_data (e ∙ named)) h.request;
         host = text-stays (codes "host") name read.0 found c.args.top.host (λ e. host-not_data (e ∙ named)) h.host;
-        elements = data-kept g.E.Element.of name read.0 found c.in_ok-elements.elements named read.2;
+        elements = data-kept (gathered_by (g.G.Gatherer.of c.args.gatherer.now) g.E.Element.of) name read.0 found c.in_ok-elements.elements named read.2;
       },
     )
 
@@ -27,6 +28,6 @@ returns-clause-ok g c =
       λ found h. record {
         request = c.keep.ensures found read.0 h.request read.2;
         host = c.keep-2.ensures found read.0 h.host read.2;
-        elements = data-stays g.E.Element.of name read.0 found c.args.top.elements other h.elements;
+        elements = data-stays (gathered_by (g.G.Gatherer.of c.args.gatherer.now) g.E.Element.of) name read.0 found c.args.top.elements other h.elements;
       },
     )

@@ -1,7 +1,7 @@
 use Rattle.std.proofs.Common.{◌≡◌, true, sym}
 use Rattle.std.specs.Str.{is_utf8}
 use Rattle.std.proofs.lemmas.Str.{is_utf8-from_IsUtf8}
-use Rattle.sender_json.proofs.reading.read_body.Goals as goal
+use Rattle.sender_json.proofs.reading.gather_body.Goals as goal
 
 pub returns-in-Ok-read_text : goal.returns-in-Ok-read_text
 returns-in-Ok-read_text g c =
