@@ -1,5 +1,6 @@
 pub mod Numbers
 pub mod Short
+pub mod Gathered
 pub mod Collecting
 pub mod Journals
 pub mod Offers

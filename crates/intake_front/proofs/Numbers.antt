@@ -1,9 +1,10 @@
 -- Laws of numbered groups.
-use Rattle.std.proofs.Common.{◌≡◌, ℕ, ◌+◌, Result, List, [], ◌∷◌, ◌++◌, length, suc, refl, ap, sym, ◌∙◌, arith, append-nil, append_assoc, length-append}
+use Rattle.std.proofs.Common.{◌≡◌, ℕ, ◌+◌, Result, List, [], ◌∷◌, ◌++◌, length, suc, refl, ap, ap₂, sym, ◌∙◌, arith, append-nil, append_assoc, length-append}
 use Rattle.std.proofs.lemmas.Grind.{flat_map-append}
 use Rattle.zbx_types.specs.declared.entries.Entry.{Entry}
 use Rattle.zbx_types.specs.declared.entries.Numbered.{Numbered}
-use Rattle.intake_front.specs.Taking.{entry_in, group_by}
+use Rattle.intake_front.specs.Taking.{entry_in, group_by, taken_by}
+use Rattle.intake_front.specs.declared.gathering.Taken.{Taken}
 use Rattle.intake_front.specs.declared.refusal.ValueRefusal.{ValueRefusal}
 use Rattle.intake_front.specs.Intake.{numbered_from, with_group}
 
@@ -39,6 +40,14 @@ module _ {A : Type 0} (taken : A → Result Entry ValueRefusal) where
       let behind = entry_in (taken one) in
       let all : group_by taken (asked ++ one ∷ []) ≡ group_by taken asked ++ behind = flat_map-append _ asked (one ∷ []) ∙ ap (λ t. group_by taken asked ++ t) (append-nil behind) in
       more ∙ ap (λ t. t ++ behind) is ∙ sym all
+
+-- one more value
+pub taken_more : {A : Type 0} (taken : A → Result Entry ValueRefusal) (old new : Taken) (asked : List A) (one : A) → old ≡ taken_by taken asked
+    → new.group ≡ old.group ++ entry_in (taken one) → new.total ≡ old.total + 1 → new ≡ taken_by taken (asked ++ one ∷ [])
+taken_more taken old new asked one is more count =
+    let group : new.group ≡ group_by taken (asked ++ one ∷ []) = group_more taken old.group new.group asked one (ap (λ t. t.group) is) more in
+    let total : new.total ≡ length (asked ++ one ∷ []) = omega (arith, count, ap (λ t. t.total) is, length-append asked (one ∷ [])) in
+    ap₂ (λ g n. record { group = g; total = n }) group total
 
 -- one more entry of a group behind others
 pub numbered_more : (first number : ℕ) (before made new : List Numbered) (group : List Entry) (e : Entry) → made ≡ before ++ numbered_from (first + length before) group → number ≡ first + length made

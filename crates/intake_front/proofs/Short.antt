@@ -16,7 +16,14 @@ use Rattle.sender_json.specs.declared.asked.Clock.TheVariants as clock
 use Rattle.maintenance.specs.Suppression.{is_collected}
 use Rattle.entry_step.specs.Names.{host_named, item_keyed}
 use Rattle.intake_journal.specs.Bytes.{HasShortValue}
-use Rattle.intake_front.specs.Taking.{clocked, valued, keyed, hosted, supported, taken_of, agent_taken_of, entry_in, group_by, group_of, agent_group_of, is_enabled_host, is_enabled_item, comes_from, not_from, is_unsupported}
+use Rattle.wire_core.specs.declared.turn.Turn.{Turn}
+use Rattle.wire_core.specs.declared.turn.Turn.TheVariants as turn
+use Rattle.intake_front.specs.Asking.{ask_of}
+use Rattle.intake_front.specs.Intake.{counted, answered_taken, answered_ask, turned}
+use Rattle.intake_front.specs.declared.asking.Ask.{Ask}
+use Rattle.intake_front.specs.declared.asking.Ask.TheVariants as ask
+use Rattle.intake_front.specs.declared.drafts.Draft.{Draft}
+use Rattle.intake_front.specs.Taking.{clocked, valued, keyed, hosted, supported, taken_of, agent_taken_of, entry_in, group_by, is_enabled_host, is_enabled_item, comes_from, not_from, is_unsupported}
 use Rattle.intake_front.specs.declared.origin.Origin.{Origin}
 use Rattle.intake_front.specs.declared.origin.Origin.TheVariants.{Sender}
 use Rattle.intake_front.specs.declared.refusal.ValueRefusal.{ValueRefusal}
@@ -80,8 +87,19 @@ all_short taken short (one ∷ rest) =
     subst (All HasShortValue) (sym (flat_map-cons (λ a. entry_in (taken a)) one rest))
     (All-append HasShortValue (entry_in (taken one)) (group_by taken rest) (short one) (all_short taken short rest))
 
-pub group_short : (conf : Conf) (now : ℕ) (all : List Asked) (group : List Entry) → group ≡ group_of conf now all → All HasShortValue group
-group_short conf now all group is = subst (All HasShortValue) (sym is) (all_short (taken_of conf now Sender) (taken_short conf now Sender) all)
+module _ (conf : Conf) (now : ℕ) where
+  ask_short : (conn since : ℕ) (a : Ask (List Asked) (List AgentAsked)) → AllShort (answered_ask conf now conn since a).group
+  unfolding answered_ask answered_taken counted
+  ask_short conn since (ask.Refused why) = All-nil HasShortValue
+  ask_short conn since (ask.Values all) = all_short (taken_of conf now Sender) (taken_short conf now Sender) all
+  ask_short conn since (ask.Checks host) = All-nil HasShortValue
+  ask_short conn since (ask.Data all) = all_short (agent_taken_of conf now) (λ one. taken_short conf now _ one.asked) all
 
-pub agent_group_short : (conf : Conf) (now : ℕ) (all : List AgentAsked) (group : List Entry) → group ≡ agent_group_of conf now all → All HasShortValue group
-agent_group_short conf now all group is = subst (All HasShortValue) (sym is) (all_short (agent_taken_of conf now) (λ one. taken_short conf now _ one.asked) all)
+  turn_short : (t : Turn) → AllShort (turned conf now t).group
+  unfolding turned
+  turn_short turn.Nothing = All-nil HasShortValue
+  turn_short (turn.Shut conn) = All-nil HasShortValue
+  turn_short (turn.Whole conn body since) = ask_short conn since (ask_of body)
+
+  pub turned_short : (t : Turn) (draft : Draft) → draft ≡ turned conf now t → All HasShortValue draft.group
+  turned_short t draft is = subst (λ (d : Draft). All HasShortValue d.group) (sym is) (turn_short t)

@@ -25,6 +25,7 @@ use Rattle.sender_json.specs.declared.asked.Asked.{Asked}
 use Rattle.sender_json.specs.declared.asked.Clock.{Clock}
 use Rattle.sender_json.specs.declared.asked.Clock.TheVariants as clock
 use Rattle.agent_json.specs.Checks.{is_active_kind}
+use Rattle.agent_json.specs.declared.request.AgentAsked.{AgentAsked}
 use Rattle.intake_front.specs.declared.asking.Ask.{Ask}
 use Rattle.intake_front.specs.declared.asking.Ask.TheVariants as ask
 use Rattle.intake_front.specs.declared.origin.Origin.{Origin}
@@ -35,7 +36,7 @@ use Rattle.entry_step.specs.Log.{log_of, moment_from, is_config, is_taking, IsFi
 use Rattle.maintenance.specs.Suppression.{is_collected}
 use Rattle.entry_step.specs.Names.{host_named, item_keyed}
 use Rattle.intake_front.specs.Taking.{clocked, valued, keyed, hosted, supported, taken_of, agent_taken_of, entry_in, group_by, is_enabled_host, is_enabled_item, comes_from, not_from, is_unsupported}
-use Rattle.intake_front.specs.Intake.{Limits, Intake, numbered_from, with_group, is_due, half_minute, ticks_at, counted, answered_ask, turned, kept_with, ticked, values_offered, behind_tick, tick_offered, offered, refused, numbered_behind, stop_of, handled, start, IsSound}
+use Rattle.intake_front.specs.Intake.{Limits, Intake, numbered_from, with_group, is_due, half_minute, ticks_at, counted, answered_taken, answered_ask, turned, kept_with, ticked, values_offered, behind_tick, tick_offered, offered, refused, numbered_behind, stop_of, handled, start, IsSound}
 use Rattle.zbx_types.specs.declared.memory.OutOfMemory.{OutOfMemory}
 use Rattle.intake_front.specs.declared.answer.Answer.{Answer}
 use Rattle.intake_front.specs.declared.answer.Stop.{Stop}
@@ -159,8 +160,8 @@ module _ (conf : Conf) (now : ℕ) where
       subst (All (IsTakenAt conf now)) (sym (flat_map-cons (λ a. entry_in (taken a)) one rest))
       (All-append (IsTakenAt conf now) (entry_in (taken one)) (group_by taken rest) (each one) (group_fits taken each rest))
 
-  ask_fits : (conn since : ℕ) (a : Ask) → All (IsTakenAt conf now) (answered_ask conf now conn since a).group
-  unfolding answered_ask counted
+  ask_fits : (conn since : ℕ) (a : Ask (List Asked) (List AgentAsked)) → All (IsTakenAt conf now) (answered_ask conf now conn since a).group
+  unfolding answered_ask answered_taken counted
   ask_fits conn since (ask.Refused why) = All-nil (IsTakenAt conf now)
   ask_fits conn since (ask.Values all) = group_fits (taken_of conf now Sender) (taken_fits Sender) all
   ask_fits conn since (ask.Checks host) = All-nil (IsTakenAt conf now)

@@ -17,8 +17,7 @@ use Rattle.sender_json.specs.Replies.{reply_text, refusal_text}
 use Rattle.sender_json.specs.declared.asked.Asked.{Asked}
 use Rattle.agent_json.specs.declared.request.AgentAsked.{AgentAsked}
 use Rattle.entry_step.specs.Log.{log_of, moment_from, tick_of, IsFull, Fits}
-use Rattle.intake_front.specs.Asking.{ask_of}
-use Rattle.intake_front.specs.Taking.{group_of, agent_group_of}
+use Rattle.intake_front.specs.Asking.{ask_of, taken_ask}
 use Rattle.intake_front.specs.Telling.{told}
 use Rattle.intake_front.specs.declared.asking.Ask.{Ask}
 use Rattle.intake_front.specs.declared.asking.Ask.TheVariants as ask
@@ -27,6 +26,7 @@ use Rattle.intake_front.specs.declared.answer.Reply.{Reply}
 use Rattle.intake_front.specs.declared.answer.Stop.{Stop}
 use Rattle.intake_front.specs.declared.answer.Stop.TheVariants as stop
 use Rattle.intake_front.specs.declared.drafts.Draft.{Draft}
+use Rattle.intake_front.specs.declared.gathering.Taken.{Taken}
 use Rattle.entry_step.specs.Start.{first_start}
 
 -- What a run may journal: the most entries and the most bytes, and the number of the group that the disk refuses,
@@ -106,13 +106,17 @@ counted now conn since group total = record {
   shut = Some conn;
 }
 
--- what a body asks is answered: the values that it brings are counted; an agent is told its items, and no entry is made;
--- any other body is refused by its reply
-unfoldable pub answered_ask : Conf → ℕ → ℕ → ℕ → Ask → Draft
-answered_ask conf now conn since (ask.Refused why) = only (replying conn (frame (refusal_text why))) (Some conn)
-answered_ask conf now conn since (ask.Values all) = counted now conn since (group_of conf now all) (length all)
-answered_ask conf now conn since (ask.Checks host) = only (replying conn (told conf host)) (Some conn)
-answered_ask conf now conn since (ask.Data all) = counted now conn since (agent_group_of conf now all) (length all)
+-- what a body asks is answered: the values that it brings, of which these are taken, are counted; an agent is told its
+-- items, and no entry is made; any other body is refused by its reply
+unfoldable pub answered_taken : Conf → ℕ → ℕ → ℕ → Ask Taken Taken → Draft
+answered_taken conf now conn since (ask.Refused why) = only (replying conn (frame (refusal_text why))) (Some conn)
+answered_taken conf now conn since (ask.Values taken) = counted now conn since taken.group taken.total
+answered_taken conf now conn since (ask.Checks host) = only (replying conn (told conf host)) (Some conn)
+answered_taken conf now conn since (ask.Data taken) = counted now conn since taken.group taken.total
+
+-- what a body asks is answered, with the values that are taken at a moment
+unfoldable pub answered_ask : Conf → ℕ → ℕ → ℕ → Ask (List Asked) (List AgentAsked) → Draft
+answered_ask conf now conn since a = answered_taken conf now conn since (taken_ask conf now a)
 
 -- what is made at a moment of what an event meant for its connection
 unfoldable pub turned : Conf → ℕ → Turn → Draft

@@ -16,6 +16,7 @@ use Rattle.sender_json.specs.declared.asked.Clock.{Clock}
 use Rattle.sender_json.specs.declared.asked.Clock.TheVariants as clock
 use Rattle.maintenance.specs.Suppression.{is_collected}
 use Rattle.entry_step.specs.Names.{host_named, item_keyed}
+use Rattle.intake_front.specs.declared.gathering.Taken.{Taken}
 use Rattle.intake_front.specs.declared.refusal.ValueRefusal.{ValueRefusal}
 use Rattle.intake_front.specs.declared.refusal.ValueRefusal.TheVariants.{UnknownHost, UnknownKey, Disabled, NotTrapper, NotActive}
 use Rattle.intake_front.specs.declared.refusal.ValueRefusal.TheVariants.{InMaintenance, BadValue, BadClock, Unsupported}
@@ -104,9 +105,17 @@ entry_in (Err cause) = []
 abbrev pub group_by : {A : Type 0} → (A → Result Entry ValueRefusal) → List A → List Entry
 group_by taken all = flat_map (λ one. entry_in (taken one)) all
 
+-- what is taken of values, where it is said what becomes of each: the entries, and of how many values
+abbrev pub taken_by : {A : Type 0} → (A → Result Entry ValueRefusal) → List A → Taken
+taken_by taken all = record { group = group_by taken all; total = length all }
+
 -- the values of a sender that are taken: one group
 abbrev pub group_of : Conf → ℕ → List Asked → List Entry
 group_of conf now = group_by (taken_of conf now Sender)
+
+-- what is taken of the values of a sender
+abbrev pub values_taken : Conf → ℕ → List Asked → Taken
+values_taken conf now = taken_by (taken_of conf now Sender)
 
 -- what an element of agent data becomes at a moment
 abbrev pub agent_taken_of : Conf → ℕ → AgentAsked → Result Entry ValueRefusal
@@ -115,3 +124,12 @@ agent_taken_of conf now one = taken_of conf now (Agent one.unsupported) one.aske
 -- the values of an agent that are taken: one group
 abbrev pub agent_group_of : Conf → ℕ → List AgentAsked → List Entry
 agent_group_of conf now = group_by (agent_taken_of conf now)
+
+-- what is taken of the values of an agent
+abbrev pub data_taken : Conf → ℕ → List AgentAsked → Taken
+data_taken conf now = taken_by (agent_taken_of conf now)
+
+-- by what values are taken: the configuration, and the moment
+pub record TakenBy : Type 0 where
+  pub conf : Conf
+  pub moment : ℕ

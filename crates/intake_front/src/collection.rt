@@ -3,6 +3,7 @@
 ghost use Rattle.std.specs.Prelude.{◌≡◌, false, IfOk};
 ghost use Rattle.intake_front.specs.Taking.{AllCollected};
 
+use crate::gathering::Taking;
 use crate::taking::some_keeps_out;
 use entry_step::Ready;
 use std::marker::Model;
@@ -55,7 +56,7 @@ impl<'a> Collection<'a> {
 
     /// Whether some maintenance keeps values out at a moment. Where none does, no value need ask for its host.
     #[tactic(auto, using(crate::proofs::Collecting::same_second))]
-    pub(crate) fn some_out(&mut self, now: Moment) -> Result<bool, OutOfMemory>
+    fn some_out(&mut self, now: Moment) -> Result<bool, OutOfMemory>
         ensures some { IfOk result (λ some. some ≡ false → AllCollected self.old now) }
         ensures same { self.new ≡ self.old }
     {
@@ -67,5 +68,15 @@ impl<'a> Collection<'a> {
         let some_out = some_keeps_out(self.ready.conf(), now)?;
         self.found = Some(Found { at: now, some_out });
         Ok(some_out)
+    }
+
+    /// By what values are taken at a moment.
+    pub(crate) fn taking(&mut self, now: Moment) -> Result<Taking<'a>, OutOfMemory>
+        ensures conf { IfOk result (λ by. by.conf ≡ self.old) }
+        ensures moment { IfOk result (λ by. by.moment ≡ now) }
+        ensures same { self.new ≡ self.old }
+    {
+        let some_out = self.some_out(now)?;
+        Ok(Taking::new(self.ready, now, some_out))
     }
 }

@@ -2,13 +2,14 @@
 
 ghost use Rattle.std.specs.Prelude.{◌≡◌, ◌<◌, All, IfOk};
 ghost use Rattle.intake_journal.specs.Bytes.{HasShortValue};
-ghost use Rattle.intake_front.specs.Intake.{ticks_at, is_due, only, replying, counting, counted, answered_ask, turned, stop_of, stopping};
+ghost use Rattle.intake_front.specs.Intake.{ticks_at, is_due, only, replying, counting, counted, answered_taken, turned, stop_of, stopping};
 
 use crate::answer::{Answer, Reply, Stop};
-use crate::asking::{Ask, ask_of};
+use crate::asking::{Ask, asked};
 use crate::collection::Collection;
-use crate::taking::{agent_group, group};
+use crate::gathering::Taken;
 use crate::telling::told;
+use entry_step::Ready;
 use outside::WireEvent;
 use sender_json::{refusal, reply};
 use std::alloc::Global;
@@ -67,12 +68,10 @@ fn counted(
     conn: u64,
     since: Moment,
     group: Many<Entry>,
-    total: usize,
+    total: u64,
 ) -> Result<Draft, OutOfMemory>
-    ensures made { IfOk result (λ draft. draft ≡ counted now conn since group total) }
-    ensures same { IfOk result (λ draft. draft.group ≡ group) }
+    ensures { IfOk result (λ draft. draft ≡ counted now conn since group total) }
 {
-    let total = total as u64;
     let processed = group.as_slice().len() as u64;
     let good = counting(
         alloc,
@@ -91,44 +90,58 @@ fn counted(
     })
 }
 
-/// What is made of what a body asks.
-#[tactic(auto, unfolding(crate::specs::Intake::answered_ask))]
-fn answered_ask(
+/// What is made of what a body asks, whose values were taken.
+#[tactic(auto, unfolding(crate::specs::Intake::answered_taken))]
+fn answered_taken(
     alloc: Global,
-    collection: &mut Collection<'_>,
+    ready: &Ready,
     now: Moment,
     conn: u64,
     since: Moment,
-    ask: Ask,
+    ask: Ask<Taken, Taken>,
 ) -> Result<Draft, OutOfMemory>
-    ensures made { IfOk result (λ draft. draft ≡ answered_ask collection.old now conn since ask) }
-    ensures same { collection.new ≡ collection.old }
-    ensures short { IfOk result (λ draft. All HasShortValue draft.group) }
+    ensures { IfOk result (λ draft. draft ≡ answered_taken ready.now.conf now conn since ask) }
 {
     match ask {
         Ask::Refused(why) => {
             let bytes = refusal(alloc, why)?;
             Ok(only(alloc, replying(conn, bytes), Some(conn)))
         }
-        Ask::Values(all) => {
-            let total = all.len();
-            let group = group(alloc, collection, now, all)?;
-            counted(alloc, now, conn, since, group, total)
-        }
         Ask::Checks { host } => {
-            let bytes = told(alloc, collection.ready(), &host)?;
+            let bytes = told(alloc, ready, &host)?;
             Ok(only(alloc, replying(conn, bytes), Some(conn)))
         }
-        Ask::Data(all) => {
-            let total = all.len();
-            let group = agent_group(alloc, collection, now, all)?;
+        Ask::Values(taken) | Ask::Data(taken) => {
+            let Taken { group, total } = taken;
             counted(alloc, now, conn, since, group, total)
         }
     }
 }
 
 /// What is made at a moment of what an event meant for its connection.
-#[tactic(auto, unfolding(crate::specs::Intake::turned))]
+#[tactic(auto, unfolding(crate::specs::Intake::turned, crate::specs::Intake::answered_ask))]
+fn draft_of(
+    alloc: Global,
+    collection: &mut Collection<'_>,
+    now: Moment,
+    turn: Turn,
+) -> Result<Draft, OutOfMemory>
+    ensures made { IfOk result (λ draft. draft ≡ turned collection.old now turn) }
+    ensures same { collection.new ≡ collection.old }
+{
+    match turn {
+        Turn::Nothing => Ok(only(alloc, None, None)),
+        Turn::Shut { conn } => Ok(only(alloc, None, Some(conn))),
+        Turn::Whole { conn, body, since } => {
+            let by = collection.taking(now)?;
+            let ask = asked(alloc, &by, body.as_slice())?;
+            answered_taken(alloc, collection.ready(), now, conn, since, ask)
+        }
+    }
+}
+
+/// The same, whose values are all short.
+#[tactic(auto, using(crate::proofs::Short::turned_short))]
 pub(crate) fn turned(
     alloc: Global,
     collection: &mut Collection<'_>,
@@ -139,14 +152,8 @@ pub(crate) fn turned(
     ensures same { collection.new ≡ collection.old }
     ensures short { IfOk result (λ draft. All HasShortValue draft.group) }
 {
-    match turn {
-        Turn::Nothing => Ok(only(alloc, None, None)),
-        Turn::Shut { conn } => Ok(only(alloc, None, Some(conn))),
-        Turn::Whole { conn, body, since } => {
-            let ask = ask_of(alloc, body.as_slice())?;
-            answered_ask(alloc, collection, now, conn, since, ask)
-        }
-    }
+    let draft = draft_of(alloc, collection, now, turn)?;
+    Ok(draft)
 }
 
 fn is_due(last: Option<u32>, half: u32) -> bool

@@ -41,6 +41,7 @@ mod collection;
 mod drafts;
 mod fitting;
 mod front;
+mod gathering;
 mod held;
 mod offering;
 mod opening;

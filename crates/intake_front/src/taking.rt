@@ -1,24 +1,21 @@
 //! What becomes of asked values.
 
-ghost use Rattle.std.specs.Prelude.{◌≡◌, ◌++◌, ◌&&◌, not, false, All, IfOk, OnOk, option_and_then, option_copied};
+ghost use Rattle.std.specs.Prelude.{◌≡◌, ◌&&◌, not, false, IfOk, option_and_then, option_copied};
 ghost use Rattle.maintenance.specs.Force.{is_in_force};
 ghost use Rattle.maintenance.specs.Suppression.{is_collected};
 ghost use Rattle.entry_step.specs.Names.{host_named, item_keyed};
 ghost use Rattle.zbx_types.specs.Items.{is_trapper_item};
 ghost use Rattle.agent_json.specs.Checks.{is_active_kind};
-ghost use Rattle.intake_front.specs.Taking.{is_enabled_host, is_enabled_item, is_active_item, comes_from, not_from, is_unsupported, AllCollected, clocked, valued, keyed, hosted, supported, taken_of, agent_taken_of, entry_in, group_of, agent_group_of};
-ghost use Rattle.intake_journal.specs.Bytes.{HasShortValue};
+ghost use Rattle.intake_front.specs.Taking.{is_enabled_host, is_enabled_item, is_active_item, comes_from, not_from, is_unsupported, AllCollected, clocked, valued, keyed, hosted, supported, taken_of, agent_taken_of};
 
-use crate::collection::Collection;
 use crate::origin::Origin;
 use crate::refusal::ValueRefusal;
 use agent_json::AgentAsked;
 use entry_step::Ready;
 use maintenance::{collects, in_force};
 use sender_json::{Asked, Clock};
-use std::alloc::Global;
 use zbx_types::{
-    Conf, Entry, Host, Item, ItemKind, LONGEST_VALUE, Maintenance, Many, Moment, OutOfMemory, Text,
+    Conf, Entry, Host, Item, ItemKind, LONGEST_VALUE, Maintenance, Moment, OutOfMemory, Text,
     by_id, id_of,
 };
 
@@ -243,7 +240,7 @@ fn supported(unsupported: bool, taken: Result<Entry, ValueRefusal>) -> Result<En
 
 /// The entry that an asked value becomes, or the cause for which it is refused.
 #[tactic(auto, unfolding(crate::specs::Taking::taken_of))]
-fn taken(
+pub(crate) fn taken(
     ready: &Ready,
     now: Moment,
     some_out: bool,
@@ -260,7 +257,7 @@ fn taken(
 }
 
 /// The entry that an element of agent data becomes, or the cause for which it is refused.
-fn agent_taken(
+pub(crate) fn agent_taken(
     ready: &Ready,
     now: Moment,
     some_out: bool,
@@ -271,59 +268,4 @@ fn agent_taken(
 {
     let AgentAsked { asked, unsupported } = one;
     taken(ready, now, some_out, Origin::Agent { unsupported }, asked)
-}
-
-/// Adds a value that was taken.
-fn add(made: &mut Many<Entry>, taken: Result<Entry, ValueRefusal>) -> Result<(), OutOfMemory>
-    ensures { OnOk result (made.new ≡ made.old ++ entry_in taken) }
-{
-    if let Ok(entry) = taken {
-        made.push(entry)?;
-    }
-    Ok(())
-}
-
-/// The values of a sender that are taken, as entries. All are taken at one moment.
-#[tactic(auto, using(crate::proofs::Numbers::group_none, crate::proofs::Numbers::group_more, crate::proofs::Short::group_short))]
-pub(crate) fn group(
-    alloc: Global,
-    collection: &mut Collection<'_>,
-    now: Moment,
-    all: Many<Asked>,
-) -> Result<Many<Entry>, OutOfMemory>
-    ensures made { IfOk result (λ made. made ≡ group_of collection.old now all) }
-    ensures same { collection.new ≡ collection.old }
-    ensures short { IfOk result (λ made. All HasShortValue made) }
-{
-    let some_out = collection.some_out(now)?;
-    let ready = collection.ready();
-    let mut made = Many::new(alloc);
-    for asked in all.into_vec() {
-        add(
-            &mut made,
-            taken(ready, now, some_out, Origin::Sender, asked),
-        )?;
-    }
-    Ok(made)
-}
-
-/// The values of an agent that are taken, as entries. All are taken at one moment.
-#[tactic(auto, using(crate::proofs::Numbers::group_none, crate::proofs::Numbers::group_more, crate::proofs::Short::agent_group_short))]
-pub(crate) fn agent_group(
-    alloc: Global,
-    collection: &mut Collection<'_>,
-    now: Moment,
-    all: Many<AgentAsked>,
-) -> Result<Many<Entry>, OutOfMemory>
-    ensures made { IfOk result (λ made. made ≡ agent_group_of collection.old now all) }
-    ensures same { collection.new ≡ collection.old }
-    ensures short { IfOk result (λ made. All HasShortValue made) }
-{
-    let some_out = collection.some_out(now)?;
-    let ready = collection.ready();
-    let mut made = Many::new(alloc);
-    for one in all.into_vec() {
-        add(&mut made, agent_taken(ready, now, some_out, one))?;
-    }
-    Ok(made)
 }
