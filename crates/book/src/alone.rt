@@ -18,7 +18,7 @@ fn work_uncounted<S: StartName, L: Ledger>(
     progress: &mut Progress<S>,
     blank: Blank,
 ) -> Result<(), OutOfMemory>
-    requires conf { ready.now ≡ S.start.stage }
+    requires conf { ready.now.stage ≡ S.start.stage }
     requires name { blank.name ≡ L.name }
     requires parts { blank.parts ≡ L.parts }
     requires some { 0 < L.parts }
@@ -36,7 +36,7 @@ pub(crate) fn work_all<S: StartName>(
     ready: &Ready,
     progress: &mut Progress<S>,
 ) -> Result<(), OutOfMemory>
-    requires conf { ready.now ≡ S.start.stage }
+    requires conf { ready.now.stage ≡ S.start.stage }
     ensures entries { progress.new.entries ≡ progress.old.entries }
     ensures all { OnOk result (AreApplied progress.new.gate.marks (length progress.new.entries)) }
     ensures keeps { StayApplied progress.old.gate.marks progress.new.gate.marks }

@@ -98,7 +98,7 @@ impl<S: StartName, N: RunName, O: Sink> Book<S, N, O> {
         ring: RingEnd<S, N>,
         outbox: O,
     ) -> Result<Book<S, N, O>, (O, BookError)>
-        requires conf { ready.now ≡ S.start.stage }
+        requires conf { ready.now.stage ≡ S.start.stage }
         requires kept { kept.now ≡ S.kept }
         requires whole { IsWholeLog S.start kept.now }
         requires received { ring.received ≡ [] }
@@ -205,7 +205,7 @@ impl<S: StartName, N: RunName, O: Sink> Book<S, N, O> {
         ready: &Ready,
         limit: u32,
     ) -> Result<Option<Order<S>>, OutOfMemory>
-        requires conf { ready.now ≡ S.start.stage }
+        requires conf { ready.now.stage ≡ S.start.stage }
         requires limit { 1 ≤ limit }
         ensures batch { IfOk result (λ made. option_map (λ order. order.batch) made ≡ batch_of self.old.gate.next
             (chosen (feet_of S.start.stage.conf) self.old.gate self.old.entries limit)) }
@@ -234,7 +234,7 @@ impl<S: StartName, N: RunName, O: Sink> Book<S, N, O> {
         done: Done<S>,
         steps: &mut Steps<L>,
     ) -> Result<(), (Done<S>, OutOfMemory)>
-        requires conf { ready.now ≡ S.start.stage }
+        requires conf { ready.now.stage ≡ S.start.stage }
         ensures entries { self.new.entries ≡ self.old.entries }
         ensures open { OnOk result (IsOpenBatch self.old.gate done.order.batch
             → self.new.gate ≡ with_ended done.order.batch.id Mark.Applied self.old.gate) }
@@ -269,7 +269,7 @@ impl<S: StartName, N: RunName, O: Sink> Book<S, N, O> {
         ready: &Ready,
         steps: &mut Steps<L>,
     ) -> Result<bool, OutOfMemory>
-        requires conf { ready.now ≡ S.start.stage }
+        requires conf { ready.now.stage ≡ S.start.stage }
         ensures entries { self.new.entries ≡ self.old.entries }
         ensures one { IfOk result (λ some. some ≡ true → (id : ℕ)
             × (self.new.gate.marks ≡ (with_ended id Mark.Applied
@@ -379,7 +379,7 @@ impl<S: StartName, N: RunName, O: Sink> Book<S, N, O> {
     /// Ends all open batches, and works out all entries, one after another, in the cells themselves: for one thread.
     /// At `Err` some of them are worked out.
     pub fn work_all(&mut self, alloc: Global, ready: &Ready) -> Result<(), OutOfMemory>
-        requires conf { ready.now ≡ S.start.stage }
+        requires conf { ready.now.stage ≡ S.start.stage }
         ensures entries { self.new.entries ≡ self.old.entries }
         ensures all { OnOk result (AreApplied self.new.gate.marks (length self.new.entries)) }
         ensures out { (self.new.frontier ≡ self.old.frontier) × (self.new.tally ≡ self.old.tally)
@@ -395,7 +395,7 @@ impl<S: StartName, N: RunName, O: Sink> Book<S, N, O> {
         ready: &Ready,
         head: &mut RingHead<S, N>,
     ) -> Result<(), FlushError>
-        requires conf { ready.now ≡ S.start.stage }
+        requires conf { ready.now.stage ≡ S.start.stage }
         ensures within { IsPrefix self.new.entries head.old.sent }
         ensures all { OnOk result (self.new.entries ≡ head.old.sent) }
         ensures frontier { OnOk result (self.new.frontier ≡ length self.new.entries) }
@@ -465,7 +465,7 @@ impl<S: StartName, N: RunName, O: Sink> Book<S, N, O> {
         ready: &Ready,
         head: RingHead<S, N>,
     ) -> Result<Closed<O>, (O, FlushError)>
-        requires conf { ready.now ≡ S.start.stage }
+        requires conf { ready.now.stage ≡ S.start.stage }
         ensures lines { IfOk result (λ closed. HasAll S.outbox (O.tells closed.outbox)
             (log_lines S.start (log_of (S.kept ++ head.sent)))) }
         ensures counts { IfOk result (λ closed. tally_of (replay S.start (log_of (S.kept ++ head.sent))) ≡ record

@@ -85,7 +85,7 @@ fn inputs_of<S: StartName>(
     all: Listed<'_>,
     numbers: &[u64],
 ) -> Result<Inputs, OutOfMemory>
-    requires conf { ready.now ≡ S.start.stage }
+    requires conf { ready.now.stage ≡ S.start.stage }
     requires ready { AreReady all.before S.start.stage cells.now all.entries.now numbers.now }
     ensures entries { IfOk result (λ made. made.entries ≡ entries_with numbers.now all.entry.entries.now) }
     ensures part { IfOk result (λ made. IsPartOf S.start.stage.conf (entries_with numbers.now all.entry.entries.now)
@@ -103,7 +103,7 @@ fn scratch_of<S: StartName>(
     ready: &Ready,
     spare: &mut Vec<Cells>,
 ) -> Result<Cells, OutOfMemory>
-    requires conf { ready.now ≡ S.start.stage }
+    requires conf { ready.now.stage ≡ S.start.stage }
     requires spare { All (IsBlank S.start.stage) spare.old.items }
     ensures cells { IfOk result (IsBlank S.start.stage) }
     ensures spare { All (IsBlank S.start.stage) spare.new.items }
@@ -131,7 +131,7 @@ pub(crate) fn order_of<S: StartName>(
     spare: &mut Vec<Cells>,
     batch: Batch,
 ) -> Result<Order<S>, (Batch, OutOfMemory)>
-    requires conf { ready.now ≡ S.start.stage }
+    requires conf { ready.now.stage ≡ S.start.stage }
     requires ready { AreReady all.before S.start.stage cells.now all.entries.now batch.numbers }
     requires spare { All (IsBlank S.start.stage) spare.old.items }
     ensures batch { IfOk result (λ order. order.batch ≡ batch) }
@@ -188,7 +188,7 @@ fn rework<S: StartName, L: Ledger>(
     scratch: &mut Cells,
     steps: &mut Steps<L>,
 ) -> Result<Again, OutOfMemory>
-    requires conf { ready.now ≡ S.start.stage }
+    requires conf { ready.now.stage ≡ S.start.stage }
     requires ready { AreReady all.before S.start.stage cells.now all.entries.now numbers.now }
     requires scratch { IsBlank S.start.stage scratch.old }
     ensures entries { IfOk result (λ again. again.entries ≡ entries_with numbers.now all.entry.entries.now) }
@@ -224,7 +224,7 @@ pub(crate) fn outputs_of<S: StartName, L: Ledger>(
     done: Done<S>,
     steps: &mut Steps<L>,
 ) -> Result<Outputs, (Done<S>, OutOfMemory)>
-    requires conf { ready.now ≡ S.start.stage }
+    requires conf { ready.now.stage ≡ S.start.stage }
     requires ready { AreReady all.before S.start.stage cells.now all.entries.now done.order.batch.numbers }
     ensures batch { IfOk result (λ made. made.batch ≡ done.order.batch) }
     ensures entries { IfOk result (λ made. made.entries ≡ entries_with done.order.batch.numbers all.entry.entries.now) }
@@ -317,7 +317,7 @@ pub(crate) fn work_in<S: StartName, L: Ledger>(
     numbers: &[u64],
     steps: &mut Steps<L>,
 ) -> Result<(), OutOfMemory>
-    requires conf { ready.now ≡ S.start.stage }
+    requires conf { ready.now.stage ≡ S.start.stage }
     requires ready { AreReady all.before S.start.stage cells.old all.entries.now numbers.now }
     requires one { length numbers.now ≡ 1 }
     requires size { length made.old.items ≡ length all.entries.now }
@@ -339,7 +339,7 @@ pub(crate) fn take_batch<S: StartName>(
     entries: &[Numbered],
     limit: u32,
 ) -> Result<Option<Batch>, OutOfMemory>
-    requires conf { ready.now ≡ S.start.stage }
+    requires conf { ready.now.stage ≡ S.start.stage }
     requires limit { 1 ≤ limit }
     requires offered { AreOffered claims.old entries.now }
     ensures batch { IfOk result (λ taken. taken ≡ batch_of claims.old.next

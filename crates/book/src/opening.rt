@@ -90,7 +90,7 @@ fn replay_one<O: Sink, L: Ledger>(
     so_far: &mut Replayed,
     steps: &mut Steps<L>,
 ) -> Result<(), BookError>
-    ensures replayed { OnOk result ((start : Start) (log : List Numbered) → start.stage ≡ ready.now
+    ensures replayed { OnOk result ((start : Start) (log : List Numbered) → start.stage ≡ ready.now.stage
         → Suits start (entry.now ∷ log) → IsReplayed start log (O.tells outbox.old) so_far.old
         → IsReplayed start (entry.now ∷ log) (O.tells outbox.old) so_far.new) }
     ensures left { IsLeft (O.tells outbox.old) (O.tells outbox.new) }
@@ -113,7 +113,7 @@ fn replay_all<O: Sink, L: Ledger>(
     requires name { blank.name ≡ L.name }
     requires parts { blank.parts ≡ L.parts }
     requires some { 0 < L.parts }
-    ensures replayed { OnOk result ((start : Start) → start.stage ≡ ready.now → Suits start (log_of kept.now)
+    ensures replayed { OnOk result ((start : Start) → start.stage ≡ ready.now.stage → Suits start (log_of kept.now)
         → IsReplayed start [] (O.tells outbox.old) so_far.old
         → IsReplayed start (log_of kept.now) (O.tells outbox.old) so_far.new) }
     ensures left { IsLeft (O.tells outbox.old) (O.tells outbox.new) }
@@ -134,7 +134,7 @@ pub(crate) fn begin<S: StartName, O: Sink>(
     kept: &[Numbered],
     outbox: &mut O,
 ) -> Result<Replayed, BookError>
-    requires conf { ready.now ≡ S.start.stage }
+    requires conf { ready.now.stage ≡ S.start.stage }
     requires whole { IsWholeLog S.start kept.now }
     ensures replayed { IfOk result (IsReplayed S.start (log_of kept.now) (O.tells outbox.old)) }
     ensures left { IsLeft (O.tells outbox.old) (O.tells outbox.new) }

@@ -66,7 +66,7 @@ impl<S: StartName> Order<S> {
         ready: &Ready,
         steps: &mut Steps<L>,
     ) -> Result<Done<S>, (Order<S>, OutOfMemory)>
-        requires conf { ready.now ≡ S.start.stage }
+        requires conf { ready.now.stage ≡ S.start.stage }
         ensures done { IfOk result (λ done. done.order ≡ self) }
         ensures counted { OnOk result (IsCounted S.start.stage self.entries self.part steps.old steps.new) }
         ensures back { IfErr result (λ refused. refused.0 ≡ self) }

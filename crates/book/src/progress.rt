@@ -162,7 +162,7 @@ impl<S: StartName> Progress<S> {
         ready: &Ready,
         limit: u32,
     ) -> Result<Option<Order<S>>, OutOfMemory>
-        requires conf { ready.now ≡ S.start.stage }
+        requires conf { ready.now.stage ≡ S.start.stage }
         requires limit { 1 ≤ limit }
         ensures batch { IfOk result (λ made. option_map (λ order. order.batch) made ≡ batch_of self.old.gate.next
             (chosen (feet_of S.start.stage.conf) self.old.gate self.old.entries limit)) }
@@ -205,7 +205,7 @@ impl<S: StartName> Progress<S> {
         done: Done<S>,
         steps: &mut Steps<L>,
     ) -> Result<(), (Done<S>, OutOfMemory)>
-        requires conf { ready.now ≡ S.start.stage }
+        requires conf { ready.now.stage ≡ S.start.stage }
         ensures entries { self.new.entries ≡ self.old.entries }
         ensures open { OnOk result (IsOpenBatch self.old.gate done.order.batch
             → self.new.gate ≡ with_ended done.order.batch.id Mark.Applied self.old.gate) }
@@ -261,7 +261,7 @@ impl<S: StartName> Progress<S> {
         ready: &Ready,
         steps: &mut Steps<L>,
     ) -> Result<bool, OutOfMemory>
-        requires conf { ready.now ≡ S.start.stage }
+        requires conf { ready.now.stage ≡ S.start.stage }
         ensures entries { self.new.entries ≡ self.old.entries }
         ensures one { IfOk result (λ some. some ≡ true → (id : ℕ)
             × (self.new.gate.marks ≡ (with_ended id Mark.Applied
@@ -307,7 +307,7 @@ impl<S: StartName> Progress<S> {
         ready: &Ready,
         steps: &mut Steps<L>,
     ) -> Result<(), OutOfMemory>
-        requires conf { ready.now ≡ S.start.stage }
+        requires conf { ready.now.stage ≡ S.start.stage }
         ensures entries { self.new.entries ≡ self.old.entries }
         ensures all { OnOk result ((i : ℕ) → i < length self.new.entries
             → get_or self.new.gate.marks i Mark.Pending ≡ Mark.Applied) }

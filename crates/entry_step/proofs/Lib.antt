@@ -38,3 +38,4 @@ pub mod Touching
 pub mod Runs
 pub mod Rising
 pub mod Previous
+mod Cached

@@ -17,7 +17,8 @@ use Rattle.preprocess.specs.Chains.{listed}
 use Rattle.preprocess.specs.Rows.{with_row}
 use Rattle.preprocess.proofs.Logs.{at_map}
 use Rattle.entry_step.specs.Each.{Each, In}
-use Rattle.entry_step.specs.Kept.{roomless, Keeps}
+use Rattle.preprocess.specs.Draft.{roomless}
+use Rattle.entry_step.specs.Kept.{Keeps}
 use Rattle.entry_step.specs.Cells.{Key, ItemKey, TriggerKey, TickKey, ItemCell, Cells, CellOf, memory_in, touches, look, AreCellsOf, after}
 use Rattle.entry_step.specs.Laws.{Agree, IsLocal, Copies, any_touches, cells_done, records_done, put_over}
 use Rattle.zbx_types.specs.Entries.{moment_of}

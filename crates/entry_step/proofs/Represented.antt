@@ -37,7 +37,8 @@ use Rattle.zbx_types.specs.Entries.{moment_of}
 use Rattle.entry_step.specs.Log.{last_moment, tick_with, first_tick, IsFitting, Suits}
 use Rattle.entry_step.specs.Occasions.{occasion_of}
 use Rattle.entry_step.specs.History.{visits_at, stored_of, marks_of, memory_of, with_stored, history_of}
-use Rattle.entry_step.specs.Kept.{Keeps, roomless, Sees, IsCalled, SeesFor, CameIn}
+use Rattle.preprocess.specs.Draft.{roomless}
+use Rattle.entry_step.specs.Kept.{Keeps, Sees, IsCalled, SeesFor, CameIn}
 use Rattle.entry_step.specs.Due.{by_making, due_for, due_over, due_at}
 use Rattle.entry_step.specs.Records.{evaluated, phase, timed_triggers, triggers_at, failures_at, judged_of, out_of, replay}
 use Rattle.entry_step.specs.Cells.{Key, ItemKey, TriggerKey, TickKey, ItemCell, Cells, opens_in, memory_in, touches, item_after, histories_after, judged_at, records_at, records, after, seen_of, look, AreCellsOf}

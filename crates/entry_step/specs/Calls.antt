@@ -1,9 +1,11 @@
 -- The calls of a trigger over cells.
-use Rattle.std.specs.Prelude.{◌≡◌, ℕ, List, Option, None, ℤ, slice_index_or}
+use Rattle.std.specs.Prelude.{◌≡◌, ℕ, List, Option, None, IfSome, ℤ, slice_index_or}
 use Rattle.zbx_types.specs.Tree.{Tree}
 use Rattle.zbx_types.specs.declared.entries.Held.{Held}
 use Rattle.zbx_types.specs.declared.entries.Stored.{Stored}
 use Rattle.expr_eval.specs.Values.{value_over}
+use Rattle.value_cache.specs.Tokens.{AreOf}
+use Rattle.preprocess.specs.Draft.{AreIn}
 use Rattle.entry_step.specs.Kept.{still_to_come, SeesFor}
 use Rattle.entry_step.specs.Evaluation.{call_value}
 use Rattle.entry_step.specs.Seen.{shown_values, Seen}
@@ -14,11 +16,17 @@ use Rattle.entry_step.specs.declared.plans.Node.{Node}
 -- what is kept shows the trigger these histories
 abbrev pub Shown : Calls → (ℕ → List Stored) → Type 0
 Shown calls items =
-    SeesFor calls.ready.now.conf calls.items.now (still_to_come calls.coming.now) calls.occasion.now items calls.id
+    SeesFor calls.ready.now.stage.conf calls.items.now (still_to_come calls.coming.now) calls.occasion.now items calls.id
+
+-- the tokens of the cells, and of what is still to come, are of the cache
+abbrev pub AreCached : Calls → Type 0
+AreCached calls =
+    AreIn calls.ready.now.cache calls.items.now
+    × IfSome calls.coming.now (λ draft. AreOf calls.ready.now.cache draft.tokens)
 
 -- the values of the calls, by their places, over histories
 abbrev pub values_of : Calls → (ℕ → List Stored) → ℕ → Option ℤ
-values_of calls items = call_value items calls.occasion calls.ready.now.conf.utc_offset calls.trigger.now
+values_of calls items = call_value items calls.occasion calls.ready.now.stage.conf.utc_offset calls.trigger.now
 
 -- values by their places; None behind the last
 abbrev pub value_in : List (Option ℤ) → ℕ → Option ℤ

@@ -14,6 +14,8 @@ use Rattle.jiff_core.specs.Calendar.{IsWithin}
 use Rattle.entry_step.specs.Asked.{places_of, ArePlaced}
 use Rattle.entry_step.specs.Order.{order}
 use Rattle.footprint.specs.Feet.{chain, FootTables, feet_of, is_reached, told_by}
+use Rattle.trigger_state.specs.Stages.{Stage}
+use Rattle.value_cache.specs.Tokens.{CacheId}
 use Rattle.preprocess.specs.Chains.{AreChainsOf}
 use Rattle.preprocess.specs.Visits.{ArePatternsOf}
 use Rattle.preprocess.specs.declared.chains.Chains.{Chains}
@@ -23,6 +25,11 @@ use Rattle.entry_step.specs.Packed.{row_at}
 use Rattle.entry_step.specs.Seen.{ArePatterned}
 use Rattle.entry_step.specs.declared.packed.Packed.{Packed}
 use Rattle.entry_step.specs.declared.plans.Node.{Node}
+
+-- what contracts see of a configuration made ready: what is in force, and the cache in which values stand
+pub record ReadyView : Type 0 where
+  pub stage : Stage
+  pub cache : CacheId
 
 -- the id at a key of a host, in maps of keys by the ids of hosts
 abbrev pub id_at : {A S : Type 0} → List (HashMap (String A) ℕ S) → ℕ → List ℕ → Option ℕ

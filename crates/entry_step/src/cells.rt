@@ -2,6 +2,8 @@
 
 ghost use Rattle.std.specs.Prelude.{◌≡◌, [], replicate, IfOk};
 ghost use Rattle.entry_step.specs.Start.{first_start};
+ghost use Rattle.value_cache.specs.Tokens.{CacheId};
+ghost use Rattle.preprocess.specs.Draft.{AreIn};
 ghost use Rattle.entry_step.specs.Represents.{Holds};
 
 use std::alloc::Global;
@@ -21,7 +23,7 @@ pub struct Cells {
 
 impl Model for Cells {
     ghost use Rattle.std.specs.Prelude.{map};
-    ghost use Rattle.entry_step.specs.Kept.{roomless};
+    ghost use Rattle.preprocess.specs.Draft.{roomless};
     ghost use Rattle.entry_step.specs.Represents.{CellsView};
 
     ghost Value = { CellsView };
@@ -43,7 +45,8 @@ fn no_problems(alloc: Global, count: usize) -> Result<Vec<Many<Open>>, OutOfMemo
 impl Cells {
     /// The cells before the first entry of a configuration. `Err` where no memory is to be had.
     pub fn new(alloc: Global, conf: &Conf) -> Result<Cells, OutOfMemory>
-        ensures { IfOk result (λ cells. Holds (first_start conf.now) cells []) }
+        ensures holds { IfOk result (λ cells. Holds (first_start conf.now) cells []) }
+        ensures of { IfOk result (λ cells. (cache : CacheId) → AreIn cache cells.items) }
     {
         Ok(Cells {
             items: preprocess::Cells::new(alloc, conf)?,

@@ -1,9 +1,12 @@
 //! Copies of cells, as rows of a part.
 
-ghost use Rattle.std.specs.Prelude.{◌≡◌, ◌++◌, [], map, option_map, IfOk, OnOk};
+ghost use Rattle.std.specs.Prelude.{◌≡◌, ◌++◌, [], map, option_map, IfOk, IfSome, OnOk};
 ghost use Rattle.std.specs.List.{cons_option};
 ghost use Rattle.zbx_types.specs.Ids.{at_id};
-ghost use Rattle.entry_step.specs.Kept.{roomless};
+ghost use Rattle.value_cache.specs.Cells.{IsIn};
+ghost use Rattle.value_cache.specs.Tokens.{CacheId};
+ghost use Rattle.preprocess.specs.Draft.{roomless, AreIn};
+ghost use Rattle.entry_step.specs.Parts.{AreHeldIn};
 ghost use Rattle.entry_step.specs.Exchange.{roomless_row, item_copy, item_copies, trigger_copy, trigger_copies};
 
 use crate::opens::copies;
@@ -33,7 +36,8 @@ fn item_row(
     cell: &ItemCell,
     marks: &Many<StepMemory>,
 ) -> Result<ItemRow, OutOfMemory>
-    ensures { IfOk result (λ row. roomless_row row ≡ record { id = id; cell = roomless cell.now; marks = marks.now }) }
+    ensures row { IfOk result (λ row. roomless_row row ≡ record { id = id; cell = roomless cell.now; marks = marks.now }) }
+    ensures of { IfOk result (λ row. (cache : CacheId) → IsIn cache cell.now → IsIn cache row.cell) }
 {
     Ok(ItemRow {
         id,
@@ -60,8 +64,9 @@ fn row_of_item(
     memories: &[Many<StepMemory>],
     id: u32,
 ) -> Result<Option<ItemRow>, OutOfMemory>
-    ensures { IfOk result (λ row. option_map roomless_row row ≡ item_copy id (at_id (map roomless cells.now) id)
+    ensures row { IfOk result (λ row. option_map roomless_row row ≡ item_copy id (at_id (map roomless cells.now) id)
         (at_id memories.now id)) }
+    ensures of { IfOk result (λ row. (cache : CacheId) → AreIn cache cells.now → IfSome row (λ r. IsIn cache r.cell)) }
 {
     let Some(cell) = by_id(cells, id) else {
         return Ok(None);
@@ -103,8 +108,9 @@ pub(crate) fn copied_items(
     memories: &[Many<StepMemory>],
     ids: &[u32],
 ) -> Result<Vec<ItemRow>, OutOfMemory>
-    ensures { IfOk result (λ rows. map roomless_row rows.items ≡ item_copies (map roomless cells.now) memories.now
+    ensures rows { IfOk result (λ rows. map roomless_row rows.items ≡ item_copies (map roomless cells.now) memories.now
         ids.now) }
+    ensures of { IfOk result (λ rows. (cache : CacheId) → AreIn cache cells.now → AreHeldIn cache rows.items) }
 {
     let mut rows = Vec::new(alloc);
     for id in ids {
@@ -130,7 +136,8 @@ pub(crate) fn copied_triggers(
 
 /// Copies of rows of items.
 pub(crate) fn items_again(alloc: Global, rows: &[ItemRow]) -> Result<Vec<ItemRow>, OutOfMemory>
-    ensures { IfOk result (λ made. map roomless_row made.items ≡ map roomless_row rows.now) }
+    ensures rows { IfOk result (λ made. map roomless_row made.items ≡ map roomless_row rows.now) }
+    ensures of { IfOk result (λ made. (cache : CacheId) → AreHeldIn cache rows.now → AreHeldIn cache made.items) }
 {
     let mut made = Vec::new(alloc);
     for row in rows {

@@ -3,7 +3,11 @@
 ghost use Rattle.std.specs.Prelude.{◌≡◌, ◌↔◌, IsTrue, Some, None};
 ghost use Rattle.zbx_types.specs.Ids.{at_id};
 ghost use Rattle.preprocess.specs.Rows.{with_row};
+ghost use Rattle.value_cache.specs.Cells.{IsIn};
+ghost use Rattle.value_cache.specs.Tokens.{CacheId};
+ghost use Rattle.preprocess.specs.Draft.{AreIn};
 ghost use Rattle.entry_step.specs.Each.{Each};
+ghost use Rattle.entry_step.specs.Parts.{AreHeldIn};
 ghost use Rattle.entry_step.specs.Exchange.{put_all, item_taken, items_taken, trigger_taken, triggers_taken};
 ghost use Rattle.entry_step.specs.Exchange.{IsSameCell, IsSameItem, IsSameTrigger};
 
@@ -11,6 +15,7 @@ use crate::parts::{ItemRow, TriggerRow};
 use crate::same::{same_memories, same_opens};
 use preprocess::exchange_at;
 use trigger_state::Open;
+use value_cache::Cache;
 use zbx_types::{Many, by_id};
 
 /// Exchanges the copies of an item for what is kept of it. Takes no memory.
@@ -18,6 +23,8 @@ fn exchange_item(items: &mut preprocess::Cells, row: &mut ItemRow)
     ensures cells { items.new.cells.items ≡ with_row items.old.cells.items row.old.id row.old.cell }
     ensures memories { items.new.memories.items ≡ with_row items.old.memories.items row.old.id row.old.marks }
     ensures row { row.new ≡ item_taken items.old.cells.items items.old.memories.items row.old }
+    ensures of { (cache : CacheId) → AreIn cache items.old.cells.items → IsIn cache row.old.cell → AreIn cache items.new.cells.items }
+    ensures row_of { (cache : CacheId) → AreIn cache items.old.cells.items → IsIn cache row.old.cell → IsIn cache row.new.cell }
 {
     items.exchange(row.id, &mut row.cell, &mut row.marks);
 }
@@ -28,6 +35,8 @@ pub(crate) fn exchange_items(items: &mut preprocess::Cells, rows: &mut [ItemRow]
     ensures memories { items.new.memories.items ≡ put_all (λ row. row.id) (λ row. row.marks) items.old.memories.items
         rows.old }
     ensures rows { rows.new ≡ items_taken items.old.cells.items items.old.memories.items rows.old }
+    ensures of { (cache : CacheId) → AreIn cache items.old.cells.items → AreHeldIn cache rows.old → AreIn cache items.new.cells.items }
+    ensures rows_of { (cache : CacheId) → AreIn cache items.old.cells.items → AreHeldIn cache rows.old → AreHeldIn cache rows.new }
 {
     for place in 0..rows.len() {
         exchange_item(items, &mut rows[place]);
@@ -54,12 +63,14 @@ pub(crate) fn exchange_triggers(problems: &mut Vec<Many<Open>>, rows: &mut [Trig
 
 /// Whether the copy of a cell is what is kept.
 #[tactic(auto, using(crate::proofs::Exchanging::cell_some, crate::proofs::Exchanging::cell_none))]
-fn same_cell(items: &preprocess::Cells, row: &ItemRow) -> bool
+fn same_cell(cache: &Cache, items: &preprocess::Cells, row: &ItemRow) -> bool
+    requires own { AreIn cache.now items.now.cells.items }
+    requires copy { IsIn cache.now row.now.cell }
     ensures { IsTrue result ↔ IsSameCell items.now.cells.items row.now }
 {
     match items.cell(row.id) {
         None => false,
-        Some(cell) => cell.same(&row.cell),
+        Some(cell) => cell.same(cache, &row.cell),
     }
 }
 
@@ -74,18 +85,22 @@ fn same_marks(memories: &[Many<prep_steps::StepMemory>], row: &ItemRow) -> bool
 }
 
 /// Whether the copies of an item are what is kept.
-fn same_item(items: &preprocess::Cells, row: &ItemRow) -> bool
+fn same_item(cache: &Cache, items: &preprocess::Cells, row: &ItemRow) -> bool
+    requires own { AreIn cache.now items.now.cells.items }
+    requires copy { IsIn cache.now row.now.cell }
     ensures { IsTrue result ↔ IsSameItem items.now.cells.items items.now.memories.items row.now }
 {
-    same_cell(items, row) && same_marks(items.memories(), row)
+    same_cell(cache, items, row) && same_marks(items.memories(), row)
 }
 
 /// Whether the copies of items are what is kept of them.
-pub(crate) fn same_items(items: &preprocess::Cells, rows: &[ItemRow]) -> bool
+pub(crate) fn same_items(cache: &Cache, items: &preprocess::Cells, rows: &[ItemRow]) -> bool
+    requires own { AreIn cache.now items.now.cells.items }
+    requires copies { AreHeldIn cache.now rows.now }
     ensures { IsTrue result ↔ Each (IsSameItem items.now.cells.items items.now.memories.items) rows.now }
 {
     for row in rows {
-        if !same_item(items, row) {
+        if !same_item(cache, items, row) {
             return false;
         }
     }

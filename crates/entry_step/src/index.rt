@@ -16,8 +16,10 @@ ghost use Rattle.value_cache.specs.Keeps.{seconds_in, most_seconds};
 ghost use Rattle.entry_step.specs.Order.{order};
 ghost use Rattle.footprint.specs.Feet.{feet_of, is_reached, told_by};
 ghost use Rattle.zbx_types.specs.Masters.{has_id};
-ghost use Rattle.preprocess.specs.Cells.{AreSame, prepared_of};
-ghost use Rattle.preprocess.specs.Draft.{AreApart, HaveRoom};
+ghost use Rattle.std.specs.Arc.{arc_value};
+ghost use Rattle.value_cache.specs.Tokens.{CacheId, AreOf};
+ghost use Rattle.preprocess.specs.Cells.{AreSame, IsPrepared};
+ghost use Rattle.preprocess.specs.Draft.{AreApart, AreIn, HaveRoom};
 ghost use Rattle.entry_step.specs.Index.{triggers_under};
 ghost use Rattle.entry_step.specs.Records.{timed_triggers};
 ghost use Rattle.trigger_state.specs.Stages.{first_stage};
@@ -34,7 +36,9 @@ use preprocess::{Prepared, prepare};
 use std::alloc::Global;
 use std::convert::AsStr;
 use std::marker::Model;
+use std::sync::Arc;
 use trigger_state::InForce;
+use value_cache::Cache;
 use zbx_types::{Conf, Held, Many, Moment, OutOfMemory, Tag, Text, by_id};
 
 /// The patterns of these texts, built.
@@ -59,8 +63,8 @@ fn patterns_of(alloc: Global, texts: &Many<Text>) -> Result<Patterns, BuildError
     }
 }
 
-/// A configuration with its indexes, which are made once (this project's own). Contracts see what is in force alone: the
-/// configuration, and where events come from.
+/// A configuration with its indexes, which are made once (this project's own), and the cache in which the values of its
+/// items stand. Contracts see what is in force, the configuration and where events come from, and the cache.
 ///
 /// No look-up walks over the configuration.
 #[derive(Drop)]
@@ -68,19 +72,20 @@ pub struct Ready {
     stage: InForce,
     patterns: Patterns,
     indexes: Indexes,
+    cache: Arc<Cache>,
 }
 
 impl Model for Ready {
     ghost use Rattle.std.specs.Coded.{codes};
     ghost use Rattle.zbx_types.specs.Tree.{tree_code};
-    ghost use Rattle.trigger_state.specs.Stages.{Stage};
-    ghost use Rattle.entry_step.specs.Index.{IsIndex};
+    ghost use Rattle.std.specs.Arc.{arc_value};
+    ghost use Rattle.entry_step.specs.Index.{IsIndex, ReadyView};
 
-    ghost Value = { Stage };
+    ghost Value = { ReadyView };
 
     ghost coded = { Prim.hlevel (codes, tree_code) };
 
-    ghost view = { λ r. r.stage };
+    ghost view = { λ r. record { stage = r.stage; cache = arc_value r.cache } };
 
     ghost invariant = { λ r. IsIndex r.stage.conf r.indexes.items.hosts r.indexes.items.keys.items r.indexes.triggers.turns.over r.indexes.triggers.expressions.plans r.indexes.triggers.expressions.recoveries r.indexes.triggers.turns.masters r.patterns r.indexes.triggers.expressions.places r.indexes.triggers.turns.timed r.indexes.triggers.turns.all r.indexes.triggers.rules.reached r.indexes.items.chains r.indexes.items.feet r.indexes.triggers.rules.reaches };
 }
@@ -99,8 +104,9 @@ impl Ready {
     /// name or a tag or a preprocessing step whose pattern isn't among the configuration's, or with a call whose
     /// shift and period together are 2^32 seconds or more. There is room for each id of a host or an item that is
     /// named and for each depth, up to the greatest of them, whether it is in the configuration or not.
-    pub fn build(alloc: Global, conf: Conf) -> Result<Ready, BuildError>
-        ensures ok { IfOk result (λ ready. ready ≡ first_stage conf) }
+    pub fn build(alloc: Global, conf: Conf, cache: Arc<Cache>) -> Result<Ready, BuildError>
+        ensures ok { IfOk result (λ ready. ready.stage ≡ first_stage conf) }
+        ensures cache { IfOk result (λ ready. ready.cache ≡ arc_value cache) }
         ensures patterns { IfOk result (λ _. All IsPattern conf.patterns) }
         ensures refused { (place : ℕ) → result ≡ Err (BuildError.Refused place) → (text : List ℕ)
             × (at_id conf.patterns place ≡ Some text) × IsNoPattern text }
@@ -112,27 +118,36 @@ impl Ready {
             → All IsPattern (take (place - 1) conf.patterns) }
     {
         match patterns_of(alloc, &conf.patterns) {
-            Ok(patterns) => Ok(Ready::indexed(alloc, conf, patterns)?),
+            Ok(patterns) => Ok(Ready::indexed(alloc, conf, cache, patterns)?),
             Err(error) => {
                 drop(conf);
+                drop(cache);
                 Err(error)
             }
         }
     }
 
     /// A configuration with its patterns and its indexes.
-    fn indexed(alloc: Global, conf: Conf, patterns: Patterns) -> Result<Ready, OutOfMemory>
+    fn indexed(
+        alloc: Global,
+        conf: Conf,
+        cache: Arc<Cache>,
+        patterns: Patterns,
+    ) -> Result<Ready, OutOfMemory>
         requires { patterns ≡ conf.patterns }
-        ensures { IfOk result (λ ready. ready ≡ first_stage conf) }
+        ensures ok { IfOk result (λ ready. ready.stage ≡ first_stage conf) }
+        ensures cache { IfOk result (λ ready. ready.cache ≡ arc_value cache) }
     {
         match indexes_of(alloc, &conf, &patterns) {
             Ok(indexes) => Ok(Ready {
                 stage: InForce::first(conf),
                 patterns,
                 indexes,
+                cache,
             }),
             Err(OutOfMemory) => {
                 drop(conf);
+                drop(cache);
                 drop(patterns);
                 Err(OutOfMemory)
             }
@@ -141,28 +156,35 @@ impl Ready {
 
     /// The configuration.
     pub fn conf(&self) -> &Conf
-        ensures { result.now ≡ self.now.conf }
+        ensures { result.now ≡ self.now.stage.conf }
     {
         self.stage.conf()
     }
 
+    /// The cache in which the values of its items stand.
+    pub fn cache(&self) -> &Cache
+        ensures { result.now ≡ self.now.cache }
+    {
+        &self.cache
+    }
+
     /// What is in force: the configuration, and where events come from.
     pub(crate) fn stage(&self) -> &InForce
-        ensures { result.now ≡ self.now }
+        ensures { result.now ≡ self.now.stage }
     {
         &self.stage
     }
 
     /// The id of the first host with a name. Ids count from 1, in the order of the configuration.
     pub fn host_named(&self, name: &Text) -> Option<u32>
-        ensures { result ≡ host_named self.now.conf name.now }
+        ensures { result ≡ host_named self.now.stage.conf name.now }
     {
         self.indexes.items.hosts.get(name.as_str()).copied()
     }
 
     /// The id of a host's first item with a key. Ids count from 1, in the order of the configuration.
     pub fn item_keyed(&self, host: u32, key: &Text) -> Option<u32>
-        ensures { result ≡ item_keyed self.now.conf host key.now }
+        ensures { result ≡ item_keyed self.now.stage.conf host key.now }
     {
         match self.indexes.items.keys.get(host as usize) {
             None => None,
@@ -172,7 +194,7 @@ impl Ready {
 
     /// The ids of the triggers over an item or over one that depends on it, in the order of evaluation.
     pub(crate) fn over(&self, item: u32) -> &[u32]
-        ensures { result.now ≡ triggers_under self.now.conf item }
+        ensures { result.now ≡ triggers_under self.now.stage.conf item }
     {
         row(&self.indexes.triggers.turns.over, item)
     }
@@ -187,17 +209,20 @@ impl Ready {
         time: Moment,
         number: u64,
     ) -> Result<Prepared, OutOfMemory>
-        ensures prepared { IfOk result (λ prepared. prepared ≡ prepared_of self.now.conf cells.old
+        ensures prepared { IfOk result (IsPrepared self.now.stage.conf cells.old
             (record { item = item; time = time; number = number; value = value.now })) }
+        ensures tokens { IfOk result (λ prepared. AreOf self.now.cache prepared.draft.tokens) }
         ensures apart { IfOk result (λ prepared. AreApart prepared.draft.visits) }
         ensures room { IfOk result (λ prepared. HaveRoom cells.new.cells.items prepared.draft.visits) }
         ensures same { AreSame cells.new cells.old }
+        ensures of { (other : CacheId) → AreIn other cells.old.cells.items → AreIn other cells.new.cells.items }
     {
         prepare(
             alloc,
             self.stage.conf(),
             &self.patterns,
             &self.indexes.items.chains,
+            &self.cache,
             cells,
             item,
             value,
@@ -208,7 +233,7 @@ impl Ready {
 
     /// The nodes of the expression of the trigger with an id.
     pub(crate) fn plan(&self, id: u32) -> &[Node]
-        ensures { (trigger : Trigger) → at_id self.now.conf.triggers id ≡ Some trigger → result.now ≡ plan_of trigger }
+        ensures { (trigger : Trigger) → at_id self.now.stage.conf.triggers id ≡ Some trigger → result.now ≡ plan_of trigger }
     {
         row(
             &self.indexes.triggers.expressions.plans,
@@ -217,7 +242,7 @@ impl Ready {
     }
     /// The nodes of the recovery expression of the trigger with an id, none where it has none.
     pub(crate) fn recovery_plan(&self, id: u32) -> &[Node]
-        ensures { (trigger : Trigger) → at_id self.now.conf.triggers id ≡ Some trigger
+        ensures { (trigger : Trigger) → at_id self.now.stage.conf.triggers id ≡ Some trigger
             → result.now ≡ recovery_plan_of trigger }
     {
         row(
@@ -228,22 +253,22 @@ impl Ready {
 
     /// The ids of the triggers that a Tick evaluates, in the order of evaluation.
     pub(crate) fn timed(&self) -> &[u32]
-        ensures { result.now ≡ timed_triggers self.now.conf }
+        ensures { result.now ≡ timed_triggers self.now.stage.conf }
     {
         self.indexes.triggers.turns.timed.as_slice()
     }
 
     /// The ids of all triggers, in the order of evaluation.
     pub(crate) fn order(&self) -> &[u32]
-        ensures { result.now ≡ order self.now.conf }
+        ensures { result.now ≡ order self.now.stage.conf }
     {
         self.indexes.triggers.turns.all.as_slice()
     }
 
     /// Whether the reach of some rule of global correlation holds the trigger with an id.
     pub(crate) fn is_reached(&self, id: u32) -> bool
-        ensures { (trigger : Trigger) → at_id self.now.conf.triggers id ≡ Some trigger
-            → result ≡ some_reaches self.now.conf.correlations trigger }
+        ensures { (trigger : Trigger) → at_id self.now.stage.conf.triggers id ≡ Some trigger
+            → result ≡ some_reaches self.now.stage.conf.correlations trigger }
     {
         match by_id(self.indexes.triggers.rules.reached.as_slice(), id) {
             None => false,
@@ -253,7 +278,7 @@ impl Ready {
 
     /// Local time less UTC, in seconds.
     pub(crate) fn offset(&self) -> i32
-        ensures value { result ≡ self.now.conf.utc_offset }
+        ensures value { result ≡ self.now.stage.conf.utc_offset }
         ensures within { IsWithin 50400 result }
     {
         self.stage.conf().utc_offset
@@ -261,8 +286,8 @@ impl Ready {
 
     /// The place of the pattern of a call of the trigger with an id, 0 where it has none. Calls go by places from 0 on.
     pub(crate) fn place_of(&self, id: u32, place: usize) -> u32
-        ensures { (trigger : Trigger) (call : Call) → at_id self.now.conf.triggers id ≡ Some trigger
-            → slice_get trigger.calls place ≡ Some call → (at_id self.now.conf.patterns result ≡ call_pattern call)
+        ensures { (trigger : Trigger) (call : Call) → at_id self.now.stage.conf.triggers id ≡ Some trigger
+            → slice_get trigger.calls place ≡ Some call → (at_id self.now.stage.conf.patterns result ≡ call_pattern call)
             × (call.shift + seconds_in call.range ≤ most_seconds) }
     {
         place_in(
@@ -276,7 +301,7 @@ impl Ready {
 
     /// The patterns of the configuration.
     pub(crate) fn patterns(&self) -> &Patterns
-        ensures { result.now ≡ self.now.conf.patterns }
+        ensures { result.now ≡ self.now.stage.conf.patterns }
     {
         &self.patterns
     }
@@ -289,7 +314,7 @@ impl Ready {
         id: u32,
         values: &[Option<Held>],
     ) -> Result<Text, OutOfMemory>
-        ensures { IfOk result (λ made. made ≡ name_of self.now.conf id values.now) }
+        ensures { IfOk result (λ made. made ≡ name_of self.now.stage.conf id values.now) }
     {
         name(alloc, self.stage.conf(), id, values, &self.patterns)
     }
@@ -302,28 +327,28 @@ impl Ready {
         id: u32,
         values: &[Option<Held>],
     ) -> Result<Many<Tag>, OutOfMemory>
-        ensures { IfOk result (λ made. made ≡ event_tags self.now.conf id values.now) }
+        ensures { IfOk result (λ made. made ≡ event_tags self.now.stage.conf id values.now) }
     {
         tags(alloc, self.stage.conf(), id, values, &self.patterns)
     }
 
     /// The masters of the trigger with an id, in the order of ids.
     pub(crate) fn masters(&self, id: u32) -> &[u32]
-        ensures { result.now ≡ masters_of self.now.conf id }
+        ensures { result.now ≡ masters_of self.now.stage.conf id }
     {
         row(&self.indexes.triggers.turns.masters, id)
     }
 
     /// The feet of the items: what the work on one of their values may read or change.
     pub fn feet(&self) -> &Feet
-        ensures { told_by result.now ≡ feet_of self.now.conf }
+        ensures { told_by result.now ≡ feet_of self.now.stage.conf }
     {
         &self.indexes.items.feet
     }
 
     /// The ids of the triggers that the reach of the rule with an id holds.
     pub(crate) fn reach(&self, rule: u32) -> &[u32]
-        ensures { (id : ℕ) → has_id result.now id ≡ is_reached self.now.conf rule id }
+        ensures { (id : ℕ) → has_id result.now id ≡ is_reached self.now.stage.conf rule id }
     {
         row(&self.indexes.triggers.rules.reaches, rule)
     }

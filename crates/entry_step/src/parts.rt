@@ -4,7 +4,9 @@
 ghost use Rattle.std.specs.Prelude.{◌≡◌, true, [], IfOk, OnOk, IsTrue, ◌↔◌};
 ghost use Rattle.entry_step.specs.Start.{fresh};
 ghost use Rattle.entry_step.specs.Represents.{Holds};
-ghost use Rattle.entry_step.specs.Parts.{IsPartOf, IsSame, IsReplaced, IsWorkable, WorksOut, IsCounted};
+ghost use Rattle.value_cache.specs.Tokens.{CacheId};
+ghost use Rattle.preprocess.specs.Draft.{AreIn};
+ghost use Rattle.entry_step.specs.Parts.{AreHeldIn, IsPartOf, IsSame, IsReplaced, IsWorkable, WorksOut, IsCounted};
 ghost use Rattle.entry_step.specs.Exchange.{IsCopy, IsTaken};
 ghost use Rattle.entry_step.specs.Stepping.{AllMade, AllCounted, AreSteppedTo};
 
@@ -63,7 +65,8 @@ impl Part {
     /// A copy. [`OutOfMemory`] where there is no room for it.
     #[tactic(auto, using(crate::proofs::Parting::copy_rises))]
     fn copy(&self, alloc: Global) -> Result<Part, OutOfMemory>
-        ensures { IfOk result (λ made. IsCopy made self.now) }
+        ensures copy { IfOk result (λ made. IsCopy made self.now) }
+        ensures of { IfOk result (λ made. (cache : CacheId) → AreHeldIn cache self.now.items → AreHeldIn cache made.items) }
     {
         Ok(Part {
             items: items_again(alloc, self.items.as_slice())?,
@@ -93,7 +96,8 @@ impl Cells {
         ready: &Ready,
         entries: &[Numbered],
     ) -> Result<Part, OutOfMemory>
-        ensures { IfOk result (λ part. IsPartOf ready.now.conf entries.now self.now part) }
+        ensures part { IfOk result (λ part. IsPartOf ready.now.stage.conf entries.now self.now part) }
+        ensures of { IfOk result (λ part. (cache : CacheId) → AreIn cache self.now.items → AreHeldIn cache part.items) }
     {
         let cells = self.items.cells();
         let memories = self.items.memories();
@@ -109,14 +113,16 @@ impl Cells {
         })
     }
 
-    /// Whether each copy in a part equals what is here. Takes no memory.
-    pub fn same(&self, part: &Part) -> bool
+    /// Whether each copy in a part equals what is here: of values it compares indexes. Takes no memory.
+    pub fn same(&self, ready: &Ready, part: &Part) -> bool
+        requires own { AreIn ready.now.cache self.now.items }
+        requires copies { AreHeldIn ready.now.cache part.now.items }
         ensures { (result ≡ true) ↔ IsSame self.now part.now }
     {
         if !same_tick(self.tick, part.tick) {
             return false;
         }
-        if !same_items(&self.items, part.items.as_slice()) {
+        if !same_items(ready.cache(), &self.items, part.items.as_slice()) {
             return false;
         }
         same_triggers(self.problems.as_slice(), part.triggers.as_slice())
@@ -126,6 +132,8 @@ impl Cells {
     fn exchange(&mut self, part: &mut Part)
         ensures replaced { IsReplaced self.old part.old self.new }
         ensures taken { IsTaken self.old part.old part.new }
+        ensures cells { (cache : CacheId) → AreIn cache self.old.items → AreHeldIn cache part.old.items → AreIn cache self.new.items }
+        ensures part { (cache : CacheId) → AreIn cache self.old.items → AreHeldIn cache part.old.items → AreHeldIn cache part.new.items }
     {
         exchange_items(&mut self.items, part.items.as_mut_slice());
         exchange_triggers(&mut self.problems, part.triggers.as_mut_slice());
@@ -134,7 +142,8 @@ impl Cells {
 
     /// Puts each copy in its place. Takes no memory.
     pub fn put(&mut self, part: Part)
-        ensures { IsReplaced self.old part self.new }
+        ensures replaced { IsReplaced self.old part self.new }
+        ensures of { (cache : CacheId) → AreIn cache self.old.items → AreHeldIn cache part.items → AreIn cache self.new.items }
     {
         let mut part = part;
         self.exchange(&mut part);
@@ -160,9 +169,11 @@ pub(crate) fn step_all<L: Ledger>(
     entries: &[Numbered],
     steps: &mut Steps<L>,
 ) -> Result<Many<Many<Rec>>, OutOfMemory>
-    ensures made { IfOk result (λ made. AllMade ready.now cells.old entries.now made cells.new) }
-    ensures counted { OnOk result (AllCounted ready.now cells.old entries.now steps.old steps.new) }
-    ensures some { AreSteppedTo ready.now cells.old entries.now cells.new }
+    requires { AreIn ready.now.cache cells.old.items }
+    ensures cells { AreIn ready.now.cache cells.new.items }
+    ensures made { IfOk result (λ made. AllMade ready.now.stage cells.old entries.now made cells.new) }
+    ensures counted { OnOk result (AllCounted ready.now.stage cells.old entries.now steps.old steps.new) }
+    ensures some { AreSteppedTo ready.now.stage cells.old entries.now cells.new }
 {
     let mut made = Many::new(alloc);
     for entry in entries {
@@ -183,11 +194,15 @@ pub fn work_out<L: Ledger>(
     entries: &[Numbered],
     steps: &mut Steps<L>,
 ) -> Result<WorkedOut, OutOfMemory>
-    requires scratch { Holds (fresh ready.now) scratch.old [] }
-    requires workable { IsWorkable ready.now entries.now part.now }
-    ensures scratch { Holds (fresh ready.now) scratch.new [] }
-    ensures made { IfOk result (λ w. WorksOut ready.now entries.now part.now w.part w.made) }
-    ensures counted { OnOk result (IsCounted ready.now entries.now part.now steps.old steps.new) }
+    requires scratch { Holds (fresh ready.now.stage) scratch.old [] }
+    requires cells { AreIn ready.now.cache scratch.old.items }
+    requires part { AreHeldIn ready.now.cache part.now.items }
+    requires workable { IsWorkable ready.now.stage entries.now part.now }
+    ensures scratch { Holds (fresh ready.now.stage) scratch.new [] }
+    ensures cells { AreIn ready.now.cache scratch.new.items }
+    ensures part { IfOk result (λ w. AreHeldIn ready.now.cache w.part.items) }
+    ensures made { IfOk result (λ w. WorksOut ready.now.stage entries.now part.now w.part w.made) }
+    ensures counted { OnOk result (IsCounted ready.now.stage entries.now part.now steps.old steps.new) }
 {
     let mut part = part.copy(alloc)?;
     scratch.exchange(&mut part);

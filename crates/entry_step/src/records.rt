@@ -16,7 +16,7 @@ ghost use Rattle.zbx_types.specs.declared.triggers.Trigger.{Trigger};
 ghost use Rattle.entry_step.specs.Changes.{IsAbsorbed, has_fresh, Leaves, Lands, outcome_records, outcome_rows, EachClosed, judged, Serve, AreTidy, Absorbed};
 ghost use Rattle.event_text.specs.Titles.{event_tags};
 ghost use Rattle.zbx_types.specs.declared.entries.Stored.{Stored};
-ghost use Rattle.entry_step.specs.Calls.{Shown, sight_of};
+ghost use Rattle.entry_step.specs.Calls.{Shown, AreCached, sight_of};
 ghost use Rattle.entry_step.specs.Seen.{shown_values};
 ghost use Rattle.entry_step.specs.Plans.{plan_of, recovery_plan_of};
 
@@ -48,7 +48,7 @@ fn problem_of(
     id: u32,
     trigger: &Trigger,
 ) -> Result<Rec, OutOfMemory>
-    ensures { IfOk result (λ made. made ≡ problem_of ready.now.conf number now values.now id trigger.now) }
+    ensures { IfOk result (λ made. made ≡ problem_of ready.now.stage.conf number now values.now id trigger.now) }
 {
     let conf = ready.conf();
     let tags = ready.tags_of(alloc, id, values)?;
@@ -241,10 +241,10 @@ fn begun_by(
     id: u32,
     problem: &Rec,
 ) -> Result<Beginning, OutOfMemory>
-    ensures records { IfOk result (λ made. made.records ≡ begun_with ready.now number now (problems_at problems.now) id
+    ensures records { IfOk result (λ made. made.records ≡ begun_with ready.now.stage number now (problems_at problems.now) id
         problem.now made.closes) }
-    ensures closes { IfOk result (λ made. (trigger : Trigger) → at_id ready.now.conf.triggers id ≡ Some trigger
-        → HasTagsOf trigger problem.now → made.closes ≡ ruled ready.now problem.now (problems_at problems.now)) }
+    ensures closes { IfOk result (λ made. (trigger : Trigger) → at_id ready.now.stage.conf.triggers id ≡ Some trigger
+        → HasTagsOf trigger problem.now → made.closes ≡ ruled ready.now.stage problem.now (problems_at problems.now)) }
 {
     let closes = ruled(alloc, ready, id, problem, problems)?;
     let records = begun(
@@ -359,11 +359,11 @@ fn begin(
     trigger: &Trigger,
     problems: &[Many<Open>],
 ) -> Result<TriggerOutcome, OutOfMemory>
-    requires { at_id ready.now.conf.triggers id ≡ Some trigger.now }
-    ensures records { IfOk result (λ made. made.records ≡ begun_records ready.now number now
-        (problems_at problems.now) id (problem_of ready.now.conf number now values.now id trigger.now)) }
-    ensures rows { IfOk result (λ made. KeepsIds ready.now → length problems.now ≡ length ready.now.conf.triggers
-        → Absorbed ready.now problems.now made.records (outcome_rows problems.now id (Some made))) }
+    requires { at_id ready.now.stage.conf.triggers id ≡ Some trigger.now }
+    ensures records { IfOk result (λ made. made.records ≡ begun_records ready.now.stage number now
+        (problems_at problems.now) id (problem_of ready.now.stage.conf number now values.now id trigger.now)) }
+    ensures rows { IfOk result (λ made. KeepsIds ready.now.stage → length problems.now ≡ length ready.now.stage.conf.triggers
+        → Absorbed ready.now.stage problems.now made.records (outcome_rows problems.now id (Some made))) }
 {
     let stage = ready.stage();
     let event = EventId {
@@ -414,14 +414,15 @@ fn settled(
     problems: &[Many<Open>],
     verdict: &Verdict,
 ) -> Result<Option<TriggerOutcome>, OutOfMemory>
-    requires { at_id calls.now.ready.now.conf.triggers calls.now.id ≡ Some calls.now.trigger.now }
+    requires cached { AreCached calls.now }
+    requires trigger { at_id calls.now.ready.now.stage.conf.triggers calls.now.id ≡ Some calls.now.trigger.now }
     ensures records { IfOk result (λ made. (items : ℕ → List Stored) → Shown calls.now items
-        → outcome_records made ≡ verdict_records calls.now.ready.now calls.now.occasion.number calls.now.occasion.now
+        → outcome_records made ≡ verdict_records calls.now.ready.now.stage calls.now.occasion.number calls.now.occasion.now
         (shown_values items calls.now.occasion.now calls.now.trigger.now) calls.now.id calls.now.trigger.now
         (problems_at problems.now) verdict.now) }
-    ensures rows { IfOk result (λ made. KeepsIds calls.now.ready.now → EachClosed (λ e. home calls.now.ready.now e ≡ calls.now.id) verdict.now
-        → length problems.now ≡ length calls.now.ready.now.conf.triggers
-        → Absorbed calls.now.ready.now problems.now (outcome_records made)
+    ensures rows { IfOk result (λ made. KeepsIds calls.now.ready.now.stage → EachClosed (λ e. home calls.now.ready.now.stage e ≡ calls.now.id) verdict.now
+        → length problems.now ≡ length calls.now.ready.now.stage.conf.triggers
+        → Absorbed calls.now.ready.now.stage problems.now (outcome_records made)
         (outcome_rows problems.now calls.now.id made)) }
 {
     let ready = calls.ready;
@@ -454,9 +455,10 @@ fn settled(
 /// The tags that a trigger has now, as far as its verdict needs them: only open problems that close by a tag do.
 #[tactic(auto, using(crate::proofs::Sight::serve_same, crate::proofs::Sight::serve_untagged, crate::proofs::Sight::serve_none))]
 fn closing_tags(alloc: Global, calls: &Calls, opens: &[Open]) -> Result<Many<Tag>, OutOfMemory>
-    requires { at_id calls.now.ready.now.conf.triggers calls.now.id ≡ Some calls.now.trigger.now }
+    requires cached { AreCached calls.now }
+    requires trigger { at_id calls.now.ready.now.stage.conf.triggers calls.now.id ≡ Some calls.now.trigger.now }
     ensures { IfOk result (λ made. (items : ℕ → List Stored) → Shown calls.now items
-        → Serve calls.now.trigger.now opens.now made (event_tags calls.now.ready.now.conf calls.now.id
+        → Serve calls.now.trigger.now opens.now made (event_tags calls.now.ready.now.stage.conf calls.now.id
         (shown_values items calls.now.occasion.now calls.now.trigger.now))) }
 {
     if calls.trigger.close_tag.len() == 0 {
@@ -479,14 +481,14 @@ pub(crate) fn judge(
     held: bool,
     problems: &[Many<Open>],
 ) -> Result<Option<TriggerOutcome>, OutOfMemory>
-    requires there { at_id calls.now.ready.now.conf.triggers calls.now.id ≡ Some calls.now.trigger.now }
+    requires there { at_id calls.now.ready.now.stage.conf.triggers calls.now.id ≡ Some calls.now.trigger.now }
     requires plan { plan.now ≡ plan_of calls.now.trigger.now }
     requires recovery { recovery.now ≡ recovery_plan_of calls.now.trigger.now }
     ensures records { IfOk result (λ made. (items : ℕ → List Stored) → Shown calls.now items
-        → outcome_records made ≡ judged calls.now.ready.now calls.now.occasion (sight_of calls.now values.now items)
+        → outcome_records made ≡ judged calls.now.ready.now.stage calls.now.occasion (sight_of calls.now values.now items)
         calls.now.id calls.now.trigger.now held (problems_at problems.now)) }
-    ensures rows { IfOk result (λ made. AreTidy calls.now.ready.now problems.now
-        → Absorbed calls.now.ready.now problems.now (outcome_records made)
+    ensures rows { IfOk result (λ made. AreTidy calls.now.ready.now.stage problems.now
+        → Absorbed calls.now.ready.now.stage problems.now (outcome_records made)
         (outcome_rows problems.now calls.now.id made)) }
 {
     let trigger = calls.trigger;

@@ -10,7 +10,8 @@ ghost use Rattle.zbx_types.specs.declared.entries.Stored.{Stored};
 ghost use Rattle.entry_step.specs.Start.{Start};
 ghost use Rattle.entry_step.specs.Log.{Suits};
 ghost use Rattle.preprocess.specs.Visits.{memory_in};
-ghost use Rattle.preprocess.specs.Draft.{stored_at, AreApart, HaveRoom};
+ghost use Rattle.value_cache.specs.Tokens.{CacheId, AreOf};
+ghost use Rattle.preprocess.specs.Draft.{stored_at, AreApart, AreIn, HaveRoom};
 ghost use Rattle.preprocess.specs.Cells.{Becomes};
 ghost use Rattle.entry_step.specs.History.{visits_at};
 ghost use Rattle.entry_step.specs.Records.{evaluated, timed_triggers, triggers_at, out_of, replay};
@@ -55,7 +56,7 @@ fn stores_one(draft: &preprocess::Draft, items: &[u32]) -> bool
     ensures { result ≡ list_any (λ item. is_some (stored_at draft.now.visits item)) items.now }
 {
     for item in items {
-        if draft.stored(*item).is_some() {
+        if draft.token(*item).is_some() {
             return true;
         }
     }
@@ -73,11 +74,13 @@ fn outcome_of(
     coming: &Option<preprocess::Draft>,
     id: u32,
 ) -> Result<Option<TriggerOutcome>, OutOfMemory>
+    requires cached { AreIn ready.now.cache items.now }
+    requires coming { IfSome coming.now (λ draft. AreOf ready.now.cache draft.tokens) }
     ensures records { IfOk result (λ made. (histories : ℕ → List Stored)
-        → SeesFor ready.now.conf items.now (still_to_come coming.now) occasion.entry.now.now histories id
-        → outcome_records made ≡ evaluated ready.now occasion.entry.now histories (problems_at problems.now) id) }
-    ensures rows { IfOk result (λ made. AreTidy ready.now problems.now
-        → Absorbed ready.now problems.now (outcome_records made) (outcome_rows problems.now id made)) }
+        → SeesFor ready.now.stage.conf items.now (still_to_come coming.now) occasion.entry.now.now histories id
+        → outcome_records made ≡ evaluated ready.now.stage occasion.entry.now histories (problems_at problems.now) id) }
+    ensures rows { IfOk result (λ made. AreTidy ready.now.stage problems.now
+        → Absorbed ready.now.stage problems.now (outcome_records made) (outcome_rows problems.now id made)) }
 {
     let conf = ready.conf();
     let Some(trigger) = by_id(conf.triggers.as_slice(), id) else {
@@ -117,12 +120,14 @@ fn evaluate_one<L: Ledger>(
     draft: &mut Draft,
     steps: &mut Steps<L>,
 ) -> Result<(), OutOfMemory>
+    requires cached { AreIn ready.now.cache items.now }
+    requires coming { IfSome coming.now (λ draft. AreOf ready.now.cache draft.tokens) }
     ensures same { put_back problems.new.items draft.new.taken ≡ put_back problems.old.items draft.old.taken }
-    ensures runs { OnOk result (RunsOn ready.now occasion.entry.now items.now (still_to_come coming.now)
-        (is_asked ready.now.conf coming.now id) id draft.old.records problems.old.items draft.new.records
+    ensures runs { OnOk result (RunsOn ready.now.stage occasion.entry.now items.now (still_to_come coming.now)
+        (is_asked ready.now.stage.conf coming.now id) id draft.old.records problems.old.items draft.new.records
         problems.new.items) }
-    ensures counted { OnOk result (steps.new ≡ steps.old + (if is_asked ready.now.conf coming.now id then 1 else 0)) }
-    ensures most { steps.new ≤ steps.old + (if is_asked ready.now.conf coming.now id then 1 else 0) }
+    ensures counted { OnOk result (steps.new ≡ steps.old + (if is_asked ready.now.stage.conf coming.now id then 1 else 0)) }
+    ensures most { steps.new ≤ steps.old + (if is_asked ready.now.stage.conf coming.now id then 1 else 0) }
 {
     if !is_asked(ready.conf(), coming, id) {
         return Ok(());
@@ -146,12 +151,14 @@ fn evaluate_all<L: Ledger>(
     draft: &mut Draft,
     steps: &mut Steps<L>,
 ) -> Result<(), OutOfMemory>
-    requires { draft.old.records ≡ [] }
+    requires cached { AreIn ready.now.cache items.now }
+    requires coming { IfSome coming.now (λ draft. AreOf ready.now.cache draft.tokens) }
+    requires none { draft.old.records ≡ [] }
     ensures same { put_back problems.new.items draft.new.taken ≡ put_back problems.old.items draft.old.taken }
-    ensures runs { OnOk result (RunsOver ready.now occasion.entry.now items.now (still_to_come coming.now)
-        problems.old.items (filter (is_asked ready.now.conf coming.now) ids.now) draft.new.records problems.new.items) }
-    ensures counted { OnOk result (steps.new ≡ steps.old + length (filter (is_asked ready.now.conf coming.now) ids.now)) }
-    ensures most { steps.new ≤ steps.old + length (filter (is_asked ready.now.conf coming.now) ids.now) }
+    ensures runs { OnOk result (RunsOver ready.now.stage occasion.entry.now items.now (still_to_come coming.now)
+        problems.old.items (filter (is_asked ready.now.stage.conf coming.now) ids.now) draft.new.records problems.new.items) }
+    ensures counted { OnOk result (steps.new ≡ steps.old + length (filter (is_asked ready.now.stage.conf coming.now) ids.now)) }
+    ensures most { steps.new ≤ steps.old + length (filter (is_asked ready.now.stage.conf coming.now) ids.now) }
 {
     for id in ids {
         evaluate_one(
@@ -172,11 +179,13 @@ fn evaluated<L: Ledger>(
     ids: &[u32],
     steps: &mut Steps<L>,
 ) -> Result<Draft, OutOfMemory>
+    requires cached { AreIn ready.now.cache items.now }
+    requires coming { IfSome coming.now (λ draft. AreOf ready.now.cache draft.tokens) }
     ensures same { IfOk result (λ draft. put_back problems.new.items draft.taken ≡ problems.old.items) }
-    ensures runs { IfOk result (λ draft. RunsOver ready.now occasion.entry.now items.now (still_to_come coming.now)
-        problems.old.items (filter (is_asked ready.now.conf coming.now) ids.now) draft.records problems.new.items) }
-    ensures counted { OnOk result (steps.new ≡ steps.old + length (filter (is_asked ready.now.conf coming.now) ids.now)) }
-    ensures most { steps.new ≤ steps.old + length (filter (is_asked ready.now.conf coming.now) ids.now) }
+    ensures runs { IfOk result (λ draft. RunsOver ready.now.stage occasion.entry.now items.now (still_to_come coming.now)
+        problems.old.items (filter (is_asked ready.now.stage.conf coming.now) ids.now) draft.records problems.new.items) }
+    ensures counted { OnOk result (steps.new ≡ steps.old + length (filter (is_asked ready.now.stage.conf coming.now) ids.now)) }
+    ensures most { steps.new ≤ steps.old + length (filter (is_asked ready.now.stage.conf coming.now) ids.now) }
     ensures err { OnErr result (problems.new.items ≡ problems.old.items) }
 {
     let mut draft = Draft {
@@ -206,17 +215,19 @@ fn take_value<L: Ledger>(
     value: &Text,
     steps: &mut Steps<L>,
 ) -> Result<Many<Rec>, OutOfMemory>
-    ensures ok { IfOk result (λ made. TakesIn ready.now occasion.entry.now
-        (visits_at ready.now.conf (memory_in cells.old.memories) occasion.entry.now.number
+    requires { AreIn ready.now.cache cells.old.items }
+    ensures cells { AreIn ready.now.cache cells.new.items }
+    ensures ok { IfOk result (λ made. TakesIn ready.now.stage occasion.entry.now
+        (visits_at ready.now.stage.conf (memory_in cells.old.memories) occasion.entry.now.number
         (Value occasion.entry.now.now item time value.now))
-        (triggers_at ready.now.conf (memory_in cells.old.memories) occasion.entry.now.number
+        (triggers_at ready.now.stage.conf (memory_in cells.old.memories) occasion.entry.now.number
         (Value occasion.entry.now.now item time value.now)) cells.old made cells.new) }
     ensures err { OnErr result (cells.new ≡ cells.old) }
     ensures counted { OnOk result (steps.new ≡ steps.old + length
-        (triggers_at ready.now.conf (memory_in cells.old.memories) occasion.entry.now.number
+        (triggers_at ready.now.stage.conf (memory_in cells.old.memories) occasion.entry.now.number
         (Value occasion.entry.now.now item time value.now))) }
     ensures most { steps.new ≤ steps.old + length
-        (triggers_at ready.now.conf (memory_in cells.old.memories) occasion.entry.now.number
+        (triggers_at ready.now.stage.conf (memory_in cells.old.memories) occasion.entry.now.number
         (Value occasion.entry.now.now item time value.now)) }
 {
     let Prepared { draft, failures } = ready.prepare(
@@ -253,16 +264,19 @@ fn take_draft<L: Ledger>(
     failures: Many<Rec>,
     steps: &mut Steps<L>,
 ) -> Result<Many<Rec>, OutOfMemory>
+    requires cached { AreIn ready.now.cache items.old.cells.items }
+    requires tokens { IfSome coming (λ draft. AreOf ready.now.cache draft.tokens) }
     requires apart { IfSome coming (λ draft. AreApart draft.visits) }
     requires room { IfSome coming (λ draft. HaveRoom items.old.cells.items draft.visits) }
-    ensures made { IfOk result (λ made. Drafted ready.now occasion.entry.now coming
-        (filter (is_asked ready.now.conf coming) (triggers_under ready.now.conf item)) failures items.old.cells.items
+    ensures cells { AreIn ready.now.cache items.new.cells.items }
+    ensures made { IfOk result (λ made. Drafted ready.now.stage occasion.entry.now coming
+        (filter (is_asked ready.now.stage.conf coming) (triggers_under ready.now.stage.conf item)) failures items.old.cells.items
         problems.old.items made problems.new.items) }
     ensures came { OnOk result (IfSome coming (λ draft. Becomes occasion.entry.now.now draft.visits items.old
         items.new)) }
     ensures counted { OnOk result (steps.new ≡ steps.old + length
-        (filter (is_asked ready.now.conf coming) (triggers_under ready.now.conf item))) }
-    ensures most { steps.new ≤ steps.old + length (filter (is_asked ready.now.conf coming) (triggers_under ready.now.conf item)) }
+        (filter (is_asked ready.now.stage.conf coming) (triggers_under ready.now.stage.conf item))) }
+    ensures most { steps.new ≤ steps.old + length (filter (is_asked ready.now.stage.conf coming) (triggers_under ready.now.stage.conf item)) }
     ensures items { OnErr result (items.new ≡ items.old) }
     ensures problems { OnErr result (problems.new.items ≡ problems.old.items) }
 {
@@ -292,7 +306,8 @@ fn take_draft<L: Ledger>(
 fn settle(items: &mut preprocess::Cells, coming: Option<preprocess::Draft>, now: Moment)
     requires apart { IfSome coming (λ draft. AreApart draft.visits) }
     requires room { IfSome coming (λ draft. HaveRoom items.old.cells.items draft.visits) }
-    ensures { IfSome coming (λ draft. Becomes now draft.visits items.old items.new) }
+    ensures becomes { IfSome coming (λ draft. Becomes now draft.visits items.old items.new) }
+    ensures of { (cache : CacheId) → IfSome coming (λ draft. AreOf cache draft.tokens) → AreIn cache items.old.cells.items → AreIn cache items.new.cells.items }
 {
     if let Some(draft) = coming {
         commit(items, draft, now);
@@ -319,10 +334,12 @@ fn take_tick<L: Ledger>(
     occasion: &Occasion,
     steps: &mut Steps<L>,
 ) -> Result<Many<Rec>, OutOfMemory>
-    ensures ok { IfOk result (λ made. TakesTick ready.now occasion.entry.now cells.old made cells.new) }
+    requires { AreIn ready.now.cache cells.old.items }
+    ensures cells { AreIn ready.now.cache cells.new.items }
+    ensures ok { IfOk result (λ made. TakesTick ready.now.stage occasion.entry.now cells.old made cells.new) }
     ensures err { OnErr result (cells.new ≡ cells.old) }
-    ensures counted { OnOk result (steps.new ≡ steps.old + length (timed_triggers ready.now.conf)) }
-    ensures most { steps.new ≤ steps.old + length (timed_triggers ready.now.conf) }
+    ensures counted { OnOk result (steps.new ≡ steps.old + length (timed_triggers ready.now.stage.conf)) }
+    ensures most { steps.new ≤ steps.old + length (timed_triggers ready.now.stage.conf) }
 {
     let mut draft = evaluated(
         alloc,
@@ -355,11 +372,13 @@ fn advance<L: Ledger>(
     entry: &Numbered,
     steps: &mut Steps<L>,
 ) -> Result<Many<Rec>, OutOfMemory>
-    ensures made { IfOk result (λ made. StepsTo ready.now cells.old entry.now made cells.new) }
+    requires { AreIn ready.now.cache cells.old.items }
+    ensures cells { AreIn ready.now.cache cells.new.items }
+    ensures made { IfOk result (λ made. StepsTo ready.now.stage cells.old entry.now made cells.new) }
     ensures counted { OnOk result (steps.new ≡ steps.old + length
-        (triggers_at ready.now.conf (memory_in cells.old.memories) entry.now.number entry.now.entry)) }
+        (triggers_at ready.now.stage.conf (memory_in cells.old.memories) entry.now.number entry.now.entry)) }
     ensures most { steps.new ≤ steps.old + length
-        (triggers_at ready.now.conf (memory_in cells.old.memories) entry.now.number entry.now.entry) }
+        (triggers_at ready.now.stage.conf (memory_in cells.old.memories) entry.now.number entry.now.entry) }
     ensures err { OnErr result (cells.new ≡ cells.old) }
 {
     let occasion = occasion_of(cells.tick, entry);
@@ -394,16 +413,18 @@ pub fn step<L: Ledger>(
     entry: &Numbered,
     steps: &mut Steps<L>,
 ) -> Result<Many<Rec>, OutOfMemory>
-    ensures made { IfOk result (λ made. StepsTo ready.now cells.old entry.now made cells.new) }
-    ensures out { IfOk result (λ made. (start : Start) (log : List Numbered) → start.stage ≡ ready.now
+    requires { AreIn ready.now.cache cells.old.items }
+    ensures cells { AreIn ready.now.cache cells.new.items }
+    ensures made { IfOk result (λ made. StepsTo ready.now.stage cells.old entry.now made cells.new) }
+    ensures out { IfOk result (λ made. (start : Start) (log : List Numbered) → start.stage ≡ ready.now.stage
         → Holds start cells.old log → Suits start (entry.now ∷ log)
         → made ≡ out_of start log entry.now entry.now.entry (start.records ++ replay start log)) }
-    ensures holds { OnOk result ((start : Start) (log : List Numbered) → start.stage ≡ ready.now
+    ensures holds { OnOk result ((start : Start) (log : List Numbered) → start.stage ≡ ready.now.stage
         → Holds start cells.old log → Suits start (entry.now ∷ log) → Holds start cells.new (entry.now ∷ log)) }
     ensures counted { OnOk result (steps.new ≡ steps.old + length
-        (triggers_at ready.now.conf (memory_in cells.old.memories) entry.now.number entry.now.entry)) }
+        (triggers_at ready.now.stage.conf (memory_in cells.old.memories) entry.now.number entry.now.entry)) }
     ensures most { steps.new ≤ steps.old + length
-        (triggers_at ready.now.conf (memory_in cells.old.memories) entry.now.number entry.now.entry) }
+        (triggers_at ready.now.stage.conf (memory_in cells.old.memories) entry.now.number entry.now.entry) }
     ensures err { OnErr result (cells.new ≡ cells.old) }
 {
     advance(alloc, ready, cells, entry, steps)

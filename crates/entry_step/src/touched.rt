@@ -28,7 +28,7 @@ fn find_all<T>(found: &mut Vec<u32>, all: &[T]) -> Result<(), OutOfMemory>
 /// Adds the ids of the triggers that the reaches of rules hold.
 fn find_reached(ready: &Ready, found: &mut Vec<u32>, rules: &[u32]) -> Result<(), OutOfMemory>
     ensures { OnOk result ((id : ℕ) → has_id found.new.items
-        id ≡ (has_id found.old.items id || list_any (λ rule. is_reached ready.now.conf rule id) rules.now)) }
+        id ≡ (has_id found.old.items id || list_any (λ rule. is_reached ready.now.stage.conf rule id) rules.now)) }
 {
     for rule in rules {
         found.extend_from_slice(ready.reach(*rule))?;
@@ -43,7 +43,7 @@ fn find_items<T>(
     entry: &Entry,
     all: &[T],
 ) -> Result<(), OutOfMemory>
-    ensures { OnOk result (IsFound all.now found.old.items (λ id. touches ready.now.conf entry.now (ItemKey id))
+    ensures { OnOk result (IsFound all.now found.old.items (λ id. touches ready.now.stage.conf entry.now (ItemKey id))
         found.new.items) }
 {
     match entry {
@@ -70,7 +70,7 @@ fn find_triggers<T>(
     entry: &Entry,
     all: &[T],
 ) -> Result<(), OutOfMemory>
-    ensures { OnOk result (IsFound all.now found.old.items (λ id. touches ready.now.conf entry.now (TriggerKey id))
+    ensures { OnOk result (IsFound all.now found.old.items (λ id. touches ready.now.stage.conf entry.now (TriggerKey id))
         found.new.items) }
 {
     match entry {
@@ -97,7 +97,7 @@ pub(crate) fn item_ids<T>(
     entries: &[Numbered],
     all: &[T],
 ) -> Result<Many<u32>, OutOfMemory>
-    ensures { IfOk result (λ ids. ids ≡ those all.now (λ id. any_touches ready.now.conf entries.now (ItemKey id))) }
+    ensures { IfOk result (λ ids. ids ≡ those all.now (λ id. any_touches ready.now.stage.conf entries.now (ItemKey id))) }
 {
     let mut found = Vec::new(alloc);
     for one in entries {
@@ -113,7 +113,7 @@ pub(crate) fn trigger_ids<T>(
     entries: &[Numbered],
     all: &[T],
 ) -> Result<Many<u32>, OutOfMemory>
-    ensures { IfOk result (λ ids. ids ≡ those all.now (λ id. any_touches ready.now.conf entries.now (TriggerKey id))) }
+    ensures { IfOk result (λ ids. ids ≡ those all.now (λ id. any_touches ready.now.stage.conf entries.now (TriggerKey id))) }
 {
     let mut found = Vec::new(alloc);
     for one in entries {

@@ -34,15 +34,15 @@ impl<'a> Model for Collection<'a> {
 
     ghost coded = { Prim.hlevel (codes, tree_code) };
 
-    ghost view = { λ c. c.ready.now.conf };
+    ghost view = { λ c. c.ready.now.stage.conf };
 
-    ghost invariant = { λ c. HasFound c.ready.now.conf c.found };
+    ghost invariant = { λ c. HasFound c.ready.now.stage.conf c.found };
 }
 
 impl<'a> Collection<'a> {
     /// Values are taken by this configuration. Takes no memory.
     pub fn new(ready: &'a Ready) -> Collection<'a>
-        ensures { result ≡ ready.now.conf }
+        ensures { result ≡ ready.now.stage.conf }
     {
         Collection { ready, found: None }
     }

@@ -75,20 +75,20 @@ impl<D: Disk> Front<D> {
         requires read { journal.state ≡ state.Ready }
         requires journaled { HasJournaled D.tells journal kept (journal.at + 1) }
 
-        ensures made { IfOk result (λ f. f.intake ≡ start ready.now.conf.text kept (journal.at + 1)) }
-        ensures sound { IfOk result (λ f. IsFull (log_of kept) → Fits (first_start ready.now.conf) (log_of kept)
-            → IsSound ready.now.conf f.intake) }
+        ensures made { IfOk result (λ f. f.intake ≡ start ready.now.stage.conf.text kept (journal.at + 1)) }
+        ensures sound { IfOk result (λ f. IsFull (log_of kept) → Fits (first_start ready.now.stage.conf) (log_of kept)
+            → IsSound ready.now.stage.conf f.intake) }
         ensures durable { IfOk result (λ f. IsKept (D.tells f.journal.disk) f.intake.entries) }
         ensures state { IfOk result (λ f. IsReady journal f.journal) }
         ensures idle { IfOk result (λ f. IsIdle f) }
 
         ensures back { IfErr result (λ u. u.kept ≡ kept) }
-        ensures full { kept ≡ [] → IsTrue (passes_with_all journal (first_group ready.now.conf.text ∷ []))
+        ensures full { kept ≡ [] → IsTrue (passes_with_all journal (first_group ready.now.stage.conf.text ∷ []))
             → IfOk result (λ _. ⊥) × IfErr result (λ u. u.error ≢ error.DiskFault) }
         ensures only_full { IfErr result (λ u. (entries bytes : ℕ) → u.error ≡ error.Full entries bytes → (kept ≡ [])
-            × IsTrue (passes_with_all journal (first_group ready.now.conf.text ∷ []))
-            × (entries ≡ entries_with_all journal (first_group ready.now.conf.text ∷ []))
-            × (bytes ≡ bytes_with_all journal (first_group ready.now.conf.text ∷ []))) }
+            × IsTrue (passes_with_all journal (first_group ready.now.stage.conf.text ∷ []))
+            × (entries ≡ entries_with_all journal (first_group ready.now.stage.conf.text ∷ []))
+            × (bytes ≡ bytes_with_all journal (first_group ready.now.stage.conf.text ∷ []))) }
         ensures fault { IfErr result (λ u. u.error ≡ error.DiskFault → (kept ≡ [])
             × Rose (D.tells journal.disk).faults (D.tells u.disk).faults) }
         ensures same { IfErr result (λ u. u.error ≢ error.DiskFault → u.disk ≡ journal.disk) }
@@ -99,7 +99,7 @@ impl<D: Disk> Front<D> {
         // configuration alone.
         ensures any_moment { IfSome (D.tells journal.disk).bytes
             (λ _. LeavesOnly (D.tells journal.disk) (D.tells (disk_of result))
-            (KeepsEither kept (start ready.now.conf.text kept (journal.at + 1)).entries)) }
+            (KeepsEither kept (start ready.now.stage.conf.text kept (journal.at + 1)).entries)) }
     {
         let mut journal = journal;
         let block = match Block::new(alloc) {
@@ -172,12 +172,12 @@ impl<D: Disk> Front<D> {
         requires idle { IsIdle self.old }
 
         ensures answer { IfOk result (λ a. a ≡ (handled
-            (limits_of self.old.journal (refused_group self.old.intake a.stop)) ready.now.conf self.old.intake
+            (limits_of self.old.journal (refused_group self.old.intake a.stop)) ready.now.stage.conf self.old.intake
             event.now).answer) }
         ensures after { IfOk result (λ a. self.new.intake ≡ (handled
-            (limits_of self.old.journal (refused_group self.old.intake a.stop)) ready.now.conf self.old.intake
+            (limits_of self.old.journal (refused_group self.old.intake a.stop)) ready.now.stage.conf self.old.intake
             event.now).intake) }
-        ensures keeps { OnOk result (IsSound ready.now.conf self.old.intake → IsSound ready.now.conf self.new.intake) }
+        ensures keeps { OnOk result (IsSound ready.now.stage.conf self.old.intake → IsSound ready.now.stage.conf self.new.intake) }
         ensures err { OnErr result ((self.new.intake.entries ≡ self.old.intake.entries)
             × (self.new.journal ≡ self.old.journal)) }
 
@@ -189,7 +189,7 @@ impl<D: Disk> Front<D> {
         // A crash at any moment of the call leaves the entries from before it, or these with all that the event adds.
         ensures any_moment { IfSome (D.tells self.old.journal.disk).bytes
             (λ _. LeavesOnly (D.tells self.old.journal.disk) (D.tells self.new.journal.disk)
-            (KeepsEither self.old.intake.entries (handled (limits_of self.old.journal 0) ready.now.conf self.old.intake
+            (KeepsEither self.old.intake.entries (handled (limits_of self.old.journal 0) ready.now.stage.conf self.old.intake
             event.now).intake.entries)) }
 
         ensures fault { IfOk result (λ a. a.stop ≡ Some stop.DiskFault

@@ -122,7 +122,7 @@ pub(crate) fn receive_alone<D: Disk>(
     requires block { batch.old.block ≡ [] }
     requires answers { batch.old.answers.items ≡ [] }
     ensures offered { IsOffered D.tells journal.old journal.new held.old held.new
-        (λ s. handled (limits_of journal.old s) ready.now.conf held.old event.now) result }
+        (λ s. handled (limits_of journal.old s) ready.now.stage.conf held.old event.now) result }
     ensures waiting { IsWaiting D.tells journal.new held.new batch.new }
     ensures block { batch.new.block ≡ [] }
     ensures answers { batch.new.answers.items ≡ [] }

@@ -35,7 +35,7 @@ fn numbered(alloc: Global, first: u64, group: Many<Entry>) -> Result<Many<Number
 
 /// The configuration as a group.
 fn first_group(alloc: Global, ready: &Ready) -> Result<Many<Entry>, OutOfMemory>
-    ensures made { IfOk result (λ made. made ≡ first_group ready.now.conf.text) }
+    ensures made { IfOk result (λ made. made ≡ first_group ready.now.stage.conf.text) }
     ensures short { IfOk result (λ made. All HasShortValue made) }
 {
     let mut made = Many::new(alloc);
@@ -54,13 +54,13 @@ fn staged_first<D: Disk>(
     block: &mut Block,
 ) -> Result<Many<Numbered>, FrontError>
     requires { block.old ≡ [] }
-    ensures made { IfOk result (λ made. made ≡ numbered_from 1 (first_group ready.now.conf.text)) }
-    ensures staged { OnOk result (block.new ≡ first_group ready.now.conf.text ∷ []) }
-    ensures room { OnOk result (passes_with_all journal.now (first_group ready.now.conf.text ∷ []) ≡ false) }
+    ensures made { IfOk result (λ made. made ≡ numbered_from 1 (first_group ready.now.stage.conf.text)) }
+    ensures staged { OnOk result (block.new ≡ first_group ready.now.stage.conf.text ∷ []) }
+    ensures room { OnOk result (passes_with_all journal.now (first_group ready.now.stage.conf.text ∷ []) ≡ false) }
     ensures full { IfErr result (λ e. (entries bytes : ℕ) → e ≡ error.Full entries bytes
-        → IsTrue (passes_with_all journal.now (first_group ready.now.conf.text ∷ []))
-        × (entries ≡ entries_with_all journal.now (first_group ready.now.conf.text ∷ []))
-        × (bytes ≡ bytes_with_all journal.now (first_group ready.now.conf.text ∷ []))) }
+        → IsTrue (passes_with_all journal.now (first_group ready.now.stage.conf.text ∷ []))
+        × (entries ≡ entries_with_all journal.now (first_group ready.now.stage.conf.text ∷ []))
+        × (bytes ≡ bytes_with_all journal.now (first_group ready.now.stage.conf.text ∷ []))) }
     ensures no_fault { IfErr result (λ e. e ≢ error.DiskFault) }
 {
     let group = first_group(alloc, ready)?;
@@ -79,15 +79,15 @@ fn first<D: Disk>(
 ) -> Result<Held, FrontError>
     requires read { journal.old.state ≡ state.Ready }
     requires journaled { HasJournaled D.tells journal.old [] (journal.old.at + 1) }
-    ensures made { IfOk result (λ h. h ≡ start ready.now.conf.text [] (journal.old.at + 1)) }
+    ensures made { IfOk result (λ h. h ≡ start ready.now.stage.conf.text [] (journal.old.at + 1)) }
     ensures journaled { IfOk result (λ h. HasJournaled D.tells journal.new h.entries h.bytes) }
     ensures state { IfOk result (λ h. IsReady journal.old journal.new) }
-    ensures full { IsTrue (passes_with_all journal.old (first_group ready.now.conf.text ∷ []))
+    ensures full { IsTrue (passes_with_all journal.old (first_group ready.now.stage.conf.text ∷ []))
         → IfOk result (λ _. ⊥) × IfErr result (λ e. e ≢ error.DiskFault) }
     ensures only_full { IfErr result (λ e. (entries bytes : ℕ) → e ≡ error.Full entries bytes
-        → IsTrue (passes_with_all journal.old (first_group ready.now.conf.text ∷ []))
-        × (entries ≡ entries_with_all journal.old (first_group ready.now.conf.text ∷ []))
-        × (bytes ≡ bytes_with_all journal.old (first_group ready.now.conf.text ∷ []))) }
+        → IsTrue (passes_with_all journal.old (first_group ready.now.stage.conf.text ∷ []))
+        × (entries ≡ entries_with_all journal.old (first_group ready.now.stage.conf.text ∷ []))
+        × (bytes ≡ bytes_with_all journal.old (first_group ready.now.stage.conf.text ∷ []))) }
     ensures fault { IfErr result (λ e. e ≡ error.DiskFault
         → Rose (D.tells journal.old.disk).faults (D.tells journal.new.disk).faults) }
     ensures same { IfErr result (λ e. e ≢ error.DiskFault → journal.new ≡ journal.old) }
@@ -95,7 +95,7 @@ fn first<D: Disk>(
     ensures told { is_some (D.tells journal.new.disk).bytes ≡ is_some (D.tells journal.old.disk).bytes }
     ensures any_moment { IfSome (D.tells journal.old.disk).bytes
         (λ _. LeavesOnly (D.tells journal.old.disk) (D.tells journal.new.disk)
-        (KeepsEither [] (start ready.now.conf.text [] (journal.old.at + 1)).entries)) }
+        (KeepsEither [] (start ready.now.stage.conf.text [] (journal.old.at + 1)).entries)) }
 {
     let mut block = Block::new(alloc)?;
     let entries = staged_first(alloc, ready, journal, &mut block)?;
@@ -116,16 +116,16 @@ pub(crate) fn open<D: Disk>(
 ) -> Result<Held, (Many<Numbered>, FrontError)>
     requires read { journal.old.state ≡ state.Ready }
     requires journaled { HasJournaled D.tells journal.old kept (journal.old.at + 1) }
-    ensures made { IfOk result (λ h. h ≡ start ready.now.conf.text kept (journal.old.at + 1)) }
+    ensures made { IfOk result (λ h. h ≡ start ready.now.stage.conf.text kept (journal.old.at + 1)) }
     ensures journaled { IfOk result (λ h. HasJournaled D.tells journal.new h.entries h.bytes) }
     ensures state { IfOk result (λ h. IsReady journal.old journal.new) }
     ensures back { IfErr result (λ u. u.0 ≡ kept) }
-    ensures full { kept ≡ [] → IsTrue (passes_with_all journal.old (first_group ready.now.conf.text ∷ []))
+    ensures full { kept ≡ [] → IsTrue (passes_with_all journal.old (first_group ready.now.stage.conf.text ∷ []))
         → IfOk result (λ _. ⊥) × IfErr result (λ u. u.1 ≢ error.DiskFault) }
     ensures only_full { IfErr result (λ u. (entries bytes : ℕ) → u.1 ≡ error.Full entries bytes → (kept ≡ [])
-        × IsTrue (passes_with_all journal.old (first_group ready.now.conf.text ∷ []))
-        × (entries ≡ entries_with_all journal.old (first_group ready.now.conf.text ∷ []))
-        × (bytes ≡ bytes_with_all journal.old (first_group ready.now.conf.text ∷ []))) }
+        × IsTrue (passes_with_all journal.old (first_group ready.now.stage.conf.text ∷ []))
+        × (entries ≡ entries_with_all journal.old (first_group ready.now.stage.conf.text ∷ []))
+        × (bytes ≡ bytes_with_all journal.old (first_group ready.now.stage.conf.text ∷ []))) }
     ensures fault { IfErr result (λ u. u.1 ≡ error.DiskFault → (kept ≡ [])
         × Rose (D.tells journal.old.disk).faults (D.tells journal.new.disk).faults) }
     ensures same { IfErr result (λ u. u.1 ≢ error.DiskFault → journal.new ≡ journal.old) }
@@ -133,7 +133,7 @@ pub(crate) fn open<D: Disk>(
     ensures told { is_some (D.tells journal.new.disk).bytes ≡ is_some (D.tells journal.old.disk).bytes }
     ensures any_moment { IfSome (D.tells journal.old.disk).bytes
         (λ _. LeavesOnly (D.tells journal.old.disk) (D.tells journal.new.disk)
-        (KeepsEither kept (start ready.now.conf.text kept (journal.old.at + 1)).entries)) }
+        (KeepsEither kept (start ready.now.stage.conf.text kept (journal.old.at + 1)).entries)) }
 {
     if !kept.as_slice().is_empty() {
         let bytes = journal.bytes();

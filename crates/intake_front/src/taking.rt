@@ -20,7 +20,7 @@ use zbx_types::{
 };
 
 pub(crate) fn asked_host(ready: &Ready, name: &Option<Text>) -> Option<u32>
-    ensures { result ≡ option_and_then (host_named ready.now.conf) name.now }
+    ensures { result ≡ option_and_then (host_named ready.now.stage.conf) name.now }
 {
     match name {
         Some(name) => ready.host_named(name),
@@ -29,7 +29,7 @@ pub(crate) fn asked_host(ready: &Ready, name: &Option<Text>) -> Option<u32>
 }
 
 fn asked_item(ready: &Ready, host: u32, key: &Option<Text>) -> Option<u32>
-    ensures { result ≡ option_and_then (item_keyed ready.now.conf host) key.now }
+    ensures { result ≡ option_and_then (item_keyed ready.now.stage.conf host) key.now }
 {
     match key {
         Some(key) => ready.item_keyed(host, key),
@@ -186,8 +186,8 @@ fn keyed(
     asked: Asked,
     host: u32,
 ) -> Result<Entry, ValueRefusal>
-    requires { some_out ≡ false → AllCollected ready.now.conf now }
-    ensures { result ≡ keyed ready.now.conf now origin asked host (option_and_then (item_keyed ready.now.conf host) asked.key) }
+    requires { some_out ≡ false → AllCollected ready.now.stage.conf now }
+    ensures { result ≡ keyed ready.now.stage.conf now origin asked host (option_and_then (item_keyed ready.now.stage.conf host) asked.key) }
 {
     let Some(item) = asked_item(ready, host, &asked.key) else {
         return Err(ValueRefusal::UnknownKey);
@@ -214,8 +214,8 @@ fn hosted(
     origin: Origin,
     asked: Asked,
 ) -> Result<Entry, ValueRefusal>
-    requires { some_out ≡ false → AllCollected ready.now.conf now }
-    ensures { result ≡ hosted ready.now.conf now origin asked (option_and_then (host_named ready.now.conf) asked.host) }
+    requires { some_out ≡ false → AllCollected ready.now.stage.conf now }
+    ensures { result ≡ hosted ready.now.stage.conf now origin asked (option_and_then (host_named ready.now.stage.conf) asked.host) }
 {
     match asked_host(ready, &asked.host) {
         Some(host) => keyed(ready, now, some_out, origin, asked, host),
@@ -247,8 +247,8 @@ pub(crate) fn taken(
     origin: Origin,
     asked: Asked,
 ) -> Result<Entry, ValueRefusal>
-    requires { some_out ≡ false → AllCollected ready.now.conf now }
-    ensures { result ≡ taken_of ready.now.conf now origin asked }
+    requires { some_out ≡ false → AllCollected ready.now.stage.conf now }
+    ensures { result ≡ taken_of ready.now.stage.conf now origin asked }
 {
     supported(
         is_unsupported(origin),
@@ -263,8 +263,8 @@ pub(crate) fn agent_taken(
     some_out: bool,
     one: AgentAsked,
 ) -> Result<Entry, ValueRefusal>
-    requires { some_out ≡ false → AllCollected ready.now.conf now }
-    ensures { result ≡ agent_taken_of ready.now.conf now one }
+    requires { some_out ≡ false → AllCollected ready.now.stage.conf now }
+    ensures { result ≡ agent_taken_of ready.now.stage.conf now one }
 {
     let AgentAsked { asked, unsupported } = one;
     taken(ready, now, some_out, Origin::Agent { unsupported }, asked)

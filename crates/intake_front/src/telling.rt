@@ -37,7 +37,7 @@ fn told_host(alloc: Global, conf: &Conf, host: Option<u32>) -> Result<Bytes, Out
 /// What an agent is told that gives the name of its host.
 #[tactic(auto, unfolding(crate::specs::Telling::told))]
 pub(crate) fn told(alloc: Global, ready: &Ready, name: &Option<Text>) -> Result<Bytes, OutOfMemory>
-    ensures { IfOk result (λ bytes. bytes ≡ told ready.now.conf name.now) }
+    ensures { IfOk result (λ bytes. bytes ≡ told ready.now.stage.conf name.now) }
 {
     told_host(alloc, ready.conf(), asked_host(ready, name))
 }

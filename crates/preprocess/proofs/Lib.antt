@@ -10,3 +10,5 @@ pub mod Becoming
 pub mod Plain
 pub mod Logs
 pub mod Exchanging
+pub mod Caching
+pub mod InCache

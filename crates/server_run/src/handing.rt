@@ -31,7 +31,7 @@ pub(crate) trait Worker<S: StartName, N: RunName> {
         ready: &Ready,
         head: &mut RingHead<S, N>,
     ) -> Result<bool, OutOfMemory>
-        requires conf { ready.now ≡ S.start.stage }
+        requires conf { ready.now.stage ≡ S.start.stage }
         ensures sent { head.new.sent ≡ head.old.sent }
         ensures capacity { head.new.capacity ≡ head.old.capacity }
         ensures stops { IfOk result (λ on. on ≡ false → stops self.new) };

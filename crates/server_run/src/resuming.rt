@@ -128,11 +128,11 @@ fn begin<D: Disk>(
     requires read { journal.state ≡ state.Ready }
     requires journaled { HasJournaled D.tells journal kept (journal.at + 1) }
     ensures ok { IfOk result (λ f. (most : ℕ) (old : D)
-        → IsTakenUp D.tells ready.now.conf most old journal kept
-        → HasBegun D.tells ready.now.conf most old f) }
+        → IsTakenUp D.tells ready.now.stage.conf most old journal kept
+        → HasBegun D.tells ready.now.stage.conf most old f) }
     ensures err { IfErr result (λ r. (most : ℕ) (old : D) (outbox outbox' : SinkTells)
-        → IsTakenUp D.tells ready.now.conf most old journal kept
-        → TurnedAway ready.now.conf most (D.tells old) (D.tells r.disk) outbox outbox' r.entries
+        → IsTakenUp D.tells ready.now.stage.conf most old journal kept
+        → TurnedAway ready.now.stage.conf most (D.tells old) (D.tells r.disk) outbox outbox' r.entries
         r.status) }
 {
     match Front::new(alloc, ready, journal, kept) {
@@ -152,8 +152,8 @@ pub(crate) fn resume<D: Disk>(
     disk: D,
     max_entries: u64,
 ) -> Result<Front<D>, Refused<D>>
-    ensures ok { IfOk result (HasBegun D.tells ready.now.conf max_entries disk) }
-    ensures err { IfErr result (λ r. (outbox outbox' : SinkTells) → TurnedAway ready.now.conf max_entries
+    ensures ok { IfOk result (HasBegun D.tells ready.now.stage.conf max_entries disk) }
+    ensures err { IfErr result (λ r. (outbox outbox' : SinkTells) → TurnedAway ready.now.stage.conf max_entries
         (D.tells disk) (D.tells r.disk) outbox outbox' r.entries r.status) }
 {
     let (journal, kept) = match accepted(alloc, ready.conf(), disk, max_entries) {

@@ -7,5 +7,5 @@ use Rattle.entry_step.proofs.touched.trigger_ids.Goals as goal
 pub returns : goal.returns
 returns g c =
     subst (λ (r : List ℕ). IfOk c.settled.result (λ row. row ≡ r))
-    (found_all c.args.ready.now.conf c.args.all.now c.args.entries.now c.loop-one.one-index TriggerKey c.loop-one.found.items c.loop-one-test.false c.loop-one.invariant)
+    (found_all c.args.ready.now.stage.conf c.args.all.now c.args.entries.now c.loop-one.one-index TriggerKey c.loop-one.found.items c.loop-one-test.false c.loop-one.invariant)
     c.settled.ensures

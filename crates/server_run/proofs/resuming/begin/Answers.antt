@@ -6,11 +6,11 @@ use Rattle.server_run.proofs.resuming.begin.Goals as goal
 pub returns-in-Ok-clause-ok : goal.returns-in-Ok-clause-ok
 returns-in-Ok-clause-ok g c = λ most old t.
     let e = c.in-Ok.ensures in
-    has_begun g.D.Disk.tells c.args.ready.now.conf most old c.args.journal c.args.kept t c.in-Ok.front e.made e.sound e.idle e.durable e.state e.later e.told e.any_moment
+    has_begun g.D.Disk.tells c.args.ready.now.stage.conf most old c.args.journal c.args.kept t c.in-Ok.front e.made e.sound e.idle e.durable e.state e.later e.told e.any_moment
 
 pub returns-in-Err-clause-err : goal.returns-in-Err-clause-err
 returns-in-Err-clause-err g c = λ most old outbox outbox' t.
     let e = c.in-Err.ensures in
     let u = c.in-Err.unmade in
-    subst (λ s. TurnedAway c.args.ready.now.conf most (g.D.Disk.tells old) (g.D.Disk.tells u.disk) outbox outbox' u.kept s) (sym c.status_of.ensures)
-    (turned_at_front g.D.Disk.tells c.args.ready.now.conf most old c.args.journal c.args.kept t outbox outbox' u.disk u.kept u.error e.back e.only_full e.fault e.same e.later e.told e.any_moment)
+    subst (λ s. TurnedAway c.args.ready.now.stage.conf most (g.D.Disk.tells old) (g.D.Disk.tells u.disk) outbox outbox' u.kept s) (sym c.status_of.ensures)
+    (turned_at_front g.D.Disk.tells c.args.ready.now.stage.conf most old c.args.journal c.args.kept t outbox outbox' u.disk u.kept u.error e.back e.only_full e.fault e.same e.later e.told e.any_moment)

@@ -8,5 +8,5 @@ use Rattle.intake_front.proofs.front.Front.on_event.Goals as goal
 pub returns-clause-keeps : goal.returns-clause-keeps
 returns-clause-keeps g c =
     let inside = c.self.inside.inside in
-    subst (λ v. OnOk c.receive_alone.result (IsSound c.args.ready.now.conf v.intake → IsSound c.args.ready.now.conf c.receive_alone.new.held)) c.self.view_is
-    (kept_after c.args.ready.now.conf inside.held c.receive_alone.new.held c.args.event.now (λ o. limits_of inside.journal (refused_group inside.held o)) c.receive_alone.result c.receive_alone.ensures.offered.after)
+    subst (λ v. OnOk c.receive_alone.result (IsSound c.args.ready.now.stage.conf v.intake → IsSound c.args.ready.now.stage.conf c.receive_alone.new.held)) c.self.view_is
+    (kept_after c.args.ready.now.stage.conf inside.held c.receive_alone.new.held c.args.event.now (λ o. limits_of inside.journal (refused_group inside.held o)) c.receive_alone.result c.receive_alone.ensures.offered.after)
