@@ -38,3 +38,10 @@ pub mod Touching
 pub mod Runs
 pub mod Rising
 pub mod Previous
+mod Finding
+mod Told
+mod Moving
+mod Wholes
+mod Following
+mod First
+mod Remembered

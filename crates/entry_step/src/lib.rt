@@ -22,7 +22,10 @@
 //! problems that are open, in the order of making (`specs/Due.antt`). A Config makes no records.
 //!
 //! The module `laws` has the laws of order as clauses: an entry's records and changes depend on its foot alone, and
-//! an entry that conflicts with no later one joins in its place.
+//! an entry that conflicts with no later one joins in its place. The module `whole_logs` has those of logs whose
+//! configuration changes: a Config behind the first one is a function on cells (`specs/Carry.antt`), and any entry over
+//! them gives what the searches find (`specs/Whole.antt`). `Epochs` keep the configurations of such a log. No run has
+//! one yet.
 //!
 //! The value of a call is that of `history_functions` over the window of the item's whole history; what is kept of
 //! it, in the cells of `value_cache`, shows the same window. Operators are those of the crate `expr_eval`. A
@@ -47,6 +50,7 @@ mod cells;
 mod changes;
 mod copying;
 mod due;
+mod epochs;
 mod evaluation;
 mod exchange;
 mod fault;
@@ -73,8 +77,10 @@ mod stepping;
 mod steps;
 mod timed;
 mod touched;
+pub mod whole_logs;
 
 pub use cells::Cells;
+pub use epochs::{Epoch, Epochs};
 pub use fault::BuildError;
 pub use index::Ready;
 pub use parts::{ItemRow, Part, TriggerRow, WorkedOut, work_out};

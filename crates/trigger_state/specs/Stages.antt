@@ -1,6 +1,6 @@
 -- What is in force: a configuration, and where events come from.
-use Rattle.std.specs.Prelude.{◌≡◌, ℕ, ◌+◌, Bool, ◌&&◌, List, [], position, Option, Some, None, option_map}
-use Rattle.std.specs.List.{find}
+use Rattle.std.specs.Prelude.{◌≡◌, ℕ, Bool, ◌&&◌, List, [], Option, Some, None}
+use Rattle.std.specs.List.{find, position_from}
 use Rattle.std.specs.Option.{unwrap_or}
 use Rattle.std.specs.Str.{bytes_eq}
 use Rattle.zbx_types.specs.Hosts.{host_name}
@@ -28,14 +28,18 @@ pub record Stage : Type 0 where
 abbrev pub origin_of : List Origin → EventId → Option Origin
 origin_of origins event = find (λ o. same_event o.event event) origins
 
--- a trigger has the names of an origin
-abbrev pub has_names : Conf → Origin → Trigger → Bool
-has_names conf origin trigger =
-    bytes_eq (host_name (at_id conf.hosts trigger.host)) origin.host && bytes_eq trigger.name origin.trigger
+-- a trigger has these names of its host and its own
+abbrev pub has_names : Conf → List ℕ → List ℕ → Trigger → Bool
+has_names conf host name trigger =
+    bytes_eq (host_name (at_id conf.hosts trigger.host)) host && bytes_eq trigger.name name
 
--- the id of the first trigger with these names, 0 where there is none
+-- the id of the first trigger with these names of its host and its own, where there is one
+abbrev pub id_named : Conf → List ℕ → List ℕ → Option ℕ
+id_named conf host name = position_from (has_names conf host name) 1 conf.triggers
+
+-- the id of the trigger with the names of an origin, 0 where there is none
 unfoldable pub trigger_named : Conf → Origin → ℕ
-trigger_named conf origin = unwrap_or (option_map (λ place. place + 1) (position (has_names conf origin) conf.triggers)) 0
+trigger_named conf origin = unwrap_or (id_named conf origin.host origin.trigger) 0
 
 -- the id of an event's trigger, and its rank, where this is its origin: an event of the configuration itself has none
 abbrev pub home_by : Conf → EventId → Option Origin → ℕ
