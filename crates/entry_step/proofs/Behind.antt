@@ -27,7 +27,7 @@ use Rattle.entry_step.specs.Behind.{behind, ReplayBehind, BehindIsGood, HoldsBeh
 use Rattle.entry_step.proofs.Orders.{cells_of, cells_are, tidy_cells}
 
 -- The searches
-tick_behind : (start : Start) (newer older : List Numbered) → first_tick (behind start older) newer ≡ first_tick start (newer ++ older)
+pub tick_behind : (start : Start) (newer older : List Numbered) → first_tick (behind start older) newer ≡ first_tick start (newer ++ older)
 tick_behind start [] older = refl
 tick_behind start (e ∷ newer) older = ap (λ t. tick_with t e.entry) (tick_behind start newer older)
 
@@ -38,7 +38,7 @@ moment_behind start (e ∷ newer) older = refl
 abbrev marks_with : Conf → Numbered → (ℕ → List StepMemory) → ℕ → List StepMemory
 marks_with conf e marks id = marks_after (visit_at (visits_at conf (λ i k. memory_at (marks i) k) e.number e.entry) id) (marks id)
 
-marks_behind : (start : Start) (newer older : List Numbered) → marks_of (behind start older) newer ≡ marks_of start (newer ++ older)
+pub marks_behind : (start : Start) (newer older : List Numbered) → marks_of (behind start older) newer ≡ marks_of start (newer ++ older)
 unfolding marks_of
 marks_behind start [] older = fun_ext (λ id. refl)
 marks_behind start (e ∷ newer) older = fun_ext (λ id. ap (λ (m : ℕ → List StepMemory). marks_with start.stage.conf e m id) (marks_behind start newer older))

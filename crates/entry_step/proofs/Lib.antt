@@ -10,6 +10,7 @@ pub mod Phases
 pub mod Represented
 pub mod Orders
 pub mod Behind
+pub mod Alike
 pub mod Meeting
 pub mod Making
 pub mod Replays
@@ -45,3 +46,11 @@ mod Wholes
 mod Following
 mod First
 mod Remembered
+pub mod Retold
+pub mod Sound
+pub mod Central
+pub mod Restart
+pub mod Fitting
+pub mod Housing
+pub mod Values
+pub mod Restored

@@ -199,7 +199,7 @@ chain_is steps row value time k same = go (cases_order (k - 1) (length steps))
     go (inr (inr l)) = beyond (let q : length steps ≤ k - 1 = omega (arith, l) in q)
 
 -- The visit of an item
-found_is : (f : ℕ → Option Visit) → ((j : ℕ) (v : Visit) → f j ≡ Some v → v.item ≡ j) → (ids : List ℕ) (i : ℕ) (v : Visit) → visit_at (filter_map f ids) i ≡ Some v → f i ≡ Some v
+pub found_is : (f : ℕ → Option Visit) → ((j : ℕ) (v : Visit) → f j ≡ Some v → v.item ≡ j) → (ids : List ℕ) (i : ℕ) (v : Visit) → visit_at (filter_map f ids) i ≡ Some v → f i ≡ Some v
 found_is f its [] i v e = absurd (cc)
 found_is f its (j ∷ ids) i v e = go (f j) refl (found_is f its ids i v) e
   where

@@ -421,7 +421,7 @@ steps_out start held next e made steps log h suit =
     (both.0 ∙ one.0, record { cells = after start.stage h.cells e; stand = one.1; represented = both.1 })
 
 -- Cells of a configuration, before its first entry
-replicated_rows : (n id : ℕ) → problems_at (replicate n []) id ≡ []
+pub replicated_rows : (n id : ℕ) → problems_at (replicate n []) id ≡ []
 unfolding problems_at
 replicated_rows n zero = ap (λ o. unwrap_or o []) (at_zero (replicate n []))
 replicated_rows n (suc k) = ap (λ o. unwrap_or o []) (at_suc (replicate n []) k) ∙ go n k

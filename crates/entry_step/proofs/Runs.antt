@@ -74,7 +74,7 @@ same_sym a b = go (same_event a b) refl
     go true q = q ∙ sym (subst (λ c. same_event c a ≡ true) (same_is a b q) (same_self a))
     go false q = q ∙ sym (other_flip a b q)
 
-name_is : (a b : List ℕ) → bytes_eq a b ≡ true → a ≡ b
+pub name_is : (a b : List ℕ) → bytes_eq a b ≡ true → a ≡ b
 name_is a b e = (bytes_decides a b).0 e
 
 name_self : (a : List ℕ) → bytes_eq a a ≡ true
@@ -255,7 +255,7 @@ less_is Less e = refl
 less_is Equal e = absurd (cc)
 less_is Greater e = absurd (cc)
 
-before_other : (x s : Rec) → is_before x s ≡ true → bytes_eq (action_of x) (action_of s) ≡ false
+pub before_other : (x s : Rec) → is_before x s ≡ true → bytes_eq (action_of x) (action_of s) ≡ false
 before_other x s e = sym (is_eq-slice_cmp (action_of x) (action_of s)) ∙ ap is_eq (less_is (slice_cmp nat_cmp (action_of x) (action_of s)) e)
 
 before_trans : (x y z : Rec) → is_before x y ≡ true → is_before y z ≡ true → is_before x z ≡ true
@@ -277,10 +277,10 @@ other_none e a (Problem event now severity suppressed host trigger name tags) h 
 other_none e a (Recovery event by now cause) h = refl
 other_none e a (Message event action step recipient subject body) h = refl
 
-abbrev Ordered : List Rec → Type 0
+abbrev pub Ordered : List Rec → Type 0
 Ordered steps = EachPair (λ x y. is_before x y ≡ true) steps
 
-with_each : (P : Rec → Type 0) (steps : List Rec) (s : Rec) → Each P steps → P s → Each P (with_step steps s)
+pub with_each : (P : Rec → Type 0) (steps : List Rec) (s : Rec) → Each P steps → P s → Each P (with_step steps s)
 with_each P [] s e p = (p, tt)
 with_each P (x ∷ xs) s e p = go (is_before x s) (same_action x s) (with_each P xs s e.1 p)
   where
@@ -289,7 +289,7 @@ with_each P (x ∷ xs) s e p = go (is_before x s) (same_action x s) (with_each P
     go false true ih = (p, e.1)
     go false false ih = (p, e)
 
-with_ordered : (steps : List Rec) (s : Rec) → Ordered steps → Ordered (with_step steps s)
+pub with_ordered : (steps : List Rec) (s : Rec) → Ordered steps → Ordered (with_step steps s)
 with_ordered [] s o = (tt, tt)
 with_ordered (x ∷ xs) s o = go (is_before x s) (same_action x s) refl refl (with_ordered xs s o.1)
   where

@@ -17,8 +17,12 @@ pub mod Laws
 pub mod Named
 pub mod Making
 pub mod Behind
+pub mod Alike
+pub mod Bases
 pub mod NamedInside
 pub mod Rising
+pub mod Central
+pub mod FitsBase
 pub mod Previous
 pub mod Asked
 pub mod Kept
@@ -26,6 +30,7 @@ pub mod Calls
 pub mod Plans
 pub mod Packed
 pub mod Changes
+pub mod Restoring
 pub mod Names
 pub mod Parts
 pub mod Index

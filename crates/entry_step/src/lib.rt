@@ -25,7 +25,7 @@
 //! an entry that conflicts with no later one joins in its place. The module `whole_logs` has those of logs whose
 //! configuration changes: a Config behind the first one is a function on cells (`specs/Carry.antt`), and any entry over
 //! them gives what the searches find (`specs/Whole.antt`). `Epochs` keep the configurations of such a log. No run has
-//! one yet.
+//! one yet. The module `base_laws` has those of bases, states that stand in place of entries (`specs/Bases.antt`).
 //!
 //! The value of a call is that of `history_functions` over the window of the item's whole history; what is kept of
 //! it, in the cells of `value_cache`, shows the same window. Operators are those of the crate `expr_eval`. A
@@ -44,6 +44,7 @@
 #![tactic(auto)]
 
 mod asked;
+pub mod base_laws;
 mod call_values;
 mod calls;
 mod cells;
@@ -69,6 +70,7 @@ mod patterned;
 mod plans;
 mod reached;
 mod records;
+mod restoring;
 mod rows;
 mod ruling;
 mod same;
