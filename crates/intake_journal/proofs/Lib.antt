@@ -15,3 +15,8 @@ pub mod Staged
 pub mod Room
 pub mod Sizes
 pub mod Reached
+pub mod Parts
+pub mod PartsRead
+pub mod BaseAgain
+pub mod BaseMade
+pub mod BaseFormed
