@@ -1,9 +1,10 @@
 -- A base that was read may be written.
-use Rattle.std.proofs.Common.{◌≡◌, ℕ, zero, suc, Bool, true, false, List, [], ◌∷◌, length, Option, Some, None, refl, subst}
+use Rattle.std.proofs.Common.{◌≡◌, ◌≢◌, ℕ, zero, suc, Bool, true, false, List, [], ◌∷◌, length, Option, Some, None, refl, ap, subst, arith}
 use Rattle.std.specs.Prelude.{is_some, nat_lt, ◌==◌, ◌&&◌, if◌then◌else◌}
 use Rattle.std.specs.List.{All}
 use Rattle.std.proofs.lemmas.Bool.{ltb-true}
 use Rattle.std.proofs.lemmas.List.Elements.{All-nil, All-cons}
+use Rattle.zbx_types.specs.Bases.{empty_base}
 use Rattle.zbx_types.specs.declared.base.Base.{Base}
 use Rattle.zbx_types.specs.declared.base.BaseItem.{BaseItem}
 use Rattle.zbx_types.specs.declared.base.BaseProblem.{BaseProblem}
@@ -100,3 +101,7 @@ read_is_formed bytes base e =
       ticks = head_is_both bytes head.0 head.1;
       problems = list_has problem_at IsOrderly problem_is_orderly items.0.1 problems.0 problems.1;
     })
+
+-- such a base isn't the empty one
+pub formed_not_empty : (base : Base) → IsFormed base → base ≢ empty_base
+formed_not_empty base formed e = omega (arith, formed.text, ap (λ (b : Base). length b.text) e)

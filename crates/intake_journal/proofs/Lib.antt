@@ -20,3 +20,5 @@ pub mod PartsRead
 pub mod BaseAgain
 pub mod BaseMade
 pub mod BaseFormed
+pub mod Beginnings
+pub mod OpenedFiles

@@ -12,3 +12,4 @@ pub mod BaseBytes
 pub mod BaseForm
 pub mod BaseTypes
 pub mod Based
+pub mod Begun

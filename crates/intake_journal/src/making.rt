@@ -5,10 +5,10 @@ ghost use Rattle.outside.specs.Causes.{Rose, HasCause};
 ghost use Rattle.outside.specs.Disk.{Only, LeavesOnly, overwritten};
 ghost use Rattle.gated_file.specs.Around.{IsAround};
 ghost use Rattle.gated_file.specs.Moments.{IsAsBefore};
-ghost use Rattle.intake_journal.specs.Based.{based_magic, begun, block_bytes, HasBase, IsMaking, is_too_large, made_disk};
+ghost use Rattle.intake_journal.specs.Based.{begun, block_bytes, HasBase, IsMaking, is_too_large, made_disk};
 ghost use Rattle.intake_journal.specs.BaseBytes.{base_bytes, IsFormed};
 ghost use Rattle.intake_journal.specs.BaseTypes.{IsBaseTyped};
-ghost use Rattle.intake_journal.specs.Kept.{longest_journal};
+ghost use Rattle.intake_journal.specs.Kept.{longest_journal, based_magic};
 ghost use Rattle.intake_journal.specs.declared.making.MakeError.TheVariants as error;
 
 use crate::base_encoding::{put_base, put_number};
