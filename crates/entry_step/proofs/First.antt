@@ -22,7 +22,8 @@ use Rattle.trigger_state.specs.Carry.{is_gone, origin_in}
 use Rattle.trigger_state.specs.Problems.{event_in, open_of}
 use Rattle.trigger_state.specs.Stages.{Origin, Stage, first_stage}
 use Rattle.trigger_state.specs.declared.problems.Open.{Open}
-use Rattle.entry_step.specs.Carry.{old_item, carried_history, same_step, carried_along, steps_of, carried_for, carried_marks, removed}
+use Rattle.preprocess.specs.Carry.{old_item, carried_history, same_step, carried_along, steps_of, carried_for, carried_marks}
+use Rattle.entry_step.specs.Carry.{removed}
 use Rattle.entry_step.specs.Due.{by_making, due_at}
 use Rattle.entry_step.specs.FirstConfig.{FirstConfig}
 use Rattle.entry_step.specs.History.{stored_of, marks_of, history_of}

@@ -24,7 +24,7 @@ use Rattle.preprocess.specs.Cells.{no_marks}
 use Rattle.preprocess.specs.Draft.{visit_at, marks_after}
 use Rattle.preprocess.specs.Visits.{Arrival, came, visits_of}
 use Rattle.preprocess.specs.Ways.{memory_at}
-use Rattle.entry_step.specs.Carry.{same_type, goes_on_as, old_item, kind_number, fail_number, same_step, carried_along, steps_of, carried_for, carried_marks}
+use Rattle.preprocess.specs.Carry.{same_type, goes_on_as, old_item, kind_number, fail_number, same_step, carried_along, steps_of, carried_for, carried_marks}
 use Rattle.entry_step.specs.History.{marks_of, memory_of}
 use Rattle.entry_step.specs.Previous.{mark_in, mark_of, marked_at, last_mark, HasMarks}
 use Rattle.entry_step.specs.Remembered.{same_steps, is_carried, mark_at, remembered, marked_for, previous_with, previous, HasApart, HasNoOther, PreviousInWhole}

@@ -13,7 +13,7 @@ use Rattle.zbx_types.specs.declared.items.Item.{Item}
 use Rattle.zbx_types.specs.declared.steps.StepSpec.{StepSpec}
 use Rattle.prep_steps.specs.Outcomes.{unmarked}
 use Rattle.prep_steps.specs.declared.memory.StepMemory.{StepMemory}
-use Rattle.entry_step.specs.Carry.{same_step, old_item, steps_of}
+use Rattle.preprocess.specs.Carry.{same_step, old_item, steps_of}
 use Rattle.entry_step.specs.History.{memory_of}
 use Rattle.entry_step.specs.Previous.{marked_at, HasMarks}
 use Rattle.entry_step.specs.Start.{Start}
