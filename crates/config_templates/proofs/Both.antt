@@ -5,13 +5,13 @@ use Rattle.zbx_types.specs.declared.calls.Call.{Call}
 use Rattle.macro_text.specs.Expanded.{expanded}
 use Rattle.macro_text.specs.declared.macros.Macro.{Macro}
 use Rattle.config_read.specs.declared.raw.RawTrigger.{RawTrigger}
-use Rattle.config_templates.specs.Answers.{Fails, GivesAs}
+use Rattle.host_layout.specs.Answers.{Fails, GivesAs}
 use Rattle.config_templates.specs.Expressions.{Resolved, Meant, resolved_at, with_recovery, meant_by}
 use Rattle.config_templates.specs.Meanings.{meant_now}
-use Rattle.config_templates.specs.Places.{Flaw, Placed, ◌>>=◌}
+use Rattle.host_layout.specs.Places.{Flaw, Placed, ◌>>=◌}
 use Rattle.config_templates.specs.Referenced.{Looked}
-use Rattle.config_templates.specs.declared.fault.FlatError.{FlatError}
-use Rattle.config_templates.specs.declared.fault.FlatError.TheVariants.{Refused, OutOfMemory}
+use Rattle.host_layout.specs.declared.fault.FlatError.{FlatError}
+use Rattle.host_layout.specs.declared.fault.FlatError.TheVariants.{Refused, OutOfMemory}
 use Rattle.config_templates.specs.declared.resolving.Meaning.{Meaning}
 
 fails : {A B : Type 0} (e : FlatError) (first : Result A Flaw) (k : A → Result B Flaw) → Fails e first → Fails e (first >>= k)

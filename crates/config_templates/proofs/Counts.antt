@@ -4,8 +4,8 @@ use Rattle.zbx_types.specs.declared.triggers.Trigger.{Trigger}
 use Rattle.config_read.specs.declared.raw.RawTrigger.{RawTrigger}
 use Rattle.config_read.specs.declared.raw.RawHost.{RawHost}
 use Rattle.config_read.specs.declared.raw.RawConf.{RawConf}
-use Rattle.config_templates.specs.Places.{Flaw, Placed, each, each_list, ◌>>=◌}
-use Rattle.config_templates.specs.Links.{sources_of, placed_hosts}
+use Rattle.host_layout.specs.Places.{Flaw, Placed, each, each_list, ◌>>=◌}
+use Rattle.host_layout.specs.Links.{sources_of, placed_hosts}
 use Rattle.config_templates.specs.Triggers.{placed_triggers}
 use Rattle.config_templates.specs.Depends.{Depending, depending_of, dependings_from, dependings_of, written_triggers}
 

@@ -8,13 +8,13 @@ use Rattle.macro_text.specs.declared.macros.Macro.{Macro}
 use Rattle.config_read.specs.declared.raw.RawConf.{RawConf}
 use Rattle.config_read.specs.declared.raw.RawTrigger.{RawTrigger}
 use Rattle.config_templates.specs.Expressions.{Meant, expressions_of}
-use Rattle.config_templates.specs.Links.{sources_of, placed_hosts}
-use Rattle.config_templates.specs.Macros.{macros_of}
-use Rattle.config_templates.specs.Places.{Flaw, Placed, refuse, each_list, ◌>>=◌}
-use Rattle.config_templates.specs.Patterns.{Pattern}
-use Rattle.config_templates.specs.Referenced.{Owner}
+use Rattle.host_layout.specs.Links.{sources_of, placed_hosts}
+use Rattle.host_layout.specs.Macros.{macros_of}
+use Rattle.host_layout.specs.Places.{Flaw, Placed, refuse, each_list, ◌>>=◌}
+use Rattle.host_layout.specs.Patterns.{Pattern}
+use Rattle.host_layout.specs.Hosts.{Owner, owner_of}
 use Rattle.config_templates.specs.Titles.{title_of, tags_of}
-use Rattle.config_templates.specs.Triggers.{has_trigger, most_triggers, trigger_made, users_of, found_with, trigger_of, placed_triggers, owner_of, triggers_from, triggers_of}
+use Rattle.config_templates.specs.Triggers.{has_trigger, most_triggers, trigger_made, users_of, found_with, trigger_of, placed_triggers, triggers_from, triggers_of}
 use Rattle.config_templates.specs.Uses.{trigger_joined}
 use Rattle.config_templates.specs.Depends.{written_triggers}
 use Rattle.config_templates.specs.declared.triggers.Found.{Found}

@@ -1,20 +1,20 @@
 -- A trigger whose name is free.
-use Rattle.std.proofs.Common.{◌≡◌, ℕ, Bool, not, true, false, List, length, refl, sym, ◌∙◌, subst, ap}
-use Rattle.std.specs.Prelude.{Result, nat_le}
+use Rattle.std.proofs.Common.{◌≡◌, ℕ, Bool, not, true, false, List, [], ◌∷◌, length, refl, sym, ◌∙◌, subst, ap}
+use Rattle.std.specs.Prelude.{Result, nat_le, ◌==◌, ◌&&◌, ◌||◌}
+use Rattle.std.specs.Str.{bytes_eq}
 use Rattle.zbx_types.specs.declared.items.Item.{Item}
 use Rattle.zbx_types.specs.declared.triggers.Trigger.{Trigger}
 use Rattle.macro_text.specs.declared.macros.Macro.{Macro}
 use Rattle.config_read.specs.declared.raw.RawConf.{RawConf}
 use Rattle.config_read.specs.declared.raw.RawTrigger.{RawTrigger}
-use Rattle.config_templates.specs.Answers.{GivesAs}
-use Rattle.config_templates.specs.Places.{Placed}
-use Rattle.config_templates.specs.Referenced.{Owner}
+use Rattle.host_layout.specs.Answers.{GivesAs}
+use Rattle.host_layout.specs.Places.{Placed}
+use Rattle.host_layout.specs.Hosts.{Owner}
 use Rattle.config_templates.specs.Triggers.{has_trigger, trigger_of, most_triggers}
-use Rattle.config_templates.specs.Names.{Named, has_named, named_triggers}
-use Rattle.config_templates.proofs.Taken.{has_trigger_named}
+use Rattle.host_layout.specs.Names.{Named, has_named, named_triggers}
 use Rattle.config_templates.specs.Written.{free_trigger}
 use Rattle.config_templates.specs.declared.triggers.Found.{Found}
-use Rattle.config_templates.specs.declared.fault.FlatError.{FlatError}
+use Rattle.host_layout.specs.declared.fault.FlatError.{FlatError}
 
 as_free : (raw : RawConf) (items : List Item) (owner : Owner) (macros : List Macro) (found : Found) (p : Placed RawTrigger)
     → has_trigger found.triggers owner.id p.body.name ≡ false → nat_le most_triggers (length found.triggers) ≡ false → trigger_of raw items owner macros found p ≡ free_trigger raw items owner macros found p
@@ -26,6 +26,11 @@ pub gives_free : (seen : Trigger → Found) (r : Result Trigger FlatError) (raw 
     → has_trigger found.triggers owner.id p.body.name ≡ false → nat_le most_triggers (length found.triggers) ≡ false → GivesAs seen r (free_trigger raw items owner macros found p)
     → GivesAs seen r (trigger_of raw items owner macros found p)
 gives_free seen r raw items owner macros found p h g f = subst (λ laid. GivesAs seen r laid) (sym (as_free raw items owner macros found p h g)) f
+
+-- a trigger is among others where its name is among theirs
+pub has_trigger_named : (triggers : List Trigger) (host : ℕ) (name : List ℕ) → has_named (named_triggers triggers) host name ≡ has_trigger triggers host name
+has_trigger_named [] host name = refl
+has_trigger_named (t ∷ triggers) host name = ap (λ b. ((t.host == host) && bytes_eq t.name name) || b) (has_trigger_named triggers host name)
 
 not_true : (b : Bool) → not b ≡ true → b ≡ false
 not_true true h = absurd cc

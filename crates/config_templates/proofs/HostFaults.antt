@@ -7,12 +7,12 @@ use Rattle.std.proofs.lemmas.List.{drop_all}
 use Rattle.zbx_types.specs.declared.causes.Cause.{Cause}
 use Rattle.json_form.specs.Faults.{Fault}
 use Rattle.config_read.specs.declared.raw.RawConf.{RawConf}
-use Rattle.config_templates.specs.Places.{Placed, placed, placed_from, fault_or, first_fault}
-use Rattle.config_templates.specs.Answers.{Tells}
+use Rattle.host_layout.specs.Places.{Placed, placed, placed_from, fault_or, first_fault}
+use Rattle.host_layout.specs.Answers.{Tells}
 use Rattle.config_templates.specs.NamedHosts.{unknown_host, all_maintained, all_acted, unknown_hosts}
-use Rattle.config_templates.specs.declared.fault.FlatError.{FlatError}
-use Rattle.config_templates.proofs.PlacedElements.{placed_at, placed_from-more}
-use Rattle.config_templates.proofs.FirstFaults.{first_fault-append, tells_front}
+use Rattle.host_layout.specs.declared.fault.FlatError.{FlatError}
+use Rattle.host_layout.proofs.PlacedElements.{placed_at, placed_from-more}
+use Rattle.host_layout.proofs.FirstFaults.{first_fault-append, tells_front}
 
 module _ {A : Type 0} (check : A → Option Cause) (path : List ℕ) (xs : List A) where
   -- the fault of the elements from a place on

@@ -7,21 +7,21 @@ use Rattle.zbx_types.specs.declared.conf.Conf.{Conf}
 use Rattle.zbx_types.specs.declared.items.Item.{Item}
 use Rattle.zbx_types.specs.declared.triggers.Trigger.{Trigger}
 use Rattle.config_templates.specs.declared.triggers.Found.{Found}
-use Rattle.config_templates.specs.Patterns.{Pattern}
+use Rattle.host_layout.specs.Patterns.{Pattern}
 use Rattle.config_templates.specs.Triggers.{triggers_of}
 use Rattle.config_templates.specs.Depends.{depending}
 use Rattle.config_templates.specs.NamedHosts.{unknown_hosts}
 use Rattle.config_templates.proofs.Linked.{bound_fails, told_fails}
 use Rattle.config_read.specs.declared.raw.RawConf.{RawConf}
-use Rattle.config_templates.specs.declared.fault.FlatError.{FlatError}
-use Rattle.config_templates.specs.declared.fault.FlatError.TheVariants.{Refused, OutOfMemory}
-use Rattle.config_templates.specs.Answers.{Fails, Tells, GivesAs}
+use Rattle.host_layout.specs.declared.fault.FlatError.{FlatError}
+use Rattle.host_layout.specs.declared.fault.FlatError.TheVariants.{Refused, OutOfMemory}
+use Rattle.host_layout.specs.Answers.{Fails, Tells, GivesAs}
 use Rattle.config_templates.specs.Flat.{laid_out}
 use Rattle.config_templates.specs.Laid.{behind_items, behind_links}
-use Rattle.config_templates.specs.Linked.{link_faults}
-use Rattle.config_templates.specs.Links.{unknown_links, cycles}
-use Rattle.config_templates.specs.Places.{Flaw, unless, ◌>>=◌}
-use Rattle.config_templates.specs.Places.Flaw.{refused}
+use Rattle.host_layout.specs.Linked.{link_faults}
+use Rattle.host_layout.specs.Links.{unknown_links, cycles}
+use Rattle.host_layout.specs.Places.{Flaw, unless, ◌>>=◌}
+use Rattle.host_layout.specs.Places.Flaw.{refused}
 
 first_fails : (e : FlatError) (f : Fault) → Tells e (Some f) → Fails {A = Conf} e (Err (refused f))
 first_fails OutOfMemory f t = tt

@@ -9,14 +9,14 @@ use Rattle.std.proofs.lemmas.Option.{slice_get-map}
 use Rattle.zbx_types.specs.declared.triggers.Trigger.{Trigger}
 use Rattle.json_form.specs.Faults.{Fault}
 use Rattle.config_read.specs.declared.raw.RawConf.{RawConf}
-use Rattle.config_templates.specs.Places.{Flaw, unless, ◌>>=◌}
-use Rattle.config_templates.specs.Names.{is_named, named_trigger, named_triggers}
-use Rattle.config_templates.specs.Answers.{Fails, Tells}
+use Rattle.host_layout.specs.Places.{Flaw, unless, ◌>>=◌}
+use Rattle.host_layout.specs.Names.{is_named, named_trigger, named_triggers}
+use Rattle.host_layout.specs.Answers.{Fails, Tells}
 use Rattle.config_templates.specs.Depends.{Depending, trigger_placed, dependings_of, links_of, cyclic, linked, linked_from, all_linked, depending}
 use Rattle.config_templates.specs.Dependings.{depending_now, dependings_now}
 use Rattle.config_templates.specs.declared.depends.Dependencies.{Dependencies as Held}
-use Rattle.config_templates.specs.declared.fault.FlatError.{FlatError}
-use Rattle.config_templates.specs.declared.fault.FlatError.TheVariants.{Refused, OutOfMemory}
+use Rattle.host_layout.specs.declared.fault.FlatError.{FlatError}
+use Rattle.host_layout.specs.declared.fault.FlatError.TheVariants.{Refused, OutOfMemory}
 
 lens_placed : (host : ℕ) (name : List ℕ) (ts : List Trigger) → position_or_len (is_named host name) (named_triggers ts) ≡ position_or_len (λ t. (t.host == host) && bytes_eq t.name name) ts
 lens_placed host name [] = refl

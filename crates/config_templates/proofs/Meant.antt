@@ -8,8 +8,8 @@ use Rattle.std.proofs.lemmas.Slice.Eq.{bytes_eq-Decides}
 use Rattle.std.proofs.lemmas.Iterator.Adapters.{position_from-zero}
 use Rattle.config_read.specs.declared.raw.RawHost.{RawHost}
 use Rattle.zbx_types.specs.declared.items.Item.{Item}
-use Rattle.config_templates.specs.Names.{Named, named_item, named_items, is_named, is_keyed}
-use Rattle.config_templates.specs.Places.{Placed}
+use Rattle.host_layout.specs.Names.{Named, named_item, named_items, is_named, is_keyed}
+use Rattle.host_layout.specs.Places.{Placed}
 
 any_from : {A : Type 0} (t : A → Bool) (n : ℕ) (xs : List A) → is_some (position_from t n xs) ≡ list_any t xs
 any_from t n [] = refl

@@ -13,10 +13,10 @@ use Rattle.expr_parser.proofs.Complete.{taken}
 use Rattle.expr_parser.proofs.Kept.{sound}
 use Rattle.expr_parser.proofs.Lists.{way, le_test, le_true, none_some}
 use Rattle.expr_parser.proofs.Places.{viable, not_viable}
-use Rattle.config_templates.specs.Items.{longest_up_to}
-use Rattle.config_templates.specs.Places.{Flaw, refuse}
+use Rattle.host_layout.specs.Items.{longest_up_to}
+use Rattle.host_layout.specs.Places.{Flaw, refuse}
 use Rattle.config_templates.specs.Reading.{begins_expression, expression_of, expression_end, looking, expression_at}
-use Rattle.config_templates.proofs.KeyFronts.{longest_is}
+use Rattle.host_layout.proofs.KeyFronts.{longest_is}
 
 -- no text is an expression within the limit
 abbrev pub IsNone : List ℕ → Type 0

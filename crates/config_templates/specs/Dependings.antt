@@ -2,12 +2,12 @@
 use Rattle.std.specs.Prelude.{◌≡◌, ℕ, ◌++◌, List, map, codes}
 use Rattle.std.specs.Fmt.{decimal}
 use Rattle.config_read.specs.declared.raw.RawDepend.{RawDepend}
-use Rattle.config_templates.specs.Places.{Placed}
-use Rattle.config_templates.specs.Elements.{element_path}
-use Rattle.config_templates.specs.Names.{named_triggers}
-use Rattle.config_templates.specs.Owners.{KnowsHosts}
+use Rattle.host_layout.specs.Places.{Placed}
+use Rattle.host_layout.specs.Elements.{element_path}
+use Rattle.host_layout.specs.Names.{named_triggers}
+use Rattle.host_layout.specs.Owners.{KnowsHosts}
 use Rattle.config_templates.specs.Depends.{Depending, depend_path}
-use Rattle.config_templates.specs.declared.templates.sources.Source.{Source}
+use Rattle.host_layout.specs.declared.templates.sources.Source.{Source}
 use Rattle.config_templates.specs.declared.depends.Known.{Known}
 use Rattle.config_templates.specs.declared.depends.Dependencies.{Dependencies as Held}
 

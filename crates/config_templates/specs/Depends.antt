@@ -13,8 +13,8 @@ use Rattle.config_read.specs.declared.raw.RawDepend.{RawDepend}
 use Rattle.config_read.specs.declared.raw.RawTrigger.{RawTrigger}
 use Rattle.config_read.specs.declared.raw.RawHost.{RawHost}
 use Rattle.config_read.specs.declared.raw.RawConf.{RawConf}
-use Rattle.config_templates.specs.Places.{Flaw, Placed, placed, refuse, unless, each, each_list, ◌>>=◌}
-use Rattle.config_templates.specs.Links.{sources_of, placed_hosts}
+use Rattle.host_layout.specs.Places.{Flaw, Placed, placed, refuse, unless, each, each_list, ◌>>=◌}
+use Rattle.host_layout.specs.Links.{sources_of, placed_hosts}
 use Rattle.config_templates.specs.Triggers.{placed_triggers}
 
 -- the id of the host that a dependency names: the own host where it names none

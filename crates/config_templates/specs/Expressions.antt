@@ -16,10 +16,11 @@ use Rattle.macro_text.specs.Expanded.{expanded}
 use Rattle.macro_text.specs.declared.macros.Macro.{Macro}
 use Rattle.config_read.specs.declared.raw.RawTrigger.{RawTrigger}
 use Rattle.config_read.specs.declared.raw.RawConf.{RawConf}
-use Rattle.config_templates.specs.Places.{Flaw, Placed, unless, ◌>>=◌}
+use Rattle.host_layout.specs.Places.{Flaw, Placed, unless, ◌>>=◌}
 use Rattle.config_templates.specs.Functions.{takes, lacks_number}
 use Rattle.config_templates.specs.Reading.{expression_at}
-use Rattle.config_templates.specs.Referenced.{Owner, Looked, looked_at}
+use Rattle.host_layout.specs.Hosts.{Owner}
+use Rattle.config_templates.specs.Referenced.{Looked, looked_at}
 
 -- ---- calls by the items that they look at
 

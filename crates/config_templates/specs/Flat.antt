@@ -8,17 +8,17 @@ use Rattle.zbx_types.specs.declared.conf.Conf.{Conf}
 use Rattle.config_read.specs.declared.raw.RawHost.{RawHost}
 use Rattle.config_read.specs.declared.raw.RawConf.{RawConf}
 use Rattle.config_read.specs.Document.{conf_of}
-use Rattle.config_templates.specs.Places.{Flaw, unless, ◌>>=◌}
-use Rattle.config_templates.specs.Places.Flaw.{refused}
-use Rattle.config_templates.specs.Links.{unknown_links, cycles}
-use Rattle.config_templates.specs.Items.{items_of}
-use Rattle.config_templates.specs.Masters.{mastered}
-use Rattle.config_templates.specs.Prepared.{prepared}
-use Rattle.config_templates.specs.StepPatterns.{step_patterns}
+use Rattle.host_layout.specs.Places.{Flaw, unless, ◌>>=◌}
+use Rattle.host_layout.specs.Places.Flaw.{refused}
+use Rattle.host_layout.specs.Links.{unknown_links, cycles}
+use Rattle.host_layout.specs.Items.{items_of}
+use Rattle.host_layout.specs.Masters.{mastered}
+use Rattle.host_layout.specs.Prepared.{prepared}
+use Rattle.host_layout.specs.StepPatterns.{step_patterns}
 use Rattle.config_templates.specs.Triggers.{triggers_of}
 use Rattle.config_templates.specs.Depends.{depending}
 use Rattle.config_templates.specs.NamedHosts.{unknown_hosts}
-use Rattle.config_templates.specs.Patterns.{Pattern}
+use Rattle.host_layout.specs.Patterns.{Pattern}
 
 -- a host of the flat configuration
 abbrev pub host_made : RawHost → Host

@@ -4,15 +4,15 @@ use Rattle.zbx_types.specs.declared.conf.Conf.{Conf}
 use Rattle.zbx_types.specs.declared.items.Item.{Item}
 use Rattle.zbx_types.specs.declared.triggers.Trigger.{Trigger}
 use Rattle.config_read.specs.declared.raw.RawConf.{RawConf}
-use Rattle.config_templates.specs.Places.{Flaw, unless, ◌>>=◌}
-use Rattle.config_templates.specs.Items.{items_of}
-use Rattle.config_templates.specs.Masters.{mastered}
-use Rattle.config_templates.specs.Prepared.{prepared}
-use Rattle.config_templates.specs.StepPatterns.{step_patterns}
+use Rattle.host_layout.specs.Places.{Flaw, unless, ◌>>=◌}
+use Rattle.host_layout.specs.Items.{items_of}
+use Rattle.host_layout.specs.Masters.{mastered}
+use Rattle.host_layout.specs.Prepared.{prepared}
+use Rattle.host_layout.specs.StepPatterns.{step_patterns}
 use Rattle.config_templates.specs.Triggers.{triggers_of}
 use Rattle.config_templates.specs.Depends.{depending}
 use Rattle.config_templates.specs.NamedHosts.{unknown_hosts}
-use Rattle.config_templates.specs.Patterns.{Pattern}
+use Rattle.host_layout.specs.Patterns.{Pattern}
 use Rattle.config_templates.specs.Flat.{host_made, conf_made}
 use Rattle.config_templates.specs.declared.flattening.Copies.{Copies}
 

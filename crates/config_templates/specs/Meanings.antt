@@ -4,10 +4,10 @@ use Rattle.zbx_types.specs.Tree.{Tree}
 use Rattle.zbx_types.specs.Trees.{tree_of}
 use Rattle.zbx_types.specs.declared.calls.Call.{Call}
 use Rattle.expr_parser.specs.declared.reading.Parsed.{Parsed}
-use Rattle.config_templates.specs.Elements.{element_path}
+use Rattle.host_layout.specs.Elements.{element_path}
 use Rattle.config_templates.specs.Referenced.{NamedHost, NamedItem, Looked}
 use Rattle.config_templates.specs.Expressions.{Resolved, Meant}
-use Rattle.config_templates.specs.declared.refusals.Member.{Member}
+use Rattle.config_templates.specs.declared.members.Member.{Member}
 use Rattle.config_templates.specs.declared.meanings.HostReferenced.{HostReferenced}
 use Rattle.config_templates.specs.declared.meanings.ItemFound.{ItemFound}
 use Rattle.config_templates.specs.declared.meanings.LookedAt.{LookedAt}

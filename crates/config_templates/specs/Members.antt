@@ -1,10 +1,10 @@
 -- Members of a trigger that use patterns, as the code names them.
 use Rattle.std.specs.Prelude.{ℕ, List, ◌++◌, codes}
 use Rattle.std.specs.Fmt.{decimal}
-use Rattle.config_templates.specs.Elements.{element_path}
+use Rattle.host_layout.specs.Elements.{element_path}
 use Rattle.config_templates.specs.Uses.{Users}
 use Rattle.config_templates.specs.declared.uses.Users.{Users as Held}
-use Rattle.config_templates.specs.declared.templates.sources.Source.{Source}
+use Rattle.host_layout.specs.declared.templates.sources.Source.{Source}
 use Rattle.config_templates.specs.declared.uses.Member.{Member}
 use Rattle.config_templates.specs.declared.uses.Member.TheVariants.{Name, Expression, RecoveryExpression, TagValue}
 

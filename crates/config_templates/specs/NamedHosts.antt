@@ -11,7 +11,7 @@ use Rattle.zbx_types.specs.declared.actions.ActionCond.TheVariants as conditions
 use Rattle.json_form.specs.Faults.{Fault}
 use Rattle.config_read.specs.declared.raw.RawHost.{RawHost}
 use Rattle.config_read.specs.declared.raw.RawConf.{RawConf}
-use Rattle.config_templates.specs.Places.{Placed, placed, first_fault}
+use Rattle.host_layout.specs.Places.{Placed, placed, first_fault}
 
 -- no host has the name
 abbrev pub unknown_host : List RawHost → List ℕ → Option Cause

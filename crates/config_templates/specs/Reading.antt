@@ -6,8 +6,8 @@ use Rattle.zbx_types.specs.declared.calls.Call.{Call}
 use Rattle.zbx_types.specs.declared.causes.Cause.TheVariants.{BadExpression}
 use Rattle.expr_parser.specs.Grammar.{looks_at_item}
 use Rattle.expr_parser.specs.Machine.{after, start, ends_at}
-use Rattle.config_templates.specs.Items.{longest_up_to}
-use Rattle.config_templates.specs.Places.{Flaw, refuse}
+use Rattle.host_layout.specs.Items.{longest_up_to}
+use Rattle.host_layout.specs.Places.{Flaw, refuse}
 
 -- some expression begins with the text
 abbrev pub begins_expression : List ℕ → Bool

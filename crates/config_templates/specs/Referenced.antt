@@ -8,13 +8,7 @@ use Rattle.zbx_types.specs.declared.items.ValueType.{ValueType}
 use Rattle.zbx_types.specs.declared.calls.Call.{Call}
 use Rattle.config_read.specs.declared.raw.RawHost.{RawHost}
 use Rattle.config_read.specs.declared.raw.RawConf.{RawConf}
-use Rattle.config_templates.specs.Places.{Placed}
-
--- a host as its triggers' expressions know it: its id, its name, and its sources
-pub record Owner : Type 0 where
-  pub id : ℕ
-  pub name : List ℕ
-  pub sources : List (Placed RawHost)
+use Rattle.host_layout.specs.Hosts.{Owner}
 
 -- a host that an expression names: its id and its name
 pub record NamedHost : Type 0 where

@@ -10,12 +10,12 @@ use Rattle.macro_text.specs.declared.macros.Macro.{Macro}
 use Rattle.config_read.specs.declared.raw.RawTrigger.{RawTrigger}
 use Rattle.config_read.specs.declared.raw.RawHost.{RawHost}
 use Rattle.config_read.specs.declared.raw.RawConf.{RawConf}
-use Rattle.config_templates.specs.Places.{Flaw, Placed, placed, refuse, each_list, ◌>>=◌}
-use Rattle.config_templates.specs.Links.{sources_of, placed_hosts}
-use Rattle.config_templates.specs.Macros.{macros_of}
+use Rattle.host_layout.specs.Places.{Flaw, Placed, placed, refuse, each_list, ◌>>=◌}
+use Rattle.host_layout.specs.Links.{placed_hosts}
+use Rattle.host_layout.specs.Macros.{macros_of}
 use Rattle.config_templates.specs.Expressions.{Meant, expressions_of}
-use Rattle.config_templates.specs.Referenced.{Owner}
-use Rattle.config_templates.specs.Patterns.{Pattern}
+use Rattle.host_layout.specs.Hosts.{Owner, owner_of}
+use Rattle.host_layout.specs.Patterns.{Pattern}
 use Rattle.config_templates.specs.Titles.{title_of, tags_of}
 use Rattle.config_templates.specs.Uses.{Users, trigger_joined}
 use Rattle.config_templates.specs.declared.triggers.Found.{Found}
@@ -68,10 +68,6 @@ trigger_of raw items owner macros found p =
 -- the triggers of some sources, in their order
 abbrev pub placed_triggers : List (Placed RawHost) → List (Placed RawTrigger)
 placed_triggers sources = flat_map (λ s. placed (s.path ++ codes "/triggers") s.body.triggers) sources
-
--- a host of the document, with its sources
-abbrev pub owner_of : RawConf → Placed RawHost → Owner
-owner_of raw h = record { id = h.place + 1; name = h.body.name; sources = sources_of raw h }
 
 -- the triggers of a host, behind those of the hosts before it
 unfoldable pub triggers_from : RawConf → List Item → Owner → Found → Result Found Flaw

@@ -6,8 +6,8 @@ use Rattle.zbx_types.specs.Operators.{call_pattern}
 use Rattle.zbx_types.specs.declared.calls.Call.{Call}
 use Rattle.zbx_types.specs.declared.entries.Tag.{Tag}
 use Rattle.event_text.specs.Forms.{patterns_of}
-use Rattle.config_templates.specs.Places.{Flaw, Placed, placed, each_list, ◌>>=◌}
-use Rattle.config_templates.specs.Patterns.{Pattern, used, all_joined}
+use Rattle.host_layout.specs.Places.{Flaw, Placed, placed, each_list, ◌>>=◌}
+use Rattle.host_layout.specs.Patterns.{Pattern, used, all_joined}
 
 -- the patterns behind those before, where the member at a pointer uses these texts
 abbrev pub member_joined : List Pattern → List ℕ → List (List ℕ) → Result (List Pattern) Flaw

@@ -5,11 +5,11 @@ use Rattle.zbx_types.specs.declared.triggers.Trigger.{Trigger}
 use Rattle.macro_text.specs.declared.macros.Macro.{Macro}
 use Rattle.config_read.specs.declared.raw.RawConf.{RawConf}
 use Rattle.config_read.specs.declared.raw.RawTrigger.{RawTrigger}
-use Rattle.config_templates.specs.Places.{Flaw, Placed, ◌>>=◌}
+use Rattle.host_layout.specs.Places.{Flaw, Placed, ◌>>=◌}
 use Rattle.config_templates.specs.Expressions.{Meant, expressions_of}
-use Rattle.config_templates.specs.Referenced.{Owner}
+use Rattle.host_layout.specs.Hosts.{Owner}
 use Rattle.config_templates.specs.Triggers.{found_with}
-use Rattle.config_templates.specs.Patterns.{Pattern}
+use Rattle.host_layout.specs.Patterns.{Pattern}
 use Rattle.config_templates.specs.Titles.{title_of, tags_of}
 use Rattle.config_templates.specs.declared.triggers.Found.{Found}
 use Rattle.config_templates.specs.declared.triggers.Written.{Written}

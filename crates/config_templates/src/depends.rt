@@ -2,29 +2,24 @@
 
 ghost use Rattle.std.specs.Prelude.{◌≡◌, ℕ, List, get_or, ◌+◌, ◌++◌, ◌∷◌, [], ◌<◌, length, map, Some, None, slice_get, All, IfOk, IfErr, OnOk, codes};
 ghost use Rattle.dependency_graph.specs.Depths.{depths_of};
-ghost use Rattle.config_templates.specs.Answers.{Gives, GivesAs, Tells};
+ghost use Rattle.host_layout.specs.Answers.{Gives, GivesAs, Tells};
 ghost use Rattle.config_templates.specs.Depends.{host_depended, trigger_placed, depend_of, depends_of, depending_of, dependings_from, dependings_of};
 ghost use Rattle.config_templates.specs.Depends.{links_of, depend_path, cyclic, linked, linked_from, all_linked, depending, written_triggers};
 ghost use Rattle.config_templates.specs.Dependings.{dependings_now, placed_depend, IsKnown};
-ghost use Rattle.config_templates.specs.Elements.{element_path, IsRefusal, placed_trigger, placed_host, own_triggers};
-ghost use Rattle.config_templates.specs.Inherited.{Inherits};
-ghost use Rattle.config_templates.specs.Links.{placed_hosts, sources_of};
-ghost use Rattle.config_templates.specs.Names.{named_triggers};
-ghost use Rattle.config_templates.specs.Owners.{KnowsHosts};
-ghost use Rattle.config_templates.specs.Places.{each};
-ghost use Rattle.config_templates.specs.Sources.{placed_of};
+ghost use Rattle.host_layout.specs.Elements.{element_path, IsRefusal, placed_trigger, placed_host, own_triggers};
+ghost use Rattle.host_layout.specs.Inherited.{Inherits};
+ghost use Rattle.host_layout.specs.Links.{placed_hosts, sources_of};
+ghost use Rattle.host_layout.specs.Names.{named_triggers};
+ghost use Rattle.host_layout.specs.Owners.{KnowsHosts};
+ghost use Rattle.host_layout.specs.Places.{each};
+ghost use Rattle.host_layout.specs.Sources.{placed_of};
 ghost use Rattle.config_templates.specs.Triggers.{placed_triggers};
 
-use crate::beside::beside;
-use crate::fault::FlatError;
-use crate::firsts::FirstPlaces;
-use crate::inheritance::Inheritance;
-use crate::owned_names::OwnedNames;
-use crate::refusals::element_pointer;
-use crate::templates::links::sources;
-use crate::templates::sources::Source;
 use config_read::{RawConf, RawDepend, RawHost, RawTrigger};
 use dependency_graph::{depths, first_on_cycle};
+use host_layout::{
+    FirstPlaces, FlatError, Inheritance, OwnedNames, Source, beside, element_pointer, sources,
+};
 use json_form::element;
 use std::alloc::Global;
 use std::convert::AsStr;
@@ -120,7 +115,7 @@ fn trigger_of(
 }
 
 /// The place of the trigger that a dependency names.
-#[tactic(auto, using(crate::proofs::Failing::refusal, crate::proofs::Linked::placed_within), unfolding(crate::specs::Depends::depend_of))]
+#[tactic(auto, using(host_layout::proofs::Failing::refusal, crate::proofs::Linked::placed_within), unfolding(crate::specs::Depends::depend_of))]
 fn depend(
     alloc: Global,
     known: &Known<'_, '_>,
@@ -229,7 +224,7 @@ fn add_triggers<'r>(
 }
 
 /// Adds the triggers of some sources.
-#[tactic(auto, using(crate::proofs::Steps::source_then, crate::proofs::Steps::source_fails))]
+#[tactic(auto, using(host_layout::proofs::Steps::source_then, host_layout::proofs::Steps::source_fails))]
 fn add_sources<'r>(
     alloc: Global,
     known: &Known<'r, '_>,

@@ -1,15 +1,15 @@
 //! Texts of expressions.
 
 ghost use Rattle.std.specs.Prelude.{◌≡◌, ◌<◌, ℕ, List, take, length};
-ghost use Rattle.config_templates.specs.Answers.{GivesAs};
+ghost use Rattle.host_layout.specs.Answers.{GivesAs};
 ghost use Rattle.config_templates.specs.Meanings.{member_path, parsed_now};
 ghost use Rattle.config_templates.specs.Reading.{expression_at};
 ghost use Rattle.macro_text.specs.Expanded.{expanded};
 ghost use Rattle.zbx_types.specs.Limits.{longest_expression};
 
-use crate::fault::FlatError;
-use crate::refusals::Member;
+use crate::members::Member;
 use expr_parser::{ParseError, Parsed, read};
+use host_layout::FlatError;
 use macro_text::{Expansion, Macros, expand_within};
 use std::alloc::Global;
 use zbx_types::{Bytes, Cause, LONGEST_EXPRESSION, Text};

@@ -2,29 +2,24 @@
 
 ghost use Rattle.std.specs.Prelude.{◌≡◌, ℕ, List, Ok, map, IfOk, IsErrOf, IsUtf8};
 ghost use Rattle.config_read.specs.Document.{conf_of};
-ghost use Rattle.config_templates.specs.Answers.{Gives, GivesAs};
+ghost use Rattle.host_layout.specs.Answers.{Gives, GivesAs};
 ghost use Rattle.config_templates.specs.Flat.{host_made, conf_made, read_of, laid_out, flat_of};
 ghost use Rattle.config_templates.specs.Laid.{copies_of, conf_with, behind_items, behind_links};
-ghost use Rattle.config_templates.specs.Inherited.{Inherits};
-ghost use Rattle.config_templates.specs.Owners.{KnowsHosts, IsScope};
-ghost use Rattle.config_templates.specs.Places.{refuse};
+ghost use Rattle.host_layout.specs.Inherited.{Inherits};
+ghost use Rattle.host_layout.specs.Owners.{KnowsHosts};
+ghost use Rattle.config_templates.specs.Scopes.{IsScope};
+ghost use Rattle.host_layout.specs.Places.{refuse};
 ghost use Rattle.zbx_types.specs.declared.causes.Cause.{Cause};
 
-use crate::beside::beside;
 use crate::depends::{NamedTriggers, depending};
-use crate::fault::FlatError;
-use crate::firsts::FirstPlaces;
 use crate::hosts::known_hosts;
-use crate::inheritance::Inheritance;
-use crate::items::{ItemList, items};
-use crate::mastering::mastered;
 use crate::meanings::Scope;
-use crate::owners::host_names;
-use crate::pattern_steps::step_patterns;
-use crate::patterns::PatternList;
-use crate::preparing::prepared;
 use crate::triggers::{Found, TriggerList, triggers};
 use config_read::{RawConf, RawHost, ReadError, read};
+use host_layout::{
+    FirstPlaces, FlatError, Inheritance, ItemList, PatternList, beside, host_names, items,
+    mastered, prepared, step_patterns,
+};
 use std::alloc::Global;
 use zbx_types::{Conf, Host, Item, Many, OutOfMemory, Text, Trigger, copy_texts};
 

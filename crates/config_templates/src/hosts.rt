@@ -3,15 +3,14 @@
 ghost use Rattle.std.specs.Prelude.{◌≡◌, ◌++◌, None, is_some, position, IfOk, IfErr, OnOk, codes};
 ghost use Rattle.std.specs.Fmt.{decimal};
 ghost use Rattle.std.specs.Str.{bytes_eq};
-ghost use Rattle.config_templates.specs.Answers.{Tells};
-ghost use Rattle.config_templates.specs.Elements.{IsRefusal};
+ghost use Rattle.host_layout.specs.Answers.{Tells};
+ghost use Rattle.host_layout.specs.Elements.{IsRefusal};
 ghost use Rattle.config_templates.specs.NamedHosts.{unknown_host, maintenance_at, action_at, maintained, host_of, acted, all_maintained, all_acted, unknown_hosts};
-ghost use Rattle.config_templates.specs.Owners.{KnowsHosts};
-ghost use Rattle.config_templates.specs.Places.{first_fault};
+ghost use Rattle.host_layout.specs.Owners.{KnowsHosts};
+ghost use Rattle.host_layout.specs.Places.{first_fault};
 
-use crate::fault::FlatError;
-use crate::firsts::FirstPlaces;
 use config_read::RawConf;
+use host_layout::{FirstPlaces, FlatError};
 use json_form::element;
 use std::alloc::Global;
 use std::convert::AsStr;

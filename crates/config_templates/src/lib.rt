@@ -22,35 +22,17 @@
 //! ```
 #![tactic(auto)]
 
-mod beside;
 mod depends;
 mod expressions;
-mod fault;
-mod firsts;
 mod flattening;
 mod functions;
 mod hosts;
-mod inheritance;
-mod items;
-mod keys;
-mod macros;
-mod mastering;
 mod meanings;
-mod owned_names;
-mod owners;
-mod passes;
-mod pattern_steps;
-mod patterns;
-mod pointers;
-mod preparing;
-mod refusals;
+mod members;
 mod resolving;
-mod step_params;
-mod step_places;
-mod templates;
 mod titles;
 mod triggers;
 mod uses;
 
-pub use fault::FlatError;
 pub use flattening::flat;
+pub use host_layout::FlatError;

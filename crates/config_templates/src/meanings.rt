@@ -2,14 +2,13 @@
 
 ghost use Rattle.std.specs.Prelude.{◌≡◌, position, option_map, IfOk};
 ghost use Rattle.config_templates.specs.Meanings.{host_now, item_now, looked_maybe};
-ghost use Rattle.config_templates.specs.Names.{named_items, is_keyed};
-ghost use Rattle.config_templates.specs.Owners.{owner_now, sources_now, KnowsHosts, KnowsSources, IsScope};
+ghost use Rattle.host_layout.specs.Names.{named_items, is_keyed};
+ghost use Rattle.host_layout.specs.Owners.{owner_now, sources_now, KnowsHosts, KnowsSources};
+ghost use Rattle.config_templates.specs.Scopes.{IsScope};
 ghost use Rattle.config_templates.specs.Referenced.{host_named, referenced, item_named, looked_at};
 
-use crate::firsts::FirstPlaces;
-use crate::items::ItemList;
-use crate::owners::Owner;
 use config_read::RawConf;
+use host_layout::{FirstPlaces, ItemList, Owner};
 use std::alloc::Global;
 use std::convert::AsStr;
 use zbx_types::{Call, OutOfMemory, Text, ValueType, id_of};

@@ -5,23 +5,21 @@ ghost use Rattle.std.specs.List.{list_any};
 ghost use Rattle.std.specs.Option.{option_or};
 ghost use Rattle.zbx_types.specs.Tree.{Tree};
 ghost use Rattle.zbx_types.specs.Trees.{tree_of};
-ghost use Rattle.config_templates.specs.Answers.{GivesAs};
-ghost use Rattle.config_templates.specs.Elements.{placed_trigger};
+ghost use Rattle.host_layout.specs.Answers.{GivesAs};
+ghost use Rattle.host_layout.specs.Elements.{placed_trigger};
 ghost use Rattle.config_templates.specs.Expressions.{call_of, id_of, is_misread, call_cause, first_cause, by_items, resolved_at, later, joined, alone, with_recovery, meant_by, expressions_of};
 ghost use Rattle.config_templates.specs.Meanings.{member_path, parsed_now, looked_maybe, resolved_now, meant_now};
-ghost use Rattle.config_templates.specs.Owners.{owner_now, sources_now, KnowsSources, IsScope, seen_by};
+ghost use Rattle.host_layout.specs.Owners.{owner_now, sources_now, KnowsSources};
+ghost use Rattle.config_templates.specs.Scopes.{IsScope, seen_by};
 ghost use Rattle.macro_text.specs.Expanded.{expanded};
 
-use crate::beside::beside;
 use crate::expressions::expression;
-use crate::fault::FlatError;
 use crate::functions::{lacks_number, takes};
 use crate::meanings::{LookedAt, Scope, looked_at};
-use crate::owners::Owner;
-use crate::refusals::Member;
-use crate::templates::sources::Source;
+use crate::members::Member;
 use config_read::RawTrigger;
 use expr_parser::Parsed;
+use host_layout::{FlatError, Owner, Source, beside};
 use std::alloc::Global;
 use zbx_types::{Call, Cause, Expr, Many, Operand, OutOfMemory, RecoveryMode, Text};
 
@@ -173,7 +171,7 @@ fn call_list(
 /// Refused are `BadExpression` at 0 where some call compares the numbers of its item with an argument that is no number, or
 /// else, at the first call that it fits, `UnknownName` where no host or no item of the host has the name, and
 /// `WrongValueType` where the item isn't of a type that the function takes.
-#[tactic(auto, using(crate::proofs::Failing::refusal), unfolding(crate::specs::Expressions::by_items))]
+#[tactic(auto, using(host_layout::proofs::Failing::refusal), unfolding(crate::specs::Expressions::by_items))]
 fn right_calls(
     alloc: Global,
     scope: &Scope<'_>,

@@ -1,33 +1,31 @@
 //! The triggers of the flat configuration.
 
 ghost use Rattle.std.specs.Prelude.{◌≡◌, ◌++◌, ◌∷◌, [], ◌<◌, List, length, Some, slice_get, IfOk, OnOk};
-ghost use Rattle.config_templates.specs.Answers.{GivesAs};
-ghost use Rattle.config_templates.specs.Elements.{placed_trigger, placed_host, own_triggers};
-ghost use Rattle.config_templates.specs.Inherited.{Inherits};
-ghost use Rattle.config_templates.specs.Links.{placed_hosts};
+ghost use Rattle.host_layout.specs.Answers.{GivesAs};
+ghost use Rattle.host_layout.specs.Elements.{placed_trigger, placed_host, own_triggers};
+ghost use Rattle.host_layout.specs.Inherited.{Inherits};
+ghost use Rattle.host_layout.specs.Links.{placed_hosts};
 ghost use Rattle.config_templates.specs.Meanings.{meant_now};
-ghost use Rattle.config_templates.specs.Names.{named, named_trigger, named_triggers};
-ghost use Rattle.config_templates.specs.Owners.{owner_now, sources_now, KnowsSources, IsScope};
+ghost use Rattle.host_layout.specs.Names.{named, named_trigger, named_triggers};
+ghost use Rattle.host_layout.specs.Hosts.{owner_of};
+ghost use Rattle.host_layout.specs.Owners.{owner_now, sources_now, KnowsSources};
+ghost use Rattle.config_templates.specs.Scopes.{IsScope};
 ghost use Rattle.config_templates.specs.Depends.{written_triggers};
-ghost use Rattle.config_templates.specs.Places.{each_list};
-ghost use Rattle.config_templates.specs.Triggers.{users_of, trigger_of, placed_triggers, owner_of, triggers_from, triggers_of};
+ghost use Rattle.host_layout.specs.Places.{each_list};
+ghost use Rattle.config_templates.specs.Triggers.{users_of, trigger_of, placed_triggers, triggers_from, triggers_of};
 ghost use Rattle.config_templates.specs.Members.{users_now};
 ghost use Rattle.config_templates.specs.Written.{written, texts_of, trigger_with, free_trigger, more_found};
 ghost use Rattle.zbx_types.specs.declared.triggers.Trigger.{Trigger};
 
-use crate::beside::beside;
-use crate::fault::FlatError;
-use crate::inheritance::Inheritance;
 use crate::meanings::Scope;
-use crate::owned_names::OwnedNames;
-use crate::owners::{Owner, owner_at};
-use crate::patterns::PatternList;
-use crate::refusals::{refused_element, refused_member};
 use crate::resolving::{Meaning, meaning_of};
-use crate::templates::sources::Source;
 use crate::titles::{tags, title};
 use crate::uses::{Users, join_trigger};
 use config_read::{RawHost, RawTrigger};
+use host_layout::{
+    FlatError, Inheritance, OwnedNames, Owner, PatternList, Source, beside, owner_at,
+    refused_element, refused_member,
+};
 use macro_text::Macros;
 use std::alloc::Global;
 use std::convert::AsStr;
@@ -176,7 +174,7 @@ fn free_trigger(
 }
 
 /// The trigger of a host, behind those before it. Joins its patterns.
-#[tactic(auto, using(crate::proofs::Failing::refusal, crate::proofs::Taken::has_trigger_named), unfolding(crate::specs::Triggers::trigger_of))]
+#[tactic(auto, using(host_layout::proofs::Failing::refusal, crate::proofs::Free::has_trigger_named), unfolding(crate::specs::Triggers::trigger_of))]
 fn trigger(
     alloc: Global,
     scope: &Scope<'_>,
@@ -246,7 +244,7 @@ fn add_triggers(
 }
 
 /// Adds the triggers of all sources of a host.
-#[tactic(auto, using(crate::proofs::PassLemmas::source_then, crate::proofs::PassLemmas::source_fails))]
+#[tactic(auto, using(host_layout::proofs::PassLemmas::source_then, host_layout::proofs::PassLemmas::source_fails))]
 fn add_owned(
     alloc: Global,
     scope: &Scope<'_>,

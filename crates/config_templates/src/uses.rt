@@ -2,19 +2,16 @@
 
 ghost use Rattle.std.specs.Prelude.{◌≡◌, ◌++◌, ◌<◌, codes, IfOk, OnOk};
 ghost use Rattle.std.specs.Option.{option_to_list};
-ghost use Rattle.config_templates.specs.Answers.{GivesAs};
-ghost use Rattle.config_templates.specs.Elements.{IsRefusal};
+ghost use Rattle.host_layout.specs.Answers.{GivesAs};
+ghost use Rattle.host_layout.specs.Elements.{IsRefusal};
 ghost use Rattle.config_templates.specs.Members.{member_path, trigger_path, users_now};
-ghost use Rattle.config_templates.specs.Patterns.{used, joined};
-ghost use Rattle.config_templates.specs.Places.{each_list, placed};
+ghost use Rattle.host_layout.specs.Patterns.{used, joined};
+ghost use Rattle.host_layout.specs.Places.{each_list, placed};
 ghost use Rattle.config_templates.specs.Uses.{member_joined, patterns_called, tag_joined, trigger_joined};
 ghost use Rattle.zbx_types.specs.Operators.{call_pattern};
 
-use crate::fault::FlatError;
-use crate::patterns::{Joining, PatternList};
-use crate::refusals::member_pointer;
-use crate::templates::sources::Source;
 use event_text::patterns_in;
+use host_layout::{FlatError, Joining, PatternList, Source, member_pointer};
 use json_form::element;
 use std::alloc::Global;
 use std::convert::AsStr;
@@ -84,7 +81,7 @@ fn refused(
 }
 
 /// Joins a pattern that a member of a trigger uses.
-#[tactic(auto, using(crate::proofs::Failing::refusal))]
+#[tactic(auto, using(host_layout::proofs::Failing::refusal))]
 fn join(
     alloc: Global,
     patterns: &mut PatternList,

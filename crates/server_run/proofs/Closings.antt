@@ -18,7 +18,7 @@ use Rattle.server_words.specs.declared.status.Counts.{Counts}
 use Rattle.server_words.specs.declared.status.Status.{Status}
 use Rattle.server_words.specs.declared.status.Status.TheVariants as status
 use Rattle.server_words.specs.Words.{plan_of}
-use Rattle.config_templates.specs.Places.{refuse}
+use Rattle.host_layout.specs.Places.{refuse}
 use Rattle.std.proofs.lemmas.List.Elements.{All-get_or}
 use Rattle.std.proofs.lemmas.Option.{slice_get_within, get_or_from_slice_get}
 use Rattle.regex_syntax.specs.Grammar.{read}

@@ -16,8 +16,8 @@ use Rattle.outside.specs.Disk.{DiskTells, IsLawful, LeavesOnly}
 use Rattle.outside.specs.Tells.{SinkTells, WireTells}
 use Rattle.outside.specs.declared.event.WireEvent.{WireEvent}
 use Rattle.config_templates.specs.Flat.{flat_of}
-use Rattle.config_templates.specs.Places.{Flaw, refuse}
-use Rattle.config_templates.specs.Places.Flaw.{refused}
+use Rattle.host_layout.specs.Places.{Flaw, refuse}
+use Rattle.host_layout.specs.Places.Flaw.{refused}
 use Rattle.zbx_types.specs.declared.causes.Cause.{Cause}
 use Rattle.entry_step.specs.Start.{first_start}
 use Rattle.entry_step.specs.Log.{log_of, IsFull, Fits}

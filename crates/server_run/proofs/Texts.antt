@@ -12,13 +12,13 @@ use Rattle.config_read.specs.declared.raw.RawConf.{RawConf}
 use Rattle.config_read.specs.Document.{conf_of}
 use Rattle.config_templates.specs.Depends.{depending}
 use Rattle.config_templates.specs.Flat.{conf_made, read_of, laid_out, flat_of}
-use Rattle.config_templates.specs.Items.{items_of}
-use Rattle.config_templates.specs.Links.{unknown_links, cycles}
-use Rattle.config_templates.specs.Masters.{mastered}
+use Rattle.host_layout.specs.Items.{items_of}
+use Rattle.host_layout.specs.Links.{unknown_links, cycles}
+use Rattle.host_layout.specs.Masters.{mastered}
 use Rattle.config_templates.specs.NamedHosts.{unknown_hosts}
-use Rattle.config_templates.specs.Prepared.{prepared}
-use Rattle.config_templates.specs.StepPatterns.{step_patterns}
-use Rattle.config_templates.specs.Places.{Flaw, refuse, unless, ◌>>=◌}
+use Rattle.host_layout.specs.Prepared.{prepared}
+use Rattle.host_layout.specs.StepPatterns.{step_patterns}
+use Rattle.host_layout.specs.Places.{Flaw, refuse, unless, ◌>>=◌}
 use Rattle.config_templates.specs.Triggers.{triggers_of}
 use Rattle.server_run.specs.Ports.{IsTextUpTo, ReadsUpTo}
 

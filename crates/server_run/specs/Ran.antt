@@ -9,7 +9,7 @@ use Rattle.outside.specs.Disk.{DiskTells, LeavesOnly}
 use Rattle.outside.specs.Tells.{SinkTells}
 use Rattle.outside.specs.declared.event.WireEvent.{WireEvent}
 use Rattle.config_templates.specs.Flat.{flat_of}
-use Rattle.config_templates.specs.Places.{refuse}
+use Rattle.host_layout.specs.Places.{refuse}
 use Rattle.intake_journal.specs.Kept.{kept, groups_of}
 use Rattle.intake_journal.specs.Settled.{KeepsAsOneOf}
 use Rattle.intake_journal.specs.declared.format.Group.{Group}

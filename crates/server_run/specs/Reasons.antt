@@ -10,7 +10,7 @@ use Rattle.intake_journal.specs.Kept.Kept.{NotOurs, Damaged}
 use Rattle.intake_journal.specs.declared.format.Group.{Group}
 use Rattle.intake_front.specs.Fronted.{kept_entries}
 use Rattle.config_templates.specs.Flat.{flat_of}
-use Rattle.config_templates.specs.Places.{refuse}
+use Rattle.host_layout.specs.Places.{refuse}
 use Rattle.pattern_set.specs.Patterns.{IsNoPattern}
 use Rattle.server_words.specs.Words.{plan_of}
 use Rattle.server_words.specs.declared.status.Status.{Status}

@@ -1,8 +1,8 @@
 use Rattle.std.proofs.Common.{◌∙◌, ◌++◌, codes}
-use Rattle.config_templates.specs.Places.{placed}
+use Rattle.host_layout.specs.Places.{placed}
 use Rattle.config_templates.specs.Depends.{depending_of}
 use Rattle.config_templates.specs.Dependings.{dependings_now}
-use Rattle.config_templates.proofs.Steps.{source_then}
+use Rattle.host_layout.proofs.Steps.{source_then}
 use Rattle.config_templates.proofs.depends.add_sources.Goals as goal
 
 pub loop-source-preserved : goal.loop-source-preserved

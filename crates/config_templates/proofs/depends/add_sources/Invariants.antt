@@ -1,8 +1,8 @@
 use Rattle.std.proofs.Common.{◌≡◌, ◌<◌, All, length, drop, map}
 use Rattle.config_templates.specs.Depends.{depending_of, links_of}
 use Rattle.config_templates.specs.Dependings.{dependings_now}
-use Rattle.config_templates.specs.Places.{each}
-use Rattle.config_templates.specs.Sources.{placed_of}
+use Rattle.host_layout.specs.Places.{each}
+use Rattle.host_layout.specs.Sources.{placed_of}
 use Rattle.config_templates.specs.Triggers.{placed_triggers}
 use Rattle.config_templates.proofs.depends.add_sources.Given as goal
 

@@ -1,9 +1,9 @@
 use Rattle.std.proofs.Common.{◌≡◌, ◌<◌, ◌++◌, All, length, drop, codes}
 use Rattle.config_templates.specs.Depends.{depending_of, links_of}
 use Rattle.config_templates.specs.Dependings.{dependings_now}
-use Rattle.config_templates.specs.Elements.{own_triggers}
-use Rattle.config_templates.specs.Places.{each, placed_from}
-use Rattle.config_templates.specs.Sources.{placed_of}
+use Rattle.host_layout.specs.Elements.{own_triggers}
+use Rattle.host_layout.specs.Places.{each, placed_from}
+use Rattle.host_layout.specs.Sources.{placed_of}
 use Rattle.config_templates.proofs.depends.add_triggers.Given as goal
 
 abbrev pub invariant-loop-index : goal.invariant-loop-index

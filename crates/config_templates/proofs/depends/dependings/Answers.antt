@@ -1,6 +1,6 @@
 use Rattle.std.proofs.Common.{◌∙◌, Some, sym, ap, arith, length, codes}
-use Rattle.config_templates.specs.Elements.{placed_host}
-use Rattle.config_templates.proofs.PlacedElements.{slice_get-placed}
+use Rattle.host_layout.specs.Elements.{placed_host}
+use Rattle.host_layout.proofs.PlacedElements.{slice_get-placed}
 use Rattle.config_templates.proofs.depends.dependings.Goals as goal
 
 pub add_host-requires-clause-there : goal.add_host-requires-clause-there

@@ -1,8 +1,8 @@
 use Rattle.std.proofs.Common.{◌≡◌, ◌+◌, ◌<◌, All, length, drop, codes}
 use Rattle.config_templates.specs.Depends.{dependings_from, dependings_of, links_of}
 use Rattle.config_templates.specs.Dependings.{dependings_now}
-use Rattle.config_templates.specs.Links.{sources_of}
-use Rattle.config_templates.specs.Places.{each_list, placed_from}
+use Rattle.host_layout.specs.Links.{sources_of}
+use Rattle.host_layout.specs.Places.{each_list, placed_from}
 use Rattle.config_templates.proofs.depends.dependings.Given as goal
 
 abbrev pub invariant-loop-place : goal.invariant-loop-place

@@ -1,7 +1,7 @@
 use Rattle.std.proofs.Common.{◌≡◌, ◌<◌, ◌++◌, [], All, length, drop, codes}
 use Rattle.config_templates.specs.Depends.{depend_of}
-use Rattle.config_templates.specs.Elements.{element_path}
-use Rattle.config_templates.specs.Places.{each, placed, placed_from}
+use Rattle.host_layout.specs.Elements.{element_path}
+use Rattle.host_layout.specs.Places.{each, placed, placed_from}
 use Rattle.config_templates.proofs.depends.depends.Given as goal
 
 abbrev pub invariant-loop-at : goal.invariant-loop-at

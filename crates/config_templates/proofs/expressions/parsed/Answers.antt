@@ -2,7 +2,7 @@ use Rattle.std.proofs.Common.{refl}
 use Rattle.zbx_types.specs.declared.causes.Cause.TheVariants.{BadExpression}
 use Rattle.config_templates.specs.Meanings.{member_path}
 use Rattle.config_templates.specs.Reading.{expression_at}
-use Rattle.config_templates.proofs.Failing.{refusal}
+use Rattle.host_layout.proofs.Failing.{refusal}
 use Rattle.config_templates.proofs.Parsing.{fault_at}
 use Rattle.config_templates.proofs.expressions.parsed.Goals as goal
 

@@ -1,6 +1,6 @@
 use Rattle.std.proofs.Common.{◌≡◌, ◌++◌, codes}
 use Rattle.config_templates.specs.NamedHosts.{unknown_host, action_at, host_of_condition, acted}
-use Rattle.config_templates.specs.Places.{first_fault}
+use Rattle.host_layout.specs.Places.{first_fault}
 use Rattle.config_templates.proofs.HostFaults.{rest_faults}
 use Rattle.config_templates.proofs.hosts.acted.Given as goal
 

@@ -1,6 +1,6 @@
 use Rattle.std.proofs.Common.{◌≡◌, codes}
 use Rattle.config_templates.specs.NamedHosts.{unknown_host, acted, all_acted}
-use Rattle.config_templates.specs.Places.{first_fault}
+use Rattle.host_layout.specs.Places.{first_fault}
 use Rattle.config_templates.proofs.HostFaults.{rest_faults}
 use Rattle.config_templates.proofs.hosts.all_acted.Given as goal
 

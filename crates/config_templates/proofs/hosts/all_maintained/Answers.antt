@@ -1,7 +1,7 @@
 use Rattle.std.proofs.Common.{codes, length, ap, arith}
 use Rattle.std.proofs.lemmas.Result.{err_from_is_err_and}
 use Rattle.config_templates.specs.NamedHosts.{unknown_host, maintained, all_maintained}
-use Rattle.config_templates.specs.Places.{first_fault}
+use Rattle.host_layout.specs.Places.{first_fault}
 use Rattle.config_templates.proofs.HostFaults.{list_told}
 use Rattle.config_templates.proofs.hosts.all_maintained.Goals as goal
 

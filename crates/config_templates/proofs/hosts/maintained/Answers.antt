@@ -1,7 +1,7 @@
 use Rattle.std.proofs.Common.{◌++◌, ◌∙◌, codes, length, ap, sym, arith, None, Some, if◌then◌else◌}
 use Rattle.zbx_types.specs.declared.causes.Cause.TheVariants.{UnknownName}
 use Rattle.config_templates.specs.NamedHosts.{unknown_host, maintenance_at, maintained}
-use Rattle.config_templates.specs.Places.{first_fault}
+use Rattle.host_layout.specs.Places.{first_fault}
 use Rattle.config_templates.proofs.HostFaults.{element_told}
 use Rattle.config_templates.proofs.hosts.maintained.Goals as goal
 

@@ -1,6 +1,6 @@
 use Rattle.std.proofs.Common.{◌≡◌, ◌++◌, codes}
 use Rattle.config_templates.specs.NamedHosts.{unknown_host, maintenance_at, maintained}
-use Rattle.config_templates.specs.Places.{first_fault}
+use Rattle.host_layout.specs.Places.{first_fault}
 use Rattle.config_templates.proofs.HostFaults.{rest_fault}
 use Rattle.config_templates.proofs.hosts.maintained.Given as goal
 

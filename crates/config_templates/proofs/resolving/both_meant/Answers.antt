@@ -1,9 +1,9 @@
 use Rattle.std.proofs.Common.{◌≡◌, ◌++◌, codes, Ok, rules}
 use Rattle.macro_text.specs.Expanded.{expanded}
-use Rattle.config_templates.specs.Elements.{placed_trigger}
+use Rattle.host_layout.specs.Elements.{placed_trigger}
 use Rattle.config_templates.specs.Expressions.{resolved_at, by_items}
 use Rattle.config_templates.specs.Meanings.{resolved_now}
-use Rattle.config_templates.specs.Owners.{seen_by}
+use Rattle.config_templates.specs.Scopes.{seen_by}
 use Rattle.config_templates.specs.Reading.{expression_at}
 use Rattle.config_templates.proofs.Both.{meant_gives, meant_fails}
 use Rattle.config_templates.proofs.resolving.both_meant.Goals as goal

@@ -3,7 +3,7 @@ use Rattle.std.proofs.lemmas.Iterator.Adapters.{YieldsList-from_vec}
 use Rattle.std.proofs.lemmas.Iterator.Consumers.{YieldsList-end}
 use Rattle.std.proofs.lemmas.List.{map-id}
 use Rattle.config_templates.specs.Expressions.{call_cause, first_cause}
-use Rattle.config_templates.specs.Owners.{seen_by}
+use Rattle.config_templates.specs.Scopes.{seen_by}
 use Rattle.config_templates.proofs.resolving.call_list.Goals as goal
 
 pub returns-clause-cause : goal.returns-clause-cause

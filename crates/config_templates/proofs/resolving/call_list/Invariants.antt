@@ -1,7 +1,7 @@
 use Rattle.std.proofs.Common.{◌≡◌, map}
 use Rattle.std.specs.List.{list_any}
 use Rattle.config_templates.specs.Expressions.{call_of, id_of, is_misread, call_cause, first_cause}
-use Rattle.config_templates.specs.Owners.{seen_by}
+use Rattle.config_templates.specs.Scopes.{seen_by}
 use Rattle.config_templates.proofs.resolving.call_list.Given as goal
 
 abbrev pub invariant-loop-call : goal.invariant-loop-call

@@ -1,8 +1,8 @@
 use Rattle.std.proofs.Common.{◌≡◌, drop, map}
-use Rattle.config_templates.specs.Names.{named_triggers}
-use Rattle.config_templates.specs.Owners.{owner_now}
-use Rattle.config_templates.specs.Places.{each_list}
-use Rattle.config_templates.specs.Sources.{placed_of}
+use Rattle.host_layout.specs.Names.{named_triggers}
+use Rattle.host_layout.specs.Owners.{owner_now}
+use Rattle.host_layout.specs.Places.{each_list}
+use Rattle.host_layout.specs.Sources.{placed_of}
 use Rattle.config_templates.specs.Triggers.{trigger_of, placed_triggers}
 use Rattle.config_templates.proofs.triggers.add_owned.Given as goal
 

@@ -1,9 +1,9 @@
 use Rattle.std.proofs.Common.{◌≡◌, ◌++◌, drop, codes}
-use Rattle.config_templates.specs.Elements.{own_triggers}
-use Rattle.config_templates.specs.Names.{named_triggers}
-use Rattle.config_templates.specs.Owners.{owner_now}
-use Rattle.config_templates.specs.Places.{each_list, placed_from}
-use Rattle.config_templates.specs.Sources.{placed_of}
+use Rattle.host_layout.specs.Elements.{own_triggers}
+use Rattle.host_layout.specs.Names.{named_triggers}
+use Rattle.host_layout.specs.Owners.{owner_now}
+use Rattle.host_layout.specs.Places.{each_list, placed_from}
+use Rattle.host_layout.specs.Sources.{placed_of}
 use Rattle.config_templates.specs.Triggers.{trigger_of}
 use Rattle.config_templates.proofs.triggers.add_triggers.Given as goal
 

@@ -1,8 +1,8 @@
 use Rattle.std.proofs.Common.{◌≡◌, arith, false, length}
 use Rattle.std.specs.Prelude.{nat_le}
 use Rattle.std.proofs.lemmas.Grind.{common_steps}
-use Rattle.config_templates.specs.Elements.{placed_trigger}
-use Rattle.config_templates.specs.Owners.{owner_now}
+use Rattle.host_layout.specs.Elements.{placed_trigger}
+use Rattle.host_layout.specs.Owners.{owner_now}
 use Rattle.config_templates.specs.Triggers.{most_triggers}
 use Rattle.config_templates.specs.Written.{more_found}
 use Rattle.config_templates.proofs.Free.{gives_free, was_free}

@@ -1,10 +1,11 @@
 use Rattle.std.proofs.Common.{◌≡◌, ◌∙◌, [], drop, Some, sym, ap, arith, length, codes}
-use Rattle.config_templates.specs.Elements.{placed_host}
-use Rattle.config_templates.specs.Places.{each_list, placed_from}
+use Rattle.host_layout.specs.Elements.{placed_host}
+use Rattle.host_layout.specs.Places.{each_list, placed_from}
 use Rattle.std.proofs.lemmas.List.{drop_all}
-use Rattle.config_templates.specs.Triggers.{triggers_from, owner_of}
+use Rattle.host_layout.specs.Hosts.{owner_of}
+use Rattle.config_templates.specs.Triggers.{triggers_from}
 use Rattle.config_templates.proofs.FoundCounts.{as_many_triggers}
-use Rattle.config_templates.proofs.PlacedElements.{slice_get-placed}
+use Rattle.host_layout.proofs.PlacedElements.{slice_get-placed}
 use Rattle.config_templates.proofs.triggers.triggers.Goals as goal
 
 pub add_host-requires-clause-there : goal.add_host-requires-clause-there

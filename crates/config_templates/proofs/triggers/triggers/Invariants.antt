@@ -1,7 +1,8 @@
 use Rattle.std.proofs.Common.{◌≡◌, drop, codes}
-use Rattle.config_templates.specs.Names.{named_triggers}
-use Rattle.config_templates.specs.Places.{each_list, placed_from}
-use Rattle.config_templates.specs.Triggers.{owner_of, triggers_from, triggers_of}
+use Rattle.host_layout.specs.Names.{named_triggers}
+use Rattle.host_layout.specs.Places.{each_list, placed_from}
+use Rattle.host_layout.specs.Hosts.{owner_of}
+use Rattle.config_templates.specs.Triggers.{triggers_from, triggers_of}
 use Rattle.config_templates.proofs.triggers.triggers.Given as goal
 
 abbrev pub invariant-loop-place : goal.invariant-loop-place

@@ -1,6 +1,6 @@
 use Rattle.std.proofs.Common.{◌≡◌, ◌++◌, drop, codes}
 use Rattle.config_templates.specs.Members.{trigger_path}
-use Rattle.config_templates.specs.Places.{each_list, placed, placed_from}
+use Rattle.host_layout.specs.Places.{each_list, placed, placed_from}
 use Rattle.config_templates.specs.Uses.{tag_joined}
 use Rattle.config_templates.proofs.uses.join_tags.Given as goal
 

@@ -1,8 +1,0 @@
-use Rattle.std.proofs.Common.{refl}
-use Rattle.config_templates.proofs.MacroLists.{one_more}
-use Rattle.config_templates.proofs.macros.add.Goals as goal
-
-pub loop-raw-preserved : goal.loop-raw-preserved
-loop-raw-preserved c =
-    one_more c.args.macros.now c.loop-raw.raw-index c.raw-item.result c.loop-raw.made c.push.new.self _ _
-    c.loop-raw-test.true c.raw-item.is refl c.in_ok-push.ensures.ok c.loop-raw.invariant

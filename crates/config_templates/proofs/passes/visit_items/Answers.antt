@@ -1,9 +1,0 @@
-use Rattle.std.proofs.Common.{◌∙◌, Some, sym, ap, arith, length, codes}
-use Rattle.config_templates.specs.Elements.{placed_host}
-use Rattle.config_templates.proofs.PlacedElements.{slice_get-placed}
-use Rattle.config_templates.proofs.passes.visit_items.Goals as goal
-
-pub visit_host-requires-clause-there : goal.visit_host-requires-clause-there
-visit_host-requires-clause-there g c =
-    slice_get-placed (codes "/hosts") c.args.raw.now.hosts c.loop-place.place c.host-item.result (omega (arith, ap length c.as_slice-host-items.ensures))
-    ∙ ap (λ h. Some (placed_host c.loop-place.place h)) (sym (rw c.as_slice-host-items.ensures at c.host-item.is))

@@ -1,5 +1,0 @@
-use Rattle.std.proofs.Common.{◌≡◌, length}
-use Rattle.config_templates.proofs.templates.ranks.counts_of.Given as goal
-
-abbrev pub invariant-loop-places : goal.invariant-loop-places
-invariant-loop-places l = length l.counts.items ≡ length l.links
