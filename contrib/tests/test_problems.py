@@ -85,7 +85,7 @@ def made_up(seed, count):
             lines.append(f"F|{entry}|h|k|{chance.choice(texts)}")
         while open_ and chance.random() < 0.47:
             event, _ = open_.pop(chance.randrange(len(open_)))
-            lines.append(f"R|{event}|{entry}|{moment}|{chance.choice('ec')}")
+            lines.append(f"R|{event}|{entry}|{moment}|{chance.choice('ecr')}")
     return "\n".join(lines) + "\n"
 
 

@@ -7,10 +7,11 @@ use Rattle.std.proofs.lemmas.List.{take-append-drop, take-append-le, drop-append
 use Rattle.outside.specs.Others.{first_other}
 use Rattle.outside.specs.Tells.{SinkTells}
 use Rattle.outside.proofs.OtherLemmas.{or_then, in_parts, inside, none_behind}
+use Rattle.zbx_types.specs.declared.conf.Conf.{Conf}
 use Rattle.zbx_types.specs.declared.entries.Numbered.{Numbered}
 use Rattle.event_text.specs.Lines.{lines_of}
-use Rattle.entry_step.specs.Records.{replay}
-use Rattle.entry_step.specs.Start.{Start}
+use Rattle.entry_step.specs.Start.{nothing}
+use Rattle.entry_step.specs.Whole.{whole_replay}
 use Rattle.book.specs.declared.opening.Replayed.{Replayed}
 use Rattle.book.specs.Opening.{IsCompared, IsReplayed}
 use Rattle.book.specs.Outgoing.{Grew, HasFront, HasAll, IsLeft, IsMendable, stays}
@@ -272,16 +273,16 @@ by_both (Err e) P Q R goes p q = tt
 pub left_on : (a b c : SinkTells) → IsLeft a b → IsLeft b c → IsLeft a c
 left_on a b c l m = record { bytes = m.bytes ∙ l.bytes; size = m.size ∙ l.size; later = (let x = l.later in let y = m.later in omega arith) }
 
-pub replayed_at : (start : Start) (log : List Numbered) (a b : SinkTells) (r : Replayed) → b.bytes ≡ a.bytes → b.held ≡ a.held → IsReplayed start log a r → IsReplayed start log b r
-replayed_at start log a b r bytes size is = record {
-  cells = is.cells;
+pub replayed_at : (flat : List ℕ → Conf) (log : List Numbered) (a b : SinkTells) (r : Replayed) → b.bytes ≡ a.bytes → b.held ≡ a.held → IsReplayed flat log a r → IsReplayed flat log b r
+replayed_at flat log a b r bytes size is = record {
+  present = is.present;
   recorded = record {
     tally = is.recorded.tally;
     compared = record {
-      place = subst (λ o. IfSome o (λ held. r.other ≡ first_other 0 (lines_of (replay start log)) held)) (sym bytes) is.recorded.compared.place;
-      within = subst (λ n. IfSome r.other (λ place. (place < n) × (place < length (lines_of (replay start log))))) (sym size) is.recorded.compared.within;
+      place = subst (λ o. IfSome o (λ held. r.other ≡ first_other 0 (lines_of (whole_replay flat nothing log)) held)) (sym bytes) is.recorded.compared.place;
+      within = subst (λ n. IfSome r.other (λ place. (place < n) × (place < length (lines_of (whole_replay flat nothing log))))) (sym size) is.recorded.compared.within;
     };
-    missing = is.recorded.missing ∙ ap (λ n. drop (unwrap_or r.other n) (lines_of (replay start log))) (sym size);
+    missing = is.recorded.missing ∙ ap (λ n. drop (unwrap_or r.other n) (lines_of (whole_replay flat nothing log))) (sym size);
   };
 }
 

@@ -74,6 +74,7 @@ stands_reopened from w stands = record {
     known = λ n q. stands.holds.known n (pending_reopened (w.core.status n) q);
   };
   rises = stands.rises;
+  behind = stands.behind;
   done = same_done from w.core.log w.core.status (λ n. reopened (w.core.status n)) w.cells w.made (λ n. applied_still (w.core.status n)) stands.done;
 }
 

@@ -6,39 +6,34 @@ use Rattle.std.proofs.Math.Seq.{take-append_seam, take-append-add}
 use Rattle.std.specs.Prelude.{Result, Ok, Err, OnOk}
 use Rattle.std.proofs.lemmas.List.{drop-append-le, drop_all, length-take, take-append-drop}
 use Rattle.std.proofs.lemmas.Grind.{flat_map-append}
+use Rattle.zbx_types.specs.declared.conf.Conf.{Conf}
 use Rattle.zbx_types.specs.declared.entries.Numbered.{Numbered}
 use Rattle.zbx_types.specs.declared.entries.Rec.{Rec}
 use Rattle.outside.specs.Tells.{SinkTells}
 use Rattle.outside.specs.declared.event.Failed.{Failed}
 use Rattle.event_text.specs.Lines.{lines_of, line_of}
-use Rattle.entry_step.specs.Behind.{behind}
-use Rattle.entry_step.specs.Records.{replay, out_of}
-use Rattle.entry_step.proofs.Behind.{replay_behind}
+use Rattle.entry_step.specs.Start.{nothing}
+use Rattle.entry_step.specs.Whole.{out_at, point, whole_replay}
 use Rattle.book.specs.declared.tally.Tally.{Tally}
 use Rattle.book.specs.Tally.{tally_of}
 use Rattle.book.specs.Outgoing.{Grew, GrewByFront, Writes, log_lines}
-use Rattle.entry_step.specs.Start.{Start}
 
 -- ---- the lines of a log
 
 pub lines_of-append : (a b : List Rec) → lines_of (a ++ b) ≡ lines_of a ++ lines_of b
 lines_of-append a b = flat_map-append line_of a b
 
--- the lines of newer entries stand behind those of the log before them
-pub lines_behind : (start : Start) (newer older : List Numbered) → log_lines start (newer ++ older) ≡ log_lines start older ++ log_lines (behind start older) newer
-lines_behind start newer older = ap lines_of (replay_behind start newer older) ∙ lines_of-append (replay start older) (replay (behind start older) newer)
-
 -- the lines of a log with one more entry
-pub lines_next : (from : Start) (log : List Numbered) (e : Numbered) → log_lines from (e ∷ log) ≡ log_lines from log ++ lines_of (out_of from log e e.entry (from.records ++ replay from log))
-lines_next from log e = lines_of-append (replay from log) (out_of from log e e.entry (from.records ++ replay from log))
+pub lines_next : (flat : List ℕ → Conf) (log : List Numbered) (e : Numbered) → log_lines flat (e ∷ log) ≡ log_lines flat log ++ lines_of (out_at flat (point flat nothing log) e e.entry)
+lines_next flat log e = lines_of-append (whole_replay flat nothing log) (out_at flat (point flat nothing log) e e.entry)
 
 -- newer entries add lines behind those of the log before them
-pub lines_newer : (from : Start) (newer log : List Numbered) → (more : List ℕ) × (log_lines from (newer ++ log) ≡ log_lines from log ++ more)
-lines_newer from [] log = ([], sym (append-nil (log_lines from log)))
-lines_newer from (e ∷ newer) log =
-    let before = lines_newer from newer log in
-    let here = lines_of (out_of from (newer ++ log) e e.entry (from.records ++ replay from (newer ++ log))) in
-    (before.0 ++ here, lines_next from (newer ++ log) e ∙ ap (λ l. l ++ here) before.1 ∙ append_assoc (log_lines from log) before.0 here)
+pub lines_newer : (flat : List ℕ → Conf) (newer log : List Numbered) → (more : List ℕ) × (log_lines flat (newer ++ log) ≡ log_lines flat log ++ more)
+lines_newer flat [] log = ([], sym (append-nil (log_lines flat log)))
+lines_newer flat (e ∷ newer) log =
+    let before = lines_newer flat newer log in
+    let here = lines_of (out_at flat (point flat nothing (newer ++ log)) e e.entry) in
+    (before.0 ++ here, lines_next flat (newer ++ log) e ∙ ap (λ l. l ++ here) before.1 ∙ append_assoc (log_lines flat log) before.0 here)
 
 -- what is lacking of lines, with more lines
 pub lacking : (held : ℕ) (before more all : List ℕ) → held ≤ length before → before ++ more ≡ all → drop held before ++ more ≡ drop held all
@@ -62,13 +57,18 @@ pub tally_size : (rs : List Rec) (tally : Tally) → tally ≡ tally_of rs → t
 unfolding tally_of
 tally_size rs tally is = ap (λ (t : Tally). t.bytes) is
 
-pub tally_bytes : (from : Start) (log : List Numbered) (tally : Tally) → tally ≡ tally_of (replay from log) → tally.bytes ≡ min (length (log_lines from log)) 18446744073709551615
-tally_bytes from log tally is = tally_size (replay from log) tally is
+pub tally_bytes : (flat : List ℕ → Conf) (log : List Numbered) (tally : Tally) → tally ≡ tally_of (whole_replay flat nothing log) → tally.bytes ≡ min (length (log_lines flat log)) 18446744073709551615
+tally_bytes flat log tally is = tally_size (whole_replay flat nothing log) tally is
 
 -- what is said of an Ok
 pub on_ok : {T E : Type 0} (r : Result T E) (P Q : Type 0) → (P → Q) → OnOk r P → OnOk r Q
 on_ok (Ok x) P Q goes p = goes p
 on_ok (Err e) P Q goes p = tt
+
+-- what holds in any case
+pub of_any : {T E : Type 0} (r : Result T E) (P : Type 0) → P → OnOk r P
+of_any (Ok x) P p = p
+of_any (Err e) P p = tt
 
 -- ---- sinks that grow
 

@@ -1,17 +1,18 @@
 -- The lines of a log, and how they go to a sink.
-use Rattle.entry_step.specs.Start.{Start}
 use Rattle.std.specs.Prelude.{◌≡◌, ◌≤◌, ◌+◌, ℕ, List, length, take, get_or, Some, None, IfSome, unwrap_or, Result, MatchResult}
 use Rattle.std.specs.Io.KnownBytes.{Appends}
 use Rattle.outside.specs.Others.{first_other}
 use Rattle.outside.specs.Tells.{SinkTells}
 use Rattle.outside.specs.declared.event.Failed.{Failed}
+use Rattle.zbx_types.specs.declared.conf.Conf.{Conf}
 use Rattle.zbx_types.specs.declared.entries.Numbered.{Numbered}
 use Rattle.event_text.specs.Lines.{lines_of}
-use Rattle.entry_step.specs.Records.{replay}
+use Rattle.entry_step.specs.Start.{nothing}
+use Rattle.entry_step.specs.Whole.{whole_replay}
 
--- the lines of a log behind its start
-abbrev pub log_lines : Start → List Numbered → List ℕ
-log_lines start log = lines_of (replay start log)
+-- the lines of a whole log, where this tells the configuration that a text stands for
+abbrev pub log_lines : (List ℕ → Conf) → List Numbered → List ℕ
+log_lines flat log = lines_of (whole_replay flat nothing log)
 
 -- a sink has these bytes more: in what it tells of them, and in their number
 pub record Grew (sink sink' : SinkTells) (more : List ℕ) : Type 0 where

@@ -1,34 +1,36 @@
 //! The entries with which a run begins are replayed by one thread, one after another, their lines made, and the outbox
 //! compared with them.
 
-ghost use Rattle.std.specs.Prelude.{◌≡◌, ◌≢◌, ◌≤◌, ◌<◌, ◌++◌, [], ◌∷◌, ℕ, List, length, min, drop, get_or, Some, None, IfSome, IfOk, IfErr, OnOk, IsErrOf, unwrap_or};
+ghost use Rattle.std.specs.Prelude.{◌≡◌, ◌≢◌, ◌≤◌, ◌<◌, ◌++◌, [], ◌∷◌, ℕ, List, length, min, true, drop, get_or, Some, None, IfSome, IfOk, IfErr, OnOk, IsErrOf, unwrap_or};
+ghost use Rattle.std.specs.VecDeque.{deque_len};
 ghost use Rattle.zbx_types.specs.declared.entries.Numbered.{Numbered};
 ghost use Rattle.outside.specs.Causes.{Rose, HasCause};
 ghost use Rattle.outside.specs.Others.{first_other};
-ghost use Rattle.entry_step.specs.Log.{log_of, Suits};
-ghost use Rattle.entry_step.specs.Start.{Start, first_start};
-ghost use Rattle.book.specs.Entries.{IsWholeLog};
+ghost use Rattle.entry_step.specs.Log.{log_of, is_config};
 ghost use Rattle.zbx_types.specs.declared.entries.Rec.{Rec};
 ghost use Rattle.book.specs.declared.errors.BookError.TheVariants as BookError;
-ghost use Rattle.book.specs.Opening.{IsReplayed, IsRecorded, IsCompared, IsRefused};
+ghost use Rattle.book.specs.Opening.{IsSound, IsReplayed, IsRecorded, IsCompared, IsRefused, epochs_of};
 ghost use Rattle.book.specs.Outgoing.{HasFront, IsLeft};
 
 use crate::errors::BookError;
 use crate::names::StartName;
 use crate::outgoing::{add_lines, behind};
+use crate::present::{Present, next_epoch};
 use crate::tally::Tally;
-use entry_step::{Cells, Ready, Steps, step};
+use entry_step::{Ready, Steps};
 use outside::{Failed, Sink};
 use std::alloc::Global;
+use std::collections::VecDeque;
 use std::marker::Brand;
 use std::sync::ledger::{Blank, Ledger};
-use zbx_types::{Bytes, Numbered, OutOfMemory, Rec};
+use zbx_types::{Bytes, Numbered, Rec};
 
-/// What entries leave that were replayed: the cells behind them, the counts of their records, the first place at which
-/// the outbox holds another byte than their lines, and those of their lines that it lacks where it is cut there.
+/// What entries leave that were replayed: what is in force behind them and the cells, the counts of their records, the
+/// first place at which the outbox holds another byte than their lines, and those of their lines that it lacks where it
+/// is cut there.
 #[derive(Drop)]
 pub(crate) struct Replayed {
-    pub cells: Cells,
+    pub present: Present,
     pub tally: Tally,
     pub other: Option<u64>,
     pub missing: Bytes,
@@ -65,7 +67,7 @@ fn compare<O: Sink>(
 ) -> Result<(), BookError>
     ensures lines { OnOk result ((before : List Rec) → IsRecorded before (O.tells outbox.old) so_far.old
         → IsRecorded (before ++ records.now) (O.tells outbox.old) so_far.new) }
-    ensures cells { so_far.new.cells ≡ so_far.old.cells }
+    ensures present { so_far.new.present ≡ so_far.old.present }
     ensures left { IsLeft (O.tells outbox.old) (O.tells outbox.new) }
     ensures cause { IsErrOf result BookError.OutboxFault → Rose (O.tells outbox.old).faults (O.tells outbox.new).faults }
     ensures why { IfErr result IsRefused }
@@ -81,31 +83,37 @@ fn compare<O: Sink>(
     Ok(())
 }
 
-/// Replays the next entry.
-fn replay_one<O: Sink, L: Ledger>(
+/// Replays the next entry. A Config brings the first of the configurations that are still to come.
+fn replay_one<S: StartName, O: Sink, L: Ledger>(
     alloc: Global,
-    ready: &Ready,
     entry: &Numbered,
+    epochs: &mut VecDeque<Ready>,
     outbox: &mut O,
     so_far: &mut Replayed,
     steps: &mut Steps<L>,
 ) -> Result<(), BookError>
-    ensures replayed { OnOk result ((start : Start) (log : List Numbered) → start.stage ≡ ready.now
-        → Suits start (entry.now ∷ log) → IsReplayed start log (O.tells outbox.old) so_far.old
-        → IsReplayed start (entry.now ∷ log) (O.tells outbox.old) so_far.new) }
+    requires some { is_config entry.now.entry ≡ true → 0 < deque_len epochs.old }
+    ensures replayed { OnOk result ((log later : List Numbered) → 0 < length log → IsSound S.flat (entry.now ∷ log)
+        → epochs.old.items ≡ epochs_of S.flat (entry.now ∷ later) → IsReplayed S.flat log (O.tells outbox.old) so_far.old
+        → IsReplayed S.flat (entry.now ∷ log) (O.tells outbox.old) so_far.new) }
+    ensures epochs { OnOk result ((later : List Numbered) → epochs.old.items ≡ epochs_of S.flat (entry.now ∷ later)
+        → epochs.new.items ≡ epochs_of S.flat later) }
+    ensures len { OnOk result (deque_len epochs.old ≡ length epochs.old.items
+        → deque_len epochs.new ≡ length epochs.new.items) }
     ensures left { IsLeft (O.tells outbox.old) (O.tells outbox.new) }
     ensures cause { IsErrOf result BookError.OutboxFault → Rose (O.tells outbox.old).faults (O.tells outbox.new).faults }
     ensures why { IfErr result IsRefused }
 {
-    let records = step(alloc, ready, &mut so_far.cells, entry, steps)?;
+    let records = so_far.present.take::<S, L>(alloc, entry, epochs, steps)?;
     compare(alloc, records.as_slice(), outbox, so_far)
 }
 
-/// Replays entries, and counts the steps in a ledger of their own.
-fn replay_all<O: Sink, L: Ledger>(
+/// Replays entries behind others, with one configuration for each Config among them, and counts the steps in a ledger
+/// of their own.
+fn replay_all<S: StartName, O: Sink, L: Ledger>(
     alloc: Global,
-    ready: &Ready,
     kept: &[Numbered],
+    epochs: &mut VecDeque<Ready>,
     outbox: &mut O,
     so_far: &mut Replayed,
     blank: Blank,
@@ -113,46 +121,54 @@ fn replay_all<O: Sink, L: Ledger>(
     requires name { blank.name ≡ L.name }
     requires parts { blank.parts ≡ L.parts }
     requires some { 0 < L.parts }
-    ensures replayed { OnOk result ((start : Start) → start.stage ≡ ready.now → Suits start (log_of kept.now)
-        → IsReplayed start [] (O.tells outbox.old) so_far.old
-        → IsReplayed start (log_of kept.now) (O.tells outbox.old) so_far.new) }
+    requires epochs { epochs.old.items ≡ epochs_of S.flat kept.now }
+    requires len { deque_len epochs.old ≡ length epochs.old.items }
+    ensures replayed { OnOk result ((log : List Numbered) → 0 < length log → IsSound S.flat (log_of kept.now ++ log)
+        → IsReplayed S.flat log (O.tells outbox.old) so_far.old
+        → IsReplayed S.flat (log_of kept.now ++ log) (O.tells outbox.old) so_far.new) }
     ensures left { IsLeft (O.tells outbox.old) (O.tells outbox.new) }
     ensures cause { IsErrOf result BookError.OutboxFault → Rose (O.tells outbox.old).faults (O.tells outbox.new).faults }
     ensures why { IfErr result IsRefused }
 {
     let mut steps = Steps::<L>::new(blank);
     for entry in kept {
-        replay_one(alloc, ready, entry, outbox, so_far, &mut steps)?;
+        replay_one::<S, O, L>(alloc, entry, epochs, outbox, so_far, &mut steps)?;
     }
     Ok(())
 }
 
-/// Replays the entries with which a run begins, from nothing on, and makes their lines that the outbox lacks.
+/// Replays the entries with which a run begins, from nothing on, and makes their lines that the outbox lacks. There is
+/// one configuration for each Config among them.
 pub(crate) fn begin<S: StartName, O: Sink>(
     alloc: Global,
-    ready: &Ready,
+    epochs: Vec<Ready>,
     kept: &[Numbered],
     outbox: &mut O,
 ) -> Result<Replayed, BookError>
-    requires conf { ready.now ≡ S.start.stage }
-    requires whole { IsWholeLog S.start kept.now }
-    ensures replayed { IfOk result (IsReplayed S.start (log_of kept.now) (O.tells outbox.old)) }
+    requires kept { kept.now ≡ S.kept }
+    requires some { 0 < length S.kept }
+    requires sound { IsSound S.flat (log_of S.kept) }
+    requires epochs { epochs.items ≡ epochs_of S.flat S.kept }
+    ensures replayed { IfOk result (IsReplayed S.flat (log_of S.kept) (O.tells outbox.old)) }
     ensures left { IsLeft (O.tells outbox.old) (O.tells outbox.new) }
     ensures cause { IsErrOf result BookError.OutboxFault → Rose (O.tells outbox.old).faults (O.tells outbox.new).faults }
     ensures why { IfErr result IsRefused }
 {
     // One that can't be opened fails here.
     outbox.differs(0, &[])?;
-    let cells = Cells::new(alloc, ready.conf())?;
+    let mut epochs = VecDeque::from(epochs);
+    let present = Present::first(alloc, next_epoch(&mut epochs))?;
     let tally = Tally::new();
     let missing = Bytes::new(alloc);
     let mut so_far = Replayed {
-        cells,
+        present,
         tally,
         other: None,
         missing,
     };
-    replay_all::<O, Brand>(alloc, ready, kept, outbox, &mut so_far, Blank::new(1))?;
+    let rest = &kept[1..];
+    let blank = Blank::new(1);
+    replay_all::<S, O, Brand>(alloc, rest, &mut epochs, outbox, &mut so_far, blank)?;
     Ok(so_far)
 }
 

@@ -1,1 +1,2 @@
 mod Ticking
+mod Reloading

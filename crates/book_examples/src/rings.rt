@@ -39,7 +39,7 @@ impl<S: StartName, N: RunName> Model for Ticks<S, N> {
 
     ghost view = { λ t. t.next };
 
-    ghost invariant = { λ t. HasTicks S.start S.kept t.head.sent t.next };
+    ghost invariant = { λ t. HasTicks S.start t.head.sent t.next };
 }
 
 fn tick(number: u64) -> Numbered

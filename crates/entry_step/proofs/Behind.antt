@@ -12,19 +12,21 @@ use Rattle.value_cache.specs.Cells.{CellView}
 use Rattle.preprocess.specs.Ways.{memory_at}
 use Rattle.preprocess.specs.Draft.{visit_at, marks_after}
 use Rattle.trigger_state.specs.Stages.{Stage}
+use Rattle.trigger_state.specs.declared.stage.Origin.{Origin}
 use Rattle.trigger_state.specs.Problems.{open_of}
 use Rattle.entry_step.specs.Start.{Start}
-use Rattle.entry_step.specs.Log.{tick_with, first_tick, last_moment, Suits}
+use Rattle.entry_step.specs.Log.{tick_with, first_tick, last_number, last_moment, Suits}
 use Rattle.entry_step.specs.Occasions.{occasion_of}
 use Rattle.entry_step.specs.History.{visits_at, stored_of, marks_of, memory_of, with_stored, history_of}
 use Rattle.entry_step.specs.Kept.{Keeps}
 use Rattle.entry_step.specs.Due.{due_at}
 use Rattle.entry_step.specs.Records.{evaluated, phase_over, triggers_at, failures_at, judged_of, out_of, replay}
 use Rattle.entry_step.specs.Cells.{Cells, ItemKey, touches, seen_of, look, AreCellsOf}
-use Rattle.entry_step.specs.Represents.{CellsView, IsTidy, Represents, Holds}
-use Rattle.entry_step.specs.Laws.{IsGood}
+use Rattle.entry_step.specs.Represents.{CellsView, IsTidy, Represents}
+use Rattle.entry_step.specs.Laws.{AreBehind}
 use Rattle.entry_step.specs.Behind.{behind, ReplayBehind, BehindIsGood, HoldsBehind, SuitsBehind}
-use Rattle.entry_step.proofs.Orders.{cells_of, cells_are, tidy_cells}
+use Rattle.entry_step.proofs.Members.{each_sub}
+use Rattle.entry_step.proofs.Orders.{cells_are, tidy_cells}
 
 -- The searches
 tick_behind : (start : Start) (newer older : List Numbered) → first_tick (behind start older) newer ≡ first_tick start (newer ++ older)
@@ -89,11 +91,17 @@ replay_behind start (e ∷ newer) older =
     ∙ append_assoc before more (out_of (behind start older) newer e e.entry ((start.records ++ before) ++ more))
 
 -- The cells
+number_upto : (start : Start) (log : List Numbered) → AreBehind start log → start.number ≤ last_number start log
+number_upto start [] after = omega arith
+number_upto start (e ∷ log) after = let l = after.0 in omega arith
+
 pub behind_is_good : BehindIsGood
 unfolding look
-behind_is_good start older good =
-    let tidy : IsTidy start.stage (look start older (start.records ++ replay start older)) = subst (λ (c : Cells). IsTidy start.stage c) (cells_are start older) (tidy_cells start good older) in
-    record { ids = tidy.ids; homes = tidy.homes; tagged = tidy.tagged; absent = tidy.absent }
+behind_is_good start older good after =
+    let tidy : IsTidy start.stage (look start older (start.records ++ replay start older)) = subst (λ (c : Cells). IsTidy start.stage c) (cells_are start older) (tidy_cells start good older after) in record {
+      tidy = record { homes = tidy.homes; tagged = tidy.tagged; absent = tidy.absent };
+      origins = each_sub (λ (o : Origin). o.event.number ≤ start.number) (λ (o : Origin). o.event.number ≤ last_number start older) start.stage.origins (λ o u. (let m = number_upto start older after in omega arith)) good.origins;
+    }
 
 pub seen_upto : (start : Start) (log : List Numbered) (i : ℕ) → Suits start log → seen_of start log i ≤ last_moment start log
 seen_upto start [] i suits = omega arith
@@ -119,7 +127,7 @@ represents_later start held older suits r = record {
   marks = r.marks;
   problems = r.problems;
   tick = r.tick;
-  tidy = record { ids = r.tidy.ids; homes = r.tidy.homes; tagged = r.tidy.tagged; absent = r.tidy.absent };
+  tidy = record { homes = r.tidy.homes; tagged = r.tidy.tagged; absent = r.tidy.absent };
 }
 
 pub holds_behind : HoldsBehind

@@ -17,7 +17,7 @@ use Rattle.event_correlation.specs.Closings.{closes_first, closed_from, closes_n
 use Rattle.event_correlation.specs.Laws.{HasTagsOf, share_reach}
 use Rattle.event_correlation.specs.declared.answer.Closes.{Closes}
 use Rattle.event_correlation.proofs.LeftOut.{within_reach}
-use Rattle.trigger_state.specs.Stages.{Stage, KeepsIds, home}
+use Rattle.trigger_state.specs.Stages.{Stage, home}
 use Rattle.trigger_state.specs.Problems.{event_in}
 use Rattle.trigger_state.specs.declared.problems.Open.{Open}
 use Rattle.entry_step.specs.Each.{Each}
@@ -33,7 +33,6 @@ use Rattle.entry_step.proofs.Sorting.{by_event_filter, by_event_each, by_event_m
 
 -- the open problems of all triggers are in the cells of their own triggers, and have the names of their tags
 pub record AllTidy (stage : Stage) (all : ℕ → List Open) : Type 0 where
-  pub ids : KeepsIds stage
   pub homes : (id : ℕ) → AllAtHome stage id (all id)
   pub tagged : (id : ℕ) → AllTagged stage.conf id (all id)
 

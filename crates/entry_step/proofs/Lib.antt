@@ -10,6 +10,7 @@ pub mod Phases
 pub mod Represented
 pub mod Orders
 pub mod Behind
+pub mod InForce
 pub mod Meeting
 pub mod Making
 pub mod Replays
@@ -38,3 +39,12 @@ pub mod Touching
 pub mod Runs
 pub mod Rising
 pub mod Previous
+mod Finding
+pub mod Owning
+mod Told
+mod Moving
+mod Wholes
+mod Following
+mod First
+mod Remembered
+mod CarryingOver

@@ -118,7 +118,7 @@ marks_are step memory value time = go step.kind refl
         ∙ ap (λ o. unwrap_or (passing_mark time value o) memory) (sym (thrown ThrottleHeartbeat e ∙ out ThrottleHeartbeat e))
 
 -- The steps of a chain
-abbrev at_place : List StepMemory → ℕ → StepMemory
+abbrev pub at_place : List StepMemory → ℕ → StepMemory
 at_place marks place = slice_index_or marks place unmarked
 
 unreached_at : (steps : List StepSpec) (first : ℕ) (memory : ℕ → StepMemory) (place : ℕ) → place < length steps → at_place (unreached steps first memory) place ≡ memory (first + place)
@@ -171,7 +171,7 @@ module _ (time : ℕ) where
       go outcomes.Discard ih = refl
       go (outcomes.Fail why) ih = refl
 
-past : (marks : List StepMemory) (place : ℕ) → length marks ≤ place → at_place marks place ≡ unmarked
+pub past : (marks : List StepMemory) (place : ℕ) → length marks ≤ place → at_place marks place ≡ unmarked
 past [] place l = refl
 past (x ∷ xs) zero l = absurd (omega arith)
 past (x ∷ xs) (suc place) l = past xs place (omega arith)
@@ -260,7 +260,7 @@ module _ (conf : Conf) (rows : ℕ → List StepMemory) (arrival : Arrival) (i k
 
 -- Behind a log
 module _ (start : Start) (has : HasMarks start) where
-  abbrev Long : List Numbered → Type 0
+  abbrev pub Long : List Numbered → Type 0
   Long log = (i : ℕ) (item : Item) → at_id start.stage.conf.items i ≡ Some item → length (marks_of start log i) ≡ length item.steps
 
   entry_is : (log : List Numbered) → Long log → (e : Numbered) (entry : Entry) (i k : ℕ)
@@ -271,7 +271,7 @@ module _ (start : Start) (has : HasMarks start) where
   entry_is log long e (Value now item time value) i k =
       value_is start.stage.conf (marks_of start log) (record { item = item; time = time; number = e.number; value = value }) i k (long i)
 
-  long_is : (log : List Numbered) → Long log
+  pub long_is : (log : List Numbered) → Long log
   unfolding marks_of
   long_is [] i item q = has i item q
   long_is (e ∷ log) i item q = (entry_is log (long_is log) e e.entry i 1).1 item q

@@ -8,7 +8,6 @@ use Rattle.zbx_types.specs.declared.rules.Rule.{Rule}
 use Rattle.zbx_types.specs.declared.triggers.Trigger.{Trigger}
 use Rattle.footprint.specs.Feet.{reach_by, is_reached}
 use Rattle.entry_step.specs.Index.{listed, reach_from}
-use Rattle.entry_step.specs.Packed.{row_at}
 use Rattle.zbx_types.proofs.RowLemmas.{at_zero, at_suc}
 
 reach_low : (rule : Rule) (k x : ℕ) (ts : List Trigger) → x < k → has_id (reach_from rule k ts) x ≡ false

@@ -246,7 +246,7 @@ above_each bound zero (x ∷ ts) t q =
     let l = above_least (max bound (x.depth + 1)) ts in omega (arith, l, is)
 above_each bound (suc place) (x ∷ ts) t q = above_each (max bound (x.depth + 1)) place ts t q
 
-stands : (conf : Conf) (id : ℕ) (t : Trigger) → at_id conf.triggers id ≡ Some t → In id (order conf)
+pub stands : (conf : Conf) (id : ℕ) (t : Trigger) → at_id conf.triggers id ≡ Some t → In id (order conf)
 unfolding order
 stands conf zero t q = let none : None ≡ Some t = sym (at_zero conf.triggers) ∙ q in absurd (cc)
 stands conf (suc k) t q =
@@ -494,7 +494,7 @@ phase_next conf occasion items done (id ∷ ids) rs right once apart sorted befo
 abbrev AreQuiet : ℕ → List Rec → Type 0
 AreQuiet number rs = Each IsQuiet rs × Each (IsDone number []) rs
 
-failures_quiet : (conf : Conf) (memory : Memory) (number : ℕ) (entry : Entry) → AreQuiet number (failures_at conf memory number entry)
+pub failures_quiet : (conf : Conf) (memory : Memory) (number : ℕ) (entry : Entry) → AreQuiet number (failures_at conf memory number entry)
 unfolding failures_at
 failures_quiet conf memory number entry = go (visits_at conf memory number entry)
   where

@@ -15,11 +15,9 @@ use Rattle.zbx_types.specs.declared.conf.Conf.{Conf}
 use Rattle.zbx_types.specs.declared.items.Item.{Item}
 use Rattle.zbx_types.specs.declared.entries.Entry.{Entry}
 use Rattle.zbx_types.specs.declared.entries.Cause2.{Cause2}
-use Rattle.zbx_types.specs.declared.entries.Cause2.TheVariants as causes
 use Rattle.zbx_types.specs.declared.entries.EventId.{EventId}
 use Rattle.zbx_types.specs.declared.entries.Rec.{Rec}
 use Rattle.zbx_types.specs.declared.entries.Rec.TheVariants.{Failure, Problem, Recovery, Step, Message}
-use Rattle.zbx_types.specs.declared.entries.Stored.{Stored}
 use Rattle.maintenance.specs.Suppression.{is_suppressed}
 use Rattle.escalations.specs.Conditions.{is_matched}
 use Rattle.escalations.specs.Escalations.{next_step, records_at, next_records, due_records_of, recovery_records, recovered_records}

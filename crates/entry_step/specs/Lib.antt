@@ -29,3 +29,9 @@ pub mod Changes
 pub mod Names
 pub mod Parts
 pub mod Index
+pub mod Carry
+pub mod Whole
+pub mod Following
+pub mod FirstConfig
+pub mod Remembered
+pub mod InForce

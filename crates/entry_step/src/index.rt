@@ -20,6 +20,7 @@ ghost use Rattle.preprocess.specs.Cells.{AreSame, prepared_of};
 ghost use Rattle.preprocess.specs.Draft.{AreApart, HaveRoom};
 ghost use Rattle.entry_step.specs.Index.{triggers_under};
 ghost use Rattle.entry_step.specs.Records.{timed_triggers};
+ghost use Rattle.trigger_state.specs.Origins.{FindsTold, origins_told};
 ghost use Rattle.trigger_state.specs.Stages.{first_stage};
 
 use crate::asked::place_in;
@@ -34,7 +35,7 @@ use preprocess::{Prepared, prepare};
 use std::alloc::Global;
 use std::convert::AsStr;
 use std::marker::Model;
-use trigger_state::InForce;
+use trigger_state::{InForce, Origin, Told};
 use zbx_types::{Conf, Held, Many, Moment, OutOfMemory, Tag, Text, by_id};
 
 /// The patterns of these texts, built.
@@ -151,6 +152,26 @@ impl Ready {
         ensures { result.now ≡ self.now }
     {
         &self.stage
+    }
+
+    /// Makes the table of where these events of another configuration come from, for `know`.
+    pub(crate) fn known(
+        &self,
+        alloc: Global,
+        origins: Vec<Origin>,
+    ) -> Result<Option<Told>, OutOfMemory>
+        ensures origins { IfOk result (λ told. origins_told told ≡ origins.items) }
+        ensures places { IfOk result (λ told. FindsTold self.now.conf told) }
+    {
+        self.stage.known(alloc, origins)
+    }
+
+    /// Goes on with the problems of another configuration, whose events come from there. Takes no memory.
+    pub(crate) fn know(&mut self, told: Option<Told>)
+        requires { FindsTold self.old.conf told }
+        ensures { self.new ≡ record { conf = self.old.conf; origins = origins_told told } }
+    {
+        self.stage.know(told);
     }
 
     /// The id of the first host with a name. Ids count from 1, in the order of the configuration.

@@ -1,6 +1,6 @@
 //! The laws of order, over the definitions of what entries make. The functions do nothing: each stands for its clause.
 
-ghost use Rattle.entry_step.specs.Laws.{ConflictIsMeeting, FreshIsGood, AreTidyCells, Locality, Insertion, BatchOnACopy, AppliedPart};
+ghost use Rattle.entry_step.specs.Laws.{ConflictIsMeeting, FreshIsGood, EntriesOwn, AreTidyCells, Locality, Insertion, BatchOnACopy, AppliedPart};
 ghost use Rattle.entry_step.specs.Making.{MakingIsOrder};
 ghost use Rattle.entry_step.specs.Behind.{ReplayBehind, BehindIsGood, HoldsBehind, SuitsBehind};
 ghost use Rattle.entry_step.specs.Named.{OpenByNames};
@@ -13,10 +13,15 @@ pub fn conflict_is_meeting()
     ensures { ConflictIsMeeting }
 {}
 
-/// A fresh start is good: nothing stood before it. It has the condition that the triggers of events still have the ids
-/// in them.
+/// A fresh start is good, where no event is of another configuration: nothing stood before it.
 pub fn fresh_is_good()
     ensures { FreshIsGood }
+{}
+
+/// Behind a good start the triggers of an entry's events have the ids in them: events of other configurations are of earlier
+/// entries.
+pub fn entries_own()
+    ensures { EntriesOwn }
 {}
 
 /// Cells that stand for a log behind a good start hold each open problem in the cell of its own trigger, and nothing of
@@ -25,8 +30,8 @@ pub fn are_tidy()
     ensures { AreTidyCells }
 {}
 
-/// Locality: an entry's records and changes are a function of the entry, the configuration, the first Tick and the
-/// cells of its foot, and it changes nothing else.
+/// Locality: the records and changes of an entry whose events are its own are a function of the entry, the configuration,
+/// the first Tick and the cells of its foot, and it changes nothing else.
 pub fn locality()
     ensures { Locality }
 {}
@@ -38,7 +43,7 @@ pub fn insertion()
     ensures { Insertion }
 {}
 
-/// A batch that is evaluated on a copy of the cells of its feet makes the same records, and the copy put back is what
+/// A batch whose events are its own and that is evaluated on a copy of the cells of its feet makes the same records, and the copy put back is what
 /// the batch leaves.
 pub fn batch_on_a_copy()
     ensures { BatchOnACopy }

@@ -19,10 +19,14 @@
 //! `specs/Evaluation.antt`, `specs/Records.antt`): the verdict of the crate `trigger_state`, over the problems that
 //! are open then, makes a problem or closes some. A Tick evaluates in the same way the enabled triggers with a
 //! function that changes with time alone, as `nodata` and `time`, and then runs the steps that are due for the
-//! problems that are open, in the order of making (`specs/Due.antt`). A Config makes no records.
+//! problems that are open, in the order of making (`specs/Due.antt`). In a log of one configuration, behind its start, a
+//! Config makes no records.
 //!
 //! The module `laws` has the laws of order as clauses: an entry's records and changes depend on its foot alone, and
-//! an entry that conflicts with no later one joins in its place.
+//! an entry that conflicts with no later one joins in its place. The module `whole_logs` has those of logs whose
+//! configuration changes: a Config behind the first one is a function on cells (`specs/Carry.antt`), and any entry over
+//! them gives what the searches find (`specs/Whole.antt`); what such a log leaves is a start for the entries that follow
+//! it (`specs/InForce.antt`). `carry` takes a Config behind others.
 //!
 //! The value of a call is that of `history_functions` over the window of the item's whole history; what is kept of
 //! it, in the cells of `value_cache`, shows the same window. Operators are those of the crate `expr_eval`. A
@@ -43,6 +47,7 @@
 mod asked;
 mod call_values;
 mod calls;
+mod carrying;
 mod cells;
 mod changes;
 mod copying;
@@ -73,7 +78,9 @@ mod stepping;
 mod steps;
 mod timed;
 mod touched;
+pub mod whole_logs;
 
+pub use carrying::carry;
 pub use cells::Cells;
 pub use fault::BuildError;
 pub use index::Ready;

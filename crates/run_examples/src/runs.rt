@@ -413,7 +413,6 @@ pub(crate) fn status_name(status: &Status) -> &'static str {
         Status::OutOfMemory => "OutOfMemory",
         Status::NotOurs => "NotOurs",
         Status::Damaged { .. } => "Damaged",
-        Status::ConfigDiffers { .. } => "ConfigDiffers",
         Status::OutboxAhead { .. } => "OutboxAhead",
         Status::OutboxDiffers { .. } => "OutboxDiffers",
         Status::DiskFault => "DiskFault",

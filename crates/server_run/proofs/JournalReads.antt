@@ -3,7 +3,6 @@ use Rattle.std.proofs.Common.{◌≡◌, ◌⊎◌, ℕ, ◌+◌, ◌<◌, ◌�
 use Rattle.std.specs.Prelude.{IfSome, is_some, Ok, Err, ◌==◌, if◌then◌else◌, nat_le}
 use Rattle.std.proofs.lemmas.List.{length-drop}
 use Rattle.std.proofs.lemmas.Bool.Decides.{nat_tests}
-use Rattle.zbx_types.specs.declared.conf.Conf.{Conf}
 use Rattle.outside.specs.Causes.{Rose}
 use Rattle.outside.specs.Disk.{DiskTells, Only}
 use Rattle.intake_journal.specs.Bytes.{entries_bytes}
@@ -120,11 +119,11 @@ found_opened (Some b) None disk groups told opened found = absurd (true≢false 
 found_opened (Some b) (Some c) disk groups told opened found = left_groups (kept b) groups (sym opened.left ∙ found)
 
 -- nothing is read yet
-pub begins_reading : {D : Type 0} (tells : D → DiskTells) (conf : Conf) (journal : Journaled D) (numbering : Numbering) → journal.at ≡ first_gate → journal.entries ≡ 0
-    → ((c : Conf) → IsNumbered c [] numbering) → IsReadSoFar tells conf journal journal numbering
-begins_reading tells conf journal numbering first none numbered = record {
+pub begins_reading : {D : Type 0} (tells : D → DiskTells) (journal : Journaled D) (numbering : Numbering) → journal.at ≡ first_gate → journal.entries ≡ 0
+    → IsNumbered [] numbering → IsReadSoFar tells journal journal numbering
+begins_reading tells journal numbering first none numbered = record {
   groups = [];
-  numbered = numbered conf;
+  numbered = numbered;
   count = none;
   size = omega (arith, first);
   limits = (refl, refl);
@@ -136,10 +135,10 @@ begins_reading tells conf journal numbering first none numbered = record {
     here (Some b) = ap (λ at. kept_from at b) (sym first)
 
 -- one group more
-pub reads_more : {D : Type 0} (tells : D → DiskTells) (conf : Conf) (first old new : Journaled D) (read more : Numbering) (group : Group) → (tells old.disk).bytes ≡ (tells first.disk).bytes
-    → IsReadSoFar tells conf first old read → ReadsNext (tells old.disk).bytes old new (Ok (Some group)) → new.at ≡ old.at + length (entries_bytes group.entries) + 9
-    → ((groups : List Group) → IsNumbered conf groups read → IsNumbered conf (groups ++ group ∷ []) more) → IsReadSoFar tells conf first new more
-reads_more tells conf first old new read more group same r next place adds = record {
+pub reads_more : {D : Type 0} (tells : D → DiskTells) (first old new : Journaled D) (read more : Numbering) (group : Group) → (tells old.disk).bytes ≡ (tells first.disk).bytes
+    → IsReadSoFar tells first old read → ReadsNext (tells old.disk).bytes old new (Ok (Some group)) → new.at ≡ old.at + length (entries_bytes group.entries) + 9
+    → ((groups : List Group) → IsNumbered groups read → IsNumbered (groups ++ group ∷ []) more) → IsReadSoFar tells first new more
+reads_more tells first old new read more group same r next place adds = record {
   groups = r.groups ++ group ∷ [];
   numbered = adds r.groups r.numbered;
   count = ap (λ (j : Journaled _). j.entries) next.0 ∙ ap (λ n. n + length group.entries) r.count ∙ sym (count_entries-push r.groups group);
@@ -149,9 +148,9 @@ reads_more tells conf first old new read more group same r next place adds = rec
 }
 
 -- and none more
-pub reads_all : {D : Type 0} (tells : D → DiskTells) (conf : Conf) (first old new : Journaled D) (read : Numbering) → (tells old.disk).bytes ≡ (tells first.disk).bytes
-    → IsReadSoFar tells conf first old read → ReadsNext (tells old.disk).bytes old new (Ok None) → IsReadThrough tells conf first new read
-reads_all tells conf first old new read same r next = record {
+pub reads_all : {D : Type 0} (tells : D → DiskTells) (first old new : Journaled D) (read : Numbering) → (tells old.disk).bytes ≡ (tells first.disk).bytes
+    → IsReadSoFar tells first old read → ReadsNext (tells old.disk).bytes old new (Ok None) → IsReadThrough tells first new read
+reads_all tells first old new read same r next = record {
   groups = r.groups;
   numbered = r.numbered;
   ready = ap (λ (j : Journaled _). j.state) next.0;
@@ -163,10 +162,10 @@ reads_all tells conf first old new read same r next = record {
 
 module _ {D : Type 0} (tells : D → DiskTells) where
   -- a journal that was opened and read through
-  pub is_recovered : (conf : Conf) (disk : D) (old new : Journaled D) (numbering : Numbering) → is_some (tells old.disk).bytes ≡ is_some (tells disk).bytes
+  pub is_recovered : (disk : D) (old new : Journaled D) (numbering : Numbering) → is_some (tells old.disk).bytes ≡ is_some (tells disk).bytes
       → IfSome (tells disk).bytes (λ b. IfSome (tells old.disk).bytes (λ c. IsOpened (tells old.disk) first_gate b c)) → IsAsBefore (tells old.disk) (tells new.disk)
-      → IsReadThrough tells conf old new numbering → IsRecovered tells conf disk new numbering
-  is_recovered conf disk old new numbering told opened before read = record {
+      → IsReadThrough tells old new numbering → IsRecovered tells disk new numbering
+  is_recovered disk old new numbering told opened before read = record {
     groups = read.groups;
     numbered = read.numbered;
     found = found_opened (tells disk).bytes (tells old.disk).bytes (tells old.disk) read.groups told opened read.found;

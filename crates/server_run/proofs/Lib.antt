@@ -9,8 +9,9 @@ pub mod Joining
 pub mod Batches
 pub mod Events
 pub mod Texts
-pub mod Differences
 pub mod Beginning
+pub mod KeptTexts
+pub mod MadeReady
 pub mod Barring
 pub mod Judging
 pub mod Runs
@@ -18,3 +19,4 @@ pub mod Going
 pub mod Closings
 pub mod Sharing
 pub mod Whole
+pub mod Distinct

@@ -66,6 +66,7 @@ use Rattle.std.proofs.boxed.Box.TheSendSync as m_std_boxed_box
 use Rattle.std.proofs.collections.HashMap.TheSendSync as m_std_collections_hashmap
 use Rattle.std.proofs.string.String.TheSendSync as m_std_string_string
 use Rattle.std.proofs.vec.Vec.TheSendSync as m_std_vec_vec
+use Rattle.trigger_state.proofs.stage.Told.TheSendSync as m_trigger_state_stage_told
 use Rattle.zbx_types.proofs.actions.Action.TheSendSync as m_zbx_types_actions_action
 use Rattle.zbx_types.proofs.calls.Call.TheSendSync as m_zbx_types_calls_call
 use Rattle.zbx_types.proofs.conf.Host.TheSendSync as m_zbx_types_conf_host
@@ -242,7 +243,7 @@ f_indexes : IsSync (as_row indexes.the_field)
 f_indexes = search (s_indexes, sendable) depth 60 fits 20000
 
 force_inside_sync : IsSync force_inside.the_row
-force_inside_sync = declared_sync force_inside.the_type (f_conf, tt)
+force_inside_sync = declared_sync force_inside.the_type (f_conf, (search (m_core_option_option.the_field_sync, m_core_option_option.the_sync, m_trigger_state_stage_told.the_field_sync, m_trigger_state_stage_told.the_sync, Crossing.crosses, sendable) depth 60 fits 20000, tt))
 
 s_force : IsSync force.the_row
 s_force = view_sync _ _ _ _ _ force_inside_sync

@@ -1,5 +1,6 @@
 pub mod Ports
 pub mod Patterns
+pub mod Epochs
 pub mod Replayed
 pub mod Tally
 pub mod Recovered

@@ -1,111 +1,83 @@
 -- What the opening of a run finds of its journal and of its outbox, and why it ends there.
-use Rattle.std.specs.Prelude.{◌≡◌, ◌⊎◌, ◌<◌, ◌+◌, ◌-◌, ◌==◌, ◌^◌, min, ℕ, nat_lt, ◌||◌, List, [], ◌∷◌, length, Option, Some, None, IfSome, IsTrue, ⊤, if◌then◌else◌}
-use Rattle.std.specs.Option.{option_map}
+use Rattle.std.specs.Prelude.{◌≡◌, ◌≢◌, ◌⊎◌, ◌-◌, ◌^◌, min, ℕ, nat_lt, ◌||◌, List, [], length, Contains, Option, Some, None, IfSome, IsTrue}
 use Rattle.zbx_types.specs.declared.conf.Conf.{Conf}
-use Rattle.zbx_types.specs.declared.entries.Entry.{Entry}
-use Rattle.zbx_types.specs.declared.entries.Entry.TheVariants.{Config, Value, Tick}
 use Rattle.zbx_types.specs.declared.entries.Numbered.{Numbered}
-use Rattle.intake_journal.specs.Kept.{first_gate, longest_journal, kept, groups_of}
-use Rattle.intake_journal.specs.Kept.Kept.{Damaged}
+use Rattle.intake_journal.specs.Kept.{longest_journal, kept, groups_of}
 use Rattle.intake_journal.specs.declared.format.Group.{Group}
-use Rattle.intake_journal.specs.declared.state.State.TheVariants.{Ready}
-use Rattle.entry_step.specs.Log.{log_of}
-use Rattle.entry_step.specs.Start.{first_start}
-use Rattle.intake_front.specs.Intake.{start}
+use Rattle.entry_step.specs.InForce.{config_texts}
+use Rattle.intake_front.specs.Intake.{Intake, opening_group, start}
 use Rattle.intake_front.specs.Fronted.{numbered_of}
 use Rattle.intake_front.specs.Misfit.{IsFirstMisfit}
-use Rattle.intake_front.specs.declared.answer.FrontError.{FrontError}
-use Rattle.intake_front.specs.declared.answer.FrontError.TheVariants as front
 use Rattle.server_words.specs.declared.status.Status.{Status}
 use Rattle.server_words.specs.declared.status.Status.TheVariants as status
-use Rattle.server_run.specs.Recovered.{journal_bytes}
-use Rattle.book.specs.Outgoing.{log_lines}
+use Rattle.server_run.specs.Recovered.{journal_bytes, IsFirstRefused}
+use Rattle.server_run.specs.Replayed.{flat, AreFlat, run_lines}
 
 -- a file keeps these groups, where it is told
 abbrev pub FoundGroups : Option (List ℕ) → List Group → Type 0
 FoundGroups file groups = IfSome file (λ b. groups_of (kept b) ≡ Some groups)
 
--- where two texts differ first, or none where they are the same
-abbrev pub differ_at : List ℕ → List ℕ → Option ℕ
-differ_at [] [] = None
-differ_at [] (y ∷ ys) = Some 0
-differ_at (x ∷ xs) [] = Some 0
-differ_at (x ∷ xs) (y ∷ ys) = if x == y then option_map (λ n. n + 1) (differ_at xs ys) else Some 0
+-- groups are those of a run: the text of each Config is accepted, and the entries fit
+abbrev pub IsAccepted : List Group → Type 0
+IsAccepted groups = AreFlat (numbered_of groups) × IsFirstMisfit flat groups None
 
--- the configuration's text in an entry
-abbrev pub config_text : Entry → Option (List ℕ)
-config_text (Config now text) = Some text
-config_text (Value now item time value) = None
-config_text (Tick now) = None
-
--- that in the first of these entries
-abbrev pub first_text : List Entry → Option (List ℕ)
-first_text [] = None
-first_text (e ∷ es) = config_text e
-
--- the configuration's text with which groups begin
-abbrev pub kept_text : List Group → Option (List ℕ)
-kept_text [] = None
-kept_text (g ∷ gs) = first_text g.entries
-
--- what is said of the text with which entries are to begin, and of that with which they do: they begin with no
--- configuration; or with another, which differs first there; or there is nothing to say
-abbrev pub IsTextJudged : List ℕ → Option (List ℕ) → Option Status → Type 0
-IsTextJudged text None (Some (status.Damaged at)) = at ≡ first_gate
-IsTextJudged text (Some found) (Some (status.ConfigDiffers at)) = differ_at text found ≡ Some at
-IsTextJudged text (Some found) None = found ≡ text
-IsTextJudged text found _ = ⊥
-
--- why groups that begin with this text aren't those of a run with a configuration: they begin with none; or with
--- another; or their entries don't fit
-abbrev pub IsRejectedFor : Conf → List Group → Option (List ℕ) → Status → Type 0
-IsRejectedFor conf groups None (status.Damaged at) = at ≡ first_gate
-IsRejectedFor conf groups (Some text) (status.ConfigDiffers at) = differ_at conf.text text ≡ Some at
-IsRejectedFor conf groups (Some text) (status.Damaged at) = (text ≡ conf.text) × IsFirstMisfit conf groups (Some at)
-IsRejectedFor conf groups text _ = ⊥
-
--- why groups aren't those of a run with this configuration; no groups are those of each
-abbrev pub IsRejected : Conf → List Group → Status → Type 0
-IsRejected conf [] s = ⊥
-IsRejected conf (g ∷ gs) s = IsRejectedFor conf (g ∷ gs) (kept_text (g ∷ gs)) s
-
--- there are no groups; or they begin with the configuration's text, and their entries fit it
-abbrev pub IsAccepted : Conf → List Group → Type 0
-IsAccepted conf [] = ⊤
-IsAccepted conf (g ∷ gs) = (kept_text (g ∷ gs) ≡ Some conf.text) × IsFirstMisfit conf (g ∷ gs) None
+-- why groups aren't: the first group with a Config whose text isn't accepted stands there; or all are accepted, and the
+-- first group whose entries don't fit stands there
+abbrev pub IsRejected : List Group → Status → Type 0
+IsRejected groups (status.Damaged at) =
+    IsFirstRefused groups at ⊎ (AreFlat (numbered_of groups) × IsFirstMisfit flat groups (Some at))
+IsRejected groups _ = ⊥
 
 -- the groups are accepted, or there is this reason not to
-abbrev pub IsJudged : Conf → List Group → Option Status → Type 0
-IsJudged conf groups None = IsAccepted conf groups
-IsJudged conf groups (Some s) = IsRejected conf groups s
+abbrev pub IsJudged : List Group → Option Status → Type 0
+IsJudged groups None = IsAccepted groups
+IsJudged groups (Some s) = IsRejected groups s
 
--- the entries with which a run goes on behind groups: theirs, or that of the configuration where there are none
+-- the intake with which a run with a configuration goes on behind groups: where their last Config has another text, or
+-- there is none, the configuration is journaled behind them
+abbrev pub opening_intake : Conf → List Group → Intake
+opening_intake conf groups = start conf.text (numbered_of groups) (journal_bytes groups)
+
+-- the entries with which it goes on
 abbrev pub opening_entries : Conf → List Group → List Numbered
-opening_entries conf groups = (start conf.text (numbered_of groups) (journal_bytes groups)).entries
+opening_entries conf groups = (opening_intake conf groups).entries
 
 -- and their lines
 abbrev pub opening_lines : Conf → List Group → List ℕ
-opening_lines conf groups = log_lines (first_start conf) (log_of (opening_entries conf groups))
+opening_lines conf groups = run_lines (opening_entries conf groups)
 
--- a file keeps groups that are accepted, and of their lines this is so
-abbrev pub OfLines : Conf → Option (List ℕ) → (List ℕ → Type 0) → Type 0
-OfLines conf file Is =
-    (groups : List Group) × FoundGroups file groups × IsAccepted conf groups × Is (opening_lines conf groups)
-
--- with the configuration alone a journal of at most so many entries would be full: it would have so many entries and
--- bytes
-abbrev pub IsFullAtFirst : ℕ → Conf → ℕ → ℕ → Type 0
-IsFullAtFirst most conf entries bytes =
-    (entries ≡ length (start conf.text [] 9).entries) × (bytes ≡ min (start conf.text [] 9).bytes (2 ^ 64 - 1))
+-- a configuration is to be journaled behind groups, and with it a journal of at most so many entries would be full: it
+-- would have so many entries and bytes
+abbrev pub IsFullAtOpening : ℕ → Conf → List Group → ℕ → ℕ → Type 0
+IsFullAtOpening most conf groups entries bytes =
+    (opening_group conf.text (numbered_of groups) ≢ [])
+    × (entries ≡ length (opening_intake conf groups).entries)
+    × (bytes ≡ min (opening_intake conf groups).bytes (2 ^ 64 - 1))
     × IsTrue (nat_lt most entries || nat_lt longest_journal bytes)
+
+-- there is room for it, or nothing is to be journaled
+abbrev pub HasRoomAtOpening : ℕ → Conf → List Group → Type 0
+HasRoomAtOpening most conf groups = (entries bytes : ℕ) → IsFullAtOpening most conf groups entries bytes → ⊥
+
+-- a file keeps groups that are accepted, behind which there is room for the configuration, and of the lines with which
+-- the run goes on this is so
+abbrev pub OfLines : ℕ → Conf → Option (List ℕ) → (List ℕ → Type 0) → Type 0
+OfLines most conf file Is =
+    (groups : List Group) × FoundGroups file groups × IsAccepted groups × HasRoomAtOpening most conf groups
+    × Is (opening_lines conf groups)
+
+-- a file keeps groups that are accepted, and of the text of one of their Configs this is so
+abbrev pub KeptText : Option (List ℕ) → (List ℕ → Type 0) → Type 0
+KeptText file Is =
+    (groups : List Group) × FoundGroups file groups × IsAccepted groups
+    × (text : List ℕ) × Contains (config_texts (numbered_of groups)) text × Is text
 
 -- entries with which a run is to begin behind its file's groups
 abbrev pub BeginningEntries : Option (List ℕ) → Conf → List Numbered → Type 0
 BeginningEntries file conf entries =
     (groups : List Group) × FoundGroups file groups × (entries ≡ opening_entries conf groups)
 
--- entries that a run finds at its opening: those of its file's groups, or that of the configuration where there are
--- none
+-- entries that a run finds at its opening: those of its file's groups, or these with its configuration behind them
 abbrev pub FoundEntries : Option (List ℕ) → Conf → List Numbered → Type 0
 FoundEntries file conf entries =
     (groups : List Group) × FoundGroups file groups × ((entries ≡ numbered_of groups)

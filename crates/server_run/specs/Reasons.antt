@@ -16,12 +16,13 @@ use Rattle.server_words.specs.Words.{plan_of}
 use Rattle.server_words.specs.declared.status.Status.{Status}
 use Rattle.server_words.specs.declared.status.Status.TheVariants as status
 use Rattle.server_run.specs.Patterns.{HasFlawAt, HoldsBrace}
-use Rattle.server_run.specs.Opening.{FoundGroups, IsRejected, IsFullAtFirst, OfLines}
+use Rattle.server_run.specs.Opening.{FoundGroups, IsAccepted, IsRejected, IsFullAtOpening, OfLines, KeptText}
 use Rattle.server_run.specs.Outbox.{IsAhead, IsOther}
 
--- a run doesn't end so before it has begun; its words have no plan; memory was refused; its source failed; its
--- configuration's text is like this; its disk failed; the file of its journal is like this, for its configuration and
--- for so many entries at most; its outbox failed; its outbox is like this beside the lines of the kept entries
+-- a run doesn't end so before it has begun; its words have no plan; memory was refused; its source failed; the text of
+-- its configuration, or of one that its journal kept, is like this; its disk failed; the file of its journal is like
+-- this, for its configuration and for so many entries at most; its outbox failed; its outbox is like this beside the
+-- lines of the entries with which it goes on
 pub data Reason : Type 1 where
   no_reason : Reason
   in_words : Reason
@@ -33,9 +34,16 @@ pub data Reason : Type 1 where
   by_outbox : Reason
   in_outbox : (SinkTells → List ℕ → Type 0) → Reason
 
--- a file's groups, which aren't those of a run with this configuration
-abbrev pub Rejects : Conf → Option (List ℕ) → Status → Type 0
-Rejects conf file s = (groups : List Group) × FoundGroups file groups × IsRejected conf groups s
+-- a file's groups, which aren't those of a run
+abbrev pub Rejects : Option (List ℕ) → Status → Type 0
+Rejects file s = (groups : List Group) × FoundGroups file groups × IsRejected groups s
+
+-- a file's groups, which are accepted, and behind which there is no room for the configuration: a journal of at most so
+-- many entries would have so many, and so many bytes
+abbrev pub FillsUp : Conf → ℕ → Option (List ℕ) → ℕ → ℕ → Type 0
+FillsUp conf most file entries bytes =
+    (groups : List Group) × FoundGroups file groups × IsAccepted groups
+    × IsFullAtOpening most conf groups entries bytes
 
 -- why a run ends at its opening with a status
 abbrev pub reason_of : Status → Reason
@@ -48,10 +56,8 @@ reason_of (status.PatternTooLarge path) = in_text (HasFlawAt HoldsBrace path)
 reason_of status.DiskFault = by_disk
 reason_of status.NotOurs = in_journal (λ conf most file. IfSome file (λ b. kept b ≡ NotOurs))
 reason_of (status.Damaged at) =
-    in_journal (λ conf most file. IfSome file (λ b. kept b ≡ Damaged at) ⊎ Rejects conf file (status.Damaged at))
-reason_of (status.ConfigDiffers at) = in_journal (λ conf most file. Rejects conf file (status.ConfigDiffers at))
-reason_of (status.Full entries bytes) =
-    in_journal (λ conf most file. FoundGroups file [] × IsFullAtFirst most conf entries bytes)
+    in_journal (λ conf most file. IfSome file (λ b. kept b ≡ Damaged at) ⊎ Rejects file (status.Damaged at))
+reason_of (status.Full entries bytes) = in_journal (λ conf most file. FillsUp conf most file entries bytes)
 reason_of status.OutboxFault = by_outbox
 reason_of (status.OutboxAhead held count) = in_outbox (λ outbox lines. IsAhead outbox lines held count)
 reason_of (status.OutboxDiffers at) = in_outbox (λ outbox lines. IsOther outbox lines at)
@@ -109,23 +115,26 @@ unconfigured_for _ words source faults faults' = ⊥
 abbrev pub Unconfigured : List (List ℕ) → Option (List ℕ) → ℕ → ℕ → Status → Type 0
 Unconfigured words source faults faults' s = unconfigured_for (reason_of s) words source faults faults'
 
--- what bars a run with this configuration, which allows so many entries: what its file keeps, or what its outbox holds
+-- what bars a run with this configuration, which allows so many entries: what its file keeps, or, where that is accepted
+-- and there is room for the configuration, what its outbox holds
 abbrev pub bars_for : Reason → Conf → ℕ → Option (List ℕ) → SinkTells → Type 0
 bars_for (in_journal Is) conf most file outbox = Is conf most file
-bars_for (in_outbox Is) conf most file outbox = OfLines conf file (Is outbox)
+bars_for (in_outbox Is) conf most file outbox = OfLines most conf file (Is outbox)
 bars_for _ conf most file outbox = ⊥
 
 abbrev pub Bars : Conf → ℕ → Option (List ℕ) → SinkTells → Status → Type 0
 Bars conf most file outbox s = bars_for (reason_of s) conf most file outbox
 
--- why a run that was configured doesn't begin: memory was refused, or its disk failed, or it was barred, or its outbox
--- failed behind a journal that was accepted
+-- why a run that was configured doesn't begin: memory was refused, or its disk failed, or the text of a configuration
+-- that its journal kept is like this, or it was barred, or its outbox failed behind a journal that was accepted
 abbrev pub unopened_for : Reason → Conf → ℕ → DiskTells → DiskTells → SinkTells → SinkTells → Type 0
 unopened_for by_memory conf most old new outbox outbox' = ⊤
 unopened_for by_disk conf most old new outbox outbox' = Rose old.faults new.faults
-unopened_for by_outbox conf most old new outbox outbox' = OfLines conf old.bytes (λ lines. Rose outbox.faults outbox'.faults)
+unopened_for (in_text Is) conf most old new outbox outbox' = KeptText old.bytes Is
+unopened_for by_outbox conf most old new outbox outbox' =
+    OfLines most conf old.bytes (λ lines. Rose outbox.faults outbox'.faults)
 unopened_for (in_journal Is) conf most old new outbox outbox' = Is conf most old.bytes
-unopened_for (in_outbox Is) conf most old new outbox outbox' = OfLines conf old.bytes (Is outbox)
+unopened_for (in_outbox Is) conf most old new outbox outbox' = OfLines most conf old.bytes (Is outbox)
 unopened_for _ conf most old new outbox outbox' = ⊥
 
 abbrev pub Unopened : Conf → ℕ → DiskTells → DiskTells → SinkTells → SinkTells → Status → Type 0

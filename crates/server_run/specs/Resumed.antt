@@ -1,5 +1,5 @@
 -- How far the opening of a run came with its journal.
-use Rattle.std.specs.Prelude.{◌≡◌, ◌⊎◌, ◌≤◌, ℕ, List, [], None, is_some, IfSome}
+use Rattle.std.specs.Prelude.{◌≡◌, ◌⊎◌, ◌≤◌, ℕ, List, [], map, None, is_some, IfSome}
 use Rattle.zbx_types.specs.declared.conf.Conf.{Conf}
 use Rattle.zbx_types.specs.declared.entries.Numbered.{Numbered}
 use Rattle.intake_journal.specs.Kept.{longest_journal}
@@ -8,15 +8,17 @@ use Rattle.intake_journal.specs.Settled.{Journaled, KeepsAsOneOf}
 use Rattle.intake_journal.specs.declared.state.State.TheVariants.{Ready}
 use Rattle.outside.specs.Disk.{DiskTells, LeavesOnly}
 use Rattle.outside.specs.Tells.{SinkTells}
-use Rattle.intake_front.specs.Intake.{start, IsSound}
+use Rattle.entry_step.specs.InForce.{config_texts}
+use Rattle.intake_front.specs.Intake.{IsSound}
 use Rattle.intake_front.specs.Fronted.{Fronted, numbered_of}
 use Rattle.intake_front.specs.Batch.{IsIdle}
 use Rattle.intake_front.specs.declared.answer.FrontError.{FrontError}
 use Rattle.intake_front.specs.declared.answer.FrontError.TheVariants as front
 use Rattle.server_words.specs.declared.status.Status.{Status}
 use Rattle.server_words.specs.declared.status.Status.TheVariants as status
-use Rattle.server_run.specs.Recovered.{journal_bytes, HasGroups, GoesOn}
-use Rattle.server_run.specs.Opening.{FoundGroups, IsAccepted, BeginningEntries, FoundEntries}
+use Rattle.server_run.specs.Recovered.{HasGroups, GoesOn}
+use Rattle.server_run.specs.Opening.{FoundGroups, IsAccepted, HasRoomAtOpening, opening_intake, BeginningEntries, FoundEntries}
+use Rattle.server_run.specs.Replayed.{flat}
 use Rattle.server_run.specs.Reasons.{reason_of, Unopened, has_for, enters_for}
 use Rattle.server_run.specs.Stops.{KeepsSome, IsEither, Journals}
 
@@ -38,30 +40,32 @@ pub record TurnedAway (conf : Conf) (most : ℕ) (old new : DiskTells) (outbox o
   pub left : IfSome old.bytes (λ _. LeavesOnly old new
       (λ c. KeepsAsOneOf old c ⊎ KeepsSome (enters_for (reason_of s) (FoundEntries old.bytes conf)) c))
 
--- A journal that was opened for a run with this configuration and is ready: its groups are accepted, these are their
--- entries, and it was gone on with as far as that.
-pub record IsTakenUp {D : Type 0} (tells : D → DiskTells) (conf : Conf) (most : ℕ) (old : D)
-    (journal : Journaled D) (kept : List Numbered) : Type 0 where
+-- A journal that was opened and is ready: its groups are accepted, these are their entries, and the configurations of the
+-- Configs among them, and it was gone on with as far as that.
+pub record IsTakenUp {D : Type 0} (tells : D → DiskTells) (most : ℕ) (old : D) (journal : Journaled D)
+    (kept : List Numbered) (confs : List Conf) : Type 0 where
   pub groups : List Group
   pub found : FoundGroups (tells old).bytes groups
-  pub accepted : IsAccepted conf groups
+  pub accepted : IsAccepted groups
   pub kept_are : kept ≡ numbered_of groups
+  pub confs_are : confs ≡ map flat (config_texts kept)
   pub has : HasGroups tells journal groups
   pub limits : (journal.max_entries ≡ most) × (journal.max_bytes ≡ longest_journal)
   pub goes_on : GoesOn (tells old) (tells journal.disk)
 
--- A run that was configured: the intake behind its journal's groups. A crash meanwhile left what one before it might
--- have, or the entries of the groups, or those with which the run goes on, which are kept now; nothing waits for a
--- commit.
+-- A run that was configured: the intake behind its journal's groups, behind which there was room for its configuration.
+-- A crash meanwhile left what one before it might have, or the entries of the groups, or those with which the run goes
+-- on, which are kept now; nothing waits for a commit.
 pub record HasBegun {D : Type 0} (tells : D → DiskTells) (conf : Conf) (most : ℕ) (old : D)
     (made : Fronted D) : Type 0 where
   pub groups : List Group
   pub found : FoundGroups (tells old).bytes groups
-  pub accepted : IsAccepted conf groups
+  pub accepted : IsAccepted groups
+  pub room : HasRoomAtOpening most conf groups
   pub ready : made.journal.state ≡ Ready
   pub limits : (made.journal.max_entries ≡ most) × (made.journal.max_bytes ≡ longest_journal)
-  pub intake_is : made.intake ≡ start conf.text (numbered_of groups) (journal_bytes groups)
-  pub sound : IsSound conf made.intake
+  pub intake_is : made.intake ≡ opening_intake conf groups
+  pub sound : IsSound flat conf made.intake
   pub idle : IsIdle made
   pub journaled : Journals (KeepsAsOneOf (tells old)) (tells old) (tells made.journal.disk)
       (IsEither (numbered_of groups) made.intake.entries) None made.intake.entries

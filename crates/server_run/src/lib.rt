@@ -15,9 +15,11 @@
 //! entries.
 //!
 //! A run goes through its opening, in which each refusal ends it: the words; reading the configuration; flattening
-//! it; opening the journal and reading its groups, which must be those of a run with this configuration; journaling
-//! that where there are none; replaying the entries; and comparing the outbox. Then, begun, it writes the lines that
-//! the outbox lacks and takes the events, up to one that closes the wire. Last it prints one line.
+//! it; its patterns; opening the journal and reading its groups; flattening the text of each configuration that is
+//! among them, which must be accepted, and judging the entries, each of which must fit the configuration in force where
+//! it stands; the patterns of these configurations; journaling that of the run where there is none, or the last one
+//! has another text; replaying the entries; and comparing the outbox. Then, begun, it writes the lines that the outbox
+//! lacks and takes the events, up to one that closes the wire. Last it prints one line.
 //!
 //! ```text
 //! let ended = run_single(alloc, words.as_slice(), &mut source, &mut wire, disk, outbox, &mut printer);
@@ -28,6 +30,7 @@
 mod course;
 mod crew;
 mod delivery;
+mod epochs;
 mod handing;
 mod numbering;
 mod opening;

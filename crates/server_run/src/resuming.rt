@@ -1,23 +1,30 @@
-//! What a run's journal kept is compared with its configuration, and gone on with.
+//! What a run's journal kept is gone on with.
 
-ghost use Rattle.std.specs.Prelude.{◌≡◌, ◌+◌, ℕ, List, IfOk, IfErr};
+ghost use Rattle.std.specs.Prelude.{◌≡◌, ◌+◌, ◌<◌, ◌++◌, ◌∷◌, [], length, ℕ, List, Ok, None, map, IfOk, IfErr};
 ghost use Rattle.outside.specs.Tells.{SinkTells};
+ghost use Rattle.zbx_types.specs.declared.conf.Conf.{Conf};
+ghost use Rattle.config_templates.specs.Flat.{flat_of};
+ghost use Rattle.entry_step.specs.InForce.{config_texts};
+ghost use Rattle.trigger_state.specs.Stages.{Stage, first_stage};
 ghost use Rattle.intake_journal.specs.declared.state.State.TheVariants as state;
 ghost use Rattle.intake_front.specs.Fronted.{HasJournaled};
+ghost use Rattle.intake_front.specs.Intake.{start};
 ghost use Rattle.intake_journal.specs.declared.format.Group.{Group};
 ghost use Rattle.server_run.specs.Recovered.{IsNumbered};
-ghost use Rattle.server_run.specs.Opening.{differ_at, config_text, IsTextJudged, IsJudged};
+ghost use Rattle.server_run.specs.Replayed.{flat};
+ghost use Rattle.server_run.specs.Opening.{IsJudged};
 ghost use Rattle.server_run.specs.Resumed.{status_for, IsTakenUp, HasBegun, TurnedAway};
 
+use crate::epochs::epochs_of;
 use crate::numbering::Numbering;
 use crate::recovering::recover;
 use entry_step::Ready;
 use intake_front::{Front, FrontError};
-use intake_journal::{FIRST_GATE, Journal};
+use intake_journal::Journal;
 use outside::Disk;
 use server_words::Status;
 use std::alloc::Global;
-use zbx_types::{Conf, Entry, Many, Numbered, Text};
+use zbx_types::{Conf, Many, Numbered};
 
 /// What is left of a run that was refused at its opening: why, its disk, and the entries that were found.
 #[derive(Drop)]
@@ -27,46 +34,13 @@ pub(crate) struct Refused<D> {
     pub entries: Many<Numbered>,
 }
 
-/// Where two texts differ first, or None where they are the same.
-fn differ_at(first: &[u8], other: &[u8]) -> Option<u64>
-    ensures { result ≡ differ_at first.now other.now }
+/// Why the groups of a journal aren't those of a run, or None where they are.
+fn judged(numbering: &Numbering) -> Option<Status>
+    ensures judged { (groups : List Group) → IsNumbered groups numbering.now → IsJudged groups result }
+    ensures taken { result ≡ None → numbering.now.refused ≡ None }
 {
-    let shorter = first.len().min(other.len());
-    for i in 0..shorter {
-        if first[i] != other[i] {
-            return Some(i as u64);
-        }
-    }
-    if first.len() == other.len() {
-        None
-    } else {
-        Some(shorter as u64)
-    }
-}
-
-/// Why an entry isn't the configuration of this text, or None where it is.
-#[tactic(auto, using(crate::proofs::Differences::differ_none))]
-fn text_judged(text: &Text, first: &Entry) -> Option<Status>
-    ensures { IsTextJudged text.now (config_text first.now) result }
-{
-    match first {
-        Entry::Config { text: kept, .. } => match differ_at(text.as_bytes(), kept.as_bytes()) {
-            Some(at) => Some(Status::ConfigDiffers { at }),
-            None => None,
-        },
-        Entry::Value { .. } | Entry::Tick { .. } => Some(Status::Damaged { at: FIRST_GATE }),
-    }
-}
-
-/// Why the groups of a journal aren't those of a run with this configuration, or None where they are.
-fn judged(conf: &Conf, numbering: &Numbering) -> Option<Status>
-    ensures { (groups : List Group) → IsNumbered conf.now groups numbering.now → IsJudged conf.now groups result }
-{
-    let Some(first) = numbering.entries.as_slice().first() else {
-        return None;
-    };
-    match text_judged(&conf.text, &first.entry) {
-        Some(status) => Some(status),
+    match numbering.refused {
+        Some(at) => Some(Status::Damaged { at }),
         None => match numbering.misfit {
             Some(at) => Some(Status::Damaged { at }),
             None => None,
@@ -74,20 +48,18 @@ fn judged(conf: &Conf, numbering: &Numbering) -> Option<Status>
     }
 }
 
-/// Opens the journal on a disk, which is to have at most so many entries, and reads the entries that it kept, where
-/// they are those of a run with this configuration.
+/// Opens the journal on a disk, which is to have at most so many entries, and reads the entries that it kept, with the
+/// configurations that are among them, where they are those of a run.
 fn accepted<D: Disk>(
     alloc: Global,
-    conf: &Conf,
     disk: D,
     max_entries: u64,
-) -> Result<(Journal<D>, Many<Numbered>), Refused<D>>
-    ensures ok { IfOk result (λ made. IsTakenUp D.tells conf.now
-        max_entries disk made.0 made.1) }
-    ensures err { IfErr result (λ r. (outbox outbox' : SinkTells) → TurnedAway conf.now max_entries
+) -> Result<(Journal<D>, Many<Numbered>, Vec<Conf>), Refused<D>>
+    ensures ok { IfOk result (λ made. IsTakenUp D.tells max_entries disk made.0 made.1 made.2.items) }
+    ensures err { IfErr result (λ r. (conf : Conf) (outbox outbox' : SinkTells) → TurnedAway conf max_entries
         (D.tells disk) (D.tells r.disk) outbox outbox' r.entries r.status) }
 {
-    let (journal, numbering) = match recover(alloc, conf, disk, max_entries) {
+    let (journal, numbering) = match recover(alloc, disk, max_entries) {
         Ok(recovered) => recovered,
         Err((disk, status)) => {
             return Err(Refused {
@@ -97,8 +69,8 @@ fn accepted<D: Disk>(
             });
         }
     };
-    match judged(conf, &numbering) {
-        None => Ok((journal, numbering.entries)),
+    match judged(&numbering) {
+        None => Ok((journal, numbering.entries, numbering.confs)),
         Some(status) => Err(Refused {
             status,
             disk: journal.end(),
@@ -118,7 +90,8 @@ fn status_of(error: FrontError) -> Status
     }
 }
 
-/// The intake of a run behind the entries that its journal kept.
+/// The intake of a run behind the entries that its journal kept. Its configuration is journaled where they have none,
+/// or the last one has another text.
 fn begin<D: Disk>(
     alloc: Global,
     ready: &Ready,
@@ -127,11 +100,12 @@ fn begin<D: Disk>(
 ) -> Result<Front<D>, Refused<D>>
     requires read { journal.state ≡ state.Ready }
     requires journaled { HasJournaled D.tells journal kept (journal.at + 1) }
-    ensures ok { IfOk result (λ f. (most : ℕ) (old : D)
-        → IsTakenUp D.tells ready.now.conf most old journal kept
+    ensures made { IfOk result (λ f. f.intake ≡ start ready.now.conf.text kept (journal.at + 1)) }
+    ensures ok { IfOk result (λ f. (most : ℕ) (old : D) (confs : List Conf)
+        → flat_of ready.now.conf.text ≡ Ok ready.now.conf → IsTakenUp D.tells most old journal kept confs
         → HasBegun D.tells ready.now.conf most old f) }
-    ensures err { IfErr result (λ r. (most : ℕ) (old : D) (outbox outbox' : SinkTells)
-        → IsTakenUp D.tells ready.now.conf most old journal kept
+    ensures err { IfErr result (λ r. (most : ℕ) (old : D) (confs : List Conf) (outbox outbox' : SinkTells)
+        → IsTakenUp D.tells most old journal kept confs
         → TurnedAway ready.now.conf most (D.tells old) (D.tells r.disk) outbox outbox' r.entries
         r.status) }
 {
@@ -145,20 +119,46 @@ fn begin<D: Disk>(
     }
 }
 
-/// Goes on behind what the journal on a disk kept, which is to have at most so many entries.
+/// The last of some configurations that are ready.
+fn last_of(epochs: &[Ready]) -> &Ready
+    requires { 0 < length epochs.now }
+    ensures { (front : List Stage) (last : Stage) → epochs.now ≡ front ++ last ∷ [] → result.now ≡ last }
+{
+    &epochs[epochs.len() - 1]
+}
+
+/// Goes on behind what the journal on a disk kept, which is to have at most so many entries. With the intake come the
+/// configurations of the Configs among its entries, in their order, each made ready.
 pub(crate) fn resume<D: Disk>(
     alloc: Global,
-    ready: &Ready,
+    ready: Ready,
     disk: D,
     max_entries: u64,
-) -> Result<Front<D>, Refused<D>>
-    ensures ok { IfOk result (HasBegun D.tells ready.now.conf max_entries disk) }
-    ensures err { IfErr result (λ r. (outbox outbox' : SinkTells) → TurnedAway ready.now.conf max_entries
+) -> Result<(Vec<Ready>, Front<D>), Refused<D>>
+    requires first { ready ≡ first_stage ready.conf }
+    requires conf { flat_of ready.conf.text ≡ Ok ready.conf }
+    ensures epochs { IfOk result (λ made. made.0.items
+        ≡ map (λ text. first_stage (flat text)) (config_texts made.1.intake.entries)) }
+    ensures ok { IfOk result (λ made. HasBegun D.tells ready.conf max_entries disk made.1) }
+    ensures err { IfErr result (λ r. (outbox outbox' : SinkTells) → TurnedAway ready.conf max_entries
         (D.tells disk) (D.tells r.disk) outbox outbox' r.entries r.status) }
 {
-    let (journal, kept) = match accepted(alloc, ready.conf(), disk, max_entries) {
+    let (journal, kept, confs) = match accepted(alloc, disk, max_entries) {
         Ok(taken) => taken,
         Err(refused) => return Err(refused),
     };
-    begin(alloc, ready, journal, kept)
+    let epochs = match epochs_of(alloc, confs, ready) {
+        Ok(epochs) => epochs,
+        Err(status) => {
+            return Err(Refused {
+                status,
+                disk: journal.end(),
+                entries: Many::new(alloc),
+            });
+        }
+    };
+    match begin(alloc, last_of(epochs.as_slice()), journal, kept) {
+        Ok(front) => Ok((epochs, front)),
+        Err(refused) => Err(refused),
+    }
 }

@@ -1,17 +1,24 @@
 use Rattle.std.proofs.Common.{◌≡◌, ◌++◌, ◌∷◌, ◌∙◌, sym, ap, subst, List, ℕ}
 use Rattle.zbx_types.specs.declared.entries.Rec.{Rec}
-use Rattle.entry_step.specs.Records.{replay}
-use Rattle.entry_step.specs.Represents.{Holds}
-use Rattle.book.specs.Opening.{IsRecorded}
-use Rattle.book.proofs.Growing.{on_ok}
+use Rattle.entry_step.specs.Start.{nothing}
+use Rattle.entry_step.specs.Whole.{whole_replay}
+use Rattle.book.specs.Opening.{IsPresent, IsRecorded}
+use Rattle.book.proofs.Growing.{on_ok, of_any}
 use Rattle.book.proofs.opening.replay_one.Goals as goal
 
 pub returns-clause-replayed : goal.returns-clause-replayed
-returns-clause-replayed g c = on_ok c.compare.result _ _ (λ grew start log stage suits so_far.
+returns-clause-replayed g c = on_ok c.compare.result _ _ (λ grew log later some sound epochs so_far.
+    let flat = g.S.StartName.flat in
     let outbox = g.O.Sink.tells c.args.outbox.now in
-    let out = c.as_slice.ensures ∙ c.in_ok-records.ensures.out start log stage so_far.cells suits in
+    let made = c.in_ok-records.ensures.made log later some sound epochs so_far.present in
     record {
-      cells = subst (λ cells. Holds start cells (c.args.entry.now ∷ log)) (sym c.compare.ensures.cells) (c.in_ok-records.ensures.holds start log stage so_far.cells suits);
-      recorded = subst (λ (rs : List Rec). IsRecorded (replay start log ++ rs) outbox c.compare.new.so_far) out
-          (grew (replay start log) (record { tally = so_far.recorded.tally; compared = so_far.recorded.compared; missing = so_far.recorded.missing }));
+      present = subst (IsPresent flat (c.args.entry.now ∷ log)) (sym c.compare.ensures.present) made.1;
+      recorded = subst (λ (rs : List Rec). IsRecorded (whole_replay flat nothing log ++ rs) outbox c.compare.new.so_far) (c.as_slice.ensures ∙ made.0)
+          (grew (whole_replay flat nothing log) (record { tally = so_far.recorded.tally; compared = so_far.recorded.compared; missing = so_far.recorded.missing }));
     }) c.compare.ensures.lines
+
+pub returns-clause-epochs : goal.returns-clause-epochs
+returns-clause-epochs g c = of_any c.compare.result _ c.in_ok-records.ensures.epochs
+
+pub returns-clause-len : goal.returns-clause-len
+returns-clause-len g c = of_any c.compare.result _ c.in_ok-records.ensures.len

@@ -2,19 +2,17 @@ use Rattle.std.proofs.Common.{◌≡◌, None, rules, subst}
 use Rattle.entry_step.specs.Log.{log_of}
 use Rattle.intake_front.specs.Fronted.{numbered_of}
 use Rattle.intake_front.specs.Misfit.{IsFirstMisfit}
-use Rattle.server_run.proofs.Judging.{judged_more, judged_misfit}
+use Rattle.server_run.specs.Replayed.{flat}
+use Rattle.server_run.proofs.Judging.{judged_more, judged_misfit, confs_with}
 use Rattle.server_run.proofs.numbering.misfit_with.Goals as goal
 
 pub returns-then-judge : goal.returns-then-judge
-returns-then-judge c = λ groups are.
-    let conf = c.args.conf.now in
+returns-then-judge c = λ groups taken are.
     let is : c.args.misfit ≡ None = search rules in
-    let fits = subst (IsFirstMisfit conf groups) is are.misfit_is in
-    judged_more conf groups c.args.group.now c.judge.new.self (c.if-judge.ensures 0 (log_of (numbered_of groups)) (fits, are.goes_on is))
+    judged_more groups c.args.group.now c.judge.new.self (c.if-judge.ensures flat 0 (log_of (numbered_of groups)) (are.goes_on is) (confs_with groups c.args.group.now c.args.confs.now taken))
 
 pub returns-else-judge : goal.returns-else-judge
-returns-else-judge c = λ groups are.
-    let conf = c.args.conf.now in
+returns-else-judge c = λ groups taken are.
     let is : c.args.misfit ≡ None = search rules in
-    let fits = subst (IsFirstMisfit conf groups) is are.misfit_is in
-    judged_misfit conf groups c.args.group.now c.judge.new.self fits (c.if-judge.ensures 0 (log_of (numbered_of groups)) (fits, are.goes_on is))
+    let fits = subst (IsFirstMisfit flat groups) is are.misfit_is in
+    judged_misfit groups c.args.group.now c.judge.new.self fits (c.if-judge.ensures flat 0 (log_of (numbered_of groups)) (are.goes_on is) (confs_with groups c.args.group.now c.args.confs.now taken))

@@ -1,4 +1,4 @@
-use Rattle.std.proofs.Common.{rules, ◌≡◌, ◌<◌, ◌∙◌, ◌+◌, ap, sym, subst, arith, Ok, Err, length}
+use Rattle.std.proofs.Common.{rules, ◌≡◌, ◌∙◌, ◌+◌, ap, sym, subst, arith, Ok, Err, length}
 use Rattle.std.specs.Prelude.{IfSome}
 use Rattle.intake_journal.specs.Bytes.{entries_bytes}
 use Rattle.intake_journal.specs.declared.format.Group.{Group}
@@ -13,7 +13,7 @@ pub returns-in-Ok-None-clause-read : goal.returns-in-Ok-None-clause-read
 returns-in-Ok-None-clause-read g c =
     let i = c.loop.invariant in
     let next = subst (λ o. ReadsNext (g.D.Disk.tells c.loop.journal.disk).bytes c.loop.journal c.read_next.new.self (Ok o)) c.in-Ok-None.field-0-is c.in-Ok-None.ensures.next in
-    reads_all _ _ _ c.loop.journal c.read_next.new.self c.loop.numbering i.before.same i.read next
+    reads_all _ _ c.loop.journal c.read_next.new.self c.loop.numbering i.before.same i.read next
 
 pub returns-in-Err-clause-why : goal.returns-in-Err-clause-why
 returns-in-Err-clause-why g c =
@@ -29,12 +29,11 @@ loop-preserved g c =
     let group = c.in-Ok-Some.group in
     let place : c.read_next.new.self.at ≡ c.loop.journal.at + length (entries_bytes group.entries) + 9 =
     subst (λ o. IfSome o (λ (h : Group). c.read_next.new.self.at ≡ c.loop.journal.at + length (entries_bytes h.entries) + 9)) c.in-Ok-Some.field-0-is c.in-Ok-Some.ensures.place in
-    let some = subst (λ o. IfSome o (λ (h : Group). 0 < length h.entries)) c.in-Ok-Some.field-0-is c.in-Ok-Some.ensures.some in
     record {
       before = reads_both _ _ _ i.before e.before;
       later = omega (arith, i.later, e.later);
       state = ap (λ (j : Journaled _). j.state) next.0 ∙ i.state;
-      read = reads_more _ _ _ c.loop.journal c.read_next.new.self c.loop.numbering c.add.new.self group i.before.same i.read next place (λ groups are. c.in-Ok.ensures groups some are);
+      read = reads_more _ _ c.loop.journal c.read_next.new.self c.loop.numbering c.add.new.self group i.before.same i.read next place c.in-Ok.ensures;
     }
 
 pub loop-init : goal.loop-init
@@ -42,5 +41,5 @@ loop-init g c = record {
   before = search rules;
   later = omega arith;
   state = c.requires.reading;
-  read = begins_reading _ _ c.args.journal.now c.new-numbering.result c.requires.first c.requires.none c.new-numbering.ensures;
+  read = begins_reading _ c.args.journal.now c.new-numbering.result c.requires.first c.requires.none c.new-numbering.ensures;
 }

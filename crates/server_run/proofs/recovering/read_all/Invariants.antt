@@ -9,5 +9,5 @@ invariant-loop g l = record {
   before : IsAsBefore (g.D.Disk.tells l.fn.journal.disk) (g.D.Disk.tells l.journal.disk);
   later : (g.D.Disk.tells l.fn.journal.disk).faults ≤ (g.D.Disk.tells l.journal.disk).faults;
   state : l.journal.state ≡ Reading;
-  read : IsReadSoFar g.D.Disk.tells l.conf l.fn.journal l.journal l.numbering;
+  read : IsReadSoFar g.D.Disk.tells l.fn.journal l.journal l.numbering;
 }

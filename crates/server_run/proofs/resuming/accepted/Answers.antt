@@ -1,10 +1,10 @@
-use Rattle.std.proofs.Common.{subst, sym}
+use Rattle.std.proofs.Common.{◌≡◌, None, rules, subst, sym}
 use Rattle.server_run.specs.Recovered.{GoesOn}
-use Rattle.server_run.proofs.Beginning.{turned_judged}
+use Rattle.server_run.proofs.Beginning.{turned_judged, turned_unread, taken_up}
 use Rattle.server_run.proofs.resuming.accepted.Goals as goal
 
 pub returns-in-Some-clause-err : goal.returns-in-Some-clause-err
-returns-in-Some-clause-err g c = λ outbox outbox'.
+returns-in-Some-clause-err g c = λ conf outbox outbox'.
     let e = c.in-Ok.ensures in
-    turned_judged g.D.Disk.tells c.args.conf.now c.args.max_entries c.args.disk c.end.result outbox outbox'
-    (subst (λ d. GoesOn (g.D.Disk.tells c.args.disk) (g.D.Disk.tells d)) (sym c.end.ensures) e.goes_on) c.in-Ok.recovered.0 c.in-Ok.recovered.1 c.in-Some.status c.end.ensures e.recovered c.in-Some.ensures
+    turned_judged g.D.Disk.tells conf c.args.max_entries c.args.disk c.end.result outbox outbox'
+    (subst (λ d. GoesOn (g.D.Disk.tells c.args.disk) (g.D.Disk.tells d)) (sym c.end.ensures) e.goes_on) c.in-Ok.recovered.0 c.in-Ok.recovered.1 c.in-Some.status c.end.ensures e.recovered c.in-Some.ensures.judged

@@ -1,9 +1,15 @@
-use Rattle.std.proofs.Common.{◌≡◌, rules}
+use Rattle.std.proofs.Common.{◌≡◌, [], ◌∷◌, ◌++◌, None, rules, sym, subst}
 use Rattle.intake_front.specs.Intake.{with_group}
+use Rattle.server_run.specs.Recovered.{AreTaken}
 use Rattle.server_run.proofs.Judging.{numbers_more}
 use Rattle.server_run.proofs.numbering.Numbering.add.Goals as goal
 
 pub returns : goal.returns
-returns c = λ groups some are.
+returns c = λ groups are.
     let more : c.number_group.new.numbered ≡ with_group 0 c.args.self.now.entries c.args.group.entries = search rules in
-    numbers_more c.args.conf.now groups c.args.group c.args.self.now (record { entries = c.number_group.new.numbered; misfit = c.misfit_with-self.result; judge = c.misfit_with-self.new.judge }) some are more (c.misfit_with-self.ensures groups are.judged)
+    let step = c.in_ok-self.ensures in
+    let taken = step.taken groups are.taken in
+    let slice = subst (AreTaken (groups ++ c.args.group ∷ []) c.in_ok-self.field-0) (sym c.as_slice.ensures.value) taken in
+    numbers_more groups c.args.group c.args.self.now
+    (record { entries = c.number_group.new.numbered; confs = c.refused_with.new.confs; refused = c.in_ok-self.field-0; misfit = c.judged_with-self.result; judge = c.judged_with-self.new.judge }) are more taken
+    (λ none. c.judged_with-self.ensures groups slice (are.judged (step.stays none)) none)
