@@ -52,17 +52,24 @@ def free_port():
         return it.getsockname()[1]
 
 
-def entries_in(bytes_, count):
-    """The values of a group, as pairs of item and text, and how many entries there are."""
+def keys_of(text):
+    """The keys of a document's items, in the order of their ids."""
+    return [item["key"] for host in json.loads(text)["hosts"] for item in host.get("items", [])]
+
+
+def entries_in(bytes_, count, keys):
+    """The values of a group, as pairs of key and text, where these are the keys in force; a Config brings others."""
     found, at = [], 0
     for _ in range(count):
         kind = bytes_[at]
         at += 9
         if kind == 1:
-            at += 4 + struct.unpack_from("<I", bytes_, at)[0]
+            length = struct.unpack_from("<I", bytes_, at)[0]
+            keys[:] = keys_of(bytes_[at + 4 : at + 4 + length])
+            at += 4 + length
         elif kind == 2:
             item, _, _, length = struct.unpack_from("<IIII", bytes_, at)
-            found.append((item, bytes_[at + 16 : at + 16 + length].decode()))
+            found.append((keys[item - 1] if item <= len(keys) else item, bytes_[at + 16 : at + 16 + length].decode()))
             at += 16 + length
         elif kind != 3:
             raise SystemExit(f"an entry of kind {kind}")
@@ -94,7 +101,8 @@ def journal_of(groups):
 
 def groups_of(path):
     """The kept groups of a journal, each as its values."""
-    return [entries_in(bytes_, count) for count, bytes_ in kept_in(held(path))]
+    keys = []
+    return [entries_in(bytes_, count, keys) for count, bytes_ in kept_in(held(path))]
 
 
 def held(path):
@@ -105,7 +113,7 @@ def held(path):
 def check_values(groups, sent):
     """What is wrong with the values of a journal, beside the frames that each sender sent, if something is."""
     for number in range(SENDERS):
-        kept = [[int(text) for _, text in group] for group in groups if group and group[0][0] == number + 1]
+        kept = [[int(text) for _, text in group] for group in groups if group and group[0][0] == f"k{number}"]
         frames = [(list(numbers), answered) for numbers, answered in sent[number]]
         at = 0
         for group in kept:
@@ -161,6 +169,14 @@ class Folder:
         with open(self.config, "w") as it:
             json.dump(CONFIGURATION, it)
         open(f"{path}/script", "w").close()
+
+    def change(self, chance):
+        """Writes the same hosts, items and triggers as another document: in another order, with other spaces."""
+        host = CONFIGURATION["hosts"][0]
+        items, triggers = (chance.sample(host[part], len(host[part])) for part in ("items", "triggers"))
+        with open(self.config, "w") as it:
+            json.dump({"hosts": [{**host, "items": items, "triggers": triggers}]}, it)
+            it.write(" " * chance.randrange(3))
 
     def serve(self):
         port = free_port()

@@ -41,7 +41,7 @@ def replayed(text):
             names = {"severity": int(rest[1]), "suppressed": rest[2] == "1", "host": rest[3], "trigger": rest[4], "name": rest[5]}
             found[event] = {"event": event, "since": rest[0], **names, "tags": tags, "steps": {}}
         elif kind == "R":
-            found[event].update(ended=rest[1], ended_by_entry=int(rest[0]), cause={"e": "expression", "c": "correlation"}[rest[2]])
+            found[event].update(ended=rest[1], ended_by_entry=int(rest[0]), cause={"e": "expression", "c": "correlation", "r": "removed"}[rest[2]])
         elif kind == "S":
             found[event]["steps"][rest[0]] = (int(rest[1]), rest[2])
     return list(found.values())
@@ -85,7 +85,7 @@ def made_up(seed, count):
             lines.append(f"F|{entry}|h|k|{chance.choice(texts)}")
         while open_ and chance.random() < 0.47:
             event, _ = open_.pop(chance.randrange(len(open_)))
-            lines.append(f"R|{event}|{entry}|{moment}|{chance.choice('ec')}")
+            lines.append(f"R|{event}|{entry}|{moment}|{chance.choice('ecr')}")
     return "\n".join(lines) + "\n"
 
 

@@ -1,10 +1,10 @@
 -- Laws of what holds of a book.
 use Rattle.std.proofs.Common.{◌≡◌, ◌⊎◌, inl, inr, ℕ, zero, suc, ◌+◌, ◌-◌, ◌<◌, ◌≤◌, ◌^◌, List, [], ◌∷◌, ◌++◌, length, take, drop, get_or, refl, sym, ap, ap₂, subst, ◌∙◌, arith, append_assoc, append-nil, length-append, reverse, replicate, eq-or-lt_of_le}
-use Rattle.std.proofs.Math.Seq.{take-append_seam, take-length}
 use Rattle.std.proofs.lemmas.Bool.{cases_lt}
-use Rattle.std.specs.Prelude.{Option, Some, None, IfSome, unwrap_or}
+use Rattle.std.specs.Prelude.{Option, Some, None, IfSome}
 use Rattle.std.proofs.lemmas.List.{take-append-drop, take-append-le, drop-append-le, reverse-append}
 use mathlib.Core.List.{IsPrefix}
+use Rattle.zbx_types.specs.declared.conf.Conf.{Conf}
 use Rattle.zbx_types.specs.declared.entries.Numbered.{Numbered}
 use Rattle.zbx_types.specs.declared.entries.Rec.{Rec}
 use Rattle.outside.specs.Tells.{SinkTells}
@@ -13,22 +13,21 @@ use Rattle.syncer_gate.specs.declared.marks.Mark.{Mark}
 use Rattle.syncer_gate.specs.declared.marks.Mark.TheVariants.{Pending, Applied}
 use Rattle.event_text.specs.Lines.{lines_of}
 use Rattle.entry_step.specs.Log.{log_of}
+use Rattle.entry_step.specs.InForce.{IsPlain, behind_all}
 use Rattle.entry_step.specs.Records.{replay}
-use Rattle.book.specs.declared.tally.Tally.{Tally}
-use Rattle.book.specs.declared.errors.BookError.TheVariants as BookError
-use Rattle.book.specs.Tally.{tally_of, tally_with}
-use Rattle.outside.specs.Others.{first_other}
-use Rattle.book.specs.Outgoing.{Grew, HasFront, log_lines}
-use Rattle.book.proofs.Comparing.{front_more, front_written}
-use Rattle.entry_step.proofs.Behind.{replay_behind}
-use Rattle.book.specs.Entries.{point}
-use Rattle.entry_step.specs.Represents.{Holds}
-use Rattle.book.specs.declared.opening.Replayed.{Replayed}
-use Rattle.book.specs.Opening.{IsReplayed}
+use Rattle.book_opening.specs.declared.tally.Tally.{Tally}
+use Rattle.book_opening.specs.declared.errors.BookError.TheVariants as BookError
+use Rattle.book_opening.specs.Tally.{tally_of, tally_with}
+use Rattle.book_opening.specs.Outgoing.{Grew, HasFront, log_lines}
+use Rattle.book_opening.proofs.Comparing.{front_more, front_written}
+use Rattle.entry_laws.proofs.InForce.{replay_on}
 use Rattle.book.specs.Book.{IsBook, AreApplied, StayApplied, upto, lines_upto}
-use Rattle.book.proofs.Counting.{tally_more}
-use Rattle.book.proofs.Growing.{lines_of-append, lines_newer, tally_bytes}
-use Rattle.entry_step.specs.Start.{Start}
+use Rattle.book_opening.proofs.Counting.{tally_more}
+use Rattle.book.proofs.Numbers.{plain_reverse}
+use Rattle.book_opening.proofs.Growing.{lines_of-append, lines_newer, tally_bytes}
+use Rattle.entry_step.specs.Each.{Each}
+use Rattle.entry_step.specs.Start.{Start, nothing}
+use Rattle.entry_step.specs.Whole.{whole_replay}
 
 -- ---- lists
 
@@ -47,36 +46,48 @@ prefix_split (x ∷ a) b (y ∷ c) d e l =
 -- ---- marks
 
 -- more of a ring was received, or marks have changed that don't say applied
-pub goes_on : (start : Start) (kept : List Numbered) (outbox : SinkTells) (received entries : List Numbered) (marks : List Mark) (frontier : ℕ) (tally : Tally) (sink : SinkTells) (unwritten : List ℕ)
-    (received' entries' : List Numbered) (marks' : List Mark) → IsBook start kept outbox received entries marks frontier tally sink unwritten
+pub goes_on : (flat : List ℕ → Conf) (kept : List Numbered) (outbox : SinkTells) (received entries : List Numbered) (marks : List Mark) (frontier : ℕ) (tally : Tally) (sink : SinkTells) (unwritten : List ℕ)
+    (received' entries' : List Numbered) (marks' : List Mark) → IsBook flat kept outbox received entries marks frontier tally sink unwritten
     → entries' ≡ received' → IsPrefix entries entries' → StayApplied marks marks'
-    → IsBook start kept outbox received' entries' marks' frontier tally sink unwritten
-goes_on start kept outbox received entries marks frontier tally sink unwritten received' entries' marks' b is pre keep =
+    → IsBook flat kept outbox received' entries' marks' frontier tally sink unwritten
+goes_on flat kept outbox received entries marks frontier tally sink unwritten received' entries' marks' b is pre keep =
     let long : length entries + length pre.0 ≡ length entries' = sym (length-append entries pre.0) ∙ ap (λ (l : List Numbered). length l) pre.1 in
     let same : upto kept entries' frontier ≡ upto kept entries frontier = ap (λ es. kept ++ es) (ap (take frontier) (sym pre.1) ∙ take-append-le frontier entries pre.0 b.within) in record {
       received_is = is;
       within = omega (arith, b.within, long);
       applied = λ i l. keep i (b.applied i l);
-      tally_is = subst (λ es. tally ≡ tally_of (replay start (log_of es))) (sym same) b.tally_is;
+      tally_is = subst (λ es. tally ≡ tally_of (whole_replay flat nothing (log_of es))) (sym same) b.tally_is;
       enough = b.enough;
       lawful = b.lawful;
-      front = subst (λ es. HasFront outbox sink (log_lines start (log_of es))) (sym same) b.front;
-      left = b.left ∙ ap (λ es. drop sink.held (log_lines start (log_of es))) (sym same);
+      front = subst (λ es. HasFront outbox sink (log_lines flat (log_of es))) (sym same) b.front;
+      left = b.left ∙ ap (λ es. drop sink.held (log_lines flat (log_of es))) (sym same);
       later = b.later;
     }
 
 -- ---- the frontier
 
--- what is replayed with one more entry behind those with which a run began
-replay_upto : (start : Start) (kept entries : List Numbered) (n : ℕ) → replay start (log_of (upto kept entries n)) ≡ replay start (log_of kept) ++ replay (point start kept) (log_of (take n entries))
-replay_upto start kept entries n = ap (replay start) (reverse-append kept (take n entries)) ∙ replay_behind start (log_of (take n entries)) (log_of kept)
+-- some of some plain entries
+each_taken : (n : ℕ) (entries : List Numbered) → Each IsPlain entries → Each IsPlain (take n entries)
+each_taken zero [] plain = tt
+each_taken zero (e ∷ entries) plain = tt
+each_taken (suc n) [] plain = tt
+each_taken (suc n) (e ∷ entries) plain = (plain.0, each_taken n entries plain.1)
+
+-- what is replayed with entries behind those with which a run began
+replay_upto : (flat : List ℕ → Conf) (kept entries : List Numbered) (start : Start) (n : ℕ) → start ≡ behind_all flat (log_of kept) → Each IsPlain entries
+    → whole_replay flat nothing (log_of (upto kept entries n)) ≡ whole_replay flat nothing (log_of kept) ++ replay start (log_of (take n entries))
+replay_upto flat kept entries start n is plain =
+    ap (whole_replay flat nothing) (reverse-append kept (take n entries))
+    ∙ replay_on flat (log_of (take n entries)) (log_of kept) (plain_reverse (take n entries) (each_taken n entries plain))
+    ∙ ap (λ (s : Start). whole_replay flat nothing (log_of kept) ++ replay s (log_of (take n entries))) (sym is)
 
 -- the lines of kept entries are no more than those with more behind them
-kept_few : (start : Start) (kept entries : List Numbered) (n : ℕ) → length (log_lines start (log_of kept)) ≤ length (lines_upto start kept entries n)
-kept_few start kept entries n =
-    let is : lines_upto start kept entries n ≡ log_lines start (log_of kept) ++ lines_of (replay (point start kept) (log_of (take n entries))) = ap lines_of (replay_upto start kept entries n) ∙ lines_of-append (replay start (log_of kept)) (replay (point start kept) (log_of (take n entries))) in
+kept_few : (flat : List ℕ → Conf) (kept entries : List Numbered) (n : ℕ) → length (log_lines flat (log_of kept)) ≤ length (lines_upto flat kept entries n)
+kept_few flat kept entries n =
+    let more = lines_newer flat (log_of (take n entries)) (log_of kept) in
+    let is : lines_upto flat kept entries n ≡ log_lines flat (log_of kept) ++ more.0 = ap (log_lines flat) (reverse-append kept (take n entries)) ∙ more.1 in
     let long = ap (λ (l : List ℕ). length l) is in
-    omega (arith, long, length-append (log_lines start (log_of kept)) (lines_of (replay (point start kept) (log_of (take n entries)))))
+    omega (arith, long, length-append (log_lines flat (log_of kept)) more.0)
 
 -- an outbox held no more than lines
 held_few : (outbox : SinkTells) (count size : ℕ) → IfSome outbox.bytes (λ b. outbox.held ≡ length b) → outbox.held ≤ count → count ≤ size → IfSome outbox.bytes (λ b. length b ≤ size)
@@ -87,28 +98,29 @@ held_few outbox count size lawful enough few = go outbox.bytes lawful
     go (Some b) law = omega arith
 
 -- the entry at the frontier is passed, which is applied
-pub passed : (start : Start) (kept : List Numbered) (outbox : SinkTells) (received entries : List Numbered) (marks : List Mark) (frontier : ℕ) (tally : Tally) (sink : SinkTells) (unwritten : List ℕ)
-    (records : List Rec) (tally' : Tally) (unwritten' : List ℕ) → IsBook start kept outbox received entries marks frontier tally sink unwritten
+pub passed : (flat : List ℕ → Conf) (kept : List Numbered) (outbox : SinkTells) (received entries : List Numbered) (marks : List Mark) (frontier : ℕ) (tally : Tally) (sink : SinkTells) (unwritten : List ℕ)
+    (start : Start) (records : List Rec) (tally' : Tally) (unwritten' : List ℕ) → IsBook flat kept outbox received entries marks frontier tally sink unwritten
+    → start ≡ behind_all flat (log_of kept) → Each IsPlain entries
     → frontier < length entries → get_or marks frontier Pending ≡ Applied
-    → replay (point start kept) (log_of (take (frontier + 1) entries)) ≡ replay (point start kept) (log_of (take frontier entries)) ++ records
+    → replay start (log_of (take (frontier + 1) entries)) ≡ replay start (log_of (take frontier entries)) ++ records
     → tally' ≡ tally_with tally records → unwritten' ≡ unwritten ++ lines_of records
-    → IsBook start kept outbox received entries marks (frontier + 1) tally' sink unwritten'
-passed start kept outbox received entries marks frontier tally sink unwritten records tally' unwritten' b within here next counts adds =
-    let before = replay start (log_of (upto kept entries frontier)) in
-    let more : replay start (log_of (upto kept entries (frontier + 1))) ≡ before ++ records =
-    replay_upto start kept entries (frontier + 1) ∙ ap (λ rs. replay start (log_of kept) ++ rs) next
-    ∙ sym (append_assoc (replay start (log_of kept)) (replay (point start kept) (log_of (take frontier entries))) records)
-    ∙ ap (λ rs. rs ++ records) (sym (replay_upto start kept entries frontier)) in
-    let lines : lines_upto start kept entries (frontier + 1) ≡ lines_upto start kept entries frontier ++ lines_of records = ap lines_of more ∙ lines_of-append before records in record {
+    → IsBook flat kept outbox received entries marks (frontier + 1) tally' sink unwritten'
+passed flat kept outbox received entries marks frontier tally sink unwritten start records tally' unwritten' b is plain within here next counts adds =
+    let before = whole_replay flat nothing (log_of (upto kept entries frontier)) in
+    let more : whole_replay flat nothing (log_of (upto kept entries (frontier + 1))) ≡ before ++ records =
+    replay_upto flat kept entries start (frontier + 1) is plain ∙ ap (λ rs. whole_replay flat nothing (log_of kept) ++ rs) next
+    ∙ sym (append_assoc (whole_replay flat nothing (log_of kept)) (replay start (log_of (take frontier entries))) records)
+    ∙ ap (λ rs. rs ++ records) (sym (replay_upto flat kept entries start frontier is plain)) in
+    let lines : lines_upto flat kept entries (frontier + 1) ≡ lines_upto flat kept entries frontier ++ lines_of records = ap lines_of more ∙ lines_of-append before records in record {
       received_is = b.received_is;
       within = omega (arith, within);
       applied = λ i l. reach i (eq-or-lt_of_le (below i l));
       tally_is = counts ∙ ap (λ t. tally_with t records) b.tally_is ∙ tally_more before records ∙ ap tally_of (sym more);
       enough = b.enough;
       lawful = b.lawful;
-      front = subst (HasFront outbox sink) (sym lines) (front_more outbox sink (lines_upto start kept entries frontier) (lines_of records)
-          (held_few outbox (length (log_lines start (log_of kept))) (length (lines_upto start kept entries frontier)) b.lawful b.enough (kept_few start kept entries frontier)) b.front);
-      left = adds ∙ ap (λ l. l ++ lines_of records) b.left ∙ sym (drop-append-le sink.held (lines_upto start kept entries frontier) (lines_of records) b.front.size) ∙ ap (drop sink.held) (sym lines);
+      front = subst (HasFront outbox sink) (sym lines) (front_more outbox sink (lines_upto flat kept entries frontier) (lines_of records)
+          (held_few outbox (length (log_lines flat (log_of kept))) (length (lines_upto flat kept entries frontier)) b.lawful b.enough (kept_few flat kept entries frontier)) b.front);
+      left = adds ∙ ap (λ l. l ++ lines_of records) b.left ∙ sym (drop-append-le sink.held (lines_upto flat kept entries frontier) (lines_of records) b.front.size) ∙ ap (drop sink.held) (sym lines);
       later = b.later;
     }
   where
@@ -122,12 +134,12 @@ passed start kept outbox received entries marks frontier tally sink unwritten re
 -- ---- the outbox
 
 -- some of the lines were written
-pub written : (start : Start) (kept : List Numbered) (outbox : SinkTells) (received entries : List Numbered) (marks : List Mark) (frontier : ℕ) (tally : Tally) (sink : SinkTells) (unwritten : List ℕ)
-    (sink' : SinkTells) (unwritten' : List ℕ) → IsBook start kept outbox received entries marks frontier tally sink unwritten
+pub written : (flat : List ℕ → Conf) (kept : List Numbered) (outbox : SinkTells) (received entries : List Numbered) (marks : List Mark) (frontier : ℕ) (tally : Tally) (sink : SinkTells) (unwritten : List ℕ)
+    (sink' : SinkTells) (unwritten' : List ℕ) → IsBook flat kept outbox received entries marks frontier tally sink unwritten
     → (front : List ℕ) × Grew sink sink' front × (unwritten ≡ front ++ unwritten') → sink.faults ≤ sink'.faults
-    → IsBook start kept outbox received entries marks frontier tally sink' unwritten'
-written start kept outbox received entries marks frontier tally sink unwritten sink' unwritten' b more rose =
-    let w = front_written outbox sink sink' (lines_upto start kept entries frontier) more.0 unwritten' b.front more.1 (sym b.left ∙ more.2) in record {
+    → IsBook flat kept outbox received entries marks frontier tally sink' unwritten'
+written flat kept outbox received entries marks frontier tally sink unwritten sink' unwritten' b more rose =
+    let w = front_written outbox sink sink' (lines_upto flat kept entries frontier) more.0 unwritten' b.front more.1 (sym b.left ∙ more.2) in record {
       received_is = b.received_is;
       within = b.within;
       applied = b.applied;
@@ -140,53 +152,34 @@ written start kept outbox received entries marks frontier tally sink unwritten s
     }
 
 -- an outbox that has a front of the lines up to the frontier has one of those of all entries, and of more
-pub front_of_all : (start : Start) (kept entries all : List Numbered) (frontier : ℕ) (outbox sink : SinkTells) → IsPrefix entries all → IfSome outbox.bytes (λ b. outbox.held ≡ length b) → outbox.held ≤ length (log_lines start (log_of kept))
-    → HasFront outbox sink (lines_upto start kept entries frontier) → HasFront outbox sink (log_lines start (log_of (kept ++ all)))
-front_of_all start kept entries all frontier outbox sink pre lawful enough front =
+pub front_of_all : (flat : List ℕ → Conf) (kept entries all : List Numbered) (frontier : ℕ) (outbox sink : SinkTells) → IsPrefix entries all → IfSome outbox.bytes (λ b. outbox.held ≡ length b) → outbox.held ≤ length (log_lines flat (log_of kept))
+    → HasFront outbox sink (lines_upto flat kept entries frontier) → HasFront outbox sink (log_lines flat (log_of (kept ++ all)))
+front_of_all flat kept entries all frontier outbox sink pre lawful enough front =
     let rest = drop frontier entries ++ pre.0 in
     let whole : take frontier entries ++ rest ≡ all = sym (append_assoc (take frontier entries) (drop frontier entries) pre.0) ∙ ap (λ l. l ++ pre.0) (take-append-drop frontier entries) ∙ pre.1 in
-    let more = lines_newer start (reverse rest) (log_of (upto kept entries frontier)) in
-    let lines : lines_upto start kept entries frontier ++ more.0 ≡ log_lines start (log_of (kept ++ all)) =
-    sym more.1 ∙ ap (log_lines start) (sym (reverse-append (upto kept entries frontier) rest) ∙ ap log_of (append_assoc kept (take frontier entries) rest ∙ ap (λ es. kept ++ es) whole)) in
-    subst (HasFront outbox sink) lines (front_more outbox sink (lines_upto start kept entries frontier) more.0
-    (held_few outbox (length (log_lines start (log_of kept))) (length (lines_upto start kept entries frontier)) lawful enough (kept_few start kept entries frontier)) front)
+    let more = lines_newer flat (reverse rest) (log_of (upto kept entries frontier)) in
+    let lines : lines_upto flat kept entries frontier ++ more.0 ≡ log_lines flat (log_of (kept ++ all)) =
+    sym more.1 ∙ ap (log_lines flat) (sym (reverse-append (upto kept entries frontier) rest) ∙ ap log_of (append_assoc kept (take frontier entries) rest ∙ ap (λ es. kept ++ es) whole)) in
+    subst (HasFront outbox sink) lines (front_more outbox sink (lines_upto flat kept entries frontier) more.0
+    (held_few outbox (length (log_lines flat (log_of kept))) (length (lines_upto flat kept entries frontier)) lawful enough (kept_few flat kept entries frontier)) front)
 
 -- ---- the opening
 
--- nothing was replayed yet
-pub nothing_replayed : (start : Start) (outbox : SinkTells) (r : Replayed) → Holds start r.cells [] → r.tally ≡ tally_of [] → r.other ≡ None → r.missing ≡ [] → IsReplayed start [] outbox r
-nothing_replayed start outbox r cells tally none missing = record {
-  cells = cells;
-  recorded = record {
-    tally = tally;
-    compared = record { place = go outbox.bytes; within = subst (λ o. IfSome o (λ place. (place < outbox.held) × (place < 0))) (sym none) tt };
-    missing = missing ∙ sym (drop_none (unwrap_or r.other outbox.held));
-  };
-}
-  where
-    go : (o : Option (List ℕ)) → IfSome o (λ b. r.other ≡ first_other 0 [] b)
-    go None = tt
-    go (Some b) = none
-
-    drop_none : (n : ℕ) → drop n (lines_of []) ≡ []
-    drop_none zero = refl
-    drop_none (suc n) = refl
-
 -- nothing came out of the ring yet
-pub opened : (start : Start) (kept : List Numbered) (outbox : SinkTells) (received entries : List Numbered) (marks : List Mark) (frontier : ℕ) (tally : Tally) (sink : SinkTells) (unwritten : List ℕ)
-    → entries ≡ [] → received ≡ [] → frontier ≡ 0 → tally ≡ tally_of (replay start (log_of kept)) → outbox.held ≤ length (log_lines start (log_of kept)) → IfSome outbox.bytes (λ b. outbox.held ≡ length b)
-    → HasFront outbox sink (log_lines start (log_of kept)) → unwritten ≡ drop sink.held (log_lines start (log_of kept)) → outbox.faults ≤ sink.faults
-    → IsBook start kept outbox received entries marks frontier tally sink unwritten
-opened start kept outbox received entries marks frontier tally sink unwritten is none at counts enough lawful front lacks later =
+pub opened : (flat : List ℕ → Conf) (kept : List Numbered) (outbox : SinkTells) (received entries : List Numbered) (marks : List Mark) (frontier : ℕ) (tally : Tally) (sink : SinkTells) (unwritten : List ℕ)
+    → entries ≡ [] → received ≡ [] → frontier ≡ 0 → tally ≡ tally_of (whole_replay flat nothing (log_of kept)) → outbox.held ≤ length (log_lines flat (log_of kept)) → IfSome outbox.bytes (λ b. outbox.held ≡ length b)
+    → HasFront outbox sink (log_lines flat (log_of kept)) → unwritten ≡ drop sink.held (log_lines flat (log_of kept)) → outbox.faults ≤ sink.faults
+    → IsBook flat kept outbox received entries marks frontier tally sink unwritten
+opened flat kept outbox received entries marks frontier tally sink unwritten is none at counts enough lawful front lacks later =
     let same : upto kept entries frontier ≡ kept = ap₂ (λ es n. kept ++ take n es) is at ∙ append-nil kept in record {
       received_is = is ∙ sym none;
       within = let l = ap (λ (es : List Numbered). length es) is in omega (arith, at);
       applied = λ i l. absurd (omega (arith, l, at));
-      tally_is = counts ∙ ap (λ es. tally_of (replay start (log_of es))) (sym same);
+      tally_is = counts ∙ ap (λ es. tally_of (whole_replay flat nothing (log_of es))) (sym same);
       enough = enough;
       lawful = lawful;
-      front = subst (λ es. HasFront outbox sink (log_lines start (log_of es))) (sym same) front;
-      left = lacks ∙ ap (λ es. drop sink.held (log_lines start (log_of es))) (sym same);
+      front = subst (λ es. HasFront outbox sink (log_lines flat (log_of es))) (sym same) front;
+      left = lacks ∙ ap (λ es. drop sink.held (log_lines flat (log_of es))) (sym same);
       later = later;
     }
 
@@ -252,9 +245,9 @@ frontier_at_end marks n size applied within next = by (eq-or-lt_of_le within)
 -- ---- an outbox at the opening
 
 -- so many bytes are no more than the lines
-pub outbox_enough : (start : Start) (log : List Numbered) (tally : Tally) (held : ℕ) → tally ≡ tally_of (replay start log) → held ≤ tally.bytes → held ≤ length (log_lines start log)
-outbox_enough start log tally held counts enough = let bytes = tally_bytes start log tally counts in omega (arith, enough, bytes)
+pub outbox_enough : (flat : List ℕ → Conf) (log : List Numbered) (tally : Tally) (held : ℕ) → tally ≡ tally_of (whole_replay flat nothing log) → held ≤ tally.bytes → held ≤ length (log_lines flat log)
+outbox_enough flat log tally held counts enough = let bytes = tally_bytes flat log tally counts in omega (arith, enough, bytes)
 
 -- or more: how many bytes the lines have
-pub outbox_ahead : (start : Start) (log : List Numbered) (tally : Tally) (held count : ℕ) → tally ≡ tally_of (replay start log) → count ≡ tally.bytes → count < held → held < 2 ^ 64 → count ≡ length (log_lines start log)
-outbox_ahead start log tally held count counts is less small = let bytes = tally_bytes start log tally counts in omega (arith, bytes, is, less, small)
+pub outbox_ahead : (flat : List ℕ → Conf) (log : List Numbered) (tally : Tally) (held count : ℕ) → tally ≡ tally_of (whole_replay flat nothing log) → count ≡ tally.bytes → count < held → held < 2 ^ 64 → count ≡ length (log_lines flat log)
+outbox_ahead flat log tally held count counts is less small = let bytes = tally_bytes flat log tally counts in omega (arith, bytes, is, less, small)

@@ -1,6 +1,6 @@
 -- What a claim, the end of a batch and a new start leave.
 use Rattle.std.proofs.Common.{◌≡◌, ◌<◌, ◌≤◌, ◌+◌, ◌-◌, ℕ, suc, Bool, true, false, cond, ◌&&◌, ◌||◌, inl, inr, Option, Some, None, List, [], ◌∷◌, ◌++◌, length, map, get_or, set, length-set, ◌==◌, eq-eqb, reverse, refl, sym, ◌∙◌, ap, subst, append-nil, arith, zero}
-use Rattle.std.specs.Prelude.{nat_lt, replicate, is_some, All, IfSome, IfNone}
+use Rattle.std.specs.Prelude.{nat_lt, replicate, is_some, All, IfSome, IfNone, Result, Ok, Err, IfOk}
 use Rattle.std.proofs.lemmas.Bool.{le-ltb, ltb-true}
 use Rattle.std.proofs.lemmas.List.{length-map, length-replicate}
 use mathlib.Core.Path.{fun_ext}
@@ -12,7 +12,8 @@ use Rattle.footprint.specs.Feet.{Footing, feet_of}
 use Rattle.footprint.specs.Conflict.{conflict_by}
 use Rattle.zbx_types.specs.declared.entries.Entry.{Entry}
 use Rattle.entry_step.specs.Each.{In}
-use Rattle.entry_step.specs.Cells.{Cells, after, look, AreCellsOf}
+use Rattle.entry_step.specs.Cells.{Key, ItemKey, TriggerKey, TickKey, Cells, after, look, AreCellsOf}
+use Rattle.entry_step.specs.History.{marks_of}
 use Rattle.entry_step.specs.Represents.{CellsView, Represents, StepsTo, Holds as HoldsLog}
 use Rattle.entry_step.specs.Laws.{IsGood, cells_done, records_done}
 use Rattle.entry_step.specs.Parts.{AllCome, PartView, IsPartOf, IsSame, IsWorkable, IsReplaced, WorksOut}
@@ -36,8 +37,7 @@ use Rattle.book.proofs.Going.{whole_rises, whole_offered, stands_of, HasCome, go
 use Rattle.book.proofs.Batches.{AreAmong, all_among, within_ones, with_at, numbers_at, open_within, open_entries, set_made, same_part, here_at, at_here}
 use Rattle.trigger_state.specs.Stages.{Stage, first_stage}
 use Rattle.zbx_types.specs.declared.conf.Conf.{Conf}
-use Rattle.entry_step.specs.Start.{first_start}
-use Rattle.entry_step.specs.Start.{Start}
+use Rattle.entry_step.specs.Start.{Start, fresh, first_start}
 
 -- an open batch's entries come to the cells
 pub open_come : (from : Start) (p : ProgressView) (going : IsGoing from p) (batch : Batch) → IsOpenBatch p.gate batch → AllCome from.stage going.cells (entries_with batch.numbers p.entries)
@@ -99,7 +99,7 @@ has_claimed from p gate batch limit going some is alike step = record {
     next : IsGoing from (record p { gate = gate })
     next =
         gate_going from p going gate (happens (core_of p.entries p.gate) (Claim batch.id batch.numbers))
-        (stepped from going.good (worked_of from.number p going.cells) stands (Claim batch.id batch.numbers) step.0) alike step.1
+        (stepped from going.good (worked_of from.number p going.cells) stands (Claim batch.id batch.numbers) step.0 tt) alike step.1
 
     parts : (ns : List ℕ) → Some batch ≡ batch_of p.gate.next ns → (batch.id ≡ p.gate.next) × (batch.numbers ≡ ns) × (claimed p.gate ns ≡ record p.gate { marks = with_taken p.gate.next ns p.gate.first p.gate.marks; next = p.gate.next + 1 })
     parts [] e = let q : Some batch ≡ None = e in absurd (cc)
@@ -216,7 +216,7 @@ pub given_going : (from : Start) (p : ProgressView) (gate : Gate) (id : ℕ) →
     → IsGoing from (record p { gate = gate })
 given_going from p gate id going is core =
     gate_going from p going gate (happens (core_of p.entries p.gate) (GiveBack id))
-    (stepped from going.good (worked_of from.number p going.cells) (stands_of from p going) (GiveBack id) tt)
+    (stepped from going.good (worked_of from.number p going.cells) (stands_of from p going) (GiveBack id) tt tt)
     (ap (λ (g : Gate). g.first) is, ap (λ (g : Gate). length g.marks) is ∙ length-map p.gate.marks (ended id Pending)) core
 
 -- a batch is given back, if it is open
@@ -242,7 +242,7 @@ pub applied_going : (from : Start) (p : ProgressView) (gate : Gate) (batch : Bat
     → IsGoing from (record { entries = p.entries; gate = gate; cells = held; made = made })
 applied_going from p gate batch held made going opened is core works =
     going_of from (worked from.stage (worked_of from.number p going.cells) (Apply batch.id)) p.entries gate held made
-    (stepped from going.good (worked_of from.number p going.cells) (stands_of from p going) (Apply batch.id) tt)
+    (stepped from going.good (worked_of from.number p going.cells) (stands_of from p going) (Apply batch.id) tt tt)
     (record {
       good = going.good;
       whole = going.whole;
@@ -283,7 +283,7 @@ new_going from entries gate held made good holds none is no_rows =
     (going_of from (begin_worked from) [] gate held [] (begins from)
     (record {
       good = good;
-      whole = record { numbers = refl; suits = tt };
+      whole = record { numbers = refl; suits = tt; plain = tt };
       first = ap (λ (g : Gate). g.first) is;
       size = ap (λ (g : Gate). length g.marks) is;
       rows = refl;
@@ -313,7 +313,7 @@ one_worked before stage held next entries made rows rs (n ∷ []) ready one size
 
     works : (c : Cells) → Represents stage held c → AllCome stage c (x ∷ []) → Represents stage next (cells_done stage c (entries_with (n ∷ []) entries)) × IsKept before made (entries_with (n ∷ []) entries) (records_done stage c (entries_with (n ∷ []) entries)) rows
     works c represented come =
-        let s = step c represented come.0 come.1 in (
+        let s = step c come.0 represented come.1 come.2 in (
           subst (λ es. Represents stage next (cells_done stage c es)) (sym ready.places) s.1,
           λ k l. subst (λ es. made_at before rows k ≡ keeping (made_at before made) es (records_done stage c es) k) (sym ready.places)
               (ap (λ ms. made_at before ms k) is ∙ set_made before made n k rs (bounds.0, subst (λ z. n ≤ before + z) (sym size) bounds.1) l
@@ -359,8 +359,43 @@ pub with_here : (before : ℕ) (stage : Stage) (held : CellsView) (entries es : 
 with_here before stage held entries es numbers ready is here = at_here before entries es (ap (map (entry_at before entries)) is ∙ sym ready.places ∙ here)
 
 -- the same for equal things
-pub blank_at : (stage : Stage) (conf : Conf) (held : CellsView) → stage ≡ first_stage conf → HoldsLog (first_start conf) held [] → IsBlank stage held
-blank_at stage conf held same holds = subst (λ (k : Stage). IsBlank k held) (sym same) holds
+blank_cells : (stage : Stage) → look (first_start stage.conf) [] [] ≡ look (fresh stage) [] []
+unfolding look marks_of
+blank_cells stage = fun_ext cell
+  where
+    cell : (k : Key) → look (first_start stage.conf) [] [] k ≡ look (fresh stage) [] [] k
+    cell (ItemKey id) = refl
+    cell (TriggerKey id) = refl
+    cell TickKey = refl
+
+blank_is : (stage : Stage) (held : CellsView) → Represents (first_stage stage.conf) held (look (fresh stage) [] []) → Represents stage held (look (fresh stage) [] [])
+unfolding look
+blank_is stage held r = record {
+  items = r.items;
+  ordered = r.ordered;
+  memories = r.memories;
+  triggers = r.triggers;
+  histories = r.histories;
+  marks = r.marks;
+  problems = r.problems;
+  tick = r.tick;
+  tidy = record { homes = λ id. tt; tagged = λ id. tt; absent = r.tidy.absent };
+}
+
+-- cells before the first entry hold nothing, wherever events come from
+blank_at : (stage other : Stage) (conf : Conf) (held : CellsView) → conf ≡ other.conf → other ≡ stage → HoldsLog (first_start conf) held [] → IsBlank stage held
+unfolding AreCellsOf
+blank_at stage other conf held same is holds =
+    let own : HoldsLog (first_start stage.conf) held [] = subst (λ (c : Conf). HoldsLog (first_start c) held []) (same ∙ ap (λ (k : Stage). k.conf) is) holds in
+    record {
+      cells = look (fresh stage) [] [];
+      stand = refl;
+      represented = blank_is stage held (subst (λ (c : Cells). Represents (first_stage stage.conf) held c) (own.stand ∙ blank_cells stage) own.represented);
+    }
+
+pub blank_made : {E : Type 0} (stage other : Stage) (conf : Conf) (r : Result CellsView E) → conf ≡ other.conf → other ≡ stage → IfOk r (λ held. HoldsLog (first_start conf) held []) → IfOk r (IsBlank stage)
+blank_made stage other conf (Ok held) same is holds = blank_at stage other conf held same is holds
+blank_made stage other conf (Err e) same is holds = tt
 
 pub part_at : (stage other : Stage) (held : CellsView) (given es : List Numbered) (part : PartView) → other ≡ stage → given ≡ es → IsPartOf other.conf given held part → IsPartOf stage.conf es held part
 part_at stage other held given es part same is of = subst (λ xs. IsPartOf stage.conf xs held part) is (subst (λ (k : Stage). IsPartOf k.conf given held part) same of)

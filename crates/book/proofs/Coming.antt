@@ -8,10 +8,11 @@ use Rattle.zbx_types.specs.Entries.{moment_of}
 use Rattle.entry_step.specs.Log.{last_moment, IsFitting, Suits}
 use Rattle.entry_step.specs.Records.{replay}
 use Rattle.entry_step.specs.Cells.{Cells, ItemKey, touches, records, after, seen_of, look, AreCellsOf}
-use Rattle.entry_step.specs.Laws.{IsGood, Apart}
+use Rattle.entry_step.specs.Laws.{IsGood, AreBehind, Apart}
 use Rattle.entry_step.specs.Represents.{ComesAfter}
 use Rattle.entry_step.specs.Parts.{AllCome}
 use Rattle.entry_step.proofs.Members.{each_at}
+use Rattle.entry_step.proofs.Owning.{entries_own}
 use Rattle.book.proofs.Places.{Rises}
 use Rattle.book.proofs.Working.{Done, also, kept_also, one_done, not_also, not_among, still_out, later_waits}
 use Rattle.entry_step.specs.Start.{Start}
@@ -60,7 +61,7 @@ seen_is : (from : Start) (cells : Cells) (log : List Numbered) (i : ℕ) → Are
 unfolding AreCellsOf look
 seen_is from cells log i stand = ap (λ x. (x (ItemKey i)).seen) stand
 
-module _ (from : Start) (good : IsGood from) (log : List Numbered) (rises : Rises log) (suits : Suits from log) where
+module _ (from : Start) (good : IsGood from) (log : List Numbered) (rises : Rises log) (behind : AreBehind from log) (suits : Suits from log) where
   -- an entry that isn't done
   pub one_comes : (done : ℕ → Bool) (cells : Cells) (made : ℕ → List Rec) → Done from log done cells made → (x : Numbered) → In x log → done x.number ≡ false → ComesAfter from.stage.conf cells x × IsFitting from.stage.conf x.entry
   one_comes done cells made holds x here waits = (comes, fits_at from log x suits here)
@@ -85,10 +86,11 @@ module _ (from : Start) (good : IsGood from) (log : List Numbered) (rises : Rise
   all_come [] done cells made holds inside waits rising free = tt
   all_come (x ∷ es) done cells made holds inside waits rising free =
       let now = one_comes done cells made holds x (inside x (inl refl)) (waits x (inl refl)) in (
+        entries_own from x good (each_at (λ y. from.number < y.number) log behind x (inside x (inl refl))),
         now.0,
         now.1,
         all_come es (also done x.number) (after from.stage cells x) (kept_also made x.number (records from.stage cells x))
-            (one_done from good log rises done cells made holds x (inside x (inl refl)) (waits x (inl refl)) (λ y i l w. free y x i (inl refl) l w (not_among x es y rising.0 l)))
+            (one_done from good log rises behind done cells made holds x (inside x (inl refl)) (waits x (inl refl)) (λ y i l w. free y x i (inl refl) l w (not_among x es y rising.0 l)))
             (λ z i. inside z (inr i))
             (later_waits done x es rising.0 waits)
             rising.1

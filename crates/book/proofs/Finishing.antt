@@ -1,10 +1,10 @@
 -- All entries are worked out, one after another.
-use Rattle.std.proofs.Common.{◌≡◌, ◌<◌, ◌≤◌, ◌+◌, ◌-◌, ◌∙◌, ℕ, zero, suc, Bool, true, false, cond, not, ◌||◌, List, [], ◌∷◌, length, map, get_or, set, take, drop, append_assoc, ◌++◌, length-set, Option, Some, reverse, refl, sym, ap, subst, arith}
+use Rattle.std.proofs.Common.{◌≡◌, ◌<◌, ◌≤◌, ◌+◌, ◌-◌, ◌∙◌, ℕ, zero, suc, Bool, true, false, cond, ◌||◌, List, [], ◌∷◌, length, map, get_or, set, take, drop, append_assoc, ◌++◌, length-set, Option, Some, reverse, refl, sym, ap, subst, arith}
 use Rattle.std.specs.Prelude.{nat_lt, IfSome}
 use Rattle.std.specs.List.{list_any}
 use Rattle.std.proofs.Math.ListN.{get_or-map}
 use Rattle.std.proofs.lemmas.List.{length-map, reverse-append, take-append-drop}
-use Rattle.std.proofs.Math.Seq.{drop-cons, take-suc}
+use Rattle.std.proofs.Math.Seq.{drop-cons}
 use mathlib.Core.List.{reverse-cons}
 use Rattle.entry_step.specs.Log.{log_of}
 use Rattle.entry_step.specs.Records.{replay}
@@ -12,18 +12,19 @@ use Rattle.book.proofs.Batches.{blank, number_from}
 use Rattle.std.proofs.lemmas.Bool.{or_parts, le-ltb}
 use mathlib.Core.Path.{fun_ext}
 use Rattle.zbx_types.specs.declared.entries.Numbered.{Numbered}
-use Rattle.footprint.specs.Feet.{feet_of}
+use Rattle.zbx_types.specs.declared.entries.Rec.{Rec}
 use Rattle.syncer_gate.specs.declared.marks.Mark.{Mark}
 use Rattle.syncer_gate.specs.declared.marks.Mark.TheVariants.{Pending, Applied, Taken}
 use Rattle.syncer_gate.specs.Marks.{is_pending, is_open, reopened}
 use Rattle.syncer_gate.specs.declared.batch.Batch.{Batch}
 use Rattle.syncer_gate.specs.Gate.{Gate, mark_of, with_ended}
-use Rattle.syncer_gate.specs.Core.{Core, passes, Holds, core_of}
+use Rattle.syncer_gate.specs.Core.{Core, passes, core_of}
 use Rattle.book.specs.Schedule.{is_applied, Worked}
-use Rattle.book.specs.Progress.{ProgressView, worked_of, IsGoing, HasClaimed, IsSingle, IsOneMore}
-use Rattle.book.proofs.Scheduled.{IsConsistent, order_of, same_done}
+use Rattle.book.specs.Progress.{ProgressView, worked_of, IsGoing, HasClaimed, IsOneMore}
+use Rattle.book.proofs.Scheduled.{IsConsistent, same_done}
 use Rattle.book.proofs.Going.{stands_of, gate_going}
 use Rattle.entry_step.specs.Start.{Start}
+use Rattle.book_opening.proofs.Replaying.{taken_more}
 
 passed_reopened : (late early : Mark) → passes (reopened late) (reopened early) ≡ true → passes late early ≡ true
 passed_reopened Pending early p = let q : passes Pending (reopened early) ≡ true = p in absurd (never early q)
@@ -74,6 +75,7 @@ stands_reopened from w stands = record {
     known = λ n q. stands.holds.known n (pending_reopened (w.core.status n) q);
   };
   rises = stands.rises;
+  behind = stands.behind;
   done = same_done from w.core.log w.core.status (λ n. reopened (w.core.status n)) w.cells w.made (λ n. applied_still (w.core.status n)) stands.done;
 }
 
@@ -215,9 +217,6 @@ left_none start entries first marks count i left all l =
     unapplied_none marks i (omega arith) (omega arith)
 
 -- the records of an applied entry are those of its place in the replay
-pub taken_more : (xs : List Numbered) (k : ℕ) (d : Numbered) → k < length xs → take (k + 1) xs ≡ take k xs ++ get_or xs k d ∷ []
-taken_more xs k d l = let z : k + 1 ≡ suc k = omega arith in ap (λ j. take j xs) z ∙ take-suc xs k d l
-
 split_place : (xs : List Numbered) (k : ℕ) (d : Numbered) → k < length xs → xs ≡ take k xs ++ get_or xs k d ∷ drop (k + 1) xs
 split_place xs k d l =
     let z : k + 1 ≡ suc k = omega arith in
@@ -262,3 +261,13 @@ records_next from p going place l applied =
         ap (λ b. is_applied (cond b Pending (get_or p.gate.marks (e.number - p.gate.first) Pending))) below
         ∙ ap (λ k. is_applied (get_or p.gate.marks k Pending)) z
         ∙ ap is_applied applied
+
+-- an entry that has no records yet
+pub blank_row : (rows next : List (List Rec)) (rs : List Rec) → rs ≡ [] → next ≡ rows ++ rs ∷ [] → (n : ℕ) → get_or next n [] ≡ get_or rows n []
+blank_row rows next rs none is n = ap (λ ms. get_or ms n []) (is ∙ ap (λ r. rows ++ r ∷ []) none) ∙ go rows n
+  where
+    go : (xs : List (List Rec)) (k : ℕ) → get_or (xs ++ [] ∷ []) k [] ≡ get_or xs k []
+    go [] zero = refl
+    go [] (suc k) = refl
+    go (x ∷ xs) zero = refl
+    go (x ∷ xs) (suc k) = go xs k

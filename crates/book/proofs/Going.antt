@@ -9,7 +9,7 @@ use Rattle.zbx_types.specs.declared.entries.Numbered.{Numbered}
 use Rattle.zbx_types.specs.declared.entries.Rec.{Rec}
 use Rattle.footprint.specs.Feet.{feet_of}
 use Rattle.entry_step.specs.Each.{Each, In, EachPair}
-use Rattle.entry_step.specs.Laws.{IsGood}
+use Rattle.entry_step.specs.Laws.{IsGood, AreBehind}
 use Rattle.entry_step.specs.Log.{log_of}
 use Rattle.entry_step.specs.Cells.{Cells, AreCellsOf}
 use Rattle.entry_step.specs.Represents.{CellsView, Represents}
@@ -20,7 +20,7 @@ use Rattle.syncer_gate.proofs.Claimed.{ids_alike}
 use Rattle.book.specs.Entries.{IsWholeLog}
 use Rattle.book.specs.Schedule.{is_applied, Worked, worked, Facts}
 use Rattle.book.specs.Progress.{ProgressView, made_at, worked_of, IsGoing}
-use Rattle.book.proofs.Places.{Rises, in_of, in_right, older_below, of_reverse, pairs_reverse}
+use Rattle.book.proofs.Places.{Rises, in_of, in_right, in_reverse, older_below, of_reverse, pairs_reverse}
 use Rattle.book.proofs.Scheduled.{IsConsistent, order_of, stepped}
 use Rattle.entry_step.specs.Start.{Start}
 
@@ -45,6 +45,10 @@ whole_rises from entries whole = pairs_reverse (λ e older. older.number < e.num
 pub number_within : (from : Start) (entries : List Numbered) (y : Numbered) → IsWholeLog from entries → In y (reverse entries) → (from.number < y.number) × (y.number ≤ from.number + length entries)
 number_within from entries y whole i = let r = above (from.number + 1) entries y whole.numbers (of_reverse entries y i) in (omega arith, omega arith)
 
+-- and are all behind that of the start
+pub whole_behind : (from : Start) (entries : List Numbered) → IsWholeLog from entries → AreBehind from (reverse entries)
+whole_behind from entries whole = each_from (λ y. from.number < y.number) (reverse entries) (λ y i. (number_within from entries y whole i).0)
+
 pub whole_offered : (from : Start) (entries : List Numbered) (gate : Gate) → IsWholeLog from entries → gate.first ≡ from.number + 1 → length entries ≡ length gate.marks → AreOffered gate entries
 whole_offered from entries gate whole first size = record { size = size; numbers = subst (λ k. map (λ (e : Numbered). e.number) entries ≡ ids_from k entries) (sym first) whole.numbers }
 
@@ -53,6 +57,7 @@ pub stands_of : (from : Start) (p : ProgressView) (going : IsGoing from p) → I
 stands_of from p going = record {
   holds = going.known;
   rises = whole_rises from p.entries going.whole;
+  behind = whole_behind from p.entries going.whole;
   done = record { order = order_of from (core_of p.entries p.gate) going.known; stand = going.facts.stand; kept = going.facts.kept };
 }
 
@@ -88,11 +93,11 @@ going_of from w entries gate held made stands come = record {
 }
 
 -- entries that are offered, one after another
-pub offers_stand : (from : Start) → IsGood from → (more : List Numbered) (w : Worked) → IsConsistent from w → Rises (reverse more ++ w.core.log) → IsConsistent from (record w { core = offered more w.core })
-offers_stand from good [] w stands rises = stands
-offers_stand from good (e ∷ more) w stands rises =
+pub offers_stand : (from : Start) → IsGood from → (more : List Numbered) (w : Worked) → IsConsistent from w → Rises (reverse more ++ w.core.log) → AreBehind from more → IsConsistent from (record w { core = offered more w.core })
+offers_stand from good [] w stands rises behind = stands
+offers_stand from good (e ∷ more) w stands rises behind =
     let r : Rises (reverse more ++ e ∷ w.core.log) = subst Rises (ap (λ es. es ++ w.core.log) (reverse-cons e more) ∙ append_assoc (reverse more) (e ∷ []) w.core.log) rises in
-    offers_stand from good more (worked from.stage w (Offer e)) (stepped from good w stands (Offer e) (λ y i. older_below (reverse more) e w.core.log r y (in_of w.core.log y i))) r
+    offers_stand from good more (worked from.stage w (Offer e)) (stepped from good w stands (Offer e) (λ y i. older_below (reverse more) e w.core.log r y (in_of w.core.log y i)) behind.0) r behind.1
 
 pub more_going : (from : Start) (p : ProgressView) (more : List Numbered) (gate : Gate) (made : List (List Rec)) → IsGoing from p → IsWholeLog from (p.entries ++ more)
     → gate.first ≡ p.gate.first → length gate.marks ≡ length (p.entries ++ more) → core_of (p.entries ++ more) gate ≡ offered more (core_of p.entries p.gate)
@@ -101,7 +106,8 @@ pub more_going : (from : Start) (p : ProgressView) (more : List Numbered) (gate 
 more_going from p more gate made going whole first size core rows same =
     let stands = stands_of from p going in
     going_of from (record (worked_of from.number p going.cells) { core = offered more (core_of p.entries p.gate) }) (p.entries ++ more) gate p.cells made
-    (offers_stand from going.good more (worked_of from.number p going.cells) stands (subst Rises (reverse-append p.entries more) (whole_rises from (p.entries ++ more) whole)))
+    (offers_stand from going.good more (worked_of from.number p going.cells) stands (subst Rises (reverse-append p.entries more) (whole_rises from (p.entries ++ more) whole))
+    (each_from (λ y. from.number < y.number) more (λ y i. (number_within from (p.entries ++ more) y whole (in_reverse (p.entries ++ more) y (in_right p.entries more y i))).0)))
     (record { good = going.good; whole = whole; first = first ∙ going.first; size = size; rows = rows; core = core; represented = going.represented; kept = λ n l. same n })
 
 -- a step that touches neither cells nor records

@@ -1,5 +1,3 @@
-pub mod Growing
-pub mod Counting
 pub mod Numbers
 pub mod Places
 pub mod Working
@@ -11,5 +9,3 @@ pub mod Going
 pub mod Batches
 pub mod Claiming
 pub mod Finishing
-pub mod Replaying
-pub mod Comparing

@@ -1,13 +1,18 @@
 -- Numbers of the entries of a whole log.
-use Rattle.std.proofs.Common.{◌≡◌, ◌<◌, ◌≤◌, ◌+◌, ℕ, zero, suc, List, [], ◌∷◌, ◌++◌, length, map, reverse, refl, sym, ap, subst, ◌∙◌, arith, append_assoc, length-append}
+use Rattle.std.proofs.Common.{◌≡◌, ◌<◌, ◌+◌, ℕ, suc, List, [], ◌∷◌, ◌++◌, length, map, reverse, refl, sym, ap, subst, ◌∙◌, arith, length-append}
 use Rattle.std.proofs.lemmas.List.{reverse-append, reverse-reverse, length-reverse}
 use mathlib.Core.List.{reverse-cons}
 use Rattle.zbx_types.specs.Ids.{ids_from}
+use Rattle.zbx_types.specs.declared.conf.Conf.{Conf}
 use Rattle.zbx_types.specs.declared.entries.Numbered.{Numbered}
-use Rattle.entry_step.specs.Log.{log_of, last_number, IsFull, Fits, Suits}
-use Rattle.entry_step.specs.Start.{Start, first_start}
-use Rattle.entry_step.proofs.Behind.{suits_behind}
-use Rattle.book.specs.Entries.{AreNumbered, IsWholeLog, point}
+use Rattle.entry_step.specs.Each.{Each}
+use Rattle.entry_step.specs.InForce.{IsPlain, FitsLog, behind_all}
+use Rattle.entry_step.specs.Log.{log_of, IsFull, Suits}
+use Rattle.entry_step.specs.Start.{Start}
+use Rattle.entry_laws.proofs.InForce.{plain_fits}
+use Rattle.entry_step.proofs.Members.{each_append}
+use Rattle.book.specs.Entries.{IsWholeLog}
+use Rattle.book_opening.proofs.Numbers.{full_behind, number_left}
 
 -- numbers that follow one another from this one on
 abbrev From : ℕ → List Numbered → Type 0
@@ -19,13 +24,6 @@ last_of k (x ∷ xs) e off =
     let t : From (k + 1) (xs ++ e ∷ []) = cc in
     let r = last_of (k + 1) xs e t in omega arith
 
-front_from : (k : ℕ) (xs ys : List Numbered) → From k (xs ++ ys) → From k xs
-front_from k [] ys off = refl
-front_from k (x ∷ xs) ys off =
-    let a : x.number ≡ k = cc in
-    let t : From (k + 1) (xs ++ ys) = cc in
-    let r = front_from (k + 1) xs ys t in rw (a, r) refl
-
 behind_from : (k : ℕ) (xs ys : List Numbered) → From k (xs ++ ys) → From (k + length xs) ys
 behind_from k [] ys off = let z : k ≡ k + 0 = omega arith in subst (λ j. From j ys) z off
 behind_from k (x ∷ xs) ys off =
@@ -34,51 +32,17 @@ behind_from k (x ∷ xs) ys off =
     subst (λ j. From j ys) z (behind_from (k + 1) xs ys t)
 
 -- the number of an entry behind others
-pub number_behind : (start : Start) (kept before : List Numbered) (e : Numbered) → IsWholeLog start (kept ++ (before ++ e ∷ []))
-    → e.number ≡ start.number + (length kept + length (before ++ e ∷ []))
-number_behind start kept before e whole =
-    let r = last_of ((start.number + 1) + length kept) before e (behind_from (start.number + 1) kept (before ++ e ∷ []) whole.numbers) in
+pub number_behind : (start : Start) (before : List Numbered) (e : Numbered) → IsWholeLog start (before ++ e ∷ []) → e.number ≡ start.number + length (before ++ e ∷ [])
+number_behind start before e whole =
+    let r = last_of (start.number + 1) before e whole.numbers in
     omega (arith, length-append before (e ∷ []))
 
--- the number of the last of some entries
-last_number_is : (start : Start) (entries : List Numbered) → AreNumbered start.number entries → last_number start (log_of entries) ≡ start.number + length entries
-last_number_is start entries off = go (log_of entries) refl
-  where
-    go : (log : List Numbered) → log_of entries ≡ log → last_number start log ≡ start.number + length entries
-    go [] is =
-        let none : entries ≡ [] = sym (reverse-reverse entries) ∙ ap reverse is in
-        let l = ap (λ (es : List Numbered). length es) none in omega arith
-    go (e ∷ log) is =
-        let all : entries ≡ reverse log ++ e ∷ [] = sym (reverse-reverse entries) ∙ ap reverse is ∙ reverse-cons e log in
-        let r = last_of (start.number + 1) (reverse log) e (subst (From (start.number + 1)) all off) in
-        let l = ap (λ (es : List Numbered). length es) all in
-        omega (arith, length-append (reverse log) (e ∷ []))
+-- one more came
+pub came_whole : (start : Start) (before received entries next : List Numbered) (e : Numbered) → entries ≡ before → received ≡ before ++ e ∷ [] → next ≡ entries ++ e ∷ [] → IsWholeLog start received → IsWholeLog start next
+came_whole start before received entries next e same came more whole =
+    subst (IsWholeLog start) (came ∙ ap (λ es. es ++ e ∷ []) (sym same) ∙ sym more) whole
 
-pub point_number : (start : Start) (kept more : List Numbered) → IsWholeLog start (kept ++ more) → (point start kept).number ≡ start.number + length kept
-point_number start kept more whole = last_number_is start kept (front_from (start.number + 1) kept more whole.numbers)
-
-pub suits_front : (start : Start) (newer log : List Numbered) → Suits start (newer ++ log) → Suits start log
-suits_front start [] log suits = suits
-suits_front start (e ∷ newer) log suits = suits_front start newer log suits.0
-
--- the entries with which a run began are a whole log
-pub whole_kept : (start : Start) (kept more : List Numbered) → IsWholeLog start (kept ++ more) → IsWholeLog start kept
-whole_kept start kept more whole = record {
-  numbers = front_from (start.number + 1) kept more whole.numbers;
-  suits = suits_front start (log_of more) (log_of kept) (subst (Suits start) (reverse-append kept more) whole.suits);
-}
-
--- those behind them are one behind what they leave
-pub whole_behind : (start : Start) (kept more : List Numbered) → IsWholeLog start (kept ++ more) → IsWholeLog (point start kept) more
-whole_behind start kept more whole =
-    let at = point_number start kept more whole in
-    let z : (start.number + 1) + length kept ≡ (point start kept).number + 1 = omega arith in
-    record {
-      numbers = subst (λ j. From j more) z (behind_from (start.number + 1) kept more whole.numbers);
-      suits = suits_behind start (log_of more) (log_of kept) (subst (Suits start) (reverse-append kept more) whole.suits);
-    }
-
--- a full log that fits is a whole one behind what stood before the first entry
+-- the numbers of a full log
 from_behind : (k : ℕ) (xs : List Numbered) (x : Numbered) → From k xs → x.number ≡ k + length xs → From k (xs ++ x ∷ [])
 from_behind k [] x off at = let q : x.number ≡ k = omega arith in rw q refl
 from_behind k (y ∷ xs) x off at =
@@ -93,21 +57,32 @@ full_from (e ∷ log) full =
     subst (From 1) (sym (reverse-cons e log))
     (from_behind 1 (reverse log) e (full_from log full.0) (let s = length-reverse log in let n = full.1 in omega arith))
 
-pub whole_of : (start : Start) (entries : List Numbered) → start.number ≡ 0 → IsFull (log_of entries) → Fits start (log_of entries) → IsWholeLog start entries
-whole_of start entries none full fits = record {
-  numbers = let z : 1 ≡ start.number + 1 = omega arith in subst (λ k. From k entries) z (subst (From 1) (reverse-reverse entries) (full_from (log_of entries) full));
-  suits = fits.1;
-}
+-- plain ones in the order of their numbers
+pub plain_reverse : (entries : List Numbered) → Each IsPlain entries → Each IsPlain (reverse entries)
+plain_reverse [] plain = tt
+plain_reverse (e ∷ entries) plain = subst (Each IsPlain) (sym (reverse-cons e entries)) (each_append IsPlain (reverse entries) (e ∷ []) (plain_reverse entries plain.1) (plain.0, tt))
 
--- one more came
-pub came_whole : (start : Start) (kept before received entries next : List Numbered) (e : Numbered) → entries ≡ before → received ≡ before ++ e ∷ [] → next ≡ entries ++ e ∷ [] → IsWholeLog start (kept ++ received) → IsWholeLog (point start kept) next
-came_whole start kept before received entries next e same came more whole =
-    subst (IsWholeLog (point start kept)) (came ∙ ap (λ es. es ++ e ∷ []) (sym same) ∙ sym more) (whole_behind start kept received whole)
+-- Values and Ticks behind the entries that a journal kept, with which they are a full log that fits, are a whole log
+-- behind what these leave
+pub whole_of : (flat : List ℕ → Conf) (kept entries : List Numbered) (start : Start) → start ≡ behind_all flat (log_of kept) → 0 < length kept → Each IsPlain entries
+    → IsFull (log_of (kept ++ entries)) → FitsLog flat (log_of (kept ++ entries)) → IsWholeLog start entries
+whole_of flat kept entries start is some plain full fits = record { numbers = numbers; suits = subst (λ s. Suits s (log_of entries)) (sym is) (suiting (log_of kept) refl); plain = plain }
+  where
+    parts : log_of (kept ++ entries) ≡ log_of entries ++ log_of kept
+    parts = reverse-append kept entries
 
--- the number behind which a book's entries stand
-pub point_kept : (start : Start) (kept given : List Numbered) (count : ℕ) → start ≡ first_start start.stage.conf → given ≡ kept → IsWholeLog start given → count ≡ length given → count ≡ (point start kept).number
-point_kept start kept given count first is whole counted =
-    let none : start.number ≡ 0 = ap (λ (s : Start). s.number) first in
-    let at = last_number_is start kept (subst (AreNumbered start.number) is whole.numbers) in
-    let long : length given ≡ length kept = ap (λ (es : List Numbered). length es) is in
-    omega arith
+    number : start.number ≡ length kept
+    number = number_left flat kept start is (full_behind (log_of entries) (log_of kept) (subst IsFull parts full))
+
+    numbers : From (start.number + 1) entries
+    numbers =
+        let all : From 1 (kept ++ entries) = subst (From 1) (reverse-reverse (kept ++ entries)) (full_from (log_of (kept ++ entries)) full) in
+        let n = number in
+        let z : 1 + length kept ≡ start.number + 1 = omega arith in
+        subst (λ k. From k entries) z (behind_from 1 kept entries all)
+
+    suiting : (log : List Numbered) → log_of kept ≡ log → Suits (behind_all flat (log_of kept)) (log_of entries)
+    suiting [] none = let long = ap (λ (es : List Numbered). length es) none in let count = length-reverse kept in absurd (omega arith)
+    suiting (last ∷ older) split =
+        subst (λ log. Suits (behind_all flat log) (log_of entries)) (sym split)
+        ((plain_fits flat (log_of entries) last older (plain_reverse entries plain)).0 (subst (FitsLog flat) (parts ∙ ap (λ log. log_of entries ++ log) split) fits)).1

@@ -12,15 +12,15 @@ use Rattle.entry_step.specs.Log.{Suits}
 use Rattle.entry_step.specs.Parts.{AllCome}
 use Rattle.entry_step.specs.Records.{out_of, replay}
 use Rattle.entry_step.specs.Cells.{Cells, look, AreCellsOf}
-use Rattle.entry_step.specs.Laws.{IsGood, Apart}
+use Rattle.entry_step.specs.Laws.{IsGood, AreBehind, Apart}
 use Rattle.entry_step.proofs.Members.{each_from}
-use Rattle.entry_step.proofs.Meeting.{conflict_is_meeting}
+use Rattle.entry_laws.proofs.Meeting.{conflict_is_meeting}
 use Rattle.syncer_gate.specs.declared.marks.Mark.{Mark}
 use Rattle.syncer_gate.specs.declared.marks.Mark.TheVariants.{Pending, Applied, Taken}
 use Rattle.syncer_gate.specs.Marks.{is_pending, is_taken, ended}
 use Rattle.syncer_gate.specs.Core.{Core, Step, Offer, Claim, Apply, GiveBack, happens, IsAllowed, AreAllowed, start, passes, Holds}
 use Rattle.syncer_gate.proofs.Order.{each_step}
-use Rattle.book.specs.Schedule.{is_applied, Worked, batch_in, worked, begin_worked, worked_all, has_applied, Facts, EveryScheduleFacts, records_kept, AtFrontier}
+use Rattle.book.specs.Schedule.{is_applied, Worked, batch_in, worked, begin_worked, worked_all, has_applied, Facts, OffersBehind, EveryScheduleFacts, records_kept, AtFrontier}
 use Rattle.book.proofs.Places.{Rises, is_in, in_of, in_reverse, of_reverse, in_filter, of_filter, pairs_filter, pairs_reverse}
 use Rattle.book.proofs.Working.{Done, also_all, all_in, all_out, all_done}
 use Rattle.book.proofs.Coming.{all_come}
@@ -34,6 +34,7 @@ applied_by status n = is_applied (status n)
 pub record IsConsistent (from : Start) (w : Worked) : Type 0 where
   pub holds : Holds (feet_of from.stage.conf) w.core
   pub rises : Rises w.core.log
+  pub behind : AreBehind from w.core.log
   pub done : Done from w.core.log (applied_by w.core.status) w.cells w.made
 
 -- marks
@@ -100,10 +101,11 @@ module _ (from : Start) (good : IsGood from) (w : Worked) (stands : IsConsistent
       go true q = refl
       go false q = let k = stands.holds.known e.number q in let l = above k.0 k.1 in let z = k.2 in absurd (omega arith)
 
-  offered : (e : Numbered) → IsAllowed (feet_of from.stage.conf) w.core (Offer e) → IsConsistent from (worked from.stage w (Offer e))
-  offered e above = record {
+  offered : (e : Numbered) → IsAllowed (feet_of from.stage.conf) w.core (Offer e) → from.number < e.number → IsConsistent from (worked from.stage w (Offer e))
+  offered e above later = record {
     holds = next;
     rises = (each_from (λ y. y.number < e.number) w.core.log (λ y i. above y (is_in w.core.log y i)), stands.rises);
+    behind = (later, stands.behind);
     done = record {
       order = order_of from (happens w.core (Offer e)) next;
       stand = subst (AreCellsOf from w.cells) (ap (λ b. cond b (e ∷ part) part) (sym (new_waits e above))) stands.done.stand;
@@ -163,8 +165,9 @@ module _ (from : Start) (good : IsGood from) (w : Worked) (stands : IsConsistent
   applied id = record {
     holds = each_step (feet_of from.stage.conf) w.core (Apply id) stands.holds tt;
     rises = stands.rises;
+    behind = stands.behind;
     done = subst (λ done. Done from w.core.log done (worked from.stage w (Apply id)).cells (worked from.stage w (Apply id)).made) (fun_ext (applied_all id)) (
-        all_done from good w.core.log stands.rises (batch_in w.core id) (applied_by w.core.status) w.cells w.made stands.done
+        all_done from good w.core.log stands.rises stands.behind (batch_in w.core id) (applied_by w.core.status) w.cells w.made stands.done
         (λ x i. (of_batch id x i).0)
         (batch_waits id)
         (batch_rises id)
@@ -174,29 +177,31 @@ module _ (from : Start) (good : IsGood from) (w : Worked) (stands : IsConsistent
   -- each of a batch's entries, as those before it are worked out, comes after what the cells have seen
   pub batch_comes : Suits from w.core.log → (id : ℕ) → AllCome from.stage w.cells (batch_in w.core id)
   batch_comes suits id =
-      all_come from good w.core.log stands.rises suits (batch_in w.core id) (applied_by w.core.status) w.cells w.made stands.done
+      all_come from good w.core.log stands.rises stands.behind suits (batch_in w.core id) (applied_by w.core.status) w.cells w.made stands.done
       (λ x i. (of_batch id x i).0)
       (batch_waits id)
       (batch_rises id)
       (batch_free id)
 
-  pub stepped : (step : Step) → IsAllowed (feet_of from.stage.conf) w.core step → IsConsistent from (worked from.stage w step)
-  stepped (Offer e) allowed = offered e allowed
-  stepped (Claim id numbers) allowed = record {
+  pub stepped : (step : Step) → IsAllowed (feet_of from.stage.conf) w.core step → OffersBehind from step → IsConsistent from (worked from.stage w step)
+  stepped (Offer e) allowed later = offered e allowed later
+  stepped (Claim id numbers) allowed later = record {
     holds = each_step (feet_of from.stage.conf) w.core (Claim id numbers) stands.holds allowed;
     rises = stands.rises;
+    behind = stands.behind;
     done = same_done from w.core.log w.core.status (λ n. cond (has_id numbers n) (Taken id) (w.core.status n)) w.cells w.made (claimed_applied w.core id numbers allowed.pending) stands.done;
   }
-  stepped (Apply id) allowed = applied id
-  stepped (GiveBack id) allowed = record {
+  stepped (Apply id) allowed later = applied id
+  stepped (GiveBack id) allowed later = record {
     holds = each_step (feet_of from.stage.conf) w.core (GiveBack id) stands.holds allowed;
     rises = stands.rises;
+    behind = stands.behind;
     done = same_done from w.core.log w.core.status (λ n. ended id Pending (w.core.status n)) w.cells w.made (λ n. given_applied id (w.core.status n)) stands.done;
   }
 
-all_stepped : (from : Start) → IsGood from → (steps : List Step) (w : Worked) → AreAllowed (feet_of from.stage.conf) w.core steps → IsConsistent from w → IsConsistent from (worked_all from.stage w steps)
-all_stepped from good [] w allowed stands = stands
-all_stepped from good (step ∷ steps) w allowed stands = all_stepped from good steps (worked from.stage w step) (still step allowed.1) (stepped from good w stands step allowed.0)
+all_stepped : (from : Start) → IsGood from → (steps : List Step) (w : Worked) → AreAllowed (feet_of from.stage.conf) w.core steps → Each (OffersBehind from) steps → IsConsistent from w → IsConsistent from (worked_all from.stage w steps)
+all_stepped from good [] w allowed later stands = stands
+all_stepped from good (step ∷ steps) w allowed later stands = all_stepped from good steps (worked from.stage w step) (still step allowed.1) later.1 (stepped from good w stands step allowed.0 later.0)
   where
     still : (step : Step) → AreAllowed (feet_of from.stage.conf) (happens w.core step) steps → AreAllowed (feet_of from.stage.conf) (worked from.stage w step).core steps
     still (Offer e) a = a
@@ -209,14 +214,15 @@ unfolding AreCellsOf
 begins from = record {
   holds = record { order = λ y e i. absurd i; known = λ n q. absurd (cc) };
   rises = tt;
+  behind = tt;
   done = record { order = λ y e i. absurd i; stand = ap (look from []) (sym (append-nil from.records)); kept = λ newer older e split d. absurd (cc) };
 }
 
-pub stands_all : (from : Start) (steps : List Step) → IsGood from → AreAllowed (feet_of from.stage.conf) start steps → IsConsistent from (worked_all from.stage (begin_worked from) steps)
-stands_all from steps good allowed = all_stepped from good steps (begin_worked from) allowed (begins from)
+pub stands_all : (from : Start) (steps : List Step) → IsGood from → Each (OffersBehind from) steps → AreAllowed (feet_of from.stage.conf) start steps → IsConsistent from (worked_all from.stage (begin_worked from) steps)
+stands_all from steps good later allowed = all_stepped from good steps (begin_worked from) allowed later (begins from)
 
 pub every_schedule_holds : EveryScheduleFacts
-every_schedule_holds from steps good allowed = let s = stands_all from steps good allowed in record { order = s.holds.order; stand = s.done.stand; kept = s.done.kept }
+every_schedule_holds from steps good later allowed = let s = stands_all from steps good later allowed in record { order = s.holds.order; stand = s.done.stand; kept = s.done.kept }
 
 -- the records kept of entries that are all done
 collected : (from : Start) (w : Worked) → Facts from w → (newer older : List Numbered) → w.core.log ≡ newer ++ older → Each (λ e. has_applied w e ≡ true) older → records_kept w older ≡ replay from older
@@ -227,4 +233,4 @@ collected from w facts newer (e ∷ older) split done =
     ∙ ap₂ (λ xs ys. xs ++ ys) (collected from w facts (newer ++ e ∷ []) older (split ∙ sym (append_assoc newer (e ∷ []) older)) done.1) (append-nil (w.made e.number) ∙ facts.kept newer older e split done.0)
 
 pub at_frontier : AtFrontier
-at_frontier from steps good allowed newer older split done = collected from (worked_all from.stage (begin_worked from) steps) (every_schedule_holds from steps good allowed) newer older split done
+at_frontier from steps good later allowed newer older split done = collected from (worked_all from.stage (begin_worked from) steps) (every_schedule_holds from steps good later allowed) newer older split done

@@ -5,8 +5,8 @@ use Rattle.zbx_types.specs.declared.entries.Rec.{Rec}
 use Rattle.entry_step.specs.Each.{Each, In, EachPair}
 use Rattle.entry_step.specs.Records.{out_of, replay}
 use Rattle.entry_step.specs.Cells.{Cells, records, after, look, AreCellsOf}
-use Rattle.entry_step.specs.Laws.{IsGood, Apart, InPlace, cells_done, records_done, PassedApart}
-use Rattle.entry_step.proofs.Members.{each_from, each_at, each_filter, filter-append}
+use Rattle.entry_step.specs.Laws.{IsGood, AreBehind, Apart, InPlace, cells_done, records_done, PassedApart}
+use Rattle.entry_step.proofs.Members.{each_from, each_at, each_filter, each_append, filter-append}
 use Rattle.entry_step.proofs.Orders.{insertion, applied_part}
 use Rattle.book.specs.Schedule.{keeping}
 use Rattle.book.proofs.Places.{Rises, in_left, in_right, filter_cong, split_at, older_below, newer_above, same_entry}
@@ -88,7 +88,7 @@ still_out done x es y w out (inr i) = out i
 pub later_waits : (done : ℕ → Bool) (x : Numbered) (es : List Numbered) → Each (λ later. x.number < later.number) es → ((z : Numbered) → In z (x ∷ es) → done z.number ≡ false) → (z : Numbered) → In z es → also done x.number z.number ≡ false
 later_waits done x es rising waits z i = also_other done x.number z.number (λ q. let l = each_at (λ w. x.number < w.number) es rising z i in omega arith) ∙ waits z (inr i)
 
-module _ (from : Start) (good : IsGood from) (log : List Numbered) (rises : Rises log) where
+module _ (from : Start) (good : IsGood from) (log : List Numbered) (rises : Rises log) (behind : AreBehind from log) where
   -- one entry that isn't done, and conflicts with no older one that isn't
   module _ (done : ℕ → Bool) (cells : Cells) (made : ℕ → List Rec) (holds : Done from log done cells made) (x : Numbered) (here : In x log) (waits : done x.number ≡ false)
       (free : (y : Numbered) → In y log → y.number < x.number → done y.number ≡ false → Apart from.stage.conf y x) where
@@ -101,9 +101,23 @@ module _ (from : Start) (good : IsGood from) (log : List Numbered) (rises : Rise
     in_newer : (newer older : List Numbered) → log ≡ newer ++ x ∷ older → (y : Numbered) → In y newer → In y log
     in_newer newer older split y i = subst (In y) (sym split) (in_left newer (x ∷ older) y i)
 
+    -- all are behind what stood before
+    above : (y : Numbered) → In y log → from.number < y.number
+    above y i = each_at (λ z. from.number < z.number) log behind y i
+
+    above_older : (newer older : List Numbered) → log ≡ newer ++ x ∷ older → AreBehind from (filter (λ e. done e.number) older)
+    above_older newer older split = each_filter (λ z. from.number < z.number) (λ e. done e.number) older (λ y i e. above y (in_older newer older split y i))
+
+    above_newer : (newer older : List Numbered) → log ≡ newer ++ x ∷ older → AreBehind from (filter (λ e. done e.number) newer)
+    above_newer newer older split = each_filter (λ z. from.number < z.number) (λ e. done e.number) newer (λ y i e. above y (in_newer newer older split y i))
+
+    above_part : (newer older : List Numbered) → log ≡ newer ++ x ∷ older → AreBehind from (filter (λ e. done e.number) newer ++ x ∷ filter (λ e. done e.number) older)
+    above_part newer older split =
+        each_append (λ z. from.number < z.number) (filter (λ e. done e.number) newer) (x ∷ filter (λ e. done e.number) older) (above_newer newer older split) (above x here, above_older newer older split)
+
     -- no newer one that is done conflicts with it, so it joins in its place
     in_place : (newer older : List Numbered) → log ≡ newer ++ x ∷ older → InPlace from (filter (λ e. done e.number) newer) x (filter (λ e. done e.number) older) cells
-    in_place newer older split = (insertion from (filter (λ e. done e.number) newer) x (filter (λ e. done e.number) older) good apart).1 cells (subst (AreCellsOf from cells) before holds.stand)
+    in_place newer older split = (insertion from (filter (λ e. done e.number) newer) x (filter (λ e. done e.number) older) good (above_part newer older split) apart).1 cells (subst (AreCellsOf from cells) before holds.stand)
       where
         apart : Each (λ a. Apart from.stage.conf x a) (filter (λ e. done e.number) newer)
         apart =
@@ -120,8 +134,8 @@ module _ (from : Start) (good : IsGood from) (log : List Numbered) (rises : Rise
     its_records : (newer older : List Numbered) → log ≡ newer ++ x ∷ older → records from.stage cells x ≡ out_of from older x x.entry (from.records ++ replay from older)
     its_records newer older split =
         (in_place newer older split).its_records
-        ∙ sym ((insertion from [] x part good tt).1 there (look_stands from part)).its_records
-        ∙ applied_part from (λ e. done e.number) older x good pairs apart there (look_stands from part)
+        ∙ sym ((insertion from [] x part good (above x here, above_older newer older split) tt).1 there (look_stands from part)).its_records
+        ∙ applied_part from (λ e. done e.number) older x good (above x here, each_from (λ y. from.number < y.number) older (λ y i. above y (in_older newer older split y i))) pairs apart there (look_stands from part)
       where
         part : List Numbered
         part = filter (λ e. done e.number) older

@@ -1,18 +1,19 @@
 -- The book: the work on the entries of a ring, and the lines that go out of it.
-use Rattle.entry_step.specs.Start.{Start}
 use Rattle.std.specs.Prelude.{◌≡◌, ◌≢◌, ◌≤◌, ◌<◌, ℕ, List, ◌++◌, length, take, drop, get_or, IfSome}
+use Rattle.zbx_types.specs.declared.conf.Conf.{Conf}
 use Rattle.zbx_types.specs.declared.entries.Numbered.{Numbered}
 use Rattle.zbx_types.specs.declared.entries.Rec.{Rec}
 use Rattle.outside.specs.Tells.{SinkTells}
 use Rattle.entry_step.specs.Log.{log_of}
-use Rattle.entry_step.specs.Records.{replay}
 use Rattle.entry_step.specs.Represents.{CellsView}
+use Rattle.entry_step.specs.Start.{nothing}
+use Rattle.entry_step.specs.Whole.{whole_replay}
 use Rattle.syncer_gate.specs.Gate.{Gate}
 use Rattle.syncer_gate.specs.declared.marks.Mark.{Mark}
 use Rattle.syncer_gate.specs.declared.marks.Mark.TheVariants.{Pending, Applied}
-use Rattle.book.specs.declared.tally.Tally.{Tally}
-use Rattle.book.specs.Tally.{tally_of}
-use Rattle.book.specs.Outgoing.{HasFront, log_lines}
+use Rattle.book_opening.specs.declared.tally.Tally.{Tally}
+use Rattle.book_opening.specs.Tally.{tally_of}
+use Rattle.book_opening.specs.Outgoing.{HasFront, log_lines}
 use Rattle.book.specs.Progress.{ProgressView}
 
 -- The entries that came out of the ring, in the order of their numbers, where each stands, the cells, and the records
@@ -50,20 +51,20 @@ abbrev pub upto : List Numbered → List Numbered → ℕ → List Numbered
 upto kept entries n = kept ++ take n entries
 
 -- the lines of these entries
-abbrev pub lines_upto : Start → List Numbered → List Numbered → ℕ → List ℕ
-lines_upto start kept entries n = log_lines start (log_of (upto kept entries n))
+abbrev pub lines_upto : (List ℕ → Conf) → List Numbered → List Numbered → ℕ → List ℕ
+lines_upto flat kept entries n = log_lines flat (log_of (upto kept entries n))
 
 -- What holds of a book at all times. Its entries are those that came out of the ring. Its lines and counts are those
 -- of the entries with which the run began and of its own before its frontier, which are applied. The outbox has a front
 -- of these lines, and the others aren't written yet.
-pub record IsBook (start : Start) (kept : List Numbered) (outbox : SinkTells) (received entries : List Numbered)
+pub record IsBook (flat : List ℕ → Conf) (kept : List Numbered) (outbox : SinkTells) (received entries : List Numbered)
     (marks : List Mark) (frontier : ℕ) (tally : Tally) (sink : SinkTells) (unwritten : List ℕ) : Type 0 where
   pub received_is : entries ≡ received
   pub within : frontier ≤ length entries
   pub applied : AreApplied marks frontier
-  pub tally_is : tally ≡ tally_of (replay start (log_of (upto kept entries frontier)))
-  pub enough : outbox.held ≤ length (log_lines start (log_of kept))
+  pub tally_is : tally ≡ tally_of (whole_replay flat nothing (log_of (upto kept entries frontier)))
+  pub enough : outbox.held ≤ length (log_lines flat (log_of kept))
   pub lawful : IfSome outbox.bytes (λ b. outbox.held ≡ length b)
-  pub front : HasFront outbox sink (lines_upto start kept entries frontier)
-  pub left : unwritten ≡ drop sink.held (lines_upto start kept entries frontier)
+  pub front : HasFront outbox sink (lines_upto flat kept entries frontier)
+  pub left : unwritten ≡ drop sink.held (lines_upto flat kept entries frontier)
   pub later : outbox.faults ≤ sink.faults

@@ -1,9 +1,9 @@
 -- The entries that go through a ring.
-use Rattle.std.specs.Prelude.{◌≡◌, ◌+◌, pos, ℕ, List, [], map}
+use Rattle.std.specs.Prelude.{◌≡◌, ◌+◌, ℕ, List, map}
 use Rattle.zbx_types.specs.Ids.{ids_from}
-use Rattle.zbx_types.specs.declared.conf.Conf.{Conf}
 use Rattle.zbx_types.specs.declared.entries.Numbered.{Numbered}
-use Rattle.entry_step.specs.Behind.{behind}
+use Rattle.entry_step.specs.Each.{Each}
+use Rattle.entry_step.specs.InForce.{IsPlain}
 use Rattle.entry_step.specs.Log.{log_of, Suits}
 use Rattle.entry_step.specs.Start.{Start}
 
@@ -12,26 +12,8 @@ abbrev pub AreNumbered : ℕ → List Numbered → Type 0
 AreNumbered number entries = map (λ e. e.number) entries ≡ ids_from (number + 1) entries
 
 -- entries in the order of their numbers are a whole log behind a start: their numbers follow that of the start one by
--- one, and they suit it
+-- one, they suit it, and none is a Config
 pub record IsWholeLog (from : Start) (entries : List Numbered) : Type 0 where
   pub numbers : AreNumbered from.number entries
   pub suits : Suits from (log_of entries)
-
--- what stands behind the entries with which a run begins
-abbrev pub point : Start → List Numbered → Start
-point start kept = behind start (log_of kept)
-
--- a configuration of nothing
-abbrev pub no_conf : Conf
-no_conf = record {
-  text = [];
-  utc_offset = pos 0;
-  hosts = [];
-  items = [];
-  triggers = [];
-  correlations = [];
-  maintenances = [];
-  actions = [];
-  patterns = [];
-  pattern_paths = [];
-}
+  pub plain : Each IsPlain entries

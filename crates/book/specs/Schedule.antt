@@ -1,6 +1,6 @@
 -- The work of several syncers: cells and records behind entries that are offered, claimed, applied and given back.
 use Rattle.entry_step.specs.Start.{Start}
-use Rattle.std.specs.Prelude.{◌≡◌, ℕ, ◌==◌, Bool, true, false, List, [], ◌∷◌, ◌++◌, reverse, filter, flat_map, if◌then◌else◌}
+use Rattle.std.specs.Prelude.{◌≡◌, ◌<◌, ℕ, ◌==◌, Bool, true, false, List, [], ◌∷◌, ◌++◌, reverse, filter, flat_map, if◌then◌else◌}
 use Rattle.trigger_state.specs.Stages.{Stage}
 use Rattle.zbx_types.specs.declared.entries.Numbered.{Numbered}
 use Rattle.zbx_types.specs.declared.entries.Rec.{Rec}
@@ -69,11 +69,18 @@ pub record Facts (from : Start) (w : Worked) : Type 0 where
   pub kept : (newer older : List Numbered) (e : Numbered) → w.core.log ≡ newer ++ e ∷ older → has_applied w e ≡ true
       → w.made e.number ≡ out_of from older e e.entry (from.records ++ replay from older)
 
+-- an entry that a step offers is behind what stood before
+abbrev pub OffersBehind : Start → Step → Type 0
+OffersBehind from (Offer e) = from.number < e.number
+OffersBehind from (Claim id numbers) = Unit {0}
+OffersBehind from (Apply id) = Unit {0}
+OffersBehind from (GiveBack id) = Unit {0}
+
 -- whatever is offered, claimed, applied and given back behind a good start, the facts hold
 abbrev pub EveryScheduleFacts : Type 0
 EveryScheduleFacts =
-    (from : Start) (steps : List Step) → IsGood from → AreAllowed (feet_of from.stage.conf) start steps
-    → Facts from (worked_all from.stage (begin_worked from) steps)
+    (from : Start) (steps : List Step) → IsGood from → Each (OffersBehind from) steps
+    → AreAllowed (feet_of from.stage.conf) start steps → Facts from (worked_all from.stage (begin_worked from) steps)
 
 -- the records kept of these entries, in the order of their numbers
 abbrev pub records_kept : Worked → List Numbered → List Rec
@@ -81,7 +88,8 @@ records_kept w log = flat_map (λ e. w.made e.number) (reverse log)
 
 -- where all entries up to a place in the log are applied, the records kept of them are the replay of the log up to it
 abbrev pub AtFrontier : Type 0
-AtFrontier = (from : Start) (steps : List Step) → IsGood from → AreAllowed (feet_of from.stage.conf) start steps
+AtFrontier = (from : Start) (steps : List Step) → IsGood from → Each (OffersBehind from) steps
+    → AreAllowed (feet_of from.stage.conf) start steps
     → (newer older : List Numbered) → (worked_all from.stage (begin_worked from) steps).core.log ≡ newer ++ older
     → Each (λ e. has_applied (worked_all from.stage (begin_worked from) steps) e ≡ true) older
     → records_kept (worked_all from.stage (begin_worked from) steps) older ≡ replay from older

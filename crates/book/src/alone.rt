@@ -3,9 +3,10 @@
 ghost use Rattle.std.specs.Prelude.{◌≡◌, ◌<◌, length, OnOk};
 ghost use Rattle.book.specs.Book.{AreApplied, StayApplied};
 
-use crate::names::StartName;
 use crate::progress::Progress;
-use entry_step::{Ready, Steps};
+use book_opening::StartName;
+use conf_index::Ready;
+use entry_step::Steps;
 use std::alloc::Global;
 use std::marker::Brand;
 use std::sync::ledger::{Blank, Ledger};

@@ -1,37 +1,40 @@
 //! The book: what the syncers share. It takes entries out of the ring, hands out batches of them, and writes their
 //! lines.
 
-ghost use Rattle.entry_step.specs.Start.{first_start};
-ghost use Rattle.std.specs.Prelude.{◌≡◌, ◌≢◌, ◌≤◌, ◌<◌, ◌+◌, ◌-◌, ◌++◌, [], ℕ, List, Some, min, true, false, length, drop, replicate, get_or, is_some, IfOk, IfErr, IfSome, OnOk, OnErr, IsErrOf};
+ghost use Rattle.std.specs.Prelude.{◌≡◌, ◌≢◌, ◌≤◌, ◌<◌, ◌+◌, ◌-◌, ◌++◌, [], ℕ, List, Some, min, true, false, length, map, drop, replicate, get_or, is_some, IfOk, IfErr, IfSome, OnOk, OnErr, IsErrOf};
 ghost use Rattle.std.specs.Option.{option_map};
 ghost use mathlib.Core.List.{IsPrefix};
 ghost use Rattle.outside.specs.Causes.{Rose};
 ghost use Rattle.footprint.specs.Feet.{feet_of};
-ghost use Rattle.entry_step.specs.Log.{log_of};
-ghost use Rattle.entry_step.specs.Records.{replay};
+ghost use Rattle.trigger_state.specs.Stages.{first_stage};
+ghost use Rattle.entry_step.specs.InForce.{FitsLog, config_texts};
+ghost use Rattle.entry_step.specs.Log.{log_of, IsFull};
+ghost use Rattle.entry_step.specs.Named.{AreDistinct};
+ghost use Rattle.entry_step.specs.Start.{nothing};
+ghost use Rattle.entry_step.specs.Whole.{whole_replay};
 ghost use Rattle.syncer_gate.specs.Gate.{IsOpenBatch, batch_of, claimed, with_ended};
 ghost use Rattle.syncer_gate.specs.Chosen.{chosen};
 ghost use Rattle.syncer_gate.specs.Marks.{is_open, is_pending};
 ghost use Rattle.std.specs.List.{list_any};
 ghost use Rattle.syncer_gate.specs.declared.marks.Mark.{Mark};
 ghost use Rattle.syncer_gate.specs.declared.marks.Mark.TheVariants as Mark;
-ghost use Rattle.book.specs.Entries.{IsWholeLog};
-ghost use Rattle.book.specs.Tally.{tally_of};
+ghost use Rattle.book_opening.specs.Tally.{tally_of};
 ghost use Rattle.outside.specs.Others.{first_other};
-ghost use Rattle.book.specs.Outgoing.{HasFront, HasAll, IsLeft, IsMendable, log_lines};
+ghost use Rattle.book_opening.specs.Outgoing.{HasFront, HasAll, IsLeft, IsMendable, log_lines};
 ghost use Rattle.book.specs.Progress.{HasInputs, IsOneMore};
 ghost use Rattle.book.specs.Book.{work_of, AreApplied, IsFrontier, lines_upto};
 
 use crate::alone::work_all;
-use crate::errors::{BookError, FlushError};
-use crate::names::{RunName, StartName};
-use crate::opening::{Replayed, begin, mend};
+use crate::errors::FlushError;
+use crate::names::RunName;
 use crate::order::{Done, Order};
-use crate::outgoing::{add_lines, write_out};
 use crate::progress::Progress;
 use crate::ring::{RingEnd, RingHead};
-use crate::tally::Tally;
-use entry_step::{Ready, Steps};
+use book_opening::{
+    BookError, Present, Replayed, StartName, Tally, add_lines, begin, mend, write_out,
+};
+use conf_index::Ready;
+use entry_step::Steps;
 use outside::Sink;
 use std::alloc::Global;
 use std::marker::Model;
@@ -63,7 +66,7 @@ impl<S: StartName, N: RunName, O: Sink> Model for Book<S, N, O> {
 
     ghost view = { λ b. record { entries = b.progress.entries; gate = b.progress.gate; cells = b.progress.cells; made = b.progress.made; frontier = b.frontier; tally = b.tally; sink = O.tells b.outbox; unwritten = b.unwritten } };
 
-    ghost invariant = { λ b. IsBook S.start S.kept S.outbox b.ring.received b.progress.entries b.progress.gate.marks b.frontier b.tally (O.tells b.outbox) b.unwritten };
+    ghost invariant = { λ b. IsBook S.flat S.kept S.outbox b.ring.received b.progress.entries b.progress.gate.marks b.frontier b.tally (O.tells b.outbox) b.unwritten };
 }
 
 /// A book at its end: its outbox, and what the records of all entries count, those with which the run began among them.
@@ -86,6 +89,13 @@ impl<S: StartName, N: RunName, O: Sink> Book<S, N, O> {
     /// and the outbox is compared with their lines: where its first other byte is a 0, as a power cut may leave it, the
     /// outbox is cut there. No entry came out of the ring, and nothing is written yet.
     ///
+    /// The first of the entries is a Config of moment 0, their numbers are 1, 2, 3 and so on, no moment falls, and each
+    /// value fits the configuration in force where it stands. `epochs` are the configurations of the Configs among them,
+    /// in the same order, each made ready. At each Config but the first the run goes over to the next of them: what goes
+    /// on under it is carried over, open problems that are gone are recovered, and the configuration before it is
+    /// dropped. The last one comes back, with where the problems come from that are open still: it is in force behind
+    /// these entries, and all other calls take it.
+    ///
     /// # Errors
     ///
     /// `OutboxAhead` comes exactly where the outbox holds more bytes than the lines of these entries have,
@@ -93,26 +103,29 @@ impl<S: StartName, N: RunName, O: Sink> Book<S, N, O> {
     /// outbox comes back with the bytes that it held.
     pub fn new(
         alloc: Global,
-        ready: &Ready,
+        epochs: Vec<Ready>,
         kept: &[Numbered],
         ring: RingEnd<S, N>,
         outbox: O,
-    ) -> Result<Book<S, N, O>, (O, BookError)>
-        requires conf { ready.now ≡ S.start.stage }
+    ) -> Result<(Book<S, N, O>, Ready), (O, BookError)>
+        requires distinct { (text : List ℕ) → AreDistinct (S.flat text) }
         requires kept { kept.now ≡ S.kept }
-        requires whole { IsWholeLog S.start kept.now }
+        requires some { 0 < length S.kept }
+        requires whole { IsFull (log_of S.kept) × FitsLog S.flat (log_of S.kept) }
+        requires epochs { epochs.items ≡ map (λ text. first_stage (S.flat text)) (config_texts S.kept) }
         requires received { ring.received ≡ [] }
         requires outbox { O.tells outbox ≡ S.outbox }
-        ensures entries { IfOk result (λ book. (book.entries ≡ []) × (book.frontier ≡ 0)) }
-        ensures front { IfOk result (λ book. HasFront S.outbox book.sink (log_lines S.start (log_of kept.now))) }
-        ensures unwritten { IfOk result (λ book. book.unwritten ≡ drop book.sink.held (log_lines S.start (log_of kept.now))) }
-        ensures mendable { IfOk result (λ _. IsMendable S.outbox (log_lines S.start (log_of kept.now))) }
+        ensures ready { IfOk result (λ made. made.1 ≡ S.start.stage) }
+        ensures entries { IfOk result (λ made. (made.0.entries ≡ []) × (made.0.frontier ≡ 0)) }
+        ensures front { IfOk result (λ made. HasFront S.outbox made.0.sink (log_lines S.flat (log_of S.kept))) }
+        ensures unwritten { IfOk result (λ made. made.0.unwritten ≡ drop made.0.sink.held (log_lines S.flat (log_of S.kept))) }
+        ensures mendable { IfOk result (λ _. IsMendable S.outbox (log_lines S.flat (log_of S.kept))) }
         ensures back { IfErr result (λ refused. IsLeft S.outbox (O.tells refused.0)) }
         ensures ahead { IfErr result (λ refused. (held : ℕ) (lines : ℕ) → refused.1 ≡ BookError.OutboxAhead held lines
-            → (held ≡ S.outbox.held) × (lines ≡ length (log_lines S.start (log_of kept.now))) × (lines < held)) }
+            → (held ≡ S.outbox.held) × (lines ≡ length (log_lines S.flat (log_of S.kept))) × (lines < held)) }
         ensures differs { IfErr result (λ refused. (at : ℕ) → refused.1 ≡ BookError.OutboxDiffers at
-            → (S.outbox.held ≤ length (log_lines S.start (log_of kept.now))) × (at < S.outbox.held)
-            × IfSome S.outbox.bytes (λ b. (first_other 0 (log_lines S.start (log_of kept.now)) b ≡ Some at)
+            → (S.outbox.held ≤ length (log_lines S.flat (log_of S.kept))) × (at < S.outbox.held)
+            × IfSome S.outbox.bytes (λ b. (first_other 0 (log_lines S.flat (log_of S.kept)) b ≡ Some at)
             × (get_or b at 0 ≢ 0))) }
         ensures cause { IfErr result (λ refused. refused.1 ≡ BookError.OutboxFault
             → Rose S.outbox.faults (O.tells refused.0).faults) }
@@ -122,12 +135,12 @@ impl<S: StartName, N: RunName, O: Sink> Book<S, N, O> {
             return Err((outbox, BookError::OutOfMemory));
         }
         let mut outbox = outbox;
-        let replayed = match begin::<S, O>(alloc, ready, kept, &mut outbox) {
+        let replayed = match begin::<S, O>(alloc, epochs, kept, &mut outbox) {
             Ok(replayed) => replayed,
             Err(error) => return Err((outbox, error)),
         };
         let Replayed {
-            cells,
+            present: Present { ready, cells },
             tally,
             other,
             missing,
@@ -135,14 +148,15 @@ impl<S: StartName, N: RunName, O: Sink> Book<S, N, O> {
         if let Err(error) = mend(&mut outbox, tally.bytes, other) {
             return Err((outbox, error));
         }
-        Ok(Book {
+        let book = Book {
             progress: Progress::new(alloc, count as u64, cells),
             ring,
             frontier: 0,
             tally,
             unwritten: missing,
             outbox,
-        })
+        };
+        Ok((book, ready))
     }
 
     /// Takes the entries that the ring shows, and answers how many they are, or 2^32 - 1 where they are more. What
@@ -348,7 +362,7 @@ impl<S: StartName, N: RunName, O: Sink> Book<S, N, O> {
     /// What the outbox has, once all lines are written.
     fn told(&self)
         requires { self.now.unwritten ≡ [] }
-        ensures { HasAll S.outbox self.now.sink (lines_upto S.start S.kept self.now.entries self.now.frontier) }
+        ensures { HasAll S.outbox self.now.sink (lines_upto S.flat S.kept self.now.entries self.now.frontier) }
     {
         let _ = &self.unwritten;
     }
@@ -365,7 +379,7 @@ impl<S: StartName, N: RunName, O: Sink> Book<S, N, O> {
         ensures frontier { OnOk result (IsFrontier self.new.gate.marks self.new.entries self.new.frontier) }
         ensures all { OnOk result (self.new.unwritten ≡ []) }
         ensures lines { OnOk result (HasAll S.outbox self.new.sink
-            (lines_upto S.start S.kept self.new.entries self.new.frontier)) }
+            (lines_upto S.flat S.kept self.new.entries self.new.frontier)) }
         ensures later { self.old.sink.faults ≤ self.new.sink.faults }
         ensures cause { IsErrOf result FlushError.OutboxFault → Rose self.old.sink.faults self.new.sink.faults }
         ensures unwritten { IsErrOf result FlushError.OutOfMemory → self.new.sink ≡ self.old.sink }
@@ -411,7 +425,7 @@ impl<S: StartName, N: RunName, O: Sink> Book<S, N, O> {
     /// The outbox, which has some of the lines from the front.
     fn into_outbox(self) -> O
         ensures front { (all : List Numbered) → IsPrefix self.entries all
-            → HasFront S.outbox (O.tells result) (log_lines S.start (log_of (S.kept ++ all))) }
+            → HasFront S.outbox (O.tells result) (log_lines S.flat (log_of (S.kept ++ all))) }
         ensures sink { O.tells result ≡ self.sink }
     {
         let Book {
@@ -429,9 +443,9 @@ impl<S: StartName, N: RunName, O: Sink> Book<S, N, O> {
     fn close(self) -> Closed<O>
         requires frontier { self.frontier ≡ length self.entries }
         requires unwritten { self.unwritten ≡ [] }
-        ensures lines { HasAll S.outbox (O.tells result.outbox) (log_lines S.start (log_of (S.kept ++ self.entries))) }
+        ensures lines { HasAll S.outbox (O.tells result.outbox) (log_lines S.flat (log_of (S.kept ++ self.entries))) }
         ensures sink { O.tells result.outbox ≡ self.sink }
-        ensures counts { tally_of (replay S.start (log_of (S.kept ++ self.entries))) ≡ record
+        ensures counts { tally_of (whole_replay S.flat nothing (log_of (S.kept ++ self.entries))) ≡ record
             { problems = result.problems; recoveries = result.recoveries; messages = result.messages; bytes = result.bytes } }
     {
         let Book {
@@ -467,11 +481,11 @@ impl<S: StartName, N: RunName, O: Sink> Book<S, N, O> {
     ) -> Result<Closed<O>, (O, FlushError)>
         requires conf { ready.now ≡ S.start.stage }
         ensures lines { IfOk result (λ closed. HasAll S.outbox (O.tells closed.outbox)
-            (log_lines S.start (log_of (S.kept ++ head.sent)))) }
-        ensures counts { IfOk result (λ closed. tally_of (replay S.start (log_of (S.kept ++ head.sent))) ≡ record
+            (log_lines S.flat (log_of (S.kept ++ head.sent)))) }
+        ensures counts { IfOk result (λ closed. tally_of (whole_replay S.flat nothing (log_of (S.kept ++ head.sent))) ≡ record
             { problems = closed.problems; recoveries = closed.recoveries; messages = closed.messages; bytes = closed.bytes }) }
         ensures front { IfErr result (λ refused. HasFront S.outbox (O.tells refused.0)
-            (log_lines S.start (log_of (S.kept ++ head.sent)))) }
+            (log_lines S.flat (log_of (S.kept ++ head.sent)))) }
         ensures later { IfOk result (λ closed. self.sink.faults ≤ (O.tells closed.outbox).faults) }
         ensures later_err { IfErr result (λ refused. self.sink.faults ≤ (O.tells refused.0).faults) }
         ensures cause { IfErr result (λ refused. refused.1 ≡ FlushError.OutboxFault

@@ -1,7 +1,8 @@
 //! The ends of a ring cross threads.
 
-use crate::names::{RunName, StartName};
+use crate::names::RunName;
 use crate::ring::{RingEnd, RingHead};
+use book_opening::StartName;
 
 fn is_send<T: Send>() {}
 

@@ -8,12 +8,12 @@ ghost use Rattle.syncer_gate.specs.Marks.{is_open, is_pending};
 ghost use Rattle.std.specs.List.{list_any};
 ghost use Rattle.trigger_state.specs.Stages.{Stage};
 ghost use Rattle.entry_step.specs.Parts.{IsPartOf, IsSame};
-ghost use Rattle.book.specs.Entries.{point};
 ghost use Rattle.book.specs.Progress.{entry_at, entries_with, AreHere, IsAmong, AreWithin, IsBlank, AreReady, AreOutputs, IsKept, IsWorkedIn, IsClaim};
 
-use crate::names::StartName;
 use crate::order::{Done, Order};
-use entry_step::{Cells, Part, Ready, Steps, WorkedOut, step, work_out};
+use book_opening::StartName;
+use conf_index::Ready;
+use entry_step::{Cells, Part, Steps, WorkedOut, step, work_out};
 use std::alloc::Global;
 use std::marker::PhantomData;
 use std::sync::ledger::Ledger;
@@ -97,7 +97,6 @@ fn inputs_of<S: StartName>(
 }
 
 /// Spare cells, or new ones where there are none.
-#[tactic(auto, using(crate::proofs::Claiming::blank_at))]
 fn scratch_of<S: StartName>(
     alloc: Global,
     ready: &Ready,
@@ -346,7 +345,7 @@ pub(crate) fn take_batch<S: StartName>(
         (chosen (feet_of S.start.stage.conf) claims.old entries.now limit)) }
     ensures gate { OnOk result (claims.new ≡ claimed claims.old
         (chosen (feet_of S.start.stage.conf) claims.old entries.now limit)) }
-    ensures some { IfOk result (λ taken. IfSome taken (IsClaim (point S.start S.kept) entries.now claims.old claims.new)) }
+    ensures some { IfOk result (λ taken. IfSome taken (IsClaim S.start entries.now claims.old claims.new)) }
     ensures few { IfOk result (λ taken. IfSome taken (λ batch. (0 < length batch.numbers)
         × (length batch.numbers ≤ limit))) }
     ensures none { IfOk result (λ taken. IfNone taken (claims.new ≡ claims.old)) }

@@ -3,8 +3,9 @@
 
 ghost use Rattle.book.specs.Schedule.{AtFrontier, EveryScheduleFacts};
 
-/// No list of steps breaks what holds: no entry has gone past an earlier one that it conflicts with, the cells stand
-/// for the applied entries, and the records kept of each applied entry are those of its place in one thread's replay.
+/// No list of steps breaks what holds, where each entry that is offered is behind what stood before: no entry has gone
+/// past an earlier one that it conflicts with, the cells stand for the applied entries, and the records kept of each
+/// applied entry are those of its place in one thread's replay.
 pub fn every_schedule_holds()
     ensures { EveryScheduleFacts }
 {}

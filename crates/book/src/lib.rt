@@ -14,31 +14,33 @@
 //! the ring.
 //!
 //! A book goes through these states. It is made behind the entries that the journal kept, which it replays and doesn't
-//! keep ([`Book::new`]); an outbox that holds more than their lines is refused. Then any calls may come, from one thread
+//! keep ([`Book::new`]); an outbox that holds more than their lines is refused. These may hold several Configs: each but
+//! the first carries over what goes on under it. Through the ring no Config goes: one configuration, that of the last
+//! Config, is in force from then on. Then any calls may come, from one thread
 //! at a time. Where the outbox fails, some lines from the front are out, and the next flush goes on behind them.
 //! Where memory is refused nothing is lost. At the end all open batches are given back, and one thread works out what
 //! is left.
 //!
-//! A run has two names, which stand for contracts alone. [`StartName`] is with what it begins: what stood before all
-//! entries, with the configuration in force, the entries that its journal kept, which don't go through the ring, and
-//! what its outbox told. [`RunName`] is which
-//! ring is its own. Two ends with the same names are of one ring, so a call that takes both asks for nothing more,
-//! also where one of them comes out of a lock.
+//! A run has two names, which stand for contracts alone. `StartName`, of `book_opening`, is with what it begins: the configuration that
+//! each text stands for, the entries that its journal kept, which don't go through the ring, what they leave for those
+//! that follow, and what its outbox told. [`RunName`] is which ring is its own. Two ends with the same names are of one
+//! ring, so a call that takes both asks for nothing more, also where one of them comes out of a lock.
 //!
 //! ```text
 //! let ring = Ring::<S>::new(alloc, 4096)?;                    // no entry was sent
 //! let (mut head, end) = ring.named::<N>();                    // N is picked for this ring
-//! let mut book = Book::<S, N, O>::new(alloc, ready, kept, end, outbox)?;
+//! // `epochs` are the configurations of the kept Configs, `ready` is that of the last one
+//! let (mut book, ready) = Book::<S, N, O>::new(alloc, epochs, kept, end, outbox)?;
 //! if let Err(entry) = head.push(entry) {                      // no slot was free: the entry is here again
 //!     ..
 //! }
 //! book.pull(alloc)?;                                          // under a lock, as are the other calls of the book
-//! if let Some(order) = book.claim(alloc, ready, 128)? {
-//!     let done = order.run(alloc, ready, &mut steps)?;        // outside the lock
-//!     book.apply(alloc, ready, done, &mut steps)?;
+//! if let Some(order) = book.claim(alloc, &ready, 128)? {
+//!     let done = order.run(alloc, &ready, &mut steps)?;       // outside the lock
+//!     book.apply(alloc, &ready, done, &mut steps)?;
 //!     book.flush(alloc)?;
 //! }
-//! let closed = book.finish(alloc, ready, head)?;              // all lines are out
+//! let closed = book.finish(alloc, &ready, head)?;             // all lines are out
 //! ```
 //!
 //! A function with a parameter `S: StartName` or `N: RunName` is proved for every name. Its caller passes `Brand`,
@@ -51,8 +53,6 @@
 //! entries, and the records kept of each applied entry are those of its place in one thread's replay. Where all
 //! entries up to a place are applied, the records kept of them are that replay. The laws speak of a log behind any good
 //! start; the book's cells and records are such ones, over what the kept entries leave.
-//!
-//! [`write_all`], [`add_lines`], [`behind`] and [`Tally`] serve runs of one thread too.
 #![tactic(auto)]
 
 mod alone;
@@ -62,19 +62,12 @@ mod errors;
 mod inputs;
 pub mod laws;
 mod names;
-mod opening;
 mod order;
-mod outgoing;
 mod progress;
 mod ring;
-mod tally;
-mod writing;
 
 pub use book::{Book, Closed};
-pub use errors::{BookError, FlushError};
-pub use names::{RunName, StartName};
+pub use errors::FlushError;
+pub use names::RunName;
 pub use order::{Done, Order};
-pub use outgoing::{add_lines, behind};
 pub use ring::{Ring, RingEnd, RingHead};
-pub use tally::Tally;
-pub use writing::write_all;

@@ -3,8 +3,9 @@
 ghost use Rattle.std.specs.Prelude.{◌≡◌, get_or, IfOk, IfErr, OnOk};
 ghost use Rattle.entry_step.specs.Parts.{IsCounted};
 
-use crate::names::StartName;
-use entry_step::{Cells, Part, Ready, Steps, WorkedOut, work_out};
+use book_opening::StartName;
+use conf_index::Ready;
+use entry_step::{Cells, Part, Steps, WorkedOut, work_out};
 use std::alloc::Global;
 use std::marker::{Model, PhantomData};
 use std::sync::ledger::Ledger;

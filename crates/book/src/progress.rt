@@ -13,7 +13,7 @@ ghost use Rattle.syncer_gate.specs.declared.marks.Mark.TheVariants as Mark;
 ghost use Rattle.std.specs.Vec.{vec_len, vec_capacity};
 ghost use Rattle.entry_step.specs.Laws.{IsGood};
 ghost use Rattle.entry_step.specs.Represents.{Holds};
-ghost use Rattle.book.specs.Entries.{IsWholeLog, point};
+ghost use Rattle.book.specs.Entries.{IsWholeLog};
 ghost use Rattle.book.specs.Progress.{IsGoing, HasInputs, IsOneMore};
 ghost use Rattle.syncer_gate.specs.Marks.{is_open, is_pending, reopened};
 ghost use Rattle.std.specs.List.{list_any};
@@ -21,10 +21,12 @@ ghost use Rattle.std.specs.List.{list_any};
 use crate::inputs::{
     Listed, Outputs, is_open_here, order_of, outputs_of, put_by, put_in, take_batch, work_in,
 };
-use crate::names::{RunName, StartName};
+use crate::names::RunName;
 use crate::order::{Done, Order};
 use crate::ring::RingEnd;
-use entry_step::{Cells, Ready, Steps};
+use book_opening::StartName;
+use conf_index::Ready;
+use entry_step::{Cells, Steps};
 use std::alloc::Global;
 use std::marker::{Model, PhantomData};
 use std::sync::ledger::Ledger;
@@ -48,14 +50,13 @@ pub(crate) struct Progress<S: StartName> {
 
 impl<S: StartName> Model for Progress<S> {
     ghost use Rattle.std.specs.Prelude.{◌≡◌, ◌≤◌, All};
-    ghost use Rattle.book.specs.Entries.{point};
     ghost use Rattle.book.specs.Progress.{ProgressView, IsBlank, IsGoing};
 
     ghost Value = { ProgressView };
 
     ghost view = { λ p. record { entries = p.entries.items; gate = p.claims; cells = p.cells; made = p.made.items } };
 
-    ghost invariant = { λ p. IsGoing (point S.start S.kept) (record { entries = p.entries.items; gate = p.claims; cells = p.cells; made = p.made.items }) × All (IsBlank S.start.stage) p.spare.items × (p.before ≡ (point S.start S.kept).number) × (p.before ≤ 4294967295) };
+    ghost invariant = { λ p. IsGoing S.start (record { entries = p.entries.items; gate = p.claims; cells = p.cells; made = p.made.items }) × All (IsBlank S.start.stage) p.spare.items × (p.before ≡ S.start.number) × (p.before ≤ 4294967295) };
 }
 
 /// The records at a place, none where there is no such place.
@@ -80,14 +81,14 @@ fn pull_known<S: StartName, N: RunName>(
 )
     requires known { count ≤ length ring.old.known }
     requires received { entries.old.items ≡ ring.old.received }
-    requires whole { IsWholeLog (point S.start S.kept) entries.old.items }
+    requires whole { IsWholeLog S.start entries.old.items }
     requires room { vec_len entries.old + count ≤ vec_capacity entries.old }
     requires rows { vec_len made.old + count ≤ vec_capacity made.old }
     ensures received { entries.new.items ≡ ring.new.received }
     ensures fifo { ring.new.received ++ ring.new.known ≡ ring.old.received ++ ring.old.known }
     ensures capacity { ring.new.capacity ≡ ring.old.capacity }
     ensures count { length ring.new.received ≡ length ring.old.received + count }
-    ensures whole { IsWholeLog (point S.start S.kept) entries.new.items }
+    ensures whole { IsWholeLog S.start entries.new.items }
     ensures more { entries.new.items ≡ entries.old.items ++ take count ring.old.known }
     ensures size { length made.new.items ≡ length made.old.items + count }
     ensures made { (n : ℕ) → get_or made.new.items n [] ≡ get_or made.old.items n [] }
@@ -99,12 +100,12 @@ fn pull_known<S: StartName, N: RunName>(
 }
 
 impl<S: StartName> Progress<S> {
-    /// The work behind the entries with which a run begins, of which these cells hold what is left: no entry came yet.
+    /// The work behind what stood before a run, of which these cells hold what is left: no entry came yet.
     pub(crate) fn new(alloc: Global, before: u64, cells: Cells) -> Progress<S>
-        requires before { before ≡ (point S.start S.kept).number }
+        requires before { before ≡ S.start.number }
         requires few { before ≤ 4294967295 }
-        requires good { IsGood (point S.start S.kept) }
-        requires cells { Holds (point S.start S.kept) cells [] }
+        requires good { IsGood S.start }
+        requires cells { Holds S.start cells [] }
         ensures entries { result.entries ≡ [] }
         ensures gate { result.gate ≡ record { first = before + 1; marks = []; next = 1 } }
     {
@@ -347,16 +348,17 @@ impl<S: StartName> Progress<S> {
     /// The records of the entry at a place, from 0 on, where it is applied.
     pub(crate) fn records(&self, place: usize) -> &[Rec]
         ensures made { result.now ≡ get_or self.now.made place [] }
+        ensures whole { IsWholeLog S.start self.now.entries }
         ensures next { place < length self.now.entries → get_or self.now.gate.marks place Mark.Pending ≡ Mark.Applied
-            → replay (point S.start S.kept) (log_of (take (place + 1) self.now.entries))
-            ≡ replay (point S.start S.kept) (log_of (take place self.now.entries)) ++ result.now }
+            → replay S.start (log_of (take (place + 1) self.now.entries))
+            ≡ replay S.start (log_of (take place self.now.entries)) ++ result.now }
     {
         kept_at(&self.made, place)
     }
 
     /// What holds of it at all times.
     pub(crate) fn going(&self)
-        ensures { IsGoing (point S.start S.kept) self.now }
+        ensures { IsGoing S.start self.now }
     {
         let _ = &self.entries;
     }

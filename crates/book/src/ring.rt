@@ -4,14 +4,15 @@ ghost use Rattle.std.specs.Prelude.{◌≡◌, ◌+◌, ◌<◌, ◌≤◌, [], 
 ghost use mathlib.Core.List.{IsPrefix};
 ghost use Rattle.book.specs.Entries.{IsWholeLog};
 
-use crate::names::{RunName, StartName};
+use crate::names::RunName;
+use book_opening::StartName;
 use rtrb::{Consumer, Producer, Protocol, PushError, RingBuffer};
 use std::alloc::Global;
 use std::marker::{Model, PhantomData};
 use zbx_types::{Numbered, OutOfMemory};
 
-/// What may be sent: an entry with which the entries that a run began with, and those sent behind them, are a whole
-/// log.
+/// What may be sent: an entry with which the entries sent are a whole log behind those that a run began with. No Config
+/// is.
 struct LogRule<S> {
     of: PhantomData<S>,
 }
@@ -20,7 +21,7 @@ impl<S: StartName> Protocol<Numbered> for LogRule<S> {
     ghost use Rattle.std.specs.Prelude.{◌++◌, ◌∷◌, []};
     ghost use Rattle.book.specs.Entries.{IsWholeLog};
 
-    ghost allows = { λ before x. IsWholeLog S.start (S.kept ++ (before ++ x ∷ [])) };
+    ghost allows = { λ before x. IsWholeLog S.start (before ++ x ∷ []) };
 }
 
 /// A ring that nothing was sent through yet, and whose ends have no name. Contracts see by what it is known, and its
@@ -115,10 +116,10 @@ impl<S: StartName, N: RunName> Model for RingEnd<S, N> {
 }
 
 impl<S: StartName, N: RunName> RingHead<S, N> {
-    /// Sends an entry, or hands it back where no slot is free. Its number has to follow: with it, the entries that
-    /// the run began with and those sent behind them are a whole log. Takes no memory.
+    /// Sends an entry, which is no Config, or hands it back where no slot is free. Its number has to follow: with it,
+    /// the entries sent are a whole log behind those that the run began with. Takes no memory.
     pub fn push(&mut self, entry: Numbered) -> Result<(), Numbered>
-        requires { IsWholeLog S.start (S.kept ++ (self.old.sent ++ entry ∷ [])) }
+        requires { IsWholeLog S.start (self.old.sent ++ entry ∷ []) }
         ensures sent { OnOk result (self.new.sent ≡ self.old.sent ++ entry ∷ []) }
         ensures room { OnOk result (self.old.free ≤ self.new.free + 1) }
         ensures back { IfErr result (λ back. back ≡ entry) }
@@ -148,15 +149,14 @@ impl<S: StartName, N: RunName> RingHead<S, N> {
 }
 
 impl<S: StartName, N: RunName> RingEnd<S, N> {
-    /// Takes the oldest entry, where the ring shows one. With it, what was received behind the entries that the run
-    /// began with is a whole log. What the head sends meanwhile may show or not.
+    /// Takes the oldest entry, where the ring shows one. With it, what was received is a whole log behind the entries
+    /// that the run began with. What the head sends meanwhile may show or not.
     #[tactic(auto, using(crate::proofs::Numbers::number_behind))]
     pub fn take(&mut self) -> Option<Numbered>
         ensures received { IfSome result (λ entry. self.new.received ≡ self.old.received ++ entry ∷ []) }
         ensures known { IfSome result (λ entry. IsPrefix self.old.known (entry ∷ self.new.known)) }
-        ensures number { IfSome result (λ entry. entry.number ≡ S.start.number
-            + (length S.kept + length self.new.received)) }
-        ensures whole { IfSome result (λ _. IsWholeLog S.start (S.kept ++ self.new.received)) }
+        ensures number { IfSome result (λ entry. entry.number ≡ S.start.number + length self.new.received) }
+        ensures whole { IfSome result (λ _. IsWholeLog S.start self.new.received) }
         ensures none { IfNone result ((self.new.received ≡ self.old.received) × (self.new.known ≡ [])) }
         ensures succeeds { 0 < length self.old.known → IsSome result }
         ensures capacity { self.new.capacity ≡ self.old.capacity }
@@ -173,16 +173,16 @@ impl<S: StartName, N: RunName> RingEnd<S, N> {
         self.consumer.slots()
     }
 
-    /// Takes the oldest entry, which is known to be there. With it, what was received behind the entries that the run
-    /// began with is a whole log.
+    /// Takes the oldest entry, which is known to be there. With it, what was received is a whole log behind the
+    /// entries that the run began with.
     #[tactic(auto, using(crate::proofs::Numbers::number_behind))]
     pub fn take_known(&mut self) -> Numbered
         requires { 0 < length self.old.known }
         ensures received { self.new.received ≡ self.old.received ++ result ∷ [] }
         ensures known { self.old.known ≡ result ∷ self.new.known }
         ensures fifo { self.new.received ++ self.new.known ≡ self.old.received ++ self.old.known }
-        ensures number { result.number ≡ S.start.number + (length S.kept + length self.new.received) }
-        ensures whole { IsWholeLog S.start (S.kept ++ self.new.received) }
+        ensures number { result.number ≡ S.start.number + length self.new.received }
+        ensures whole { IsWholeLog S.start self.new.received }
         ensures capacity { self.new.capacity ≡ self.old.capacity }
     {
         self.consumer.pop_known()
@@ -194,9 +194,8 @@ impl<S: StartName, N: RunName> RingEnd<S, N> {
         ensures none { IsNone result ↔ (self.old.received ≡ head.old.sent) }
         ensures received { IfSome result (λ entry. self.new.received ≡ self.old.received ++ entry ∷ []) }
         ensures same { IfNone result (self.new.received ≡ self.old.received) }
-        ensures number { IfSome result (λ entry. entry.number ≡ S.start.number
-            + (length S.kept + length self.new.received)) }
-        ensures whole { IfSome result (λ _. IsWholeLog S.start (S.kept ++ self.new.received)) }
+        ensures number { IfSome result (λ entry. entry.number ≡ S.start.number + length self.new.received) }
+        ensures whole { IfSome result (λ _. IsWholeLog S.start self.new.received) }
         ensures free { self.new.received ≡ head.new.sent → head.new.free ≡ head.new.capacity }
         ensures end { self.new.capacity ≡ self.old.capacity }
         ensures head { (head.new.sent ≡ head.old.sent) × (head.new.capacity ≡ head.old.capacity) }

@@ -1,60 +1,51 @@
 -- Rings into which Ticks go.
-use Rattle.std.proofs.Common.{◌≡◌, ◌<◌, ◌+◌, ◌++◌, ◌==◌, ◌∷◌, [], ℕ, Bool, true, false, eqb-true, List, length, refl, sym, ap, subst, ◌∙◌, arith, length-append, append_assoc}
-use Rattle.std.proofs.lemmas.List.{reverse-append, length-reverse}
+use Rattle.std.proofs.Common.{◌≡◌, ◌≤◌, ◌+◌, ◌++◌, ◌∷◌, [], ℕ, List, length, map, refl, sym, ap, ap₂, subst, ◌∙◌, arith, length-append}
+use Rattle.std.proofs.lemmas.List.{reverse-append, map-append}
+use Rattle.zbx_types.specs.Entries.{moment_of}
+use Rattle.zbx_types.specs.Ids.{ids_from}
+use Rattle.zbx_types.specs.declared.conf.Conf.{Conf}
 use Rattle.zbx_types.specs.declared.entries.Numbered.{Numbered}
 use Rattle.zbx_types.specs.declared.entries.Entry.TheVariants.{Config, Tick}
-use Rattle.entry_step.specs.Log.{log_of, last_moment, IsFull, Fits}
-use Rattle.entry_step.specs.Start.{Start, first_start}
+use Rattle.entry_step.specs.InForce.{IsPlain, behind_all}
+use Rattle.entry_step.specs.Log.{log_of, last_moment, IsFitting, Suits}
+use Rattle.entry_step.specs.Start.{Start}
+use Rattle.entry_step.proofs.Members.{each_append}
 use Rattle.book.specs.Entries.{IsWholeLog}
-use Rattle.book.proofs.Numbers.{whole_of}
 use Rattle.book_examples.specs.Ticks.{HasTicks}
 
+-- the numbers of entries with one more
+numbers_more : (k : ℕ) (xs : List Numbered) (x : Numbered) → map (λ (e : Numbered). e.number) xs ≡ ids_from k xs → x.number ≡ k + length xs → map (λ (e : Numbered). e.number) (xs ++ x ∷ []) ≡ ids_from k (xs ++ x ∷ [])
+numbers_more k [] x off at = let q : x.number ≡ k = omega arith in rw q refl
+numbers_more k (y ∷ xs) x off at =
+    let a : y.number ≡ k = cc in
+    let t : map (λ (e : Numbered). e.number) xs ≡ ids_from (k + 1) xs = cc in
+    let r = numbers_more (k + 1) xs x t (omega arith) in
+    rw (a, r) refl
+
 -- one more Tick goes in
-pub more_ticks : (start : Start) (kept sent : List Numbered) (next : ℕ) (e : Numbered) → e ≡ record { number = next; entry = Tick 0 } → HasTicks start kept sent next → HasTicks start kept (sent ++ e ∷ []) (next + 1)
-more_ticks start kept sent next e is has =
-    let all = kept ++ sent in
-    let next_log : log_of (kept ++ (sent ++ e ∷ [])) ≡ e ∷ log_of all = ap log_of (sym (append_assoc kept sent (e ∷ []))) ∙ reverse-append all (e ∷ []) in
-    let long : length (kept ++ (sent ++ e ∷ [])) ≡ length all + 1 = ap (λ (l : List Numbered). length l) (sym (append_assoc kept sent (e ∷ []))) ∙ length-append all (e ∷ []) in
-    let count : length (log_of all) ≡ length all = length-reverse all in
+pub more_ticks : (start : Start) (sent : List Numbered) (next : ℕ) (e : Numbered) → e ≡ record { number = next; entry = Tick 0 } → HasTicks start sent next → HasTicks start (sent ++ e ∷ []) (next + 1)
+more_ticks start sent next e is has =
     let n = has.next_is in
-    let some = has.some in
-    let size = length-append kept sent in
+    let m = has.moment in
     let number : e.number ≡ next = ap (λ (x : Numbered). x.number) is in
+    let long = length-append sent (e ∷ []) in
     record {
-      first = has.first;
-      some = has.some;
-      full = subst IsFull (sym next_log) (has.full, (omega arith));
-      fits = subst (Fits start) (sym next_log) (fit e is (omega arith));
+      whole = record {
+        numbers = numbers_more (start.number + 1) sent e has.whole.numbers (omega arith);
+        suits = subst (Suits start) (sym next_log) (subst (λ (x : Numbered). Suits start (x ∷ log_of sent)) (sym is) (has.whole.suits, (omega arith), tt));
+        plain = each_append IsPlain sent (e ∷ []) has.whole.plain (subst IsPlain (sym is) refl, tt);
+      };
       next_is = omega arith;
-      moment = ap (last_moment start) next_log ∙ at_0 e is;
+      moment = ap (last_moment start) next_log ∙ ap (λ (x : Numbered). moment_of x.entry) is;
     }
   where
-    at_0 : (x : Numbered) → x ≡ record { number = next; entry = Tick 0 } → last_moment start (x ∷ log_of (kept ++ sent)) ≡ 0
-    at_0 x same = ap (λ (y : Numbered). last_moment start (y ∷ log_of (kept ++ sent))) same
-
-    other : (n : ℕ) → 0 < n → false ≡ (n == 0)
-    other n l = go (n == 0) refl
-      where
-        go : (b : Bool) → (n == 0) ≡ b → false ≡ b
-        go true q = let none = eqb-true n 0 q in absurd (omega arith)
-        go false q = refl
-
-    fit : (x : Numbered) → x ≡ record { number = next; entry = Tick 0 } → 0 < length (log_of (kept ++ sent)) → Fits start (x ∷ log_of (kept ++ sent))
-    fit x same l =
-        subst (λ (y : Numbered). Fits start (y ∷ log_of (kept ++ sent))) (sym same)
-        ((has.fits.0, other (length (log_of (kept ++ sent))) l), (has.fits.1, (let m = has.moment in omega arith), tt))
-
--- which may be sent
-pub whole_ticks : (start : Start) (kept sent : List Numbered) (next : ℕ) → HasTicks start kept sent next → IsWholeLog start (kept ++ sent)
-whole_ticks start kept sent next has = whole_of start (kept ++ sent) has.first has.full has.fits
+    next_log : log_of (sent ++ e ∷ []) ≡ e ∷ log_of sent
+    next_log = reverse-append sent (e ∷ [])
 
 -- nothing went in yet, behind a configuration
-pub no_ticks : (start : Start) (kept sent : List Numbered) → start ≡ first_start start.stage.conf → kept ≡ record { number = 1; entry = Config 0 [] } ∷ [] → sent ≡ [] → HasTicks start kept sent 2
-no_ticks start kept sent first are none = subst (λ k. HasTicks start k sent 2) (sym are) (subst (λ s. HasTicks start (record { number = 1; entry = Config 0 [] } ∷ []) s 2) (sym none) (record {
-  first = ap (λ (s : Start). s.number) first;
-  some = omega arith;
-  full = (tt, refl);
-  fits = ((tt, refl), (tt, (let m = ap (λ (s : Start). s.moment) first in omega arith), tt));
-  next_is = refl;
-  moment = refl;
-}))
+pub no_ticks : (flat : List ℕ → Conf) (start : Start) (kept sent : List Numbered) → start ≡ behind_all flat (log_of kept) → kept ≡ record { number = 1; entry = Config 0 [] } ∷ [] → sent ≡ [] → HasTicks start sent 2
+no_ticks flat start kept sent first are none =
+    let is : start ≡ behind_all flat (record { number = 1; entry = Config 0 [] } ∷ []) = first ∙ ap (λ (k : List Numbered). behind_all flat (log_of k)) are in
+    let number : start.number ≡ 1 = ap (λ (s : Start). s.number) is in
+    let moment : start.moment ≡ 0 = ap (λ (s : Start). s.moment) is in
+    subst (λ s. HasTicks start s 2) (sym none) (record { whole = record { numbers = refl; suits = tt; plain = tt }; next_is = omega arith; moment = moment })

@@ -3,7 +3,8 @@
 ghost use Rattle.std.specs.Prelude.{◌≡◌, ◌∷◌, []};
 ghost use Rattle.zbx_types.specs.declared.entries.Entry.TheVariants.{Config, Tick};
 
-use book::{Ring, RingEnd, RingHead, RunName, StartName};
+use book::{Ring, RingEnd, RingHead, RunName};
+use book_opening::StartName;
 use std::alloc::Global;
 use std::marker::{Brand, Model};
 use std::test::Fail;
@@ -39,7 +40,7 @@ impl<S: StartName, N: RunName> Model for Ticks<S, N> {
 
     ghost view = { λ t. t.next };
 
-    ghost invariant = { λ t. HasTicks S.start S.kept t.head.sent t.next };
+    ghost invariant = { λ t. HasTicks S.start t.head.sent t.next };
 }
 
 fn tick(number: u64) -> Numbered

@@ -1,5 +1,5 @@
 -- What rules of global correlation close.
-use Rattle.std.proofs.Common.{◌≡◌, ℕ, zero, suc, slice_get, Bool, true, false, ◌&&◌, ◌⊎◌, inl, inr, Option, Some, None, List, [], ◌∷◌, ◌++◌, map, filter, refl, sym, ◌∙◌, ap, subst}
+use Rattle.std.proofs.Common.{◌≡◌, ℕ, Bool, true, false, ◌&&◌, ◌⊎◌, inl, inr, Some, List, [], ◌∷◌, ◌++◌, map, filter, refl, sym, ◌∙◌, ap, subst}
 use Rattle.std.specs.Prelude.{flat_map}
 use Rattle.std.specs.Option.{unwrap_or}
 use Rattle.zbx_types.specs.Ids.{at_id}
@@ -17,23 +17,22 @@ use Rattle.event_correlation.specs.Closings.{closes_first, closed_from, closes_n
 use Rattle.event_correlation.specs.Laws.{HasTagsOf, share_reach}
 use Rattle.event_correlation.specs.declared.answer.Closes.{Closes}
 use Rattle.event_correlation.proofs.LeftOut.{within_reach}
-use Rattle.trigger_state.specs.Stages.{Stage, KeepsIds, home}
+use Rattle.trigger_state.specs.Stages.{Stage, home}
 use Rattle.trigger_state.specs.Problems.{event_in}
 use Rattle.trigger_state.specs.declared.problems.Open.{Open}
 use Rattle.entry_step.specs.Each.{Each}
-use Rattle.entry_step.specs.Order.{order, by_event}
+use Rattle.entry_step.specs.Order.{by_event}
+use Rattle.conf_index.specs.Order.{order}
 use Rattle.entry_step.specs.Due.{by_making}
-use Rattle.entry_step.specs.Index.{some_reaches}
+use Rattle.conf_index.specs.Index.{some_reaches}
 use Rattle.entry_step.specs.Records.{closed_records, problems_open, ruled, ruled_records, begun_with, begun_records}
 use Rattle.entry_step.specs.Represents.{AllAtHome, IsTagged, AllTagged}
 use Rattle.entry_step.proofs.Members.{each_at, each_append, each_filter, each_map, each_all, each_both, each_sub, each_from, each_kept, filter_none, filter_map, filter_flat_map, flat_maps, flat_map_cong, or_false_left, or_false_right, true_or_false}
-use Rattle.zbx_types.proofs.RowLemmas.{at_zero, at_suc}
 use Rattle.entry_step.proofs.Said.{each_flat_map}
 use Rattle.entry_step.proofs.Sorting.{by_event_filter, by_event_each, by_event_map}
 
 -- the open problems of all triggers are in the cells of their own triggers, and have the names of their tags
 pub record AllTidy (stage : Stage) (all : ℕ → List Open) : Type 0 where
-  pub ids : KeepsIds stage
   pub homes : (id : ℕ) → AllAtHome stage id (all id)
   pub tagged : (id : ℕ) → AllTagged stage.conf id (all id)
 
@@ -120,18 +119,6 @@ ruled_is conf stage ready problem all ids found sorted slice c at i f s a =
     ap (λ x. closes_of x problem slice) c
     ∙ ap (closes_of ready.conf problem)
     (a ∙ s ∙ ap (λ x. by_event x event_of found) at ∙ ap (by_event ready event_of) (f ∙ ap (flat_map (λ id. map (λ (o : Open). o.problem) (all id))) i) ∙ open_found ready all)
-
--- whether some rule reaches a trigger, by its place
-pub reached_is : (conf inside : Conf) (reached : List Bool) (id : ℕ) (one : Trigger) (found : Option Bool) → inside ≡ conf → reached ≡ map (some_reaches inside.correlations) inside.triggers → at_id reached id ≡ found → at_id conf.triggers id ≡ Some one
-    → unwrap_or found false ≡ some_reaches conf.correlations one
-reached_is conf inside reached zero one found c r f there = let z : None ≡ Some one = sym (at_zero conf.triggers) ∙ there in absurd (cc)
-reached_is conf inside reached (suc k) one found c r f there =
-    ap (λ o. unwrap_or o false) (sym f ∙ ap (λ bs. at_id bs (suc k)) (r ∙ ap (λ x. map (some_reaches x.correlations) x.triggers) c) ∙ at_suc (map (some_reaches conf.correlations) conf.triggers) k ∙ at conf.triggers k (sym (at_suc conf.triggers k) ∙ there))
-  where
-    at : (ts : List Trigger) (k : ℕ) → slice_get ts k ≡ Some one → slice_get (map (some_reaches conf.correlations) ts) k ≡ Some (some_reaches conf.correlations one)
-    at [] k e = cc
-    at (t ∷ ts) zero e = let q : t ≡ one = cc in ap (λ x. Some (some_reaches conf.correlations x)) q
-    at (t ∷ ts) (suc k) e = at ts k e
 
 -- What rules close for a problem of a trigger is in the trigger's reach
 abbrev its_trigger : Stage → Trigger → Rec → Trigger

@@ -11,7 +11,7 @@ use Rattle.event_correlation.specs.declared.answer.Closes.{Closes}
 use Rattle.zbx_types.specs.declared.entries.EventId.{EventId}
 use Rattle.zbx_types.specs.declared.entries.Rec.{Rec}
 use Rattle.zbx_types.specs.declared.entries.Stored.{Stored}
-use Rattle.trigger_state.specs.Stages.{Stage, KeepsIds, home}
+use Rattle.trigger_state.specs.Stages.{Stage, OwnsEvents, home}
 use Rattle.trigger_state.specs.Problems.{event_in, lands, absorbed_all}
 use Rattle.entry_step.specs.Seen.{shown_values, Seen, seen_in}
 use Rattle.entry_step.specs.Evaluation.{call_value}
@@ -89,24 +89,24 @@ last_lands : (stage : Stage) (number now id : ℕ) (K : ℕ → Bool) (problem :
 last_lands stage number now id K problem true h = (λ j q. in_only K (home stage (event_of problem)) j h q, tt)
 last_lands stage number now id K problem false h = about_lands stage (event_of problem) K (first_records_of stage.conf id problem now) h (due_about stage.conf id problem [] now)
 
-pub begun_lands : (stage : Stage) (number now : ℕ) (values : List (Option Held)) (all : ℕ → List Open) (id : ℕ) (trigger : Trigger) (K : ℕ → Bool) (closes : Closes) → KeepsIds stage → K id ≡ true → Each (λ e. K (home stage e) ≡ true) closes.old
+pub begun_lands : (stage : Stage) (number now : ℕ) (values : List (Option Held)) (all : ℕ → List Open) (id : ℕ) (trigger : Trigger) (K : ℕ → Bool) (closes : Closes) → OwnsEvents stage number → K id ≡ true → Each (λ e. K (home stage e) ≡ true) closes.old
     → LandIn stage K (begun_with stage number now all id (problem_of stage.conf number now values id trigger) closes)
 unfolding problem_of
-begun_lands stage number now values all id trigger K closes ids own old =
+begun_lands stage number now values all id trigger K closes homes own old =
     let problem : Rec = problem_of stage.conf number now values id trigger in
     let event : EventId = record { number = number; trigger = id } in
-    let self : K (home stage event) ≡ true = ap K (ids event) ∙ own in (
+    let self : K (home stage event) ≡ true = ap K (homes id) ∙ own in (
       λ j q. in_only K (home stage event) j self q,
       land_append stage K (ruled_records stage number now all closes.old) (last_records stage.conf number now id problem closes.new)
           (closed_lands stage number now causes.Correlation K (λ e. all (home stage e)) closes.old old) (last_lands stage number now id K problem closes.new self),
     )
 
-pub verdict_lands : (stage : Stage) (number now : ℕ) (values : List (Option Held)) (all : ℕ → List Open) (id : ℕ) (trigger : Trigger) (K : ℕ → Bool) → KeepsIds stage → K id ≡ true
+pub verdict_lands : (stage : Stage) (number now : ℕ) (values : List (Option Held)) (all : ℕ → List Open) (id : ℕ) (trigger : Trigger) (K : ℕ → Bool) → OwnsEvents stage number → K id ≡ true
     → Each (λ e. K (home stage e) ≡ true) (ruled stage (problem_of stage.conf number now values id trigger) all).old → (v : Verdict) → EachClosed (λ e. K (home stage e) ≡ true) v → LandIn stage K (verdict_records stage number now values id trigger all v)
 unfolding verdict_records
-verdict_lands stage number now values all id trigger K ids self old Nothing h = tt
-verdict_lands stage number now values all id trigger K ids self old New h = begun_lands stage number now values all id trigger K (ruled stage (problem_of stage.conf number now values id trigger) all) ids self old
-verdict_lands stage number now values all id trigger K ids self old (Close events) h = closed_lands stage number now causes.Expression K (λ e. all id) events h
+verdict_lands stage number now values all id trigger K homes self old Nothing h = tt
+verdict_lands stage number now values all id trigger K homes self old New h = begun_lands stage number now values all id trigger K (ruled stage (problem_of stage.conf number now values id trigger) all) homes self old
+verdict_lands stage number now values all id trigger K homes self old (Close events) h = closed_lands stage number now causes.Expression K (λ e. all id) events h
 
 -- what a verdict closes is among the open problems
 module _ (P : EventId → Type 0) where
@@ -133,13 +133,13 @@ module _ (P : EventId → Type 0) where
       go false b false = tt
 
 -- what the outcome of a verdict makes of the rows
-pub settled_rows : {E : Type 0} (result : Result (Option TriggerOutcome) E) (stage : Stage) (rows : List (List Open)) (id : ℕ) (trigger : Trigger) (held : Bool) (os : List Open) (p r : Option ℤ) (tags : List Tag) (is_value : Bool) (v : Verdict)
+pub settled_rows : {E : Type 0} (result : Result (Option TriggerOutcome) E) (stage : Stage) (number : ℕ) (rows : List (List Open)) (id : ℕ) (trigger : Trigger) (held : Bool) (os : List Open) (p r : Option ℤ) (tags : List Tag) (is_value : Bool) (v : Verdict)
     → v ≡ verdict_over trigger held os p r tags is_value → os ≡ problems_at rows id
-    → IfOk result (λ made. KeepsIds stage → EachClosed (λ e. home stage e ≡ id) v → length rows ≡ length stage.conf.triggers → Absorbed stage rows (outcome_records made) (outcome_rows rows id made))
-    → IfOk result (λ made. AreTidy stage rows → Absorbed stage rows (outcome_records made) (outcome_rows rows id made))
-settled_rows (Ok made) stage rows id trigger held os p r tags is_value v is own h = λ tidy.
-    h tidy.ids (subst (EachClosed (λ e. home stage e ≡ id)) (sym is) (closes_own (λ e. home stage e ≡ id) trigger held os p r tags is_value (subst (AllAtHome stage id) (sym own) (tidy.homes id)))) tidy.size
-settled_rows (Err e) stage rows id trigger held os p r tags is_value v is own h = tt
+    → IfOk result (λ made. OwnsEvents stage number → EachClosed (λ e. home stage e ≡ id) v → length rows ≡ length stage.conf.triggers → Absorbed stage rows (outcome_records made) (outcome_rows rows id made))
+    → IfOk result (λ made. AreTidy stage number rows → Absorbed stage rows (outcome_records made) (outcome_rows rows id made))
+settled_rows (Ok made) stage number rows id trigger held os p r tags is_value v is own h = λ tidy.
+    h tidy.own (subst (EachClosed (λ e. home stage e ≡ id)) (sym is) (closes_own (λ e. home stage e ≡ id) trigger held os p r tags is_value (subst (AllAtHome stage id) (sym own) (tidy.homes id)))) tidy.size
+settled_rows (Err e) stage number rows id trigger held os p r tags is_value v is own h = tt
 
 -- what a trigger adds that is there
 pub judged_is : (stage : Stage) (occasion : Occasion) (items : ℕ → List Stored) (all : ℕ → List Open) (id : ℕ) (trigger : Trigger) → at_id stage.conf.triggers id ≡ Some trigger

@@ -9,16 +9,10 @@ pub mod Histories
 pub mod Phases
 pub mod Represented
 pub mod Orders
-pub mod Behind
-pub mod Meeting
 pub mod Making
 pub mod Replays
 pub mod Feet
-pub mod Naming
-pub mod Listing
 pub mod Planned
-pub mod Packing
-pub mod Dependents
 pub mod Sight
 pub mod Showing
 pub mod Said
@@ -30,11 +24,14 @@ pub mod Taking
 pub mod Turns
 pub mod Sorting
 pub mod Dues
-pub mod Reaches
 pub mod Exchanging
 pub mod Parting
 pub mod Stepped
 pub mod Touching
-pub mod Runs
-pub mod Rising
-pub mod Previous
+pub mod Finding
+pub mod Owning
+mod Told
+pub mod Moving
+pub mod Wholes
+pub mod Following
+mod CarryingOver

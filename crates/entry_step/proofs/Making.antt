@@ -1,18 +1,19 @@
 -- The order of making is the order of the records.
-use Rattle.std.proofs.Common.{◌≡◌, ℕ, ◌+◌, ◌-◌, ◌<◌, ◌≤◌, ◌==◌, Bool, true, false, cond, not, ◌&&◌, ◌⊎◌, inl, inr, List, [], ◌∷◌, ◌++◌, filter, refl, sym, ◌∙◌, ap, subst, append-nil, eqb-true, eq-eqb, ne_eqb, arith}
+use Rattle.std.proofs.Common.{◌≡◌, ℕ, ◌<◌, ◌≤◌, ◌==◌, Bool, true, false, cond, not, ◌&&◌, ◌⊎◌, inl, inr, List, [], ◌∷◌, ◌++◌, filter, refl, sym, ◌∙◌, ap, subst, append-nil, eqb-true, eq-eqb, ne_eqb, arith}
 use mathlib.Core.Path.{fun_ext}
 use Rattle.std.specs.Prelude.{flat_map}
 use Rattle.std.specs.List.{list_any}
 use Rattle.zbx_types.specs.declared.entries.EventId.{EventId}
 use Rattle.zbx_types.specs.declared.entries.Rec.{Rec}
 use Rattle.zbx_types.specs.declared.entries.Rec.TheVariants.{Failure, Problem, Recovery, Step, Message}
-use Rattle.trigger_state.specs.Stages.{Stage, KeepsIds, home, rank_of}
+use Rattle.trigger_state.specs.Stages.{Stage, home, rank_of}
 use Rattle.trigger_state.specs.Problems.{event_in, recovers, opened, open_of}
 use Rattle.trigger_state.specs.declared.problems.Open.{Open}
 use Rattle.entry_step.specs.Each.{Each, In, EachPair}
 use Rattle.entry_step.specs.Due.{by_making}
 use Rattle.entry_step.specs.Making.{open_any, IsAsRecorded}
-use Rattle.entry_step.specs.Order.{order, sorted_by, by_event}
+use Rattle.entry_step.specs.Order.{sorted_by, by_event}
+use Rattle.conf_index.specs.Order.{order}
 use Rattle.entry_step.proofs.Members.{each_both, each_filter, each_from, each_kept, each_sub, filter-append, filter_none, flat_map_cong}
 use Rattle.entry_step.proofs.Sorting.{Rises, sorted_rises, filter_sorted, unique, filter_by}
 
@@ -269,8 +270,9 @@ open_pairs stage (Recovery event by now cause ∷ rs) e = open_pairs stage rs e.
 open_pairs stage (Step event action step now ∷ rs) e = open_pairs stage rs e.1
 open_pairs stage (Message event action step recipient subject body ∷ rs) e = open_pairs stage rs e.1
 
--- where each Problem record precedes those behind it, and is of a trigger that is there
-pub as_recorded : (stage : Stage) → KeepsIds stage → (rs : List Rec) → Once (order stage.conf) → Each (OfProblem (λ event. In event.trigger (order stage.conf))) rs → EachPair (Earlier stage) rs → IsAsRecorded stage rs
+-- where events are of the triggers whose ids are in them, and each Problem record precedes those behind it and is of a trigger
+-- that is there
+pub as_recorded : (stage : Stage) → ((event : EventId) → home stage event ≡ event.trigger) → (rs : List Rec) → Once (order stage.conf) → Each (OfProblem (λ event. In event.trigger (order stage.conf))) rs → EachPair (Earlier stage) rs → IsAsRecorded stage rs
 unfolding by_making
 as_recorded stage ids rs once all pairs =
     let trigger : Open → ℕ = λ o. (event_in o).trigger in

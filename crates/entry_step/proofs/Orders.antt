@@ -1,11 +1,12 @@
 -- The laws of order.
-use Rattle.std.proofs.Common.{◌≡◌, ℕ, suc, slice_get, Bool, true, false, cond, ◌&&◌, ◌⊎◌, inl, inr, Option, Some, None, List, [], ◌∷◌, ◌++◌, filter, is_some, refl, sym, ◌∙◌, ap, ap₂, subst, append-nil, append_assoc}
+use Rattle.std.proofs.Common.{◌≡◌, ◌≤◌, ◌<◌, ℕ, suc, slice_get, Bool, true, false, cond, ◌&&◌, ◌⊎◌, inl, inr, Option, Some, None, List, [], ◌∷◌, ◌++◌, filter, is_some, refl, sym, ◌∙◌, ap, ap₂, subst, append-nil, append_assoc}
 use mathlib.Core.Path.{fun_ext}
 use Rattle.std.specs.List.{list_any}
 use Rattle.zbx_types.specs.Ids.{at_id, ids_from}
 use Rattle.zbx_types.specs.Masters.{has_id, is_master}
 use Rattle.zbx_types.specs.declared.conf.Conf.{Conf}
-use Rattle.trigger_state.specs.Stages.{Stage, first_stage}
+use Rattle.trigger_state.specs.Stages.{Stage, OwnsEvents, first_stage}
+use Rattle.trigger_state.specs.declared.stage.Origin.{Origin}
 use Rattle.zbx_types.specs.declared.entries.Entry.{Entry}
 use Rattle.zbx_types.specs.declared.entries.Entry.TheVariants.{Config, Value, Tick}
 use Rattle.zbx_types.specs.declared.entries.Numbered.{Numbered}
@@ -22,20 +23,21 @@ use Rattle.preprocess.specs.Draft.{visit_at, stored_at, stored_of as stored_by, 
 use Rattle.preprocess.specs.declared.visit.Visit.{Visit}
 use Rattle.entry_step.proofs.Visited.{Memory, untouched, visits_local, each_triggered}
 use Rattle.entry_step.specs.History.{visits_at, stored_of, with_stored}
-use Rattle.entry_step.specs.Order.{order}
+use Rattle.conf_index.specs.Order.{order}
 use Rattle.entry_step.specs.Due.{due_at}
 use Rattle.trigger_state.specs.Problems.{absorbed_all}
 use Rattle.entry_step.specs.Records.{evaluated, phase, has_call, triggers_at, failures_at, out_of, replay}
 use Rattle.entry_step.specs.Cells.{Key, ItemKey, TriggerKey, TickKey, CellOf, ItemCell, Cells, opens_in, memory_in, touches, item_after, histories_after, judged_at, records_at, records, after, look, AreCellsOf}
 use Rattle.entry_step.specs.Represents.{IsTidy}
-use Rattle.entry_step.specs.Laws.{Agree, IsLocal, IsConfined, Apart, AreTidyCells, Locality, SameOut, Insertion, cells_done, records_done, any_touches, BatchOnACopy, PassedApart, AppliedPart, IsGood, FreshIsGood}
-use Rattle.entry_step.proofs.Members.{or_left, or_right, and_left, and_right, any_elim, each_filter, or_false_left, or_false_right, each_at, any_intro, true_or_false}
+use Rattle.entry_step.specs.Laws.{Agree, IsLocal, IsConfined, Apart, AreTidyCells, Locality, SameOut, Insertion, cells_done, records_done, any_touches, BatchOnACopy, PassedApart, AppliedPart, IsGood, AreBehind, FreshIsGood}
+use Rattle.entry_step.proofs.Members.{or_left, or_right, and_left, and_right, any_elim, each_filter, each_kept, or_false_left, or_false_right, each_at, any_intro, true_or_false}
 use Rattle.entry_step.proofs.Feet.{there, one_of, gone, in_ids, over_in_foot, master_in_foot, reach_in_foot}
 use Rattle.entry_step.proofs.Landing.{LandIn, land_append, land_sub, land_off}
 use Rattle.entry_step.proofs.Histories.{SameTo}
 use Rattle.entry_step.proofs.Closing.{AllTidy, Covers}
 use Rattle.entry_step.proofs.Covered.{phase_lands, phase_same}
 use Rattle.zbx_types.proofs.RowLemmas.{at_suc}
+use Rattle.entry_step.proofs.Owning.{entries_own}
 use Rattle.entry_step.proofs.Represented.{calls_touched, own_touched, absent_after, stays_tidy, failures_land, records_are, after_is}
 use Rattle.entry_step.specs.Occasions.{occasion_of}
 use Rattle.entry_step.specs.Start.{Start, first_start}
@@ -81,7 +83,7 @@ covers_over conf now item time value id o = record {
 
 -- what is open in tidy cells
 all_tidy : (stage : Stage) (c : Cells) → IsTidy stage c → AllTidy stage (opens_in c)
-all_tidy stage c tidy = record { ids = tidy.ids; homes = tidy.homes; tagged = tidy.tagged }
+all_tidy stage c tidy = record { homes = tidy.homes; tagged = tidy.tagged }
 
 -- an entry has the same visits over cells that agree on its foot
 pub visits_agree : (conf : Conf) (e : Numbered) (c d : Cells) → Agree conf e c d → visits_at conf (memory_in c) e.number e.entry ≡ visits_at conf (memory_in d) e.number e.entry
@@ -113,25 +115,25 @@ land_anywhere : (stage : Stage) (K : ℕ → Bool) (rs : List Rec) → ((id : �
 land_anywhere stage K [] all = tt
 land_anywhere stage K (r ∷ rs) all = (λ id e. (let t = all id in cc), land_anywhere stage K rs all)
 
-records_land : (stage : Stage) (c : Cells) (number : ℕ) (entry : Entry) → IsTidy stage c → LandIn stage (λ id. touches stage.conf entry (TriggerKey id)) (records_at stage c number entry)
-records_land stage c number (Config now text) tidy = land_anywhere stage (λ id. touches stage.conf (Config now text) (TriggerKey id)) (records_at stage c number (Config now text)) (λ id. unfold touches in refl)
-records_land stage c number (Tick now) tidy = land_anywhere stage (λ id. touches stage.conf (Tick now) (TriggerKey id)) (records_at stage c number (Tick now)) (λ id. unfold touches in refl)
-records_land stage c number (Value now item time value) tidy = subst (LandIn stage (λ id. touches stage.conf entry (TriggerKey id))) (sym (value_records stage c number now item time value)) (unfold judged_at in
+records_land : (stage : Stage) (c : Cells) (number : ℕ) (entry : Entry) → OwnsEvents stage number → IsTidy stage c → LandIn stage (λ id. touches stage.conf entry (TriggerKey id)) (records_at stage c number entry)
+records_land stage c number (Config now text) own tidy = land_anywhere stage (λ id. touches stage.conf (Config now text) (TriggerKey id)) (records_at stage c number (Config now text)) (λ id. unfold touches in refl)
+records_land stage c number (Tick now) own tidy = land_anywhere stage (λ id. touches stage.conf (Tick now) (TriggerKey id)) (records_at stage c number (Tick now)) (λ id. unfold touches in refl)
+records_land stage c number (Value now item time value) own tidy = subst (LandIn stage (λ id. touches stage.conf entry (TriggerKey id))) (sym (value_records stage c number now item time value)) (unfold judged_at in
     land_append stage (λ id. touches stage.conf entry (TriggerKey id)) (failures_at stage.conf (memory_in c) number entry) (phase stage (evaluated stage (occasion_of (c TickKey) number entry) (histories_after stage.conf c number entry)) (opens_in c) (triggers_at stage.conf (memory_in c) number entry))
     (land_sub stage (λ id. false) (λ id. touches stage.conf entry (TriggerKey id)) (failures_at stage.conf (memory_in c) number entry) (λ id e. refl) (failures_land stage (memory_in c) number entry))
-    (phase_lands stage (occasion_of (c TickKey) number entry) (histories_after stage.conf c number entry) (λ id. touches stage.conf entry (TriggerKey id)) (opens_in c) (all_tidy stage c tidy) (triggers_at stage.conf (memory_in c) number entry)
+    (phase_lands stage (occasion_of (c TickKey) number entry) own (histories_after stage.conf c number entry) (λ id. touches stage.conf entry (TriggerKey id)) (opens_in c) (all_tidy stage c tidy) (triggers_at stage.conf (memory_in c) number entry)
     (each_triggered stage.conf (memory_in c) number now item time value (Covers stage.conf (λ id. touches stage.conf entry (TriggerKey id))) (λ id j o. covers_over stage.conf now item time value id o))))
   where
     entry : Entry
     entry = Value now item time value
 
-pub confined : (stage : Stage) (e : Numbered) (c : Cells) → IsTidy stage c → IsConfined stage e c
-confined stage e c tidy (ItemKey i) f = unfold after in
+pub confined : (stage : Stage) (e : Numbered) (c : Cells) → OwnsEvents stage e.number → IsTidy stage c → IsConfined stage e c
+confined stage e c own tidy (ItemKey i) f = unfold after in
     item_is stage.conf (memory_in c) e.number e.entry i (c (ItemKey i))
     ∙ ap₂ (λ v b. (let cell : ItemCell = record { history = with_stored (stored_by v) (c (ItemKey i)).history; marks = marks_after v (c (ItemKey i)).marks; seen = cond b (moment_of e.entry) (c (ItemKey i)).seen } in cell))
     (untouched stage.conf (memory_in c) e.number e.entry i f) f
-confined stage e c tidy (TriggerKey id) f = unfold after in land_off stage (λ u. touches stage.conf e.entry (TriggerKey u)) id (c (TriggerKey id)) (records stage c e) (records_land stage c e.number e.entry tidy) f
-confined stage e c tidy TickKey f = unfold after in go e.entry f
+confined stage e c own tidy (TriggerKey id) f = unfold after in land_off stage (λ u. touches stage.conf e.entry (TriggerKey u)) id (c (TriggerKey id)) (records stage c e) (records_land stage c e.number e.entry own tidy) f
+confined stage e c own tidy TickKey f = unfold after in go e.entry f
   where
     none : (o : Option ℕ) → Rattle.std.specs.Option.option_or o None ≡ o
     none None = refl
@@ -148,14 +150,14 @@ agree_all stage e c d all agree =
     let same : c ≡ d = fun_ext (λ k. agree.at k (all k)) in
     record { same_records = ap (λ x. records stage x e) same; same_changes = λ k t. ap (λ x. after stage x e k) same }
 
-value_judged : (stage : Stage) (number now item time : ℕ) (value : List ℕ) (c d : Cells) → IsTidy stage c → IsTidy stage d → Agree stage.conf (record { number = number; entry = Value now item time value }) c d
+value_judged : (stage : Stage) (number now item time : ℕ) (value : List ℕ) (c d : Cells) → OwnsEvents stage number → IsTidy stage c → IsTidy stage d → Agree stage.conf (record { number = number; entry = Value now item time value }) c d
     → judged_at stage c number (Value now item time value) ≡ judged_at stage d number (Value now item time value)
 unfolding judged_at failures_at
-value_judged stage number now item time value c d tidy_c tidy_d agree =
+value_judged stage number now item time value c d own tidy_c tidy_d agree =
     ap (λ xs. xs ++ made c (triggers_at stage.conf (memory_in c) number entry)) failures
     ∙ ap (λ xs. failures_at stage.conf (memory_in d) number entry ++ xs)
     (ap (λ t. phase stage (evaluated stage (occasion_of t number entry) (histories_after stage.conf c number entry)) (opens_in c) (triggers_at stage.conf (memory_in c) number entry)) agree.tick
-    ∙ phase_same stage (occasion_of (d TickKey) number entry) (λ id. touches stage.conf entry (TriggerKey id)) (histories_after stage.conf c number entry) (histories_after stage.conf d number entry) (opens_in c) (opens_in d) (triggers_at stage.conf (memory_in c) number entry) (all_tidy stage c tidy_c) (all_tidy stage d tidy_d) (λ id t. agree.at (TriggerKey id) t)
+    ∙ phase_same stage (occasion_of (d TickKey) number entry) own (λ id. touches stage.conf entry (TriggerKey id)) (histories_after stage.conf c number entry) (histories_after stage.conf d number entry) (opens_in c) (opens_in d) (triggers_at stage.conf (memory_in c) number entry) (all_tidy stage c tidy_c) (all_tidy stage d tidy_d) (λ id t. agree.at (TriggerKey id) t)
     (each_triggered stage.conf (memory_in c) number now item time value (λ id. Covers stage.conf (λ j. touches stage.conf entry (TriggerKey j)) id × SameTo stage.conf (histories_after stage.conf c number entry) (histories_after stage.conf d number entry) id)
     (λ id j o. (covers_over stage.conf now item time value id o, λ i calls. same_history i (calls_touched stage.conf now item time value id i o calls))))
     ∙ ap (made d) (triggers_by stage.conf (memory_in c) (memory_in d) number entry visits))
@@ -185,13 +187,13 @@ value_judged stage number now item time value c d tidy_c tidy_d agree =
             ∙ sym (item_is stage.conf (memory_in d) number entry i (d (ItemKey i))))
         go (inr f) = absent_after stage (memory_in c) c number entry i tidy_c (gone stage.conf.items i f) ∙ sym (absent_after stage (memory_in d) d number entry i tidy_d (gone stage.conf.items i f))
 
-value_local : (stage : Stage) (number now item time : ℕ) (value : List ℕ) (c d : Cells) → IsTidy stage c → IsTidy stage d → Agree stage.conf (record { number = number; entry = Value now item time value }) c d
+value_local : (stage : Stage) (number now item time : ℕ) (value : List ℕ) (c d : Cells) → OwnsEvents stage number → IsTidy stage c → IsTidy stage d → Agree stage.conf (record { number = number; entry = Value now item time value }) c d
     → records_at stage c number (Value now item time value) ≡ records_at stage d number (Value now item time value)
-value_local stage number now item time value c d tidy_c tidy_d agree =
-    value_records stage c number now item time value ∙ value_judged stage number now item time value c d tidy_c tidy_d agree ∙ sym (value_records stage d number now item time value)
+value_local stage number now item time value c d own tidy_c tidy_d agree =
+    value_records stage c number now item time value ∙ value_judged stage number now item time value c d own tidy_c tidy_d agree ∙ sym (value_records stage d number now item time value)
 
-pub local : (stage : Stage) (e : Numbered) (c d : Cells) → IsTidy stage c → IsTidy stage d → Agree stage.conf e c d → IsLocal stage e c d
-local stage e c d tidy_c tidy_d agree = subst (λ x. Agree stage.conf (at x) c d → IsLocal stage (at x) c d) refl (go e.entry) agree
+pub local : (stage : Stage) (e : Numbered) (c d : Cells) → OwnsEvents stage e.number → IsTidy stage c → IsTidy stage d → Agree stage.conf e c d → IsLocal stage e c d
+local stage e c d own tidy_c tidy_d agree = subst (λ x. Agree stage.conf (at x) c d → IsLocal stage (at x) c d) refl (go e.entry) agree
   where
     at : Entry → Numbered
     at x = record { number = e.number; entry = x }
@@ -207,11 +209,11 @@ local stage e c d tidy_c tidy_d agree = subst (λ x. Agree stage.conf (at x) c d
     go (Config now text) a = agree_all stage (at (Config now text)) c d (λ k. unfold touches in refl) a
     go (Tick now) a = agree_all stage (at (Tick now)) c d (λ k. unfold touches in refl) a
     go (Value now item time value) a =
-        let rs = value_local stage e.number now item time value c d tidy_c tidy_d a in
+        let rs = value_local stage e.number now item time value c d own tidy_c tidy_d a in
         record { same_records = rs; same_changes = changes (Value now item time value) rs a (unfold touches in refl) }
 
 pub locality : Locality
-locality stage e c d tidy_c tidy_d agree = (local stage e c d tidy_c tidy_d agree, confined stage e c tidy_c)
+locality stage e c d own tidy_c tidy_d agree = (local stage e c d own tidy_c tidy_d agree, confined stage e c own tidy_c)
 
 -- Insertion, from locality alone
 abbrev pub cells_of : Start → List Numbered → Cells
@@ -225,17 +227,20 @@ cells_are start (e ∷ log) =
     ap (λ c. after start.stage c e) (cells_are start log) ∙ after_is start log rs e
     ∙ ap (look start (e ∷ log)) (append_assoc start.records (replay start log) (out_of start log e e.entry rs))
 
-pub tidy_cells : (start : Start) → IsGood start → (log : List Numbered) → IsTidy start.stage (cells_of start log)
-tidy_cells start good [] = good
-tidy_cells start good (e ∷ log) = stays_tidy start.stage (cells_of start log) e (tidy_cells start good log)
+pub tidy_cells : (start : Start) → IsGood start → (log : List Numbered) → AreBehind start log → IsTidy start.stage (cells_of start log)
+tidy_cells start good [] after = good.tidy
+tidy_cells start good (e ∷ log) after = stays_tidy start.stage (cells_of start log) e (entries_own start e good after.0) (tidy_cells start good log after.1)
 
 -- nothing stood before a fresh start
 pub fresh_is_good : FreshIsGood
 unfolding look
-fresh_is_good stage ids = record { ids = ids; homes = λ id. tt; tagged = λ id. tt; absent = λ id q. refl }
+fresh_is_good stage none = record {
+  tidy = record { homes = λ id. tt; tagged = λ id. tt; absent = λ id q. refl };
+  origins = subst (Each (λ (o : Origin). o.event.number ≤ 0)) (sym none) tt;
+}
 
 pub first_good : (conf : Conf) → IsGood (first_start conf)
-first_good conf = fresh_is_good (first_stage conf) (λ event. refl)
+first_good conf = fresh_is_good (first_stage conf) refl
 
 pub records_of : (start : Start) (log : List Numbered) (e : Numbered) → records start.stage (cells_of start log) e ≡ out_of start log e e.entry (start.records ++ replay start log)
 records_of start log e = ap (λ c. records start.stage c e) (cells_are start log) ∙ records_are start log (start.records ++ replay start log) e
@@ -257,7 +262,7 @@ quiet_tick conf a b h = go a.entry h
     go (Config now text) h = let s = touches_some conf b.entry in absurd (h s.0 (unfold touches in refl) s.1)
     go (Tick now) h = let s = touches_some conf b.entry in absurd (h s.0 (unfold touches in refl) s.1)
 
-module _ (stage : Stage) (a b : Numbered) (apart : Apart stage.conf a b) (c : Cells) (tidy : IsTidy stage c) where
+module _ (stage : Stage) (a b : Numbered) (own_a : OwnsEvents stage a.number) (own_b : OwnsEvents stage b.number) (apart : Apart stage.conf a b) (c : Cells) (tidy : IsTidy stage c) where
   off_other : (k : Key) → touches stage.conf b.entry k ≡ true → touches stage.conf a.entry k ≡ false
   off_other k e = go (true_or_false (touches stage.conf a.entry k))
     where
@@ -266,22 +271,22 @@ module _ (stage : Stage) (a b : Numbered) (apart : Apart stage.conf a b) (c : Ce
       go (inr f) = f
 
   agree_after : Agree stage.conf b (after stage c a) c
-  agree_after = record { at = λ k e. confined stage a c tidy k (off_other k e); tick = confined stage a c tidy TickKey (quiet_tick stage.conf a b apart) }
+  agree_after = record { at = λ k e. confined stage a c own_a tidy k (off_other k e); tick = confined stage a c own_a tidy TickKey (quiet_tick stage.conf a b apart) }
 
   records_apart : records stage (after stage c a) b ≡ records stage c b
-  records_apart = (local stage b (after stage c a) c (stays_tidy stage c a tidy) tidy agree_after).same_records
+  records_apart = (local stage b (after stage c a) c own_b (stays_tidy stage c a own_a tidy) tidy agree_after).same_records
 
   changes_apart : (k : Key) → touches stage.conf b.entry k ≡ true → after stage (after stage c a) b k ≡ after stage c b k
-  changes_apart = (local stage b (after stage c a) c (stays_tidy stage c a tidy) tidy agree_after).same_changes
+  changes_apart = (local stage b (after stage c a) c own_b (stays_tidy stage c a own_a tidy) tidy agree_after).same_changes
 
-diamond : (stage : Stage) (a b : Numbered) → Apart stage.conf a b → (c : Cells) → IsTidy stage c → after stage (after stage c a) b ≡ after stage (after stage c b) a
-diamond stage a b apart c tidy = fun_ext (λ k. go k (true_or_false (touches stage.conf a.entry k)) (true_or_false (touches stage.conf b.entry k)))
+diamond : (stage : Stage) (a b : Numbered) → OwnsEvents stage a.number → OwnsEvents stage b.number → Apart stage.conf a b → (c : Cells) → IsTidy stage c → after stage (after stage c a) b ≡ after stage (after stage c b) a
+diamond stage a b own_a own_b apart c tidy = fun_ext (λ k. go k (true_or_false (touches stage.conf a.entry k)) (true_or_false (touches stage.conf b.entry k)))
   where
     go : (k : Key) → (touches stage.conf a.entry k ≡ true) ⊎ (touches stage.conf a.entry k ≡ false) → (touches stage.conf b.entry k ≡ true) ⊎ (touches stage.conf b.entry k ≡ false) → after stage (after stage c a) b k ≡ after stage (after stage c b) a k
     go k (inl p) (inl q) = absurd (apart k p q)
-    go k (inl p) (inr q) = confined stage b (after stage c a) (stays_tidy stage c a tidy) k q ∙ sym (changes_apart stage b a (apart_sym stage.conf a b apart) c tidy k p)
-    go k (inr p) (inl q) = changes_apart stage a b apart c tidy k q ∙ sym (confined stage a (after stage c b) (stays_tidy stage c b tidy) k p)
-    go k (inr p) (inr q) = confined stage b (after stage c a) (stays_tidy stage c a tidy) k q ∙ confined stage a c tidy k p ∙ sym (confined stage a (after stage c b) (stays_tidy stage c b tidy) k p ∙ confined stage b c tidy k q)
+    go k (inl p) (inr q) = confined stage b (after stage c a) own_b (stays_tidy stage c a own_a tidy) k q ∙ sym (changes_apart stage b a own_b own_a (apart_sym stage.conf a b apart) c tidy k p)
+    go k (inr p) (inl q) = changes_apart stage a b own_a own_b apart c tidy k q ∙ sym (confined stage a (after stage c b) own_a (stays_tidy stage c b own_b tidy) k p)
+    go k (inr p) (inr q) = confined stage b (after stage c a) own_b (stays_tidy stage c a own_a tidy) k q ∙ confined stage a c own_a tidy k p ∙ sym (confined stage a (after stage c b) own_a (stays_tidy stage c b own_b tidy) k p ∙ confined stage b c own_b tidy k q)
 
 -- each of the newer entries has the same records with e in its place and without
 abbrev SameRecords : Start → Numbered → List Numbered → List Numbered → Type 0
@@ -293,17 +298,28 @@ record Inserts (start : Start) (newer : List Numbered) (e : Numbered) (older : L
   own : records start.stage (cells_of start (newer ++ older)) e ≡ records start.stage (cells_of start older) e
   cells : after start.stage (cells_of start (newer ++ older)) e ≡ cells_of start (newer ++ e ∷ older)
 
-inserts : (start : Start) → IsGood start → (newer : List Numbered) (e : Numbered) (older : List Numbered) → Each (λ a. Apart start.stage.conf e a) newer → Inserts start newer e older
-inserts start good [] e older apart = record { others = tt; own = refl; cells = refl }
-inserts start good (a ∷ newer) e older apart =
-    let ih = inserts start good newer e older apart.1 in
+-- the entries that a log has with one in its place
+behind_at : (start : Start) (newer : List Numbered) (e : Numbered) (older : List Numbered) → AreBehind start (newer ++ e ∷ older) → start.number < e.number
+behind_at start [] e older after = after.0
+behind_at start (a ∷ newer) e older after = behind_at start newer e older after.1
+
+behind_others : (start : Start) (newer : List Numbered) (e : Numbered) (older : List Numbered) → AreBehind start (newer ++ e ∷ older) → AreBehind start (newer ++ older)
+behind_others start [] e older after = after.1
+behind_others start (a ∷ newer) e older after = (after.0, behind_others start newer e older after.1)
+
+inserts : (start : Start) → IsGood start → (newer : List Numbered) (e : Numbered) (older : List Numbered) → AreBehind start (newer ++ e ∷ older) → Each (λ a. Apart start.stage.conf e a) newer → Inserts start newer e older
+inserts start good [] e older after apart = record { others = tt; own = refl; cells = refl }
+inserts start good (a ∷ newer) e older behind apart =
+    let ih = inserts start good newer e older behind.1 apart.1 in
     let c = cells_of start (newer ++ older) in
-    let tidy = tidy_cells start good (newer ++ older) in
+    let tidy = tidy_cells start good (newer ++ older) (behind_others start newer e older behind.1) in
+    let own_a = entries_own start a good behind.0 in
+    let own_e = entries_own start e good (behind_at start newer e older behind.1) in
     let ae = apart_sym start.stage.conf e a apart.0 in
     record {
-      others = (sym (records_apart start.stage e a apart.0 c tidy) ∙ ap (λ x. records start.stage x a) ih.cells, ih.others);
-      own = records_apart start.stage a e ae c tidy ∙ ih.own;
-      cells = diamond start.stage a e ae c tidy ∙ ap (λ x. after start.stage x a) ih.cells;
+      others = (sym (records_apart start.stage e a own_e own_a apart.0 c tidy) ∙ ap (λ x. records start.stage x a) ih.cells, ih.others);
+      own = records_apart start.stage a e own_a own_e ae c tidy ∙ ih.own;
+      cells = diamond start.stage a e own_a own_e ae c tidy ∙ ap (λ x. after start.stage x a) ih.cells;
     }
 
 stand_is : (start : Start) (c : Cells) (log : List Numbered) → AreCellsOf start c log → c ≡ cells_of start log
@@ -315,59 +331,60 @@ unfolding AreCellsOf
 is_stand start c log h = h ∙ cells_are start log
 
 pub are_tidy : AreTidyCells
-are_tidy start c log good h = let P : Cells → Type 0 = IsTidy start.stage in subst P (sym (stand_is start c log h)) (tidy_cells start good log)
+are_tidy start c log good after h = let P : Cells → Type 0 = IsTidy start.stage in subst P (sym (stand_is start c log h)) (tidy_cells start good log after)
 
 same_out : (start : Start) (e : Numbered) (newer older : List Numbered) → SameRecords start e newer older → SameOut start e newer older
 same_out start e [] older h = tt
 same_out start e (a ∷ newer) older h = (sym (records_of start (newer ++ older) a) ∙ h.0 ∙ records_of start (newer ++ e ∷ older) a, same_out start e newer older h.1)
 
 -- the changes of e behind the newer entries are those in its place
-changes_in_place : (start : Start) → IsGood start → (newer : List Numbered) (e : Numbered) (older : List Numbered) → Each (λ a. Apart start.stage.conf e a) newer → (k : Key) → touches start.stage.conf e.entry k ≡ true
+changes_in_place : (start : Start) → IsGood start → (newer : List Numbered) (e : Numbered) (older : List Numbered) → AreBehind start (newer ++ e ∷ older) → Each (λ a. Apart start.stage.conf e a) newer → (k : Key) → touches start.stage.conf e.entry k ≡ true
     → after start.stage (cells_of start (newer ++ older)) e k ≡ after start.stage (cells_of start older) e k
-changes_in_place start good [] e older apart k t = refl
-changes_in_place start good (a ∷ newer) e older apart k t =
-    changes_apart start.stage a e (apart_sym start.stage.conf e a apart.0) (cells_of start (newer ++ older)) (tidy_cells start good (newer ++ older)) k t ∙ changes_in_place start good newer e older apart.1 k t
+changes_in_place start good [] e older behind apart k t = refl
+changes_in_place start good (a ∷ newer) e older behind apart k t =
+    changes_apart start.stage a e (entries_own start a good behind.0) (entries_own start e good (behind_at start newer e older behind.1)) (apart_sym start.stage.conf e a apart.0) (cells_of start (newer ++ older)) (tidy_cells start good (newer ++ older) (behind_others start newer e older behind.1)) k t
+    ∙ changes_in_place start good newer e older behind.1 apart.1 k t
 
 pub insertion : Insertion
-insertion start newer e older good apart =
-    let r = inserts start good newer e older apart in (
+insertion start newer e older good behind apart =
+    let r = inserts start good newer e older behind apart in (
       same_out start e newer older r.others,
       λ c h.
           let s = stand_is start c (newer ++ older) h in
           record {
             its_records = ap (λ x. records start.stage x e) s ∙ r.own ∙ records_of start older e;
-            its_changes = λ d g k t. ap (λ x. after start.stage x e k) s ∙ changes_in_place start good newer e older apart k t ∙ ap (λ x. after start.stage x e k) (sym (stand_is start d older g));
+            its_changes = λ d g k t. ap (λ x. after start.stage x e k) s ∙ changes_in_place start good newer e older behind apart k t ∙ ap (λ x. after start.stage x e k) (sym (stand_is start d older g));
             stand = is_stand start (after start.stage c e) (newer ++ e ∷ older) (ap (λ x. after start.stage x e) s ∙ r.cells);
           },
     )
 
 -- A batch on a copy
 module _ (stage : Stage) (K : Key → Type 0) (ticks : K TickKey) where
-  pub step_agrees : (e : Numbered) (c d : Cells) → IsTidy stage c → IsTidy stage d → ((k : Key) → touches stage.conf e.entry k ≡ true → K k) → ((k : Key) → K k → c k ≡ d k) → (k : Key) → K k → after stage c e k ≡ after stage d e k
-  step_agrees e c d tidy_c tidy_d inside same k m = go (true_or_false (touches stage.conf e.entry k))
+  pub step_agrees : (e : Numbered) (c d : Cells) → OwnsEvents stage e.number → IsTidy stage c → IsTidy stage d → ((k : Key) → touches stage.conf e.entry k ≡ true → K k) → ((k : Key) → K k → c k ≡ d k) → (k : Key) → K k → after stage c e k ≡ after stage d e k
+  step_agrees e c d own tidy_c tidy_d inside same k m = go (true_or_false (touches stage.conf e.entry k))
     where
       law : IsLocal stage e c d
-      law = local stage e c d tidy_c tidy_d (record { at = λ j t. same j (inside j t); tick = same TickKey ticks })
+      law = local stage e c d own tidy_c tidy_d (record { at = λ j t. same j (inside j t); tick = same TickKey ticks })
 
       go : (touches stage.conf e.entry k ≡ true) ⊎ (touches stage.conf e.entry k ≡ false) → after stage c e k ≡ after stage d e k
       go (inl t) = law.same_changes k t
-      go (inr f) = confined stage e c tidy_c k f ∙ same k m ∙ sym (confined stage e d tidy_d k f)
+      go (inr f) = confined stage e c own tidy_c k f ∙ same k m ∙ sym (confined stage e d own tidy_d k f)
 
-  batch_agrees : (es : List Numbered) (c d : Cells) → IsTidy stage c → IsTidy stage d → ((e : Numbered) → In e es → (k : Key) → touches stage.conf e.entry k ≡ true → K k) → ((k : Key) → K k → c k ≡ d k)
+  batch_agrees : (es : List Numbered) (c d : Cells) → Each (λ (e : Numbered). OwnsEvents stage e.number) es → IsTidy stage c → IsTidy stage d → ((e : Numbered) → In e es → (k : Key) → touches stage.conf e.entry k ≡ true → K k) → ((k : Key) → K k → c k ≡ d k)
       → (records_done stage d es ≡ records_done stage c es) × ((k : Key) → K k → cells_done stage c es k ≡ cells_done stage d es k)
-  batch_agrees [] c d tidy_c tidy_d inside same = (refl, same)
-  batch_agrees (e ∷ es) c d tidy_c tidy_d inside same =
-      let law : IsLocal stage e c d = local stage e c d tidy_c tidy_d (record { at = λ j t. same j (inside e (inl refl) j t); tick = same TickKey ticks }) in
-      let r = batch_agrees es (after stage c e) (after stage d e) (stays_tidy stage c e tidy_c) (stays_tidy stage d e tidy_d) (λ x i. inside x (inr i)) (step_agrees e c d tidy_c tidy_d (inside e (inl refl)) same) in
+  batch_agrees [] c d own tidy_c tidy_d inside same = (refl, same)
+  batch_agrees (e ∷ es) c d own tidy_c tidy_d inside same =
+      let law : IsLocal stage e c d = local stage e c d own.0 tidy_c tidy_d (record { at = λ j t. same j (inside e (inl refl) j t); tick = same TickKey ticks }) in
+      let r = batch_agrees es (after stage c e) (after stage d e) own.1 (stays_tidy stage c e own.0 tidy_c) (stays_tidy stage d e own.0 tidy_d) (λ x i. inside x (inr i)) (step_agrees e c d own.0 tidy_c tidy_d (inside e (inl refl)) same) in
       (ap₂ (λ rs rss. rs ∷ rss) (sym law.same_records) r.0, r.1)
 
-pub batch_off : (stage : Stage) (es : List Numbered) (c : Cells) → IsTidy stage c → (k : Key) → any_touches stage.conf es k ≡ false → cells_done stage c es k ≡ c k
-batch_off stage [] c tidy k f = refl
-batch_off stage (e ∷ es) c tidy k f =
-    batch_off stage es (after stage c e) (stays_tidy stage c e tidy) k (or_false_right (touches stage.conf e.entry k) (any_touches stage.conf es k) f) ∙ confined stage e c tidy k (or_false_left (touches stage.conf e.entry k) (any_touches stage.conf es k) f)
+pub batch_off : (stage : Stage) (es : List Numbered) (c : Cells) → Each (λ (e : Numbered). OwnsEvents stage e.number) es → IsTidy stage c → (k : Key) → any_touches stage.conf es k ≡ false → cells_done stage c es k ≡ c k
+batch_off stage [] c own tidy k f = refl
+batch_off stage (e ∷ es) c own tidy k f =
+    batch_off stage es (after stage c e) own.1 (stays_tidy stage c e own.0 tidy) k (or_false_right (touches stage.conf e.entry k) (any_touches stage.conf es k) f) ∙ confined stage e c own.0 tidy k (or_false_left (touches stage.conf e.entry k) (any_touches stage.conf es k) f)
 
 pub batch_on_a_copy : BatchOnACopy
-batch_on_a_copy stage es c d tidy_c tidy_d copies = (r.0, fun_ext (λ k. go k (any_touches stage.conf es k) refl))
+batch_on_a_copy stage es c d own tidy_c tidy_d copies = (r.0, fun_ext (λ k. go k (any_touches stage.conf es k) refl))
   where
     K : Key → Type 0
     K k = (any_touches stage.conf es k ≡ true) ⊎ (k ≡ TickKey)
@@ -377,11 +394,11 @@ batch_on_a_copy stage es c d tidy_c tidy_d copies = (r.0, fun_ext (λ k. go k (a
     same k (inr q) = subst (λ j. c j ≡ d j) (sym q) copies.tick
 
     r : (records_done stage d es ≡ records_done stage c es) × ((k : Key) → K k → cells_done stage c es k ≡ cells_done stage d es k)
-    r = batch_agrees stage K (inr refl) es c d tidy_c tidy_d (λ e i k t. inl (any_intro (λ x. touches stage.conf x.entry k) e es i t)) same
+    r = batch_agrees stage K (inr refl) es c d own tidy_c tidy_d (λ e i k t. inl (any_intro (λ x. touches stage.conf x.entry k) e es i t)) same
 
     go : (k : Key) (b : Bool) → any_touches stage.conf es k ≡ b → cond {A = CellOf k} b (cells_done stage d es k) (c k) ≡ cells_done stage c es k
     go k true e = sym (r.1 k (inl e))
-    go k false e = sym (batch_off stage es c tidy_c k e)
+    go k false e = sym (batch_off stage es c own tidy_c k e)
 
 -- The applied part of a log
 abbrev Reads : Conf → Numbered → Key → Type 0
@@ -392,14 +409,23 @@ apart_reads conf y x h k (inl t) e = h k e t
 apart_reads conf y x h k (inr q) e = let f = quiet_tick conf y x h in let g : touches conf y.entry TickKey ≡ true = subst (λ z. touches conf y.entry z ≡ true) q e in cc
 
 -- without the entries that aren't applied, and touch nothing in K, the cells in K are the same
-part_agree : (start : Start) → IsGood start → (applied : Numbered → Bool) (log : List Numbered) (K : Key → Type 0) → EachPair (PassedApart start.stage.conf applied) log
+part_agree : (start : Start) → IsGood start → (applied : Numbered → Bool) (log : List Numbered) (K : Key → Type 0) → AreBehind start log → EachPair (PassedApart start.stage.conf applied) log
     → ((y : Numbered) → In y log → applied y ≡ false → (k : Key) → K k → touches start.stage.conf y.entry k ≡ true → ⊥)
     → (k : Key) → K k → cells_of start (filter applied log) k ≡ cells_of start log k
-part_agree start good applied [] K order h k m = refl
-part_agree start good applied (x ∷ older) K order h k m = go (applied x) refl (part_agree start good applied older)
+part_agree start good applied [] K after order h k m = refl
+part_agree start good applied (x ∷ older) K behind order h k m = go (applied x) refl (λ L. part_agree start good applied older L behind.1)
   where
     wider : Key → Type 0
     wider j = K j ⊎ Reads start.stage.conf x j
+
+    own : OwnsEvents start.stage x.number
+    own = entries_own start x good behind.0
+
+    tidy_all : IsTidy start.stage (cells_of start older)
+    tidy_all = tidy_cells start good older behind.1
+
+    tidy_part : IsTidy start.stage (cells_of start (filter applied older))
+    tidy_part = tidy_cells start good (filter applied older) (each_kept (λ (y : Numbered). start.number < y.number) applied older behind.1)
 
     untouched : applied x ≡ false → touches start.stage.conf x.entry k ≡ false
     untouched e = at (true_or_false (touches start.stage.conf x.entry k))
@@ -415,7 +441,7 @@ part_agree start good applied (x ∷ older) K order h k m = go (applied x) refl 
     go : (b : Bool) → applied x ≡ b
         → ((L : Key → Type 0) → EachPair (PassedApart start.stage.conf applied) older → ((y : Numbered) → In y older → applied y ≡ false → (j : Key) → L j → touches start.stage.conf y.entry j ≡ true → ⊥) → (j : Key) → L j → cells_of start (filter applied older) j ≡ cells_of start older j)
         → cells_of start (cond b (x ∷ filter applied older) (filter applied older)) k ≡ after start.stage (cells_of start older) x k
-    go false e ih = ih K order.1 (λ y i. h y (inr i)) k m ∙ sym (confined start.stage x (cells_of start older) (tidy_cells start good older) k (untouched e))
+    go false e ih = ih K order.1 (λ y i. h y (inr i)) k m ∙ sym (confined start.stage x (cells_of start older) own tidy_all k (untouched e))
     go true e ih = at (true_or_false (touches start.stage.conf x.entry k))
       where
         agree : (j : Key) → wider j → cells_of start (filter applied older) j ≡ cells_of start older j
@@ -425,14 +451,14 @@ part_agree start good applied (x ∷ older) K order h k m = go (applied x) refl 
         same = record { at = λ j t. agree j (inr (inl t)); tick = agree TickKey (inr (inr refl)) }
 
         at : (touches start.stage.conf x.entry k ≡ true) ⊎ (touches start.stage.conf x.entry k ≡ false) → after start.stage (cells_of start (filter applied older)) x k ≡ after start.stage (cells_of start older) x k
-        at (inl t) = (local start.stage x (cells_of start (filter applied older)) (cells_of start older) (tidy_cells start good (filter applied older)) (tidy_cells start good older) same).same_changes k t
-        at (inr f) = confined start.stage x (cells_of start (filter applied older)) (tidy_cells start good (filter applied older)) k f ∙ agree k (inl m) ∙ sym (confined start.stage x (cells_of start older) (tidy_cells start good older) k f)
+        at (inl t) = (local start.stage x (cells_of start (filter applied older)) (cells_of start older) own tidy_part tidy_all same).same_changes k t
+        at (inr f) = confined start.stage x (cells_of start (filter applied older)) own tidy_part k f ∙ agree k (inl m) ∙ sym (confined start.stage x (cells_of start older) own tidy_all k f)
 
 pub applied_part : AppliedPart
-applied_part start applied older e good order free c h =
+applied_part start applied older e good behind order free c h =
     ap (λ x. records start.stage x e) (stand_is start c (filter applied older) h)
-    ∙ (local start.stage e (cells_of start (filter applied older)) (cells_of start older) (tidy_cells start good (filter applied older)) (tidy_cells start good older) (record { at = λ k t. agree k (inl t); tick = agree TickKey (inr refl) })).same_records
+    ∙ (local start.stage e (cells_of start (filter applied older)) (cells_of start older) (entries_own start e good behind.0) (tidy_cells start good (filter applied older) (each_kept (λ (y : Numbered). start.number < y.number) applied older behind.1)) (tidy_cells start good older behind.1) (record { at = λ k t. agree k (inl t); tick = agree TickKey (inr refl) })).same_records
     ∙ records_of start older e
   where
     agree : (k : Key) → Reads start.stage.conf e k → cells_of start (filter applied older) k ≡ cells_of start older k
-    agree = part_agree start good applied older (Reads start.stage.conf e) order (λ y i f k r t. apart_reads start.stage.conf y e (each_at (λ y. applied y ≡ false → Apart start.stage.conf y e) older free y i f) k r t)
+    agree = part_agree start good applied older (Reads start.stage.conf e) behind.1 order (λ y i f k r t. apart_reads start.stage.conf y e (each_at (λ y. applied y ≡ false → Apart start.stage.conf y e) older free y i f) k r t)

@@ -1,11 +1,11 @@
 -- Parts of cells: copied, compared, exchanged, and worked on.
-use Rattle.std.proofs.Common.{◌≡◌, ◌↔◌, ℕ, suc, ◌+◌, ◌≤◌, ◌==◌, Bool, true, false, cond, ◌||◌, ◌⊎◌, inl, inr, List, [], ◌∷◌, ◌++◌, map, Option, Some, None, option_map, is_some, length, filter, reverse, append-nil, append_assoc, refl, sym, ◌∙◌, ap, subst}
+use Rattle.std.proofs.Common.{◌≡◌, ◌↔◌, ℕ, suc, ◌+◌, ◌≤◌, Bool, true, false, cond, ◌||◌, ◌⊎◌, inl, inr, List, [], ◌∷◌, ◌++◌, map, Option, Some, None, option_map, is_some, length, filter, reverse, append-nil, append_assoc, refl, sym, ◌∙◌, ap, subst}
 use Rattle.std.specs.Prelude.{IfSome}
 use Rattle.std.specs.Option.{unwrap_or}
 use Rattle.std.proofs.lemmas.List.{reverse-append}
 use Rattle.zbx_types.specs.Ids.{at_id, ids_from}
 use Rattle.zbx_types.specs.declared.conf.Conf.{Conf}
-use Rattle.trigger_state.specs.Stages.{Stage}
+use Rattle.trigger_state.specs.Stages.{Stage, OwnsEvents}
 use Rattle.zbx_types.specs.declared.entries.Numbered.{Numbered}
 use Rattle.zbx_types.specs.declared.entries.Rec.{Rec}
 use Rattle.prep_steps.specs.declared.memory.StepMemory.{StepMemory}
@@ -13,24 +13,23 @@ use Rattle.value_cache.specs.Cells.{CellView}
 use Rattle.value_cache.specs.Histories.{IsOrdered}
 use Rattle.trigger_state.specs.declared.problems.Open.{Open}
 use Rattle.footprint.specs.Rows.{rises, those}
-use Rattle.preprocess.specs.Chains.{listed}
 use Rattle.preprocess.specs.Rows.{with_row}
 use Rattle.preprocess.proofs.Logs.{at_map}
 use Rattle.entry_step.specs.Each.{Each, In}
 use Rattle.entry_step.specs.Kept.{roomless, Keeps}
-use Rattle.entry_step.specs.Cells.{Key, ItemKey, TriggerKey, TickKey, ItemCell, Cells, CellOf, memory_in, touches, look, AreCellsOf, after}
-use Rattle.entry_step.specs.Laws.{Agree, IsLocal, Copies, any_touches, cells_done, records_done, put_over}
+use Rattle.entry_step.specs.Cells.{Key, ItemKey, TriggerKey, TickKey, ItemCell, Cells, memory_in, touches, look, AreCellsOf, after}
+use Rattle.entry_step.specs.Laws.{any_touches, cells_done, records_done, put_over}
 use Rattle.zbx_types.specs.Entries.{moment_of}
-use Rattle.entry_step.specs.Log.{IsFitting, Suits, log_of}
+use Rattle.entry_step.specs.Log.{Suits, log_of}
 use Rattle.entry_step.specs.Records.{triggers_at}
-use Rattle.entry_step.specs.Represents.{CellsView, problems_at, AllAtHome, AllTagged, IsTidy, Represents, Holds, ComesAfter}
-use Rattle.entry_step.specs.Parts.{PartView, row_with, item_row, cell_in, marks_in, problems_in, IsPartOf, IsSame, IsReplaced, AllCome, evaluations, IsWorkable, WorksOut, IsCounted}
+use Rattle.entry_step.specs.Represents.{CellsView, problems_at, AllAtHome, AllTagged, IsTidy, Represents, Holds}
+use Rattle.entry_step.specs.Parts.{PartView, row_with, cell_in, marks_in, problems_in, IsPartOf, IsSame, IsReplaced, AllCome, evaluations, IsWorkable, WorksOut, IsCounted}
 use Rattle.entry_step.specs.Exchange.{roomless_row, item_copies, trigger_copies, put_all, item_taken, trigger_taken, items_taken, triggers_taken, IsCopy, IsTaken, IsSameCell, IsSameItem, IsSameTrigger}
 use Rattle.entry_step.specs.Stepping.{AllMade, AllCounted, SomeTaken, AreSteppedTo}
 use Rattle.entry_step.specs.declared.parts.ItemRow.{ItemRow}
 use Rattle.entry_step.specs.declared.parts.TriggerRow.{TriggerRow}
-use Rattle.entry_step.proofs.Members.{true_or_false, or_left, or_right, or_false_left, or_false_right, each_from, any_intro}
-use Rattle.entry_step.proofs.Coming.{same_length, some_map, size_roomless}
+use Rattle.entry_step.proofs.Members.{each_from, any_intro}
+use Rattle.entry_step.proofs.Coming.{same_length, size_roomless}
 use Rattle.entry_step.proofs.Phases.{none_same}
 use Rattle.entry_step.proofs.Represented.{stays_tidy, comes_after, one_entry}
 use Rattle.entry_step.proofs.Orders.{visits_agree, triggers_by, step_agrees, batch_off, batch_on_a_copy}
@@ -278,7 +277,6 @@ module _ (stage : Stage) (test : Key → Bool) (a b x : CellsView) (c d e : Cell
     problems = λ id. ap (λ o. unwrap_or o []) (problems id) ∙ opened id (test (TriggerKey id)) ∙ sym (opens id);
     tick = tick;
     tidy = record {
-      ids = ra.tidy.ids;
       homes = λ id. subst (AllAtHome stage id) (sym (opens id)) (home id (test (TriggerKey id)));
       tagged = λ id. subst (AllTagged stage.conf id) (sym (opens id)) (tag id (test (TriggerKey id)));
       absent = λ id q. ap (λ (cell : ItemCell). cell.history) (its id) ∙ gone id q (test (ItemKey id));
@@ -342,25 +340,35 @@ any_first conf (e ∷ es) rest k f = go (touches conf e.entry k) f (any_first co
     go true f ih = f
     go false f ih = ih f
 
+-- entries that come have events of their own
+come_own : (stage : Stage) (es : List Numbered) (c : Cells) → AllCome stage c es → Each (λ (e : Numbered). OwnsEvents stage e.number) es
+come_own stage [] c h = tt
+come_own stage (e ∷ es) c h = (h.0, come_own stage es (after stage c e) h.3)
+
+each_first : {A : Type 0} (P : A → Type 0) (xs ys : List A) → Each P (xs ++ ys) → Each P xs
+each_first P [] ys h = tt
+each_first P (x ∷ xs) ys h = (h.0, each_first P xs ys h.1)
+
 -- entries come to two families that agree on their feet
 come_agrees : (stage : Stage) (K : Key → Type 0) → K TickKey → (es : List Numbered) (c d : Cells) → IsTidy stage c → IsTidy stage d → ((e : Numbered) → In e es → (k : Key) → touches stage.conf e.entry k ≡ true → K k)
     → ((k : Key) → K k → c k ≡ d k) → AllCome stage c es → AllCome stage d es
 come_agrees stage K ticks [] c d tidy_c tidy_d inside same h = tt
 come_agrees stage K ticks (e ∷ es) c d tidy_c tidy_d inside same h = (
-  λ id t. subst (λ (cell : ItemCell). cell.seen ≤ moment_of e.entry) (same (ItemKey id) (inside e (inl refl) (ItemKey id) t)) (h.0 id t),
-  h.1,
-  come_agrees stage K ticks es (after stage c e) (after stage d e) (stays_tidy stage c e tidy_c) (stays_tidy stage d e tidy_d) (λ x i. inside x (inr i)) (step_agrees stage K ticks e c d tidy_c tidy_d (inside e (inl refl)) same) h.2,
+  h.0,
+  λ id t. subst (λ (cell : ItemCell). cell.seen ≤ moment_of e.entry) (same (ItemKey id) (inside e (inl refl) (ItemKey id) t)) (h.1 id t),
+  h.2,
+  come_agrees stage K ticks es (after stage c e) (after stage d e) (stays_tidy stage c e h.0 tidy_c) (stays_tidy stage d e h.0 tidy_d) (λ x i. inside x (inr i)) (step_agrees stage K ticks e c d h.0 tidy_c tidy_d (inside e (inl refl)) same) h.3,
 )
 
 -- so many triggers are evaluated over both
-same_evaluations : (stage : Stage) (K : Key → Type 0) → K TickKey → (es : List Numbered) (c d : Cells) → IsTidy stage c → IsTidy stage d → ((e : Numbered) → In e es → (k : Key) → touches stage.conf e.entry k ≡ true → K k)
+same_evaluations : (stage : Stage) (K : Key → Type 0) → K TickKey → (es : List Numbered) (c d : Cells) → Each (λ (e : Numbered). OwnsEvents stage e.number) es → IsTidy stage c → IsTidy stage d → ((e : Numbered) → In e es → (k : Key) → touches stage.conf e.entry k ≡ true → K k)
     → ((k : Key) → K k → c k ≡ d k) → evaluations stage c es ≡ evaluations stage d es
-same_evaluations stage K ticks [] c d tidy_c tidy_d inside same = refl
-same_evaluations stage K ticks (e ∷ es) c d tidy_c tidy_d inside same =
+same_evaluations stage K ticks [] c d owns tidy_c tidy_d inside same = refl
+same_evaluations stage K ticks (e ∷ es) c d owns tidy_c tidy_d inside same =
     let own : triggers_at stage.conf (memory_in c) e.number e.entry ≡ triggers_at stage.conf (memory_in d) e.number e.entry =
     triggers_by stage.conf (memory_in c) (memory_in d) e.number e.entry (visits_agree stage.conf e c d (record { at = λ k t. same k (inside e (inl refl) k t); tick = same TickKey ticks })) in
     let rest : evaluations stage (after stage c e) es ≡ evaluations stage (after stage d e) es =
-    same_evaluations stage K ticks es (after stage c e) (after stage d e) (stays_tidy stage c e tidy_c) (stays_tidy stage d e tidy_d) (λ x i. inside x (inr i)) (step_agrees stage K ticks e c d tidy_c tidy_d (inside e (inl refl)) same) in
+    same_evaluations stage K ticks es (after stage c e) (after stage d e) owns.1 (stays_tidy stage c e owns.0 tidy_c) (stays_tidy stage d e owns.0 tidy_d) (λ x i. inside x (inr i)) (step_agrees stage K ticks e c d owns.0 tidy_c tidy_d (inside e (inl refl)) same) in
     ap (λ ids. length ids + evaluations stage (after stage c e) es) own ∙ ap (λ n. length (triggers_at stage.conf (memory_in d) e.number e.entry) + n) rest
 
 -- the cells of the feet and the first Tick, over cells before the first entry
@@ -370,7 +378,7 @@ mixed stage es c (TriggerKey id) = cond (any_touches stage.conf es (TriggerKey i
 mixed stage es c TickKey = c TickKey
 
 module _ (stage : Stage) (es : List Numbered) (part copied back : PartView) (s first : CellsView) (blank : Represents stage s (look (fresh stage) [] [])) (copy : IsCopy copied part) (in_place : IsReplaced s copied first) (taken : IsTaken s copied back)
-    (held : CellsView) (c : Cells) (of : IsPartOf stage.conf es held part) (r : Represents stage held c) where
+    (held : CellsView) (c : Cells) (of : IsPartOf stage.conf es held part) (r : Represents stage held c) (comes : AllCome stage c es) where
   abbrev m : Cells
   m = mixed stage es c
 
@@ -408,14 +416,17 @@ module _ (stage : Stage) (es : List Numbered) (part copied back : PartView) (s f
   read k (inl t) = touched k t
   read k (inr q) = subst (λ j. c j ≡ m j) (sym q) refl
 
-  pub come : AllCome stage c es → AllCome stage m es
-  come = come_agrees stage (λ k. (any_touches stage.conf es k ≡ true) ⊎ (k ≡ TickKey)) (inr refl) es c m r.tidy begins.tidy (λ e i k t. inl (any_intro (λ x. touches stage.conf x.entry k) e es i t)) read
+  owns : Each (λ (e : Numbered). OwnsEvents stage e.number) es
+  owns = come_own stage es c comes
+
+  pub come : AllCome stage m es
+  come = come_agrees stage (λ k. (any_touches stage.conf es k ≡ true) ⊎ (k ≡ TickKey)) (inr refl) es c m r.tidy begins.tidy (λ e i k t. inl (any_intro (λ x. touches stage.conf x.entry k) e es i t)) read comes
 
   pub counts : evaluations stage c es ≡ evaluations stage m es
-  counts = same_evaluations stage (λ k. (any_touches stage.conf es k ≡ true) ⊎ (k ≡ TickKey)) (inr refl) es c m r.tidy begins.tidy (λ e i k t. inl (any_intro (λ x. touches stage.conf x.entry k) e es i t)) read
+  counts = same_evaluations stage (λ k. (any_touches stage.conf es k ≡ true) ⊎ (k ≡ TickKey)) (inr refl) es c m owns r.tidy begins.tidy (λ e i k t. inl (any_intro (λ x. touches stage.conf x.entry k) e es i t)) read
 
   batch : (records_done stage m es ≡ records_done stage c es) × (put_over stage.conf es (cells_done stage m es) c ≡ cells_done stage c es)
-  batch = batch_on_a_copy stage es c m r.tidy begins.tidy (record { at = touched; tick = refl })
+  batch = batch_on_a_copy stage es c m owns r.tidy begins.tidy (record { at = touched; tick = refl })
 
   pub records_same : records_done stage m es ≡ records_done stage c es
   records_same = batch.0
@@ -428,7 +439,7 @@ module _ (stage : Stage) (es : List Numbered) (part copied back : PartView) (s f
 
       go : (b : Bool) → any_touches stage.conf es TickKey ≡ b → cells_done stage m es TickKey ≡ cells_done stage c es TickKey
       go true e = sym (ap (λ b. cond {A = Option ℕ} b (cells_done stage m es TickKey) (c TickKey)) e) ∙ over
-      go false e = batch_off stage es m begins.tidy TickKey e ∙ sym (ap (λ b. cond {A = Option ℕ} b (cells_done stage m es TickKey) (c TickKey)) e) ∙ over
+      go false e = batch_off stage es m owns begins.tidy TickKey e ∙ sym (ap (λ b. cond {A = Option ℕ} b (cells_done stage m es TickKey) (c TickKey)) e) ∙ over
 
   -- behind the entries
   module _ (left : CellsView) (done : PartView) (stands : Represents stage left (cells_done stage m es)) (out : IsTaken left back done) (next : CellsView) (put : IsReplaced held done next) where
@@ -445,7 +456,7 @@ module _ (stage : Stage) (es : List Numbered) (part copied back : PartView) (s f
   -- and where the cells before the first entry come back
   module _ (left end : CellsView) (some : SomeTaken stage m es left) (put : IsReplaced left back end) where
     untouched : (k : Key) → any_touches stage.conf es k ≡ false → cells_done stage m some.taken k ≡ m k
-    untouched k f = batch_off stage some.taken m begins.tidy k (any_first stage.conf some.taken some.rest k (ap (λ xs. any_touches stage.conf xs k) some.all ∙ f))
+    untouched k f = batch_off stage some.taken m (each_first (λ (e : Numbered). OwnsEvents stage e.number) some.taken some.rest (subst (Each (λ (e : Numbered). OwnsEvents stage e.number)) (sym some.all) owns)) begins.tidy k (any_first stage.conf some.taken some.rest k (ap (λ xs. any_touches stage.conf xs k) some.all ∙ f))
 
     pub comes_back : Represents stage end (look (fresh stage) [] [])
     comes_back = mixed_represents stage (any_touches stage.conf es) s left end (look (fresh stage) [] []) (cells_done stage m some.taken) (look (fresh stage) [] []) blank some.represented
@@ -473,22 +484,22 @@ holds_blank stage s r = record { cells = look (fresh stage) [] []; stand = refl;
 module _ (stage : Stage) (es : List Numbered) (part copied back : PartView) (s first : CellsView) (holds : Holds (fresh stage) s []) (copy : IsCopy copied part) (in_place : IsReplaced s copied first) (taken : IsTaken s copied back) where
   pub holds_again : (left end : CellsView) → IsWorkable stage es part → AreSteppedTo stage first es left → IsReplaced left back end → Holds (fresh stage) end []
   holds_again left end w stepped put =
-      holds_blank stage end (comes_back stage es part copied back s first (blank_of stage s holds) copy in_place taken w.held w.cells w.of w.represented left end
-      (stepped (mixed stage es w.cells) (begins stage es part copied back s first (blank_of stage s holds) copy in_place taken w.held w.cells w.of w.represented) (come stage es part copied back s first (blank_of stage s holds) copy in_place taken w.held w.cells w.of w.represented w.come)) put)
+      holds_blank stage end (comes_back stage es part copied back s first (blank_of stage s holds) copy in_place taken w.held w.cells w.of w.represented w.come left end
+      (stepped (mixed stage es w.cells) (begins stage es part copied back s first (blank_of stage s holds) copy in_place taken w.held w.cells w.of w.represented w.come) (come stage es part copied back s first (blank_of stage s holds) copy in_place taken w.held w.cells w.of w.represented w.come)) put)
 
   pub worked_out : (left : CellsView) (done : PartView) (made : List (List Rec)) → AllMade stage first es made left → IsTaken left back done → WorksOut stage es part done made
   unfolding WorksOut
   worked_out left done made all out held c of r come_c =
-      let b = begins stage es part copied back s first (blank_of stage s holds) copy in_place taken held c of r in
+      let b = begins stage es part copied back s first (blank_of stage s holds) copy in_place taken held c of r come_c in
       let a = all (mixed stage es c) b (come stage es part copied back s first (blank_of stage s holds) copy in_place taken held c of r come_c) in
-      (a.0 ∙ records_same stage es part copied back s first (blank_of stage s holds) copy in_place taken held c of r, λ next put. ends stage es part copied back s first (blank_of stage s holds) copy in_place taken held c of r left done a.1 out next put)
+      (a.0 ∙ records_same stage es part copied back s first (blank_of stage s holds) copy in_place taken held c of r come_c, λ next put. ends stage es part copied back s first (blank_of stage s holds) copy in_place taken held c of r come_c left done a.1 out next put)
 
   pub was_counted : (before now : ℕ) → AllCounted stage first es before now → IsCounted stage es part before now
   unfolding IsCounted
   was_counted before now all held c of r come_c =
-      let b = begins stage es part copied back s first (blank_of stage s holds) copy in_place taken held c of r in
+      let b = begins stage es part copied back s first (blank_of stage s holds) copy in_place taken held c of r come_c in
       all (mixed stage es c) b (come stage es part copied back s first (blank_of stage s holds) copy in_place taken held c of r come_c)
-      ∙ ap (λ n. before + n) (sym (counts stage es part copied back s first (blank_of stage s holds) copy in_place taken held c of r))
+      ∙ ap (λ n. before + n) (sym (counts stage es part copied back s first (blank_of stage s holds) copy in_place taken held c of r come_c))
 
 -- ---- entries that suit a log come to its cells
 
@@ -499,13 +510,13 @@ suits_older start (e ∷ newer) older h = suits_older start newer older h.0
 onto : (e : Numbered) (es log : List Numbered) → reverse (e ∷ es) ++ log ≡ reverse es ++ e ∷ log
 onto e es log = ap (λ xs. xs ++ log) (reverse-append (e ∷ []) es) ∙ append_assoc (reverse es) (e ∷ []) log
 
-pub all_come : (start : Start) (es log : List Numbered) (c : Cells) → AreCellsOf start c log → Suits start (reverse es ++ log) → AllCome start.stage c es
-all_come start [] log c stand h = tt
-all_come start (e ∷ es) log c stand h =
+pub all_come : (start : Start) (es log : List Numbered) (c : Cells) → AreCellsOf start c log → Each (λ (e : Numbered). OwnsEvents start.stage e.number) es → Suits start (reverse es ++ log) → AllCome start.stage c es
+all_come start [] log c stand owns h = tt
+all_come start (e ∷ es) log c stand owns h =
     let all : Suits start (reverse es ++ e ∷ log) = subst (Suits start) (onto e es log) h in
     let own : Suits start (e ∷ log) = suits_older start (reverse es) (e ∷ log) all in
-    (comes_after start c log e stand own, own.2, all_come start es (e ∷ log) (after start.stage c e) (one_entry start c log e stand).1 all)
+    (owns.0, comes_after start c log e stand own, own.2, all_come start es (e ∷ log) (after start.stage c e) (one_entry start c log e stand).1 owns.1 all)
 
-pub workable_first : (stage : Stage) (es : List Numbered) (held : CellsView) (part : PartView) → Holds (fresh stage) held [] → IsPartOf stage.conf es held part → Suits (fresh stage) (log_of es) → IsWorkable stage es part
-workable_first stage es held part h of s =
-    record { held = held; cells = h.cells; of = of; represented = h.represented; come = all_come (fresh stage) es [] h.cells h.stand (subst (Suits (fresh stage)) (sym (append-nil (reverse es))) s) }
+pub workable_first : (stage : Stage) (es : List Numbered) (held : CellsView) (part : PartView) → Holds (fresh stage) held [] → IsPartOf stage.conf es held part → Each (λ (e : Numbered). OwnsEvents stage e.number) es → Suits (fresh stage) (log_of es) → IsWorkable stage es part
+workable_first stage es held part h of owns s =
+    record { held = held; cells = h.cells; of = of; represented = h.represented; come = all_come (fresh stage) es [] h.cells h.stand owns (subst (Suits (fresh stage)) (sym (append-nil (reverse es))) s) }

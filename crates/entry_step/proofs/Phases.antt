@@ -131,9 +131,9 @@ run_none stage one rows made e = record { records = e; changes = λ id. ap (abso
 -- One trigger more, as the loop has it
 pub run_more : (stage : Stage) (occasion : Occasion) (items : ℕ → List Stored) (before rows next : List (List Open)) (ids : List ℕ) (k id : ℕ) (made more : List Rec) (o : Option TriggerOutcome)
     → k < length ids → id ≡ get_or ids k 0 → outcome_records o ≡ evaluated stage occasion items (problems_at rows) id
-    → (AreTidy stage rows → Absorbed stage rows (outcome_records o) (outcome_rows rows id o))
+    → (AreTidy stage occasion.number rows → Absorbed stage rows (outcome_records o) (outcome_rows rows id o))
     → more ≡ made ++ outcome_records o → next ≡ outcome_rows rows id o
-    → AreTidy stage before → Runs stage (evaluated stage occasion items) before (take k ids) made rows → Runs stage (evaluated stage occasion items) before (take (k + 1) ids) more next
+    → AreTidy stage occasion.number before → Runs stage (evaluated stage occasion items) before (take k ids) made rows → Runs stage (evaluated stage occasion items) before (take (k + 1) ids) more next
 run_more stage occasion items before rows next ids k id made more o l is r lands m n tidy runs =
     record {
       records = m ∙ ap (λ xs. xs ++ outcome_records o) runs.records ∙ ap (λ xs. so_far ++ xs) (r ∙ ap (λ p. one p id) all) ∙ sym (phase_push stage one (problems_at before) (take k ids) id) ∙ ap (phase stage one (problems_at before)) (sym front);
@@ -153,7 +153,7 @@ run_more stage occasion items before rows next ids k id made more o l is r lands
     all = fun_ext (λ j. runs.changes j ∙ ap (absorbed_all stage j (problems_at before j)) runs.records)
 
     absorbed : Absorbed stage rows (outcome_records o) (outcome_rows rows id o)
-    absorbed = lands (record { ids = tidy.ids; size = runs.size ∙ tidy.size; homes = λ j. subst (AllAtHome stage j) (sym (runs.changes j)) (home_all stage j (problems_at before j) made (tidy.homes j)) })
+    absorbed = lands (record { own = tidy.own; size = runs.size ∙ tidy.size; homes = λ j. subst (AllAtHome stage j) (sym (runs.changes j)) (home_all stage j (problems_at before j) made (tidy.homes j)) })
 
     front : take (k + 1) ids ≡ take k ids ++ id ∷ []
     front = take_more ids k 0 l ∙ ap (λ i. take k ids ++ i ∷ []) (sym is)

@@ -4,7 +4,7 @@ use Rattle.zbx_types.specs.declared.triggers.Trigger.{Trigger}
 use Rattle.zbx_types.specs.declared.entries.Rec.{Rec}
 use Rattle.zbx_types.specs.declared.entries.Rec.TheVariants.{Failure, Problem, Recovery, Step, Message}
 use Rattle.zbx_types.specs.Records.{same_event, event_of}
-use Rattle.trigger_state.specs.Stages.{Stage, KeepsIds, home, rank_of}
+use Rattle.trigger_state.specs.Stages.{Stage, OwnsEvents, home, rank_of}
 use Rattle.trigger_state.specs.Problems.{event_in, opens, opened, open_of, with_step, stepped, absorbed, absorbed_all}
 use Rattle.trigger_state.proofs.Searches.{search_grows}
 use Rattle.entry_step.specs.Records.{problem_of}
@@ -14,14 +14,14 @@ use Rattle.entry_step.specs.Represents.{AllAtHome}
 use Rattle.entry_step.proofs.Members.{each_append, each_cond, each_from, each_kept}
 use Rattle.trigger_state.specs.declared.problems.Open.{Open}
 
-pub one_opened : (stage : Stage) (number now : ℕ) (values : List (Option Held)) (id : ℕ) (trigger : Trigger) (os : List Open) → KeepsIds stage
+pub one_opened : (stage : Stage) (number now : ℕ) (values : List (Option Held)) (id : ℕ) (trigger : Trigger) (os : List Open) → OwnsEvents stage number
     → os ++ record { problem = problem_of stage.conf number now values id trigger; steps = []; rank = rank_of stage (record { number = number; trigger = id }) } ∷ [] ≡ absorbed_all stage id os (problem_of stage.conf number now values id trigger ∷ [])
 unfolding problem_of absorbed
-one_opened stage number now values id trigger os ids =
-    let here : (home stage (record { number = number; trigger = id }) == id) ≡ true = eq-eqb (home stage (record { number = number; trigger = id })) id (ids (record { number = number; trigger = id })) in rw here refl
+one_opened stage number now values id trigger os own =
+    let here : (home stage (record { number = number; trigger = id }) == id) ≡ true = eq-eqb (home stage (record { number = number; trigger = id })) id (own id) in rw here refl
 
 -- a new problem about which no rule and no action does anything
-pub one_begun : (stage : Stage) (number now : ℕ) (values : List (Option Held)) (id : ℕ) (trigger : Trigger) (os : List Open) (made : List Rec) → made ≡ problem_of stage.conf number now values id trigger ∷ [] → KeepsIds stage
+pub one_begun : (stage : Stage) (number now : ℕ) (values : List (Option Held)) (id : ℕ) (trigger : Trigger) (os : List Open) (made : List Rec) → made ≡ problem_of stage.conf number now values id trigger ∷ [] → OwnsEvents stage number
     → os ++ record { problem = problem_of stage.conf number now values id trigger; steps = []; rank = rank_of stage (record { number = number; trigger = id }) } ∷ [] ≡ absorbed_all stage id os made
 one_begun stage number now values id trigger os made e is = one_opened stage number now values id trigger os is ∙ ap (absorbed_all stage id os) (sym e)
 

@@ -28,12 +28,13 @@ use Rattle.preprocess.specs.declared.visit.ItemOutcome.{ItemOutcome}
 use Rattle.preprocess.specs.declared.visit.ItemOutcome.TheVariants as outcome
 use Rattle.entry_step.proofs.Visited.{Memory}
 use Rattle.entry_step.specs.History.{visits_at, memory_of, history_of}
-use Rattle.entry_step.specs.Order.{level, by_depth, above_depths, order}
+use Rattle.conf_index.specs.Order.{level, by_depth, above_depths, order}
 use Rattle.zbx_types.specs.Records.{event_of}
 use Rattle.entry_step.specs.Start.{first_start}
 use Rattle.trigger_state.specs.Stages.{first_stage, home}
 use Rattle.trigger_state.specs.Problems.{event_in, opens, recovers, opened, open_of}
-use Rattle.entry_step.specs.Records.{problem_of, ruled, ruled_records, last_records, begun_records, closed_records, verdict_records, evaluated, phase_over, has_call, is_timed_trigger, timed_triggers, stores, triggers_at, failures_at, judged_of, out_of, replay}
+use Rattle.entry_step.specs.Records.{problem_of, ruled, ruled_records, last_records, begun_records, closed_records, verdict_records, evaluated, phase_over, has_call, stores, triggers_at, failures_at, judged_of, out_of, replay}
+use Rattle.conf_index.specs.Timed.{is_timed_trigger, timed_triggers}
 use Rattle.trigger_state.specs.Verdicts.{is_held}
 use Rattle.trigger_state.specs.declared.answer.Verdict.{Verdict}
 use Rattle.trigger_state.specs.declared.answer.Verdict.TheVariants.{Nothing, New, Close}
@@ -246,7 +247,7 @@ above_each bound zero (x ∷ ts) t q =
     let l = above_least (max bound (x.depth + 1)) ts in omega (arith, l, is)
 above_each bound (suc place) (x ∷ ts) t q = above_each (max bound (x.depth + 1)) place ts t q
 
-stands : (conf : Conf) (id : ℕ) (t : Trigger) → at_id conf.triggers id ≡ Some t → In id (order conf)
+pub stands : (conf : Conf) (id : ℕ) (t : Trigger) → at_id conf.triggers id ≡ Some t → In id (order conf)
 unfolding order
 stands conf zero t q = let none : None ≡ Some t = sym (at_zero conf.triggers) ∙ q in absurd (cc)
 stands conf (suc k) t q =
@@ -494,7 +495,7 @@ phase_next conf occasion items done (id ∷ ids) rs right once apart sorted befo
 abbrev AreQuiet : ℕ → List Rec → Type 0
 AreQuiet number rs = Each IsQuiet rs × Each (IsDone number []) rs
 
-failures_quiet : (conf : Conf) (memory : Memory) (number : ℕ) (entry : Entry) → AreQuiet number (failures_at conf memory number entry)
+pub failures_quiet : (conf : Conf) (memory : Memory) (number : ℕ) (entry : Entry) → AreQuiet number (failures_at conf memory number entry)
 unfolding failures_at
 failures_quiet conf memory number entry = go (visits_at conf memory number entry)
   where

@@ -25,7 +25,7 @@ use Rattle.preprocess.specs.declared.visit.Visit.{Visit}
 use Rattle.preprocess.specs.declared.visit.ItemOutcome.{ItemOutcome}
 use Rattle.preprocess.specs.declared.visit.ItemOutcome.TheVariants as outcome
 use Rattle.preprocess.proofs.Logs.{at_map, hold_nothing}
-use Rattle.trigger_state.specs.Stages.{Stage, KeepsIds, home}
+use Rattle.trigger_state.specs.Stages.{Stage, OwnsEvents, home}
 use Rattle.trigger_state.specs.Problems.{event_in, absorbed_all, grown, open_of}
 use Rattle.trigger_state.specs.declared.problems.Open.{Open}
 use Rattle.entry_step.specs.declared.occasions.Occasion.{Occasion}
@@ -34,12 +34,13 @@ use Rattle.footprint.specs.Rows.{is_in, is_one}
 use Rattle.footprint.specs.Feet.{over_of, feet_of}
 use Rattle.entry_step.specs.Each.{Each}
 use Rattle.zbx_types.specs.Entries.{moment_of}
-use Rattle.entry_step.specs.Log.{last_moment, tick_with, first_tick, IsFitting, Suits}
+use Rattle.entry_step.specs.Log.{last_moment, tick_with, first_tick, Suits}
 use Rattle.entry_step.specs.Occasions.{occasion_of}
 use Rattle.entry_step.specs.History.{visits_at, stored_of, marks_of, memory_of, with_stored, history_of}
 use Rattle.entry_step.specs.Kept.{Keeps, roomless, Sees, IsCalled, SeesFor, CameIn}
 use Rattle.entry_step.specs.Due.{by_making, due_for, due_over, due_at}
-use Rattle.entry_step.specs.Records.{evaluated, phase, timed_triggers, triggers_at, failures_at, judged_of, out_of, replay}
+use Rattle.entry_step.specs.Records.{evaluated, phase, triggers_at, failures_at, judged_of, out_of, replay}
+use Rattle.conf_index.specs.Timed.{timed_triggers}
 use Rattle.entry_step.specs.Cells.{Key, ItemKey, TriggerKey, TickKey, ItemCell, Cells, opens_in, memory_in, touches, item_after, histories_after, judged_at, records_at, records, after, seen_of, look, AreCellsOf}
 use Rattle.entry_step.specs.Represents.{CellsView, problems_at, AllAtHome, IsTidy, Represents, Holds, ComesAfter, StepsTo}
 use Rattle.entry_step.specs.Changes.{with_rows, put_back, AreTidy, Runs, RunsOver, Absorbed, TakesIn, TakesTick}
@@ -53,7 +54,7 @@ use Rattle.entry_step.proofs.Said.{each_flat_map, due_about, IsQuiet, about_quie
 use Rattle.entry_step.proofs.Covered.{MakesTagged, quiet_tagged, phase_tagged, tagged_all}
 use Rattle.entry_step.proofs.Coming.{Became, became, same_length, some_map, still_ordered, keeps_with, empty_keeps, empty_ordered, size_roomless, marks_listed}
 use Rattle.entry_step.proofs.Phases.{none_same, phase_is}
-use Rattle.entry_step.specs.Start.{Start, fresh, first_start}
+use Rattle.entry_step.specs.Start.{Start, first_start}
 
 -- the items of a trigger that is over the item of a value are in the value's foot
 pub calls_touched : (conf : Conf) (now item time : ℕ) (value : List ℕ) (id i : ℕ) → has_id (over_of conf item) id ≡ true → IsCalled conf id i → is_one conf.items i ≡ true → touches conf (Value now item time value) (ItemKey i) ≡ true
@@ -103,28 +104,27 @@ due_tagged stage (Tick now) all =
     each_flat_map (MakesTagged stage) (due_for stage now) (by_making stage all)
     (λ o. quiet_tagged stage (due_for stage now o) (about_quiet (event_in o) (due_for stage now o) (due_about stage.conf (home stage (event_in o)) o.problem o.steps now)))
 
-records_tagged : (stage : Stage) → KeepsIds stage → (c : Cells) (number : ℕ) (entry : Entry) → Each (MakesTagged stage) (records_at stage c number entry)
+records_tagged : (stage : Stage) (c : Cells) (number : ℕ) (entry : Entry) → OwnsEvents stage number → Each (MakesTagged stage) (records_at stage c number entry)
 unfolding records_at judged_at
-records_tagged stage ids c number entry =
+records_tagged stage c number entry own =
     each_append (MakesTagged stage) (judged_at stage c number entry) (due_at stage entry (grown stage (opens_in c) (judged_at stage c number entry)))
     (each_append (MakesTagged stage) (failures_at stage.conf (memory_in c) number entry) (phase stage one (opens_in c) (triggers_at stage.conf (memory_in c) number entry)) (failures_tagged stage (memory_in c) number entry)
-    (phase_tagged stage ids (occasion_of (c TickKey) number entry) (histories_after stage.conf c number entry) (opens_in c) (triggers_at stage.conf (memory_in c) number entry)))
+    (phase_tagged stage (occasion_of (c TickKey) number entry) own (histories_after stage.conf c number entry) (opens_in c) (triggers_at stage.conf (memory_in c) number entry)))
     (due_tagged stage entry (grown stage (opens_in c) (judged_at stage c number entry)))
   where
     one : (ℕ → List Open) → ℕ → List Rec
     one = evaluated stage (occasion_of (c TickKey) number entry) (histories_after stage.conf c number entry)
 
-pub stays_tidy : (stage : Stage) (c : Cells) (e : Numbered) → IsTidy stage c → IsTidy stage (after stage c e)
+pub stays_tidy : (stage : Stage) (c : Cells) (e : Numbered) → OwnsEvents stage e.number → IsTidy stage c → IsTidy stage (after stage c e)
 unfolding after
-stays_tidy stage c e tidy = record {
-  ids = tidy.ids;
+stays_tidy stage c e own tidy = record {
   homes = λ id. home_all stage id (c (TriggerKey id)) (records stage c e) (tidy.homes id);
-  tagged = λ id. tagged_all stage id (c (TriggerKey id)) (records stage c e) (records_tagged stage tidy.ids c e.number e.entry) (tidy.tagged id);
+  tagged = λ id. tagged_all stage id (c (TriggerKey id)) (records stage c e) (records_tagged stage c e.number e.entry own) (tidy.tagged id);
   absent = λ i q. absent_after stage (memory_in c) c e.number e.entry i tidy q;
 }
 
-pub tidy_rows : (stage : Stage) (held : CellsView) (c : Cells) → Represents stage held c → AreTidy stage held.problems
-tidy_rows stage held c r = record { ids = r.tidy.ids; size = r.triggers; homes = λ id. subst (AllAtHome stage id) (sym (r.problems id)) (r.tidy.homes id) }
+pub tidy_rows : (stage : Stage) (number : ℕ) (held : CellsView) (c : Cells) → OwnsEvents stage number → Represents stage held c → AreTidy stage number held.problems
+tidy_rows stage number held c own r = record { own = own; size = r.triggers; homes = λ id. subst (AllAtHome stage id) (sym (r.problems id)) (r.tidy.homes id) }
 
 -- What is kept behind an entry
 seen_later : (b : Bool) (now seen : ℕ) → (b ≡ true → seen ≤ now) → seen ≤ cond b now seen
@@ -156,7 +156,7 @@ failures_land stage memory number entry = go (visits_at stage.conf memory number
     go [] = tt
     go (v ∷ visits) = one v (failures_of stage.conf number visits) (go visits) v.outcome
 
-module _ (stage : Stage) (held : CellsView) (c : Cells) (e : Numbered) (r : Represents stage held c) (comes : ComesAfter stage.conf c e) where
+module _ (stage : Stage) (held : CellsView) (c : Cells) (e : Numbered) (its : OwnsEvents stage e.number) (r : Represents stage held c) (comes : ComesAfter stage.conf c e) where
   abbrev behind : ℕ → ItemCell
   behind i = item_after stage.conf (memory_in c) e.number e.entry i (c (ItemKey i))
 
@@ -225,7 +225,7 @@ module _ (stage : Stage) (held : CellsView) (c : Cells) (e : Numbered) (r : Repr
       (is : made ≡ (failures_at stage.conf (memory_in c) e.number e.entry ++ judged) ++ due_at stage e.entry (problems_at rows)) (lands : Absorbed stage rows (due_at stage e.entry (problems_at rows)) next.problems)
       (came : CameIn (moment_of e.entry) (visits_at stage.conf (memory_in c) e.number e.entry) held.items next.items held.memories next.memories) (ticks : next.tick ≡ tick_with held.tick e.entry) where
     abbrev run : Runs stage (evaluated stage (occasion_of held.tick e.number e.entry) (histories_after stage.conf c e.number e.entry)) held.problems (triggers_at stage.conf (memory_in c) e.number e.entry) judged rows
-    run = runs (histories_after stage.conf c e.number e.entry) sees_all (tidy_rows stage held c r)
+    run = runs (histories_after stage.conf c e.number e.entry) sees_all (tidy_rows stage e.number held c its r)
 
     run_judged : failures_at stage.conf (memory_in c) e.number e.entry ++ judged ≡ judged_at stage c e.number e.entry
     unfolding judged_at
@@ -263,7 +263,7 @@ module _ (stage : Stage) (held : CellsView) (c : Cells) (e : Numbered) (r : Repr
       marks = marked next.memories came.marks;
       problems = λ id. lands.each id ∙ left_is id;
       tick = ticks ∙ ap (λ t. tick_with t e.entry) r.tick;
-      tidy = stays_tidy stage c e r.tidy;
+      tidy = stays_tidy stage c e its r.tidy;
     }
       where
         own : (id : ℕ) → Became (at_id held.items id) (stored id) (moment_of e.entry) (at_id next.items id)
@@ -282,7 +282,7 @@ still now visits items memories none = subst (λ vs. CameIn now vs items items m
     same (Some x) = refl
 
 pub config_steps : (stage : Stage) (held : CellsView) (e : Numbered) (now : ℕ) (text : List ℕ) (made : List Rec) → e.entry ≡ Config now text → made ≡ [] → StepsTo stage held e made held
-config_steps stage held e now text made is none c r comes fits =
+config_steps stage held e now text made is none c own r comes fits =
     subst (λ entry. (made ≡ records stage c (record { number = e.number; entry = entry })) × Represents stage held (after stage c (record { number = e.number; entry = entry }))) (sym is) (both (subst (λ entry. ComesAfter stage.conf c (record { number = e.number; entry = entry })) is comes))
   where
     at : Numbered
@@ -295,21 +295,21 @@ config_steps stage held e now text made is none c r comes fits =
         let made_is : made ≡ (failures_at stage.conf (memory_in c) e.number (Config now text) ++ []) ++ due_at stage (Config now text) (problems_at held.problems) = unfold failures_at in unfold due_at in none in
         let lands : Absorbed stage held.problems (due_at stage (Config now text) (problems_at held.problems)) held.problems = unfold due_at in record { each = λ id. refl; size = refl } in
         let came : CameIn now (visits_at stage.conf (memory_in c) e.number (Config now text)) held.items held.items held.memories held.memories = still now [] held.items held.memories refl in (
-          run_records stage held c at r before held held.problems [] made runs made_is lands came (sym (none_option held.tick)),
-          run_represents stage held c at r before held held.problems [] made runs made_is lands came (sym (none_option held.tick)),
+          run_records stage held c at own r before held held.problems [] made runs made_is lands came (sym (none_option held.tick)),
+          run_represents stage held c at own r before held held.problems [] made runs made_is lands came (sym (none_option held.tick)),
         )
 
 -- A Tick
 ticks_on : (stage : Stage) (held next : CellsView) (number now : ℕ) (made : List Rec) → TakesTick stage (occasion_of held.tick number (Tick now)) held made next → StepsTo stage held (record { number = number; entry = Tick now }) made next
-ticks_on stage held next number now made takes c r comes fits =
+ticks_on stage held next number now made takes c own r comes fits =
     let runs : RunsOver stage (occasion_of held.tick number (Tick now)) held.items (stored_of stage.conf (memory_in c) number (Tick now)) held.problems (triggers_at stage.conf (memory_in c) number (Tick now)) takes.judged takes.rows =
     unfold stored_of in unfold triggers_at in takes.runs in
     let is : made ≡ (failures_at stage.conf (memory_in c) number (Tick now) ++ takes.judged) ++ due_at stage (Tick now) (problems_at takes.rows) = unfold failures_at in unfold due_at in takes.records in
     let lands : Absorbed stage takes.rows (due_at stage (Tick now) (problems_at takes.rows)) next.problems = unfold due_at in takes.changes in
     let came : CameIn now (visits_at stage.conf (memory_in c) number (Tick now)) held.items next.items held.memories next.memories =
     subst (λ items. CameIn now [] held.items items held.memories next.memories) (sym takes.items) (subst (λ memories. CameIn now [] held.items held.items held.memories memories) (sym takes.memories) (still now [] held.items held.memories refl)) in (
-      run_records stage held c (record { number = number; entry = Tick now }) r comes next takes.rows takes.judged made runs is lands came takes.tick,
-      run_represents stage held c (record { number = number; entry = Tick now }) r comes next takes.rows takes.judged made runs is lands came takes.tick,
+      run_records stage held c (record { number = number; entry = Tick now }) own r comes next takes.rows takes.judged made runs is lands came takes.tick,
+      run_represents stage held c (record { number = number; entry = Tick now }) own r comes next takes.rows takes.judged made runs is lands came takes.tick,
     )
 
 pub tick_taken : (stage : Stage) (held next : CellsView) (e : Numbered) (now : ℕ) (made : List Rec) (occasion : Occasion) → e.entry ≡ Tick now → occasion ≡ occasion_of held.tick e.number e.entry → TakesTick stage occasion held made next → StepsTo stage held e made next
@@ -325,7 +325,7 @@ own_touched conf now item time value = or_left (item == item) (has_id ((feet_of 
 value_on : (stage : Stage) (held next : CellsView) (number now item time : ℕ) (value : List ℕ) (made : List Rec)
     → TakesIn stage (occasion_of held.tick number (Value now item time value)) (visits_at stage.conf (memory_kept held.memories) number (Value now item time value)) (triggers_at stage.conf (memory_kept held.memories) number (Value now item time value)) held made next
     → StepsTo stage held (record { number = number; entry = Value now item time value }) made next
-value_on stage held next number now item time value made takes c r comes fits = taken (memory_kept held.memories) (memory_is stage held c r) takes
+value_on stage held next number now item time value made takes c own r comes fits = taken (memory_kept held.memories) (memory_is stage held c r) takes
   where
     entry : Entry
     entry = Value now item time value
@@ -339,8 +339,8 @@ value_on stage held next number now item time value made takes c r comes fits = 
         let is : made ≡ (failures_at stage.conf (memory_in c) number entry ++ t.judged) ++ due_at stage entry (problems_at next.problems) =
         unfold failures_at in unfold due_at in t.records ∙ sym (append-nil (failures_of stage.conf number (visits_at stage.conf (memory_in c) number entry) ++ t.judged)) in
         let lands : Absorbed stage next.problems (due_at stage entry (problems_at next.problems)) next.problems = unfold due_at in record { each = λ id. refl; size = refl } in (
-          run_records stage held c e r comes next next.problems t.judged made runs is lands t.came (t.tick ∙ sym (none_option held.tick)),
-          run_represents stage held c e r comes next next.problems t.judged made runs is lands t.came (t.tick ∙ sym (none_option held.tick)),
+          run_records stage held c e own r comes next next.problems t.judged made runs is lands t.came (t.tick ∙ sym (none_option held.tick)),
+          run_represents stage held c e own r comes next next.problems t.judged made runs is lands t.came (t.tick ∙ sym (none_option held.tick)),
         )
 
     taken : (memory : Memory) → memory ≡ memory_in c → TakesIn stage (occasion_of held.tick number entry) (visits_at stage.conf memory number entry) (triggers_at stage.conf memory number entry) held made next → (made ≡ records stage c e) × Represents stage next (after stage c e)
@@ -413,10 +413,10 @@ one_entry start c log e h =
       ap (λ x. after start.stage x e) h ∙ after_is start log rs e ∙ ap (look start (e ∷ log)) (append_assoc start.records (replay start log) (out_of start log e e.entry rs)),
     )
 
-pub steps_out : (start : Start) (held next : CellsView) (e : Numbered) (made : List Rec) → StepsTo start.stage held e made next → (log : List Numbered) → Holds start held log → Suits start (e ∷ log)
+pub steps_out : (start : Start) (held next : CellsView) (e : Numbered) (made : List Rec) → StepsTo start.stage held e made next → OwnsEvents start.stage e.number → (log : List Numbered) → Holds start held log → Suits start (e ∷ log)
     → (made ≡ out_of start log e e.entry (start.records ++ replay start log)) × Holds start next (e ∷ log)
-steps_out start held next e made steps log h suit =
-    let both = steps h.cells h.represented (comes_after start h.cells log e h.stand suit) suit.2 in
+steps_out start held next e made steps own log h suit =
+    let both = steps h.cells own h.represented (comes_after start h.cells log e h.stand suit) suit.2 in
     let one = one_entry start h.cells log e h.stand in
     (both.0 ∙ one.0, record { cells = after start.stage h.cells e; stand = one.1; represented = both.1 })
 
@@ -453,7 +453,7 @@ holds_nothing conf made problems new none = record {
     marks = λ id. ap (λ o. unwrap_or o []) (holds.memories id) ∙ first (at_id conf.items id) (marks_behind conf [] id) (λ q. ap (λ o. option_map_or no_marks o []) q);
     problems = λ id. ap (λ xs. problems_at xs id) none ∙ replicated_rows (length conf.triggers) id;
     tick = refl;
-    tidy = record { ids = λ event. refl; homes = λ id. tt; tagged = λ id. tt; absent = λ id q. refl };
+    tidy = record { homes = λ id. tt; tagged = λ id. tt; absent = λ id q. refl };
   };
 }
   where
@@ -487,9 +487,3 @@ put_back_none rows taken e = ap (λ t. with_rows rows (reverse t)) e
 pub on_ok : {T E : Type 0} (r : Result T E) (P : T → Type 0) (Q : Type 0) → ((x : T) → P x → Q) → IfOk r P → OnOk r Q
 on_ok (Ok x) P Q f p = f x p
 on_ok (Err x) P Q f p = tt
-
--- what holds nothing holds a log of a configuration's entry
-pub config_holds : (stage : Stage) (held : CellsView) (e : Numbered) (now : ℕ) (text : List ℕ) → e.entry ≡ Config now text → Holds (fresh stage) held [] → Holds (fresh stage) held (e ∷ [])
-config_holds stage held e now text is h =
-    (steps_out (fresh stage) held held e [] (config_steps stage held e now text [] is refl) [] h
-    (tt, omega arith, subst (IsFitting stage.conf) (sym is) tt)).1

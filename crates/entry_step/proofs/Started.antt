@@ -9,14 +9,13 @@ use Rattle.zbx_types.specs.declared.entries.Rec.{Rec}
 use Rattle.zbx_types.specs.declared.triggers.Trigger.{Trigger}
 use Rattle.event_correlation.specs.Laws.{HasTagsOf}
 use Rattle.event_correlation.specs.declared.answer.Closes.{Closes}
-use Rattle.trigger_state.specs.Stages.{Stage, KeepsIds, home, rank_of}
+use Rattle.trigger_state.specs.Stages.{Stage, OwnsEvents, home, rank_of}
 use Rattle.trigger_state.specs.Problems.{opens, absorbed_all}
 use Rattle.trigger_state.specs.declared.problems.Open.{Open}
 use Rattle.entry_step.specs.Each.{Each}
 use Rattle.entry_step.specs.Records.{problem_of, closed_records, ruled, ruled_records, last_records, begun_with}
 use Rattle.entry_step.specs.Represents.{problems_at}
 use Rattle.entry_step.specs.Changes.{with_row, with_all, changed, outcome_rows, IsAbsorbed, has_fresh, Absorbed, Adds, Leaves, Lands}
-use Rattle.entry_step.specs.declared.changes.Change.{Change}
 use Rattle.entry_step.specs.declared.changes.Change.TheVariants as change
 use Rattle.entry_step.specs.declared.changes.TriggerOutcome.{TriggerOutcome}
 use Rattle.entry_step.specs.declared.changes.Fresh.{Fresh}
@@ -81,7 +80,7 @@ begun_is stage ready number now values id trigger all problem closes records c t
 
 -- A new problem, as these close
 module _ (stage : Stage) (number now : ℕ) (values : List (Option Held)) (id : ℕ) (trigger : Trigger) (rows : List (List Open)) (closes : Closes) (records : List Rec)
-    (ids : KeepsIds stage) (there : at_id stage.conf.triggers id ≡ Some trigger) (size : length rows ≡ length stage.conf.triggers)
+    (homes : OwnsEvents stage number) (there : at_id stage.conf.triggers id ≡ Some trigger) (size : length rows ≡ length stage.conf.triggers)
     (is : records ≡ begun_with stage number now (problems_at rows) id (problem_of stage.conf number now values id trigger) closes) where
   abbrev problem : Rec
   problem = problem_of stage.conf number now values id trigger
@@ -97,7 +96,7 @@ module _ (stage : Stage) (number now : ℕ) (values : List (Option Held)) (id : 
       event = record { number = number; trigger = id }
 
       go : (b : Bool) → (home stage event == j) ≡ b → b ≡ false
-      go true e = let n : at_id stage.conf.triggers id ≡ None = ap (at_id stage.conf.triggers) (sym (ids event) ∙ eqb-true (home stage event) j e) ∙ none_same rows stage.conf.triggers j size none in let m : Some trigger ≡ None = sym there ∙ n in absurd (cc)
+      go true e = let n : at_id stage.conf.triggers id ≡ None = ap (at_id stage.conf.triggers) (sym (homes id) ∙ eqb-true (home stage event) j e) ∙ none_same rows stage.conf.triggers j size none in let m : Some trigger ≡ None = sym there ∙ n in absurd (cc)
       go false e = refl
 
   gone : (j : ℕ) → at_id rows j ≡ None → absorbed_all stage j [] records ≡ []
@@ -110,14 +109,14 @@ module _ (stage : Stage) (number now : ℕ) (values : List (Option Held)) (id : 
   starts own others made each whole =
       rows_absorbed stage rows records gone id own others made each
       (subst (LandIn stage (λ j. only id j || has_fresh others j)) (sym is)
-      (begun_lands stage number now values (problems_at rows) id trigger (λ j. only id j || has_fresh others j) closes ids (or_left (only id id) (has_fresh others id) (eq-eqb id id refl)) whole))
+      (begun_lands stage number now values (problems_at rows) id trigger (λ j. only id j || has_fresh others j) closes homes (or_left (only id id) (has_fresh others id) (eq-eqb id id refl)) whole))
 
   -- about which nothing is done
   pub starts_alone : length records ≡ 1 → Absorbed stage rows records (with_all (with_row rows id (problems_at rows id ++ record { problem = problem; steps = []; rank = rank_of stage (record { number = number; trigger = id }) } ∷ [])) [])
   starts_alone one =
       rows_absorbed stage rows records gone id (problems_at rows id ++ record { problem = problem; steps = []; rank = rank_of stage (record { number = number; trigger = id }) } ∷ []) []
-      (one_begun stage number now values id trigger (problems_at rows id) records alone ids) tt
-      (subst (LandIn stage (λ j. only id j || false)) (sym alone) (λ j q. unfold problem_of in ap (λ i. i == j) (ids (record { number = number; trigger = id })) ∙ or_false_left (only id j) false q, tt))
+      (one_begun stage number now values id trigger (problems_at rows id) records alone homes) tt
+      (subst (LandIn stage (λ j. only id j || false)) (sym alone) (λ j q. unfold problem_of in ap (λ i. i == j) (homes id) ∙ or_false_left (only id j) false q, tt))
     where
       none : (rs : List Rec) → suc (length rs) ≡ 1 → problem ∷ rs ≡ problem ∷ []
       none [] q = refl

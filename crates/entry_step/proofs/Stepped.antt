@@ -1,5 +1,5 @@
 -- Entries that are taken one after another.
-use Rattle.std.proofs.Common.{◌≡◌, ℕ, zero, suc, ◌+◌, ◌<◌, ◌≤◌, List, [], ◌∷◌, ◌++◌, length, get_or, take, drop, refl, sym, ◌∙◌, ap, subst, append-nil, append_assoc, arith}
+use Rattle.std.proofs.Common.{◌≡◌, ℕ, ◌+◌, ◌<◌, ◌≤◌, List, [], ◌∷◌, ◌++◌, length, get_or, take, drop, refl, sym, ◌∙◌, ap, subst, append-nil, arith}
 use Rattle.std.proofs.lemmas.List.{take_more, drop_more, take_all, drop_all, take-append-drop}
 use Rattle.trigger_state.specs.Stages.{Stage}
 use Rattle.zbx_types.specs.declared.entries.Numbered.{Numbered}
@@ -10,7 +10,7 @@ use Rattle.entry_step.specs.Laws.{cells_done, records_done}
 use Rattle.entry_step.specs.Records.{triggers_at}
 use Rattle.entry_step.specs.Represents.{CellsView, Represents, StepsTo}
 use Rattle.entry_step.specs.Parts.{AllCome, evaluations}
-use Rattle.entry_step.specs.Stepping.{AllMade, AllCounted, SomeTaken, AreSteppedTo}
+use Rattle.entry_step.specs.Stepping.{AllMade, AllCounted, AreSteppedTo}
 use Rattle.entry_step.proofs.Represented.{memory_is}
 
 -- so many of the entries are taken
@@ -54,7 +54,7 @@ module _ (stage : Stage) (held : CellsView) (es : List Numbered) (k : ℕ) (now 
     comes = subst (AllCome stage d) (rest_is es k e l at) h.come
 
     both : (rs ≡ records stage d e) × Represents stage next (after stage d e)
-    both = steps_to d h.represented comes.0 comes.1
+    both = steps_to d comes.0 h.represented comes.1 comes.2
 
     stands : Represents stage next (cells_done stage c (take (k + 1) es))
     stands = subst (Represents stage next) (sym (done_more stage c es k e l at)) both.1
@@ -62,7 +62,7 @@ module _ (stage : Stage) (held : CellsView) (es : List Numbered) (k : ℕ) (now 
     one_more : (more : List (List Rec)) (after_it : ℕ) → more ≡ made ++ rs ∷ [] → after_it ≡ steps + length (triggers_at stage.conf (memory_kept now.memories) e.number e.entry) → Halfway stage c es (k + 1) next more before after_it
     one_more more after_it q n = record {
       represented = stands;
-      come = subst (λ (x : Cells). AllCome stage x (drop (k + 1) es)) (sym (done_more stage c es k e l at)) comes.2;
+      come = subst (λ (x : Cells). AllCome stage x (drop (k + 1) es)) (sym (done_more stage c es k e l at)) comes.3;
       told =
           ap (λ xs. xs ++ records_done stage (cells_done stage c (take (k + 1) es)) (drop (k + 1) es)) q
           ∙ append_one made rs (records_done stage (cells_done stage c (take (k + 1) es)) (drop (k + 1) es))

@@ -16,7 +16,7 @@ use Rattle.preprocess.specs.declared.draft.Draft.{Draft}
 use Rattle.preprocess.specs.declared.visit.Visit.{Visit}
 use Rattle.preprocess.proofs.Becoming.{same_becomes}
 use Rattle.entry_step.specs.Kept.{roomless, still_to_come, SeesFor}
-use Rattle.entry_step.specs.Records.{timed_triggers}
+use Rattle.conf_index.specs.Timed.{timed_triggers}
 use Rattle.entry_step.specs.Due.{due_over}
 use Rattle.entry_step.specs.Represents.{CellsView, problems_at}
 use Rattle.entry_step.specs.Changes.{is_asked, RunsOver, Absorbed, Drafted, TakesIn, TakesTick}

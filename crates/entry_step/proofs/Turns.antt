@@ -32,7 +32,7 @@ take_last xs y = let l : length xs < length (xs ++ y ∷ []) = below xs in take_
 -- one trigger more
 pub run_on : (stage : Stage) (occasion : Occasion) (cells : List CellView) (stored : ℕ → Option Stored) (rows next : List (List Open)) (id : ℕ) (made more : List Rec) (o : Option TriggerOutcome)
     → ((items : ℕ → List Stored) → SeesFor stage.conf cells stored occasion.now items id → outcome_records o ≡ evaluated stage occasion items (problems_at rows) id)
-    → (AreTidy stage rows → Absorbed stage rows (outcome_records o) (outcome_rows rows id o))
+    → (AreTidy stage occasion.number rows → Absorbed stage rows (outcome_records o) (outcome_rows rows id o))
     → more ≡ made ++ outcome_records o → next ≡ outcome_rows rows id o → (asked : Bool) → asked ≡ true → RunsOn stage occasion cells stored asked id made rows more next
 run_on stage occasion cells stored rows next id made more o records lands m n false q = cc
 run_on stage occasion cells stored rows next id made more o records lands m n true q = λ items before ids tidy runs sees.

@@ -20,11 +20,11 @@ use Rattle.preprocess.proofs.Local.{Below, visited_below, visits_all, visits_sam
 use Rattle.footprint.specs.Rows.{is_one}
 use Rattle.footprint.specs.Feet.{master_by, chain, is_under, is_of, over_of, foot_has_item, feet_of}
 use Rattle.entry_step.specs.Each.{Each, In}
-use Rattle.entry_step.specs.Order.{order}
+use Rattle.conf_index.specs.Order.{order}
 use Rattle.entry_step.specs.History.{visits_at, stored_of}
 use Rattle.entry_step.specs.Records.{has_call, is_over, stores, triggers_at}
 use Rattle.entry_step.specs.Cells.{ItemKey, touches}
-use Rattle.entry_step.specs.Index.{with_masters, is_over_below, triggers_under}
+use Rattle.conf_index.specs.Index.{with_masters, is_over_below, triggers_under}
 use Rattle.entry_step.specs.Changes.{is_asked}
 use Rattle.entry_step.proofs.Members.{or_left, or_right, and_left, and_right, and_both, each_filter, any_intro, any_elim}
 use Rattle.entry_step.proofs.Feet.{there, has_of, has_over}

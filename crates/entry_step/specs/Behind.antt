@@ -6,7 +6,7 @@ use Rattle.entry_step.specs.Log.{first_tick, last_moment, last_number, Suits}
 use Rattle.entry_step.specs.History.{marks_of, history_of}
 use Rattle.entry_step.specs.Records.{replay}
 use Rattle.entry_step.specs.Represents.{CellsView, Holds}
-use Rattle.entry_step.specs.Laws.{IsGood}
+use Rattle.entry_step.specs.Laws.{IsGood, AreBehind}
 
 -- a log as the start of what follows it: what the searches find in it, and all records up to there
 abbrev pub behind : Start → List Numbered → Start
@@ -27,7 +27,7 @@ ReplayBehind = (start : Start) (newer older : List Numbered)
 
 -- behind a log that suits a good start stands a good start
 abbrev pub BehindIsGood : Type 0
-BehindIsGood = (start : Start) (older : List Numbered) → IsGood start → IsGood (behind start older)
+BehindIsGood = (start : Start) (older : List Numbered) → IsGood start → AreBehind start older → IsGood (behind start older)
 
 -- what holds a log that suits its start holds nothing yet behind what the log leaves
 abbrev pub HoldsBehind : Type 0

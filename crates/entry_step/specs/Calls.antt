@@ -9,7 +9,7 @@ use Rattle.entry_step.specs.Evaluation.{call_value}
 use Rattle.entry_step.specs.Seen.{shown_values, Seen}
 use Rattle.entry_step.specs.declared.calls.Calls.{Calls}
 use Rattle.entry_step.specs.declared.evaluation.Found.{Found}
-use Rattle.entry_step.specs.declared.plans.Node.{Node}
+use Rattle.conf_index.specs.declared.plans.Node.{Node}
 
 -- what is kept shows the trigger these histories
 abbrev pub Shown : Calls → (ℕ → List Stored) → Type 0

@@ -3,7 +3,7 @@ use Rattle.std.specs.Prelude.{◌≡◌, ◌⊎◌, ℕ, ◌-◌, ◌==◌, ◌|
 use Rattle.std.specs.List.{list_any}
 use Rattle.std.specs.Option.{unwrap_or}
 use Rattle.zbx_types.specs.declared.conf.Conf.{Conf}
-use Rattle.trigger_state.specs.Stages.{Stage, KeepsIds, home}
+use Rattle.trigger_state.specs.Stages.{Stage, OwnsEvents, home}
 use Rattle.zbx_types.specs.declared.triggers.Trigger.{Trigger}
 use Rattle.zbx_types.specs.declared.entries.EventId.{EventId}
 use Rattle.zbx_types.specs.declared.entries.Rec.{Rec}
@@ -18,7 +18,8 @@ use Rattle.entry_step.specs.Each.{Each}
 use Rattle.entry_step.specs.Due.{due_for, due_over}
 use Rattle.entry_step.specs.declared.due.Due.{Due}
 use Rattle.entry_step.specs.Seen.{Seen}
-use Rattle.entry_step.specs.Records.{verdict_records, expression_value, recovery_value, evaluated, phase, has_call, timed_triggers}
+use Rattle.entry_step.specs.Records.{verdict_records, expression_value, recovery_value, evaluated, phase, has_call}
+use Rattle.conf_index.specs.Timed.{timed_triggers}
 use Rattle.entry_step.specs.Represents.{CellsView, problems_at, AllAtHome}
 use Rattle.value_cache.specs.Cells.{CellView}
 use Rattle.zbx_types.specs.Ids.{at_id}
@@ -121,10 +122,10 @@ Serve trigger os tags others =
     (held : Bool) (p r : Option ℤ) (is_value : Bool) → verdict_over trigger held os p r tags is_value ≡ verdict_over
     trigger held os p r others is_value
 
--- the triggers of events still have the ids in them, each trigger has a row, and each open problem is in the row of its
--- own trigger
-pub record AreTidy (stage : Stage) (rows : List (List Open)) : Type 0 where
-  pub ids : KeepsIds stage
+-- the triggers of the events of the entry with a number have the ids in them, each trigger has a row, and each open problem
+-- is in the row of its own trigger
+pub record AreTidy (stage : Stage) (number : ℕ) (rows : List (List Open)) : Type 0 where
+  pub own : OwnsEvents stage number
   pub size : length rows ≡ length stage.conf.triggers
   pub homes : (id : ℕ) → AllAtHome stage id (problems_at rows id)
 
@@ -139,7 +140,7 @@ pub record Runs (stage : Stage) (one : (ℕ → List Open) → ℕ → List Rec)
 abbrev pub RunsOver : Stage → Occasion → List CellView → (ℕ → Option Stored) → List (List Open) → List ℕ → List Rec
     → List (List Open) → Type 0
 RunsOver stage occasion cells stored before ids made rows =
-    (items : ℕ → List Stored) → Each (SeesFor stage.conf cells stored occasion.now items) ids → AreTidy stage before
+    (items : ℕ → List Stored) → Each (SeesFor stage.conf cells stored occasion.now items) ids → AreTidy stage occasion.number before
     → Runs stage (evaluated stage occasion items) before ids made rows
 
 -- one trigger more, if it is evaluated: whatever was evaluated before it and made these records and rows, now these
@@ -147,7 +148,7 @@ RunsOver stage occasion cells stored before ids made rows =
 abbrev pub RunsOn : Stage → Occasion → List CellView → (ℕ → Option Stored) → Bool → ℕ → List Rec → List (List Open)
     → List Rec → List (List Open) → Type 0
 RunsOn stage occasion cells stored asked id made rows more next =
-    (items : ℕ → List Stored) (before : List (List Open)) (ids : List ℕ) → AreTidy stage before
+    (items : ℕ → List Stored) (before : List (List Open)) (ids : List ℕ) → AreTidy stage occasion.number before
     → Runs stage (evaluated stage occasion items) before ids made rows
     → (asked ≡ true → SeesFor stage.conf cells stored occasion.now items id)
     → Runs stage (evaluated stage occasion items) before (if asked then ids ++ id ∷ [] else ids) more next

@@ -9,7 +9,8 @@ use Rattle.escalations.specs.Escalations.{due_records_of}
 use Rattle.trigger_state.specs.Stages.{Stage, home}
 use Rattle.trigger_state.specs.Problems.{event_in}
 use Rattle.trigger_state.specs.declared.problems.Open.{Open}
-use Rattle.entry_step.specs.Order.{order, by_event}
+use Rattle.entry_step.specs.Order.{by_event}
+use Rattle.conf_index.specs.Order.{order}
 
 -- the open problems of all triggers in the order of making
 unfoldable pub by_making : Stage → (ℕ → List Open) → List Open

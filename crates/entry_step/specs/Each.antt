@@ -1,10 +1,6 @@
 -- Lists whose items all have a property, by recursion.
 use Rattle.std.specs.Prelude.{◌≡◌, ◌⊎◌, List, [], ◌∷◌}
-
--- each item of a list has the property
-abbrev pub Each : {A : Type 0} → (A → Type 0) → List A → Type 0
-Each P [] = Unit {0}
-Each P (x ∷ xs) = P x × Each P xs
+pub use Rattle.trigger_state.specs.Each.{Each}
 
 -- an item is in a list
 abbrev pub In : {A : Type 0} → A → List A → Type 0

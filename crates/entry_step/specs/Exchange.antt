@@ -1,5 +1,5 @@
 -- Copies of cells, and copies that are exchanged for cells.
-use Rattle.std.specs.Prelude.{◌≡◌, ℕ, Bool, true, List, [], ◌∷◌, map, Option, Some, None, option_map, IfSome}
+use Rattle.std.specs.Prelude.{◌≡◌, ℕ, List, [], ◌∷◌, Option, Some, None, option_map}
 use Rattle.std.specs.List.{cons_option}
 use Rattle.std.specs.Option.{unwrap_or}
 use Rattle.zbx_types.specs.Ids.{at_id}
@@ -7,7 +7,6 @@ use Rattle.prep_steps.specs.declared.memory.StepMemory.{StepMemory}
 use Rattle.value_cache.specs.Cells.{CellView}
 use Rattle.trigger_state.specs.declared.problems.Open.{Open}
 use Rattle.preprocess.specs.Rows.{with_row}
-use Rattle.footprint.specs.Rows.{rises}
 use Rattle.entry_step.specs.Kept.{roomless}
 use Rattle.entry_step.specs.Represents.{CellsView}
 use Rattle.entry_step.specs.Parts.{PartView, cell_in, marks_in, problems_in}

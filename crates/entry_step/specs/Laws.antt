@@ -1,8 +1,9 @@
 -- The laws of order, in the words of the search. A log has the newest entry first.
-use Rattle.std.specs.Prelude.{◌≡◌, Bool, true, false, cond, List, [], ◌∷◌, ◌++◌, filter}
+use Rattle.std.specs.Prelude.{◌≡◌, ◌≤◌, ◌<◌, Bool, true, false, cond, List, [], ◌∷◌, ◌++◌, filter}
 use Rattle.std.specs.List.{list_any}
 use Rattle.zbx_types.specs.declared.conf.Conf.{Conf}
-use Rattle.trigger_state.specs.Stages.{Stage, KeepsIds}
+use Rattle.trigger_state.specs.Stages.{Stage, OwnsEvents}
+use Rattle.trigger_state.specs.declared.stage.Origin.{Origin}
 use Rattle.zbx_types.specs.declared.entries.Numbered.{Numbered}
 use Rattle.zbx_types.specs.declared.entries.Rec.{Rec}
 use Rattle.footprint.specs.Conflict.{conflict_of}
@@ -36,24 +37,33 @@ ConflictIsMeeting = (conf : Conf) (a b : Numbered)
     → (conflict_of conf a.entry b.entry ≡ false → Apart conf a b)
     × (Apart conf a b → conflict_of conf a.entry b.entry ≡ false)
 
--- what stood before the entries of a log is tidy
-abbrev pub IsGood : Start → Type 0
-IsGood start = IsTidy start.stage (look start [] start.records)
+-- what stood before the entries of a log is tidy, and no event of another configuration is of a later entry
+pub record IsGood (start : Start) : Type 0 where
+  pub tidy : IsTidy start.stage (look start [] start.records)
+  pub origins : Each (λ (o : Origin). o.event.number ≤ start.number) start.stage.origins
 
--- a fresh start is good where the triggers of events still have the ids in them
+-- each of these entries is behind what stood before a log
+abbrev pub AreBehind : Start → List Numbered → Type 0
+AreBehind start log = Each (λ (e : Numbered). start.number < e.number) log
+
+-- where no event is of another configuration, a fresh start is good
 abbrev pub FreshIsGood : Type 0
-FreshIsGood = (stage : Stage) → KeepsIds stage → IsGood (fresh stage)
+FreshIsGood = (stage : Stage) → stage.origins ≡ [] → IsGood (fresh stage)
+
+-- behind a good start the triggers of the events of an entry have the ids in them
+abbrev pub EntriesOwn : Type 0
+EntriesOwn = (start : Start) (e : Numbered) → IsGood start → start.number < e.number → OwnsEvents start.stage e.number
 
 -- cells that stand for a log behind a good start are tidy
 abbrev pub AreTidyCells : Type 0
-AreTidyCells =
-    (start : Start) (c : Cells) (log : List Numbered) → IsGood start → AreCellsOf start c log → IsTidy start.stage c
+AreTidyCells = (start : Start) (c : Cells) (log : List Numbered) → IsGood start → AreBehind start log → AreCellsOf start c log
+    → IsTidy start.stage c
 
 -- Locality: an entry's records and changes are a function of the entry, the configuration, the first Tick and the
 -- cells of its foot, and nothing else changes.
 abbrev pub Locality : Type 0
 Locality =
-    (stage : Stage) (e : Numbered) (c d : Cells) → IsTidy stage c → IsTidy stage d → Agree stage.conf e c d
+    (stage : Stage) (e : Numbered) (c d : Cells) → OwnsEvents stage e.number → IsTidy stage c → IsTidy stage d → Agree stage.conf e c d
     → IsLocal stage e c d × IsConfined stage e c
 
 -- each of the newer entries adds the same records with an entry in its place and without
@@ -77,7 +87,7 @@ pub record InPlace (start : Start) (newer : List Numbered) (e : Numbered) (older
 abbrev pub Insertion : Type 0
 Insertion =
     (start : Start) (newer : List Numbered) (e : Numbered) (older : List Numbered) → IsGood start
-    → Each (λ a. Apart start.stage.conf e a) newer
+    → AreBehind start (newer ++ e ∷ older) → Each (λ a. Apart start.stage.conf e a) newer
     → SameOut start e newer older × ((c : Cells) → AreCellsOf start c (newer ++ older) → InPlace start newer e older c)
 
 -- the cells behind these entries, the oldest first
@@ -107,7 +117,8 @@ pub record Copies (conf : Conf) (es : List Numbered) (c copy : Cells) : Type 0 w
 -- over the cells themselves, and the copy put back is what they leave there.
 abbrev pub BatchOnACopy : Type 0
 BatchOnACopy =
-    (stage : Stage) (es : List Numbered) (c copy : Cells) → IsTidy stage c → IsTidy stage copy → Copies stage.conf es c copy
+    (stage : Stage) (es : List Numbered) (c copy : Cells) → Each (λ (e : Numbered). OwnsEvents stage e.number) es
+    → IsTidy stage c → IsTidy stage copy → Copies stage.conf es c copy
     → (records_done stage copy es ≡ records_done stage c es)
     × (put_over stage.conf es (cells_done stage copy es) c ≡ cells_done stage c es)
 
@@ -120,6 +131,6 @@ PassedApart conf applied e older = applied e ≡ true → applied older ≡ fals
 abbrev pub AppliedPart : Type 0
 AppliedPart =
     (start : Start) (applied : Numbered → Bool) (older : List Numbered) (e : Numbered)
-    → IsGood start → EachPair (PassedApart start.stage.conf applied) older
+    → IsGood start → AreBehind start (e ∷ older) → EachPair (PassedApart start.stage.conf applied) older
     → Each (λ y. applied y ≡ false → Apart start.stage.conf y e) older → (c : Cells) → AreCellsOf start c (filter applied older)
     → records start.stage c e ≡ out_of start older e e.entry (start.records ++ replay start older)

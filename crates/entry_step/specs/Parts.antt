@@ -3,7 +3,7 @@ use Rattle.std.specs.Prelude.{◌≡◌, ℕ, ◌+◌, ◌==◌, List, [], ◌�
 use Rattle.std.specs.Option.{unwrap_or}
 use Rattle.zbx_types.specs.Ids.{at_id}
 use Rattle.zbx_types.specs.declared.conf.Conf.{Conf}
-use Rattle.trigger_state.specs.Stages.{Stage}
+use Rattle.trigger_state.specs.Stages.{Stage, OwnsEvents}
 use Rattle.zbx_types.specs.declared.entries.Numbered.{Numbered}
 use Rattle.zbx_types.specs.declared.entries.Rec.{Rec}
 use Rattle.prep_steps.specs.declared.memory.StepMemory.{StepMemory}
@@ -69,10 +69,12 @@ pub record IsReplaced (held : CellsView) (part : PartView) (next : CellsView) : 
       (at_id held.problems id)
   pub tick : next.tick ≡ part.tick
 
--- each of these entries, as those before it are worked out, comes after what the cells have seen, and fits
+-- each of these entries, as those before it are worked out, has events of its own, comes after what the cells have seen, and
+-- fits
 abbrev pub AllCome : Stage → Cells → List Numbered → Type 0
 AllCome stage c [] = Unit {0}
-AllCome stage c (e ∷ es) = ComesAfter stage.conf c e × IsFitting stage.conf e.entry × AllCome stage (after stage c e) es
+AllCome stage c (e ∷ es) =
+    OwnsEvents stage e.number × ComesAfter stage.conf c e × IsFitting stage.conf e.entry × AllCome stage (after stage c e) es
 
 -- how many triggers they evaluate
 abbrev pub evaluations : Stage → Cells → List Numbered → ℕ

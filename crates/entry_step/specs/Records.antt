@@ -1,12 +1,9 @@
 -- The records that entries make.
-use Rattle.std.specs.Prelude.{ℕ, ◌==◌, Bool, false, true, ◌&&◌, List, [], ◌∷◌, ◌++◌, filter, flat_map, map, Option, Some, None, is_some, if◌then◌else◌, ℤ}
+use Rattle.std.specs.Prelude.{ℕ, ◌==◌, Bool, false, ◌&&◌, List, [], ◌∷◌, ◌++◌, filter, flat_map, map, Option, Some, None, is_some, if◌then◌else◌, ℤ}
 use Rattle.std.specs.List.{list_any}
 use Rattle.zbx_types.specs.Hosts.{host_name}
 use Rattle.zbx_types.specs.Ids.{at_id}
-use Rattle.zbx_types.specs.Operators.{is_dated}
 use Rattle.zbx_types.specs.Trees.{tree_of}
-use Rattle.zbx_types.specs.declared.calls.Fun.{Fun}
-use Rattle.zbx_types.specs.declared.calls.Fun.TheVariants.{NoData}
 use Rattle.zbx_types.specs.declared.conf.Conf.{Conf}
 use Rattle.zbx_types.specs.declared.expr.Expr.{Expr}
 use Rattle.zbx_types.specs.declared.triggers.Trigger.{Trigger}
@@ -33,7 +30,8 @@ use Rattle.escalations.specs.Escalations.{first_records_of, recovered_records}
 use Rattle.event_correlation.specs.Closings.{closes_of}
 use Rattle.event_correlation.specs.declared.answer.Closes.{Closes}
 use Rattle.zbx_types.specs.Records.{same_event, event_of}
-use Rattle.entry_step.specs.Order.{order}
+use Rattle.conf_index.specs.Order.{order}
+use Rattle.conf_index.specs.Timed.{timed_triggers}
 use Rattle.entry_step.specs.Due.{by_making, due_at}
 use Rattle.trigger_state.specs.Stages.{Stage, home}
 use Rattle.trigger_state.specs.Problems.{event_in, open_of, grown}
@@ -151,20 +149,6 @@ is_over item trigger = has_call (λ i. i == item) trigger
 -- whether an entry stores a value of an item, where the steps of the items remember this
 abbrev pub stores : Conf → (ℕ → ℕ → StepMemory) → ℕ → Entry → ℕ → Bool
 stores conf memory number entry item = is_some (stored_of conf memory number entry item)
-
--- a function's value may change with time alone: `nodata`, and those of date or time
-abbrev pub is_timed : Fun → Bool
-is_timed NoData = true
-is_timed fun = is_dated fun
-
--- a trigger is enabled and one of its expressions calls such a function
-abbrev pub is_timed_trigger : Option Trigger → Bool
-is_timed_trigger None = false
-is_timed_trigger (Some trigger) = trigger.enabled && list_any (λ call. is_timed call.fun) trigger.calls
-
--- the triggers that a Tick evaluates, in the order of evaluation
-unfoldable pub timed_triggers : Conf → List ℕ
-timed_triggers conf = filter (λ id. is_timed_trigger (at_id conf.triggers id)) (order conf)
 
 -- the triggers that an entry evaluates: at a value those with a call over an item that it stores a value of
 unfoldable pub triggers_at : Conf → (ℕ → ℕ → StepMemory) → ℕ → Entry → List ℕ

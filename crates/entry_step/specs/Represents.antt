@@ -10,7 +10,7 @@ use Rattle.event_correlation.specs.Laws.{HasTagsOf}
 use Rattle.entry_step.specs.Each.{Each}
 use Rattle.zbx_types.specs.Entries.{moment_of}
 use Rattle.entry_step.specs.Log.{IsFitting}
-use Rattle.trigger_state.specs.Stages.{Stage, KeepsIds, home}
+use Rattle.trigger_state.specs.Stages.{Stage, OwnsEvents, home}
 use Rattle.trigger_state.specs.Problems.{event_in}
 use Rattle.prep_steps.specs.declared.memory.StepMemory.{StepMemory}
 use Rattle.preprocess.specs.Chains.{listed}
@@ -45,10 +45,9 @@ IsTagged conf id problem = (trigger : Trigger) × (at_id conf.triggers id ≡ So
 abbrev pub AllTagged : Conf → ℕ → List Open → Type 0
 AllTagged conf id os = Each (λ o. IsTagged conf id o.problem) os
 
--- The triggers of events still have the ids in them, each open problem is in the cell of its own trigger and has the names
--- of its tags, and what is no item of the configuration has no history.
+-- Each open problem is in the cell of its own trigger and has the names of its tags, and what is no item of the
+-- configuration has no history.
 pub record IsTidy (stage : Stage) (c : Cells) : Type 0 where
-  pub ids : KeepsIds stage
   pub homes : (id : ℕ) → AllAtHome stage id (opens_in c id)
   pub tagged : (id : ℕ) → AllTagged stage.conf id (opens_in c id)
   pub absent : (id : ℕ) → at_id stage.conf.items id ≡ None → (c (ItemKey id)).history ≡ []
@@ -76,9 +75,9 @@ pub record Holds (start : Start) (held : CellsView) (log : List Numbered) : Type
 abbrev pub ComesAfter : Conf → Cells → Numbered → Type 0
 ComesAfter conf c e = (id : ℕ) → touches conf e.entry (ItemKey id) ≡ true → (c (ItemKey id)).seen ≤ moment_of e.entry
 
--- what a step makes and leaves, whatever cells it is that the kept ones represent: the records of the entry over
--- them, and what represents the cells behind it
+-- what a step makes and leaves, whatever cells it is that the kept ones represent, where the entry's events are its own: the
+-- records of the entry over them, and what represents the cells behind it
 abbrev pub StepsTo : Stage → CellsView → Numbered → List Rec → CellsView → Type 0
 StepsTo stage held e made next =
-    (c : Cells) → Represents stage held c → ComesAfter stage.conf c e → IsFitting stage.conf e.entry → (made ≡ records stage c e)
+    (c : Cells) → OwnsEvents stage e.number → Represents stage held c → ComesAfter stage.conf c e → IsFitting stage.conf e.entry → (made ≡ records stage c e)
     × Represents stage next (after stage c e)

@@ -1,12 +1,9 @@
 -- What a trigger sees of the histories of its items.
-use Rattle.std.specs.Prelude.{ℕ, ◌==◌, not, List, [], ◌∷◌, length, take, map, filter, Option, Some, None, ℤ, All}
+use Rattle.std.specs.Prelude.{ℕ, ◌==◌, not, List, [], ◌∷◌, length, take, map, filter, Option, Some, None, ℤ}
 use Rattle.zbx_types.specs.declared.calls.Range.TheVariants.{Count}
-use Rattle.zbx_types.specs.declared.conf.Conf.{Conf}
 use Rattle.zbx_types.specs.declared.entries.Held.{Held}
 use Rattle.zbx_types.specs.declared.entries.Stored.{Stored}
-use Rattle.zbx_types.specs.declared.entries.Tag.{Tag}
 use Rattle.zbx_types.specs.declared.triggers.Trigger.{Trigger}
-use Rattle.event_text.specs.Titles.{HasPatterns}
 use Rattle.value_cache.specs.Windows.{window_of}
 use Rattle.entry_step.specs.Evaluation.{call_value}
 use Rattle.entry_step.specs.declared.occasions.Occasion.{Occasion}
@@ -38,12 +35,3 @@ seen_in items occasion offset trigger = record {
   calls = call_value items occasion offset trigger;
   values = shown_values items occasion.now trigger;
 }
-
--- the patterns of a trigger's title and of its tags' values are among these
-unfoldable pub HasTexts : List (List ℕ) → Trigger → Type 0
-HasTexts patterns trigger =
-    HasPatterns patterns trigger.title × All (λ (tag : Tag). HasPatterns patterns tag.value) trigger.tags
-
--- those of all triggers are among the configuration's
-unfoldable pub ArePatterned : Conf → Type 0
-ArePatterned conf = All (HasTexts conf.patterns) conf.triggers

@@ -1,5 +1,5 @@
 -- What stood before the entries of a log.
-use Rattle.std.specs.Prelude.{ℕ, List, [], Option, None}
+use Rattle.std.specs.Prelude.{ℕ, pos, List, [], Option, None}
 use Rattle.std.specs.Option.{option_map_or}
 use Rattle.zbx_types.specs.Ids.{at_id}
 use Rattle.zbx_types.specs.declared.entries.Rec.{Rec}
@@ -35,3 +35,22 @@ fresh stage = record {
 -- and the configuration is the only one
 abbrev pub first_start : Conf → Start
 first_start conf = fresh (first_stage conf)
+
+-- a configuration of nothing
+abbrev pub no_conf : Conf
+no_conf = record {
+  text = [];
+  utc_offset = pos 0;
+  hosts = [];
+  items = [];
+  triggers = [];
+  correlations = [];
+  maintenances = [];
+  actions = [];
+  patterns = [];
+  pattern_paths = [];
+}
+
+-- nothing stood before, and no configuration is in force: so begins each log whose first entry is a Config
+abbrev pub nothing : Start
+nothing = first_start no_conf

@@ -1,7 +1,7 @@
 //! The calls of a trigger.
 
-use crate::index::Ready;
 use crate::occasions::Occasion;
+use conf_index::Ready;
 use preprocess::Draft;
 use value_cache::ItemCell;
 use zbx_types::Trigger;

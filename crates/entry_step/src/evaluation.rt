@@ -3,11 +3,11 @@
 ghost use Rattle.std.specs.Prelude.{◌≡◌, ◌≤◌, List, length, neg_ℤ, option_map};
 ghost use Rattle.zbx_types.specs.Tree.{Tree};
 ghost use Rattle.entry_step.specs.Calls.{value_in, Evaluates};
-ghost use Rattle.entry_step.specs.Plans.{flat, plan_of, recovery_plan_of};
+ghost use Rattle.conf_index.specs.Plans.{flat, plan_of, recovery_plan_of};
 ghost use Rattle.entry_step.specs.Records.{expression_value, recovery_value};
-ghost use Rattle.entry_step.specs.declared.plans.Node.{Node};
+ghost use Rattle.conf_index.specs.declared.plans.Node.{Node};
 
-use crate::plans::Node;
+use conf_index::Node;
 use expr_eval::{negation, operation};
 use zbx_types::{Fix, Trigger};
 

@@ -1,10 +1,9 @@
 //! One entry at a time: what an entry stores, which triggers it evaluates, and which problems begin and end.
 //!
-//! `Ready` is a configuration with indexes that are made once: hosts by their names, items by their keys, triggers by
-//! the items that they have calls over. So what is done for a value takes no walk over the configuration. `Cells`
-//! keep what a run needs between entries: the values that a later window can see, what preprocessing steps remember,
-//! the open problems of each trigger, the first Tick. `step` takes one numbered entry and answers the records that it
-//! makes.
+//! The configuration is a `Ready` of the crate `conf_index`, with its indexes, so what is done for a value takes no walk over
+//! it. `Cells` keep what a run needs between entries: the values that a later window can see, what preprocessing steps
+//! remember, the open problems of each trigger, the first Tick. `step` takes one numbered entry and answers the records that
+//! it makes.
 //!
 //! The contract: whatever cells it is that the kept ones represent (`specs/Represents.antt`), `step` answers the
 //! records of the entry over them, and leaves what represents the cells behind the entry (`specs/Cells.antt`). Over a
@@ -15,14 +14,17 @@
 //! goes through the preprocessing steps of its item, and what the item stores through the items that depend on it, as
 //! the crate `preprocess` says; each failure makes a Failure record, and what is stored goes into the history of its
 //! item by its time (`specs/History.antt`). Behind the failures, the enabled triggers with a call over an item that
-//! stored a value are evaluated one after another, by depth and then by id (`specs/Order.antt`,
-//! `specs/Evaluation.antt`, `specs/Records.antt`): the verdict of the crate `trigger_state`, over the problems that
+//! stored a value are evaluated one after another, by depth and then by id (`specs/Evaluation.antt`,
+//! `specs/Records.antt`): the verdict of the crate `trigger_state`, over the problems that
 //! are open then, makes a problem or closes some. A Tick evaluates in the same way the enabled triggers with a
 //! function that changes with time alone, as `nodata` and `time`, and then runs the steps that are due for the
-//! problems that are open, in the order of making (`specs/Due.antt`). A Config makes no records.
+//! problems that are open, in the order of making (`specs/Due.antt`). In a log of one configuration, behind its start, a
+//! Config makes no records.
 //!
-//! The module `laws` has the laws of order as clauses: an entry's records and changes depend on its foot alone, and
-//! an entry that conflicts with no later one joins in its place.
+//! A Config behind the first one is a function on cells (`specs/Carry.antt`), and `carry` takes it; any entry of a log whose
+//! configuration changes gives over them what the searches find (`specs/Whole.antt`), and what such a log leaves is a start
+//! for the entries that follow it (`specs/InForce.antt`). The crate `entry_laws` has the laws of order and those of whole logs
+//! as clauses.
 //!
 //! The value of a call is that of `history_functions` over the window of the item's whole history; what is kept of
 //! it, in the cells of `value_cache`, shows the same window. Operators are those of the crate `expr_eval`. A
@@ -40,43 +42,28 @@
 //! ```
 #![tactic(auto)]
 
-mod asked;
 mod call_values;
 mod calls;
+mod carrying;
 mod cells;
 mod changes;
 mod copying;
 mod due;
 mod evaluation;
 mod exchange;
-mod fault;
-mod index;
-mod indexes;
-pub mod laws;
-mod lists;
-mod masters;
-mod names;
 mod occasions;
 mod opens;
-mod order;
-mod packed;
 mod parts;
-mod patterned;
-mod plans;
-mod reached;
 mod records;
-mod rows;
 mod ruling;
 mod same;
 mod seen;
 mod stepping;
 mod steps;
-mod timed;
 mod touched;
 
+pub use carrying::carry;
 pub use cells::Cells;
-pub use fault::BuildError;
-pub use index::Ready;
 pub use parts::{ItemRow, Part, TriggerRow, WorkedOut, work_out};
 pub use stepping::step;
 pub use steps::Steps;

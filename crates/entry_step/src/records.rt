@@ -7,7 +7,7 @@ ghost use Rattle.zbx_types.specs.Ids.{at_id};
 ghost use Rattle.zbx_types.specs.Records.{same_event};
 ghost use Rattle.zbx_types.specs.declared.entries.EventId.{EventId};
 ghost use Rattle.event_correlation.specs.Laws.{HasTagsOf};
-ghost use Rattle.trigger_state.specs.Stages.{KeepsIds, home};
+ghost use Rattle.trigger_state.specs.Stages.{OwnsEvents, home};
 ghost use Rattle.trigger_state.specs.Problems.{event_in, absorbed_all};
 ghost use Rattle.entry_step.specs.Records.{problem_of, recovery_of, ruled, begun_with, begun_records, closed_records, ruled_records, last_records, verdict_records};
 ghost use Rattle.entry_step.specs.Each.{Each};
@@ -18,16 +18,15 @@ ghost use Rattle.event_text.specs.Titles.{event_tags};
 ghost use Rattle.zbx_types.specs.declared.entries.Stored.{Stored};
 ghost use Rattle.entry_step.specs.Calls.{Shown, sight_of};
 ghost use Rattle.entry_step.specs.Seen.{shown_values};
-ghost use Rattle.entry_step.specs.Plans.{plan_of, recovery_plan_of};
+ghost use Rattle.conf_index.specs.Plans.{plan_of, recovery_plan_of};
 
 use crate::calls::Calls;
 use crate::changes::{Change, Fresh, TriggerOutcome};
 use crate::evaluation::{plan_value, recovery_value};
-use crate::index::Ready;
 use crate::opens::{absorbed_row, problems_at};
-use crate::plans::Node;
 use crate::ruling::{others_of, ruled};
 use crate::seen::shown_values;
+use conf_index::{Node, Ready};
 use escalations::{first_of, recovered};
 use event_correlation::Closes;
 use maintenance::suppressed;
@@ -362,7 +361,7 @@ fn begin(
     requires { at_id ready.now.conf.triggers id ≡ Some trigger.now }
     ensures records { IfOk result (λ made. made.records ≡ begun_records ready.now number now
         (problems_at problems.now) id (problem_of ready.now.conf number now values.now id trigger.now)) }
-    ensures rows { IfOk result (λ made. KeepsIds ready.now → length problems.now ≡ length ready.now.conf.triggers
+    ensures rows { IfOk result (λ made. OwnsEvents ready.now number → length problems.now ≡ length ready.now.conf.triggers
         → Absorbed ready.now problems.now made.records (outcome_rows problems.now id (Some made))) }
 {
     let stage = ready.stage();
@@ -419,7 +418,8 @@ fn settled(
         → outcome_records made ≡ verdict_records calls.now.ready.now calls.now.occasion.number calls.now.occasion.now
         (shown_values items calls.now.occasion.now calls.now.trigger.now) calls.now.id calls.now.trigger.now
         (problems_at problems.now) verdict.now) }
-    ensures rows { IfOk result (λ made. KeepsIds calls.now.ready.now → EachClosed (λ e. home calls.now.ready.now e ≡ calls.now.id) verdict.now
+    ensures rows { IfOk result (λ made. OwnsEvents calls.now.ready.now calls.now.occasion.number
+        → EachClosed (λ e. home calls.now.ready.now e ≡ calls.now.id) verdict.now
         → length problems.now ≡ length calls.now.ready.now.conf.triggers
         → Absorbed calls.now.ready.now problems.now (outcome_records made)
         (outcome_rows problems.now calls.now.id made)) }
@@ -485,7 +485,7 @@ pub(crate) fn judge(
     ensures records { IfOk result (λ made. (items : ℕ → List Stored) → Shown calls.now items
         → outcome_records made ≡ judged calls.now.ready.now calls.now.occasion (sight_of calls.now values.now items)
         calls.now.id calls.now.trigger.now held (problems_at problems.now)) }
-    ensures rows { IfOk result (λ made. AreTidy calls.now.ready.now problems.now
+    ensures rows { IfOk result (λ made. AreTidy calls.now.ready.now calls.now.occasion.number problems.now
         → Absorbed calls.now.ready.now problems.now (outcome_records made)
         (outcome_rows problems.now calls.now.id made)) }
 {

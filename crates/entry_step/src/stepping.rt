@@ -7,28 +7,30 @@ ghost use Rattle.std.specs.List.{list_any};
 ghost use Rattle.zbx_types.specs.declared.entries.Entry.TheVariants.{Value};
 ghost use Rattle.zbx_types.specs.declared.entries.Numbered.{Numbered};
 ghost use Rattle.zbx_types.specs.declared.entries.Stored.{Stored};
+ghost use Rattle.trigger_state.specs.Stages.{OwnsEvents};
 ghost use Rattle.entry_step.specs.Start.{Start};
 ghost use Rattle.entry_step.specs.Log.{Suits};
 ghost use Rattle.preprocess.specs.Visits.{memory_in};
 ghost use Rattle.preprocess.specs.Draft.{stored_at, AreApart, HaveRoom};
 ghost use Rattle.preprocess.specs.Cells.{Becomes};
 ghost use Rattle.entry_step.specs.History.{visits_at};
-ghost use Rattle.entry_step.specs.Records.{evaluated, timed_triggers, triggers_at, out_of, replay};
+ghost use Rattle.entry_step.specs.Records.{evaluated, triggers_at, out_of, replay};
+ghost use Rattle.conf_index.specs.Timed.{timed_triggers};
 ghost use Rattle.entry_step.specs.Kept.{still_to_come, SeesFor};
 ghost use Rattle.entry_step.specs.Represents.{Holds, StepsTo, problems_at};
 ghost use Rattle.entry_step.specs.Changes.{is_asked, outcome_records, outcome_rows, put_back, AreTidy, RunsOver, RunsOn, Absorbed, Drafted, TakesIn, TakesTick};
-ghost use Rattle.entry_step.specs.Index.{triggers_under};
+ghost use Rattle.conf_index.specs.Index.{triggers_under};
 
 use crate::call_values::values_of;
 use crate::calls::Calls;
 use crate::cells::Cells;
 use crate::changes::{Draft, TriggerOutcome, put_back};
 use crate::due::run_due;
-use crate::index::Ready;
 use crate::occasions::{Occasion, occasion_of};
 use crate::opens::Looked;
 use crate::records::judge;
 use crate::steps::Steps;
+use conf_index::Ready;
 use preprocess::{Prepared, commit};
 use std::alloc::Global;
 use std::sync::ledger::Ledger;
@@ -76,7 +78,7 @@ fn outcome_of(
     ensures records { IfOk result (λ made. (histories : ℕ → List Stored)
         → SeesFor ready.now.conf items.now (still_to_come coming.now) occasion.entry.now.now histories id
         → outcome_records made ≡ evaluated ready.now occasion.entry.now histories (problems_at problems.now) id) }
-    ensures rows { IfOk result (λ made. AreTidy ready.now problems.now
+    ensures rows { IfOk result (λ made. AreTidy ready.now occasion.entry.now.number problems.now
         → Absorbed ready.now problems.now (outcome_records made) (outcome_rows problems.now id made)) }
 {
     let conf = ready.conf();
@@ -377,7 +379,8 @@ fn advance<L: Ledger>(
 
 /// Takes an entry: answers the records that it makes, in their order, and brings the cells up to it.
 ///
-/// The cells must represent cells to which the entry comes after, and the entry's value must fit this configuration;
+/// The cells must represent cells to which the entry comes after, the entry's events must be its own, which they are
+/// where each event of another configuration is of an earlier entry, and the entry's value must fit this configuration;
 /// else the answer means nothing, and the cells are of no more use. Cells that hold a log are such cells, where the
 /// log with the entry suits.
 ///
@@ -396,10 +399,11 @@ pub fn step<L: Ledger>(
 ) -> Result<Many<Rec>, OutOfMemory>
     ensures made { IfOk result (λ made. StepsTo ready.now cells.old entry.now made cells.new) }
     ensures out { IfOk result (λ made. (start : Start) (log : List Numbered) → start.stage ≡ ready.now
-        → Holds start cells.old log → Suits start (entry.now ∷ log)
+        → OwnsEvents start.stage entry.now.number → Holds start cells.old log → Suits start (entry.now ∷ log)
         → made ≡ out_of start log entry.now entry.now.entry (start.records ++ replay start log)) }
     ensures holds { OnOk result ((start : Start) (log : List Numbered) → start.stage ≡ ready.now
-        → Holds start cells.old log → Suits start (entry.now ∷ log) → Holds start cells.new (entry.now ∷ log)) }
+        → OwnsEvents start.stage entry.now.number → Holds start cells.old log → Suits start (entry.now ∷ log)
+        → Holds start cells.new (entry.now ∷ log)) }
     ensures counted { OnOk result (steps.new ≡ steps.old + length
         (triggers_at ready.now.conf (memory_in cells.old.memories) entry.now.number entry.now.entry)) }
     ensures most { steps.new ≤ steps.old + length

@@ -10,7 +10,7 @@ ghost use Rattle.entry_step.specs.Cells.{ItemKey, TriggerKey, touches};
 ghost use Rattle.entry_step.specs.Laws.{any_touches};
 ghost use Rattle.entry_step.specs.Touched.{IsFound};
 
-use crate::index::Ready;
+use conf_index::Ready;
 use footprint::settled;
 use std::alloc::Global;
 use zbx_types::{Entry, Many, Numbered, OutOfMemory, id_of};

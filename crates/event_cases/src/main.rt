@@ -1,9 +1,10 @@
-//! Cases of events: verdicts, escalations, maintenances, correlation, the order of work, connections and command lines, as rows of text: what the contracts say of calls, shown on values that come from outside.
+//! Cases of events: verdicts, what a changed configuration leaves, escalations, maintenances, correlation, the order of work, connections and command lines, as rows of text: what the contracts say of calls, shown on values that come from outside.
 //!
 //! A row that comes to something else than it says is printed with what it came to; at last the number of rows, and of
 //! those that differ.
 #![tactic(auto)]
 
+mod carrying;
 mod claims;
 mod closings;
 mod connections;
@@ -35,6 +36,7 @@ fn of_work(alloc: Global, kind: &str, input: &str) -> Option<Came> {
 /// What the case of a row comes to; none where no kind has this name. At most one of these answers.
 fn answer(alloc: Global, kind: &str, input: &str) -> Option<Came> {
     verdicts::answer(alloc, kind, input)
+        .or(carrying::answer(alloc, kind, input))
         .or(closings::answer(alloc, kind, input))
         .or(escalation_steps::answer(alloc, kind, input))
         .or(suppression::answer(alloc, kind, input))

@@ -337,22 +337,34 @@ pub(crate) fn configuration(
     }
 }
 
-/// A problem of a host with tags, at second 100.
-pub(crate) fn problem(
+/// A problem of a trigger of a host, by their names, with tags, at second 100.
+pub(crate) fn problem_of(
     alloc: Global,
     event: EventId,
     host: &str,
+    trigger: &str,
     words: &str,
 ) -> Result<Rec, OutOfMemory> {
-    let (host, tags) = both(Text::of(alloc, host), tags(alloc, words))?;
+    let names = both(Text::of(alloc, host), Text::of(alloc, trigger));
+    let ((host, trigger), tags) = both(names, tags(alloc, words))?;
     Ok(Rec::Problem {
         event,
         now: Moment { sec: 100, ns: 0 },
         severity: 3,
         suppressed: false,
         host,
-        trigger: Text::new(alloc),
+        trigger,
         name: Text::new(alloc),
         tags,
     })
+}
+
+/// A problem of a host with tags, of a trigger without a name.
+pub(crate) fn problem(
+    alloc: Global,
+    event: EventId,
+    host: &str,
+    words: &str,
+) -> Result<Rec, OutOfMemory> {
+    problem_of(alloc, event, host, "", words)
 }

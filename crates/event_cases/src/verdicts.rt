@@ -61,7 +61,7 @@ fn at(sec: u32) -> Moment {
 }
 
 /// An event, as `3-1`.
-fn event(word: &str) -> EventId {
+pub(crate) fn event(word: &str) -> EventId {
     let (first, trigger) = split(word, '-');
     EventId {
         number: number(first) as u64,

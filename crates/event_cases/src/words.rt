@@ -82,7 +82,6 @@ fn status_of(alloc: Global, number: u32) -> Result<Status, OutOfMemory> {
         5 => Status::SourceFault,
         6 => Status::NotOurs,
         7 => Status::Damaged { at: 9 },
-        8 => Status::ConfigDiffers { at: 10 },
         9 => Status::OutboxAhead {
             held: 35,
             lines: 34,

@@ -25,8 +25,9 @@
 //! ```
 //!
 //! An event is the number of the entry that opened it, `-` and its trigger. A moment is its seconds, a point and nine
-//! digits. Suppressed is `1` or `0`, and the cause `e` for the trigger's expression or `c` for correlation. In texts a
-//! backslash, a bar, a line feed and a carriage return are written `\\`, `\|`, `\n` and `\r`. A short use:
+//! digits. Suppressed is `1` or `0`, and the cause `e` for the trigger's expression, `c` for correlation or `r` where a
+//! changed configuration has no trigger for the problem. In texts a backslash, a bar, a line feed and a carriage return
+//! are written `\\`, `\|`, `\n` and `\r`. A short use:
 //!
 //! ```text
 //! let name = name(alloc, &conf, trigger, &values, &patterns)?;      // "h1: 1.5" of "{HOST.NAME}: {ITEM.VALUE}"

@@ -9,7 +9,7 @@ use crate::front_misfits::{conf, second};
 use crate::front_taking::{put_event, put_piece, tell_taken};
 use crate::journal_files::count_all;
 use crate::rows::{Row, number, numbers, row_of};
-use entry_step::Ready;
+use conf_index::Ready;
 use intake_front::{Answer, Collection, Front, FrontError, Stop};
 use intake_journal::{Journal, LONGEST_JOURNAL};
 use outside::{Disk, Failed, RamDisk, WireEvent};
@@ -203,6 +203,13 @@ pub(crate) fn ready_with(
     Ready::build(alloc, conf).ok().ok_or(OutOfMemory)
 }
 
+/// The same without a maintenance, and with another text.
+fn changed(alloc: Global) -> Result<Ready, OutOfMemory> {
+    let mut conf = conf(alloc, true, Many::new(alloc))?;
+    conf.text = Text::of(alloc, "b")?;
+    Ready::build(alloc, conf).ok().ok_or(OutOfMemory)
+}
+
 /// A new disk, of which so many calls succeed.
 pub(crate) fn new_disk(alloc: Global, calls: u32) -> Frail {
     Frail {
@@ -224,8 +231,13 @@ fn new_run(
     run(alloc, ready, disk, Many::new(alloc), max_entries, &piece)
 }
 
-/// What is behind a run that goes on and was sent the value 7 half a minute later.
-fn next_run(alloc: Global, ready: &Ready, before: Outcome) -> Result<Outcome, FrontError> {
+/// What is behind a run that goes on with room for so many entries, and was sent the value 7 half a minute later.
+fn next_run(
+    alloc: Global,
+    ready: &Ready,
+    before: Outcome,
+    max_entries: u64,
+) -> Result<Outcome, FrontError> {
     let Outcome {
         disk,
         entries,
@@ -234,7 +246,7 @@ fn next_run(alloc: Global, ready: &Ready, before: Outcome) -> Result<Outcome, Fr
     } = before;
     drop(answer);
     match piece(alloc, 1, b"7", second(130)) {
-        Ok(piece) => run(alloc, ready, disk, entries, 5, &piece),
+        Ok(piece) => run(alloc, ready, disk, entries, max_entries, &piece),
         Err(OutOfMemory) => {
             drop((disk, entries));
             Err(FrontError::OutOfMemory)
@@ -242,12 +254,16 @@ fn next_run(alloc: Global, ready: &Ready, before: Outcome) -> Result<Outcome, Fr
     }
 }
 
-/// Writes entries as their numbers and letters: a Config, a Tick, or a value and its text.
+/// Writes entries as their numbers and letters: a Config and its second, a Tick, or a value and its text.
 fn write_entries(told: &mut Text, entries: &[Numbered]) -> Result<(), OutOfMemory> {
     for numbered in entries {
         told.push_decimal(numbered.number)?;
         match &numbered.entry {
-            Entry::Config { .. } => told.push_str("c ")?,
+            Entry::Config { now, .. } => {
+                told.push_str("c")?;
+                told.push_decimal(u64::from(now.sec))?;
+                told.push_str(" ")?;
+            }
             Entry::Tick { .. } => told.push_str("t ")?,
             Entry::Value { value, .. } => {
                 told.push_str("v")?;
@@ -331,12 +347,25 @@ fn tell_new(alloc: Global, ready: &Ready, input: (u64, u64)) -> Result<Text, Out
     )
 }
 
-/// What a run tells that goes on behind a new one.
-fn tell_next(alloc: Global, ready: &Ready) -> Result<Text, OutOfMemory> {
+/// What a run tells that goes on behind a new one, with room for so many entries.
+fn tell_next(
+    alloc: Global,
+    ready: &Ready,
+    next: &Ready,
+    max_entries: u64,
+) -> Result<Text, OutOfMemory> {
     match new_run(alloc, ready, 100, 5) {
-        Ok(before) => tell(alloc, next_run(alloc, ready, before)),
+        Ok(before) => tell(alloc, next_run(alloc, next, before, max_entries)),
         Err(_) => Err(OutOfMemory),
     }
+}
+
+/// The same where the run that goes on has a configuration of another text.
+fn tell_changed(alloc: Global, ready: &Ready, max_entries: u64) -> Result<Text, OutOfMemory> {
+    let next = changed(alloc)?;
+    let told = tell_next(alloc, ready, &next, max_entries);
+    drop(next);
+    told
 }
 
 /// The opening of a connection at 100 seconds.
@@ -512,7 +541,8 @@ const REQUEST: &[u8] =
 fn answer_of(alloc: Global, ready: &Ready, row: Row<'_>) -> Result<Text, OutOfMemory> {
     match row.kind {
         "new" => tell_new(alloc, ready, numbers(row.input)),
-        "behind another" => tell_next(alloc, ready),
+        "behind another" => tell_next(alloc, ready, ready, 5),
+        "behind another text" => tell_changed(alloc, ready, number(row.input)),
         "together" => tell_together(alloc, ready, number(row.input)),
         "groups kept" => tell_kept(alloc, ready),
         _ => Text::of(alloc, "no such kind"),
@@ -534,6 +564,8 @@ fn answer(alloc: Global, row: Row<'_>) -> Result<Text, OutOfMemory> {
 }
 
 /// First a new run that is sent a value, and one that goes on behind it: numbers go on in a journal that is opened again.
+/// A configuration of the same text isn't journaled again; one of another text is, at the moment of the last entry, where
+/// there is room for it.
 ///
 /// Then runs whose disk has no room or fails. What isn't kept counts as failed, and stops the run. The journal's beginning
 /// takes three calls, and each append four. A configuration that isn't kept is told.
@@ -545,26 +577,29 @@ fn answer(alloc: Global, row: Row<'_>) -> Result<Text, OutOfMemory> {
 /// Last, values before and in a maintenance, by the seconds of two values and what stands behind the second one's quote:
 /// one that is in force refuses those that come in it, whatever their clocks say, unless it collects.
 fn cases() -> &'static str {
-    "new | 3: 1c 2t 3v10 added 3v10 shut 1 ZBXD\x01\x5a\0\0\0\0\0\0\0\
+    "new | 3: 1c0 2t 3v10 added 3v10 shut 1 ZBXD\x01\x5a\0\0\0\0\0\0\0\
     {\"response\":\"success\",\"info\":\"processed: 1; failed: 0; total: 1; seconds spent: 0.000000\"} | 100 3\n\
-    behind another | 5: 1c 2t 3v10 4t 5v7 added 4t 5v7 shut 1 ZBXD\x01\x5b\0\0\0\0\0\0\0\
+    behind another | 5: 1c0 2t 3v10 4t 5v7 added 4t 5v7 shut 1 ZBXD\x01\x5b\0\0\0\0\0\0\0\
     {\"response\":\"success\",\"info\":\"processed: 1; failed: 0; total: 1; seconds spent: 30.000000\"}\n\
-    new | 2: 1c 2t added shut 1 full 3 85 ZBXD\x01\x5a\0\0\0\0\0\0\0\
+    behind another text | 6: 1c0 2t 3v10 4c100 5t 6v7 added 5t 6v7 shut 1 ZBXD\x01\x5b\0\0\0\0\0\0\0\
+    {\"response\":\"success\",\"info\":\"processed: 1; failed: 0; total: 1; seconds spent: 30.000000\"} | 6\n\
+    behind another text | full 4 108  | 3\n\
+    new | 2: 1c0 2t added shut 1 full 3 85 ZBXD\x01\x5a\0\0\0\0\0\0\0\
     {\"response\":\"success\",\"info\":\"processed: 0; failed: 1; total: 1; seconds spent: 0.000000\"} | 100 2\n\
-    new | 2: 1c 2t added shut 1 fault ZBXD\x01\x5a\0\0\0\0\0\0\0\
+    new | 2: 1c0 2t added shut 1 fault ZBXD\x01\x5a\0\0\0\0\0\0\0\
     {\"response\":\"success\",\"info\":\"processed: 0; failed: 1; total: 1; seconds spent: 0.000000\"} | 11 3\n\
-    new | 1: 1c added fault  | 9 3\n\
+    new | 1: 1c0 added fault  | 9 3\n\
     new | full 1 31  | 100 0\n\
     new | fault  | 5 3\n\
     groups kept | -------1112222444\n\
-    together | 4: 1c 2t 3v10 4v7 then added then added 3v10 shut 1 ZBXD\x01\x5a\0\0\0\0\0\0\0\
+    together | 4: 1c0 2t 3v10 4v7 then added then added 3v10 shut 1 ZBXD\x01\x5a\0\0\0\0\0\0\0\
     {\"response\":\"success\",\"info\":\"processed: 1; failed: 0; total: 1; seconds spent: 0.000000\"}\
     then added 4v7 shut 2 ZBXD\x01\x5a\0\0\0\0\0\0\0\
     {\"response\":\"success\",\"info\":\"processed: 1; failed: 0; total: 1; seconds spent: 0.000000\"}\
     then added closed  | 15\n\
-    together | 2: 1c 2t then added then added shut 1 fault ZBXD\x01\x5a\0\0\0\0\0\0\0\
+    together | 2: 1c0 2t then added then added shut 1 fault ZBXD\x01\x5a\0\0\0\0\0\0\0\
     {\"response\":\"success\",\"info\":\"processed: 0; failed: 1; total: 1; seconds spent: 0.000000\"} | 11\n\
-    together | 4: 1c 2t then added then added shut 1 fault ZBXD\x01\x5a\0\0\0\0\0\0\0\
+    together | 4: 1c0 2t then added then added shut 1 fault ZBXD\x01\x5a\0\0\0\0\0\0\0\
     {\"response\":\"success\",\"info\":\"processed: 0; failed: 1; total: 1; seconds spent: 0.000000\"} | 14\n\
     without collection | Ok(1) | 999 999, 7\n\
     without collection | Ok(0) | 999 1000, 7\n\

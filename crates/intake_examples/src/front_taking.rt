@@ -3,7 +3,7 @@
 use crate::front_misfits::second;
 use crate::front_runs::{new_disk, opened, opening, piece, ready_with, take_all};
 use crate::rows::numbers;
-use entry_step::Ready;
+use conf_index::Ready;
 use intake_front::{Answer, FrontError};
 use outside::WireEvent;
 use std::alloc::Global;

@@ -37,8 +37,8 @@ module _ {D : Type 0} (journal : Journaled D) (conf : Conf) (i j : Intake) (b c 
   did_take (Ok s) batch did = λ begun events at going has. more_taken journal conf begun events e i j b c s batch did at going has
   did_take (Err refused) batch did = tt
 
-  pub did_keep : (result : Result (Option Stop) OutOfMemory) → DidThis result → OnOk result (IsSound conf i → IsSound conf j)
-  did_keep (Ok s) did = λ sound. kept (limits_of journal 0) conf i j e did.after sound
+  pub did_keep : (result : Result (Option Stop) OutOfMemory) → DidThis result → OnOk result ((flat : List ℕ → Conf) → IsSound flat conf i → IsSound flat conf j)
+  did_keep (Ok s) did = λ flat sound. kept (limits_of journal 0) flat conf i j e did.after sound
   did_keep (Err refused) did = tt
 
   pub did_front : (result : Result (Option Stop) OutOfMemory) → IsBatch i b → DidThis result → take b.mark.kept j.entries ≡ take b.mark.kept i.entries

@@ -19,14 +19,6 @@ numbered-append n (e ∷ a) b =
     let next : n + 1 + length a ≡ n + length (e ∷ a) = omega arith in
     ap (λ t. record { number = n; entry = e } ∷ t) (numbered-append (n + 1) a b ∙ ap (λ k. numbered_from (n + 1) a ++ numbered_from k b) next)
 
--- one more entry of a group
-pub numbered_step : (first number : ℕ) (made new : List Numbered) (group : List Entry) (e : Entry) → made ≡ numbered_from first group → number ≡ first + length made
-    → new ≡ made ++ record { number = number; entry = e } ∷ [] → new ≡ numbered_from first (group ++ e ∷ [])
-numbered_step first number made new group e is at more =
-    let count : number ≡ first + length group = omega (arith, at, ap length is, length_numbered first group) in
-    more ∙ ap (λ (n : ℕ). made ++ record { number = n; entry = e } ∷ []) count ∙ ap (λ (l : List Numbered). l ++ record { number = first + length group; entry = e } ∷ []) is
-    ∙ sym (numbered-append first group (e ∷ []))
-
 module _ {A : Type 0} (taken : A → Result Entry ValueRefusal) where
   pub group_none : group_by taken [] ≡ []
   group_none = refl

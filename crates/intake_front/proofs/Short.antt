@@ -14,7 +14,7 @@ use Rattle.sender_json.specs.declared.asked.Asked.{Asked}
 use Rattle.sender_json.specs.declared.asked.Clock.{Clock}
 use Rattle.sender_json.specs.declared.asked.Clock.TheVariants as clock
 use Rattle.maintenance.specs.Suppression.{is_collected}
-use Rattle.entry_step.specs.Names.{host_named, item_keyed}
+use Rattle.conf_index.specs.Names.{host_named, item_keyed}
 use Rattle.intake_journal.specs.Bytes.{HasShortValue}
 use Rattle.wire_core.specs.declared.turn.Turn.{Turn}
 use Rattle.wire_core.specs.declared.turn.Turn.TheVariants as turn

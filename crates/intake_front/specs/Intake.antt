@@ -1,10 +1,11 @@
 -- What a wire event does: the entries that it numbers and journals, and the reply to its sender.
-use Rattle.std.specs.Prelude.{◌≡◌, ◌≤◌, ◌<◌, ℕ, ◌+◌, ◌-◌, ◌/◌, ◌^◌, min, max, nat_lt, ◌==◌, ◌||◌, Bool, true, List, [], ◌∷◌, ◌++◌, length, Option, Some, None, if◌then◌else◌}
+use Rattle.std.specs.Prelude.{◌≡◌, ◌≤◌, ◌<◌, ℕ, ◌+◌, ◌-◌, ◌/◌, ◌^◌, min, max, nat_lt, ◌==◌, ◌||◌, Bool, true, false, List, [], ◌∷◌, ◌++◌, length, Option, Some, None, if◌then◌else◌}
 use Rattle.std.specs.Option.{option_or, option_map}
+use Rattle.std.specs.Str.{bytes_eq}
 use Rattle.zbx_types.specs.Frames.{frame}
 use Rattle.zbx_types.specs.declared.conf.Conf.{Conf}
 use Rattle.zbx_types.specs.declared.entries.Entry.{Entry}
-use Rattle.zbx_types.specs.declared.entries.Entry.TheVariants.{Config, Tick}
+use Rattle.zbx_types.specs.declared.entries.Entry.TheVariants.{Config, Value, Tick}
 use Rattle.zbx_types.specs.declared.entries.Numbered.{Numbered}
 use Rattle.outside.specs.Script.{moment_at}
 use Rattle.outside.specs.declared.event.WireEvent.{WireEvent}
@@ -16,7 +17,8 @@ use Rattle.wire_core.specs.declared.turn.Turn.TheVariants as turn
 use Rattle.sender_json.specs.Replies.{reply_text, refusal_text}
 use Rattle.sender_json.specs.declared.asked.Asked.{Asked}
 use Rattle.agent_json.specs.declared.request.AgentAsked.{AgentAsked}
-use Rattle.entry_step.specs.Log.{log_of, moment_from, tick_of, IsFull, Fits}
+use Rattle.entry_step.specs.InForce.{conf_behind, FitsLog}
+use Rattle.entry_step.specs.Log.{log_of, moment_from, tick_of, IsFull}
 use Rattle.intake_front.specs.Asking.{ask_of, taken_ask}
 use Rattle.intake_front.specs.Telling.{told}
 use Rattle.intake_front.specs.declared.asking.Ask.{Ask}
@@ -27,7 +29,6 @@ use Rattle.intake_front.specs.declared.answer.Stop.{Stop}
 use Rattle.intake_front.specs.declared.answer.Stop.TheVariants as stop
 use Rattle.intake_front.specs.declared.drafts.Draft.{Draft}
 use Rattle.intake_front.specs.declared.gathering.Taken.{Taken}
-use Rattle.entry_step.specs.Start.{first_start}
 
 -- What a run may journal: the most entries and the most bytes, and the number of the group that the disk refuses,
 -- counted from 1 in the run, or 0 where it refuses none.
@@ -234,21 +235,52 @@ resumed entries bytes = record {
 abbrev pub config_group : ℕ → List ℕ → List Entry
 config_group now text = Config now text ∷ []
 
--- the entry with which a journal begins: the configuration, at moment 0
-abbrev pub first_group : List ℕ → List Entry
-first_group text = config_group 0 text
+-- the text of an entry, where it is a Config
+abbrev pub config_text : Entry → Option (List ℕ)
+config_text (Config now text) = Some text
+config_text (Value now item time value) = None
+config_text (Tick now) = None
 
--- the intake of a run whose journal kept these entries and has so many bytes; where it kept none the configuration is
--- journaled
+-- the text of a log's last Config
+abbrev pub last_text : List Numbered → Option (List ℕ)
+last_text [] = None
+last_text (e ∷ log) = option_or (config_text e.entry) (last_text log)
+
+-- there is a text, and it is this one
+abbrev pub is_text : List ℕ → Option (List ℕ) → Bool
+is_text text None = false
+is_text text (Some found) = bytes_eq found text
+
+-- the last Config has this text, with one more entry
+abbrev pub is_text_with : Bool → List ℕ → Entry → Bool
+is_text_with before text (Config now found) = bytes_eq found text
+is_text_with before text (Value now item time value) = before
+is_text_with before text (Tick now) = before
+
+-- a configuration as a group behind entries, at the moment that they have reached: moment 0 where there are none
+abbrev pub config_behind : List ℕ → List Numbered → List Entry
+config_behind text kept = config_group (moment_from 0 (log_of kept)) text
+
+-- the group with which a run goes on behind kept entries: the configuration, unless the last Config has this very text
+abbrev pub opening_group : List ℕ → List Numbered → List Entry
+opening_group text kept = if is_text text (last_text (log_of kept)) then [] else config_behind text kept
+
+-- the intake of a run that goes on behind kept entries with such a group, which is journaled where it has entries
+abbrev pub resumed_with : List Numbered → ℕ → List Entry → Intake
+resumed_with kept bytes [] = resumed kept bytes
+resumed_with kept bytes (e ∷ es) = resumed (with_group 0 kept (e ∷ es)) (bytes_with bytes (e ∷ es))
+
+-- the intake of a run with a configuration of this text, whose journal kept these entries and has so many bytes: where
+-- the last Config has another text, or there is none, the configuration is journaled
 abbrev pub start : List ℕ → List Numbered → ℕ → Intake
-start text [] bytes = resumed (numbered_from 1 (first_group text)) (bytes_with bytes (first_group text))
-start text (e ∷ es) bytes = resumed (e ∷ es) bytes
+start text kept bytes = resumed_with kept bytes (opening_group text kept)
 
--- the entries are a full log that fits, from number 1 on, begun, and none is later than the moment that the events have
--- reached
-pub record IsSound (conf : Conf) (i : Intake) : Type 0 where
+-- The entries are a full log that fits, from number 1 on, begun, a configuration is in force behind them, and none is
+-- later than the moment that the events have reached. `flat` tells the configuration that a text stands for.
+pub record IsSound (flat : List ℕ → Conf) (conf : Conf) (i : Intake) : Type 0 where
   pub from_one : i.before ≡ 0
   pub full : IsFull (log_of i.entries)
-  pub fits : Fits (first_start conf) (log_of i.entries)
+  pub fits : FitsLog flat (log_of i.entries)
+  pub in_force : conf_behind flat (log_of i.entries) ≡ conf
   pub moments : moment_from 0 (log_of i.entries) ≤ i.now
   pub begun : 0 < length i.entries

@@ -15,7 +15,7 @@ use Rattle.sender_json.specs.declared.asked.Asked.{Asked}
 use Rattle.sender_json.specs.declared.asked.Clock.{Clock}
 use Rattle.sender_json.specs.declared.asked.Clock.TheVariants as clock
 use Rattle.maintenance.specs.Suppression.{is_collected}
-use Rattle.entry_step.specs.Names.{host_named, item_keyed}
+use Rattle.conf_index.specs.Names.{host_named, item_keyed}
 use Rattle.intake_front.specs.declared.gathering.Taken.{Taken}
 use Rattle.intake_front.specs.declared.refusal.ValueRefusal.{ValueRefusal}
 use Rattle.intake_front.specs.declared.refusal.ValueRefusal.TheVariants.{UnknownHost, UnknownKey, Disabled, NotTrapper, NotActive}

@@ -7,7 +7,7 @@ use Rattle.zbx_types.specs.declared.conf.Conf.{Conf}
 use Rattle.agent_json.specs.Checks.{checks_text, framed_within}
 use Rattle.agent_json.specs.Replies.{refusal_text}
 use Rattle.agent_json.specs.declared.refusing.ChecksRefusal.TheVariants.{UnknownHost, NotMonitored, TooManyItems}
-use Rattle.entry_step.specs.Names.{host_named}
+use Rattle.conf_index.specs.Names.{host_named}
 use Rattle.intake_front.specs.Taking.{is_enabled_host}
 
 -- the answer in a frame, or that there are too many items for one

@@ -5,7 +5,7 @@ ghost use Rattle.intake_front.specs.Taking.{AllCollected};
 
 use crate::gathering::Taking;
 use crate::taking::some_keeps_out;
-use entry_step::Ready;
+use conf_index::Ready;
 use std::marker::Model;
 use zbx_types::{Moment, OutOfMemory};
 

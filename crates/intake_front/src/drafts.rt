@@ -9,7 +9,7 @@ use crate::asking::{Ask, asked};
 use crate::collection::Collection;
 use crate::gathering::Taken;
 use crate::telling::told;
-use entry_step::Ready;
+use conf_index::Ready;
 use outside::WireEvent;
 use sender_json::{refusal, reply};
 use std::alloc::Global;

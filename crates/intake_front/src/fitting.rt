@@ -1,77 +1,114 @@
-//! Whether the entries that a journal kept fit a configuration.
+//! Whether the entries that a journal kept fit the configurations in force.
 
-ghost use Rattle.std.specs.Prelude.{◌≡◌, true, false, IsTrue, ◌↔◌, MatchBool, List, ℕ, None};
-ghost use Rattle.entry_step.specs.Log.{Fits, IsFitting, is_config, is_taking};
+ghost use Rattle.std.specs.Prelude.{◌≡◌, ◌≤◌, ◌+◌, ◌++◌, [], length, map, IsTrue, ◌↔◌, MatchBool, List, ℕ, Some};
+ghost use Rattle.entry_step.specs.InForce.{FitsLog, config_texts, texts_of};
+ghost use Rattle.entry_step.specs.Log.{log_of, IsFitting, is_config, is_taking};
+ghost use Rattle.zbx_types.specs.Entries.{moment_of};
 ghost use Rattle.zbx_types.specs.Ids.{at_id};
+ghost use Rattle.zbx_types.specs.declared.conf.Conf.{Conf};
 ghost use Rattle.zbx_types.specs.declared.entries.Numbered.{Numbered};
-ghost use Rattle.intake_front.specs.Misfit.{IsFirstMisfit, FitsBehind, HasReached, log_with};
-ghost use Rattle.entry_step.specs.Start.{first_start};
+ghost use Rattle.intake_front.specs.Fronted.{numbered_of};
+ghost use Rattle.intake_front.specs.Misfit.{IsFirstMisfit, FitsAfter, HasReached, in_force, log_with};
 
 use intake_journal::Group;
 use std::marker::Model;
 use zbx_types::{Conf, Entry, Moment, by_id};
 
-/// What judges the groups of a journal one after the other: it knows the moment that those before have reached.
-/// Contracts see that moment, or None in front of the first group.
+/// How much of a journal's entries was judged.
+#[derive(Clone, Copy)]
+struct Judged {
+    /// The moment of the last of them, or None where there is none.
+    last: Option<Moment>,
+    /// How many of them are Configs.
+    configs: usize,
+}
+
+/// What judges the groups of a journal one after the other. Contracts see how much was judged: the moment that the
+/// groups before have reached, or None in front of the first group, and how many Configs they have.
 #[derive(Drop)]
 pub struct Judge {
-    last: Option<Moment>,
+    judged: Judged,
 }
 
 impl Model for Judge {
-    ghost use Rattle.std.specs.Prelude.{ℕ, Option};
+    ghost use Rattle.intake_front.specs.declared.fitting.Judged.{Judged};
 
-    ghost Value = { Option ℕ };
+    ghost Value = { Judged };
 
-    ghost view = { λ j. j.last };
+    ghost view = { λ j. j.judged };
 }
 
 impl Judge {
     /// The judge of a journal's first group.
     pub fn new() -> Judge
-        ensures { result ≡ None }
+        ensures { (flat : List ℕ → Conf) → HasReached flat [] result }
     {
-        Judge { last: None }
+        Judge {
+            judged: Judged {
+                last: None,
+                configs: 0,
+            },
+        }
     }
 
-    /// Whether the entries of a group fit a configuration behind those of the groups before, all of which fit it. Where
-    /// they do, the judge goes on behind them. Takes no memory.
-    pub fn judge(&mut self, conf: &Conf, group: &Group) -> bool
-        ensures { (before : ℕ) → (log : List Numbered) → HasReached conf.now log self.old
-            → MatchBool result (HasReached conf.now (log_with before log group.now.entries) self.new)
-            (¬ (Fits (first_start conf.now) (log_with before log group.now.entries))) }
+    /// Whether the entries of a group fit behind those of the groups before, all of which fit. `confs` has the
+    /// configurations of all Configs up to and with this group's, in their order: a value is judged beside the
+    /// configuration in force where it stands. Where the entries fit, the judge goes on behind them. Takes no memory.
+    pub fn judge(&mut self, confs: &[Conf], group: &Group) -> bool
+        ensures { (flat : List ℕ → Conf) (before : ℕ) (log : List Numbered) → HasReached flat log self.old
+            → confs.now ≡ map flat (config_texts (log_of (log_with before log group.now.entries)))
+            → MatchBool result (HasReached flat (log_with before log group.now.entries) self.new)
+            (¬ (FitsLog flat (log_with before log group.now.entries))) }
     {
-        group_fits(conf, &mut self.last, group.entries.as_slice())
+        group_fits(confs, &mut self.judged, group)
     }
 }
 
-/// The place of the first group whose entries don't fit a configuration, or None where all fit: the first entry alone
-/// is a Config, no moment falls, and each value is of an enabled trapper item and no later than its moment. Whether
-/// the item's host is enabled doesn't matter. The place is that of the group's gate, in bytes from the file's
-/// beginning. Takes no memory.
-pub fn first_misfit(conf: &Conf, kept: &[Group]) -> Option<u64>
-    ensures { IsFirstMisfit conf.now kept.now result }
+/// The place of the first group whose entries don't fit, or None where all fit: the first entry is a Config of moment 0,
+/// no moment falls, and each value is of an enabled trapper item of the configuration in force, and no later than its
+/// moment. Whether the item's host is enabled doesn't matter. `confs` has the configurations of all Configs, in their
+/// order. The place is that of the group's gate, in bytes from the file's beginning. Takes no memory.
+pub fn first_misfit(confs: &[Conf], kept: &[Group]) -> Option<u64>
+    ensures { (flat : List ℕ → Conf) → confs.now ≡ map flat (config_texts (numbered_of kept.now))
+        → IsFirstMisfit flat kept.now result }
 {
-    let mut judge = Judge::new();
+    let mut judged = Judged {
+        last: None,
+        configs: 0,
+    };
     for group in kept {
-        if !judge.judge(conf, group) {
+        if !group_fits(confs, &mut judged, group) {
             return Some(group.at);
         }
     }
     None
 }
 
-/// Whether entries fit behind a log that has reached this moment, which goes on to that of the last one.
-fn group_fits(conf: &Conf, last: &mut Option<Moment>, entries: &[Entry]) -> bool
-    ensures fits { (before : ℕ) → (log : List Numbered) → HasReached conf.now log last.old
-        → MatchBool result (HasReached conf.now (log_with before log entries.now) last.new)
-        (¬ (Fits (first_start conf.now) (log_with before log entries.now))) }
+/// Whether the entries of a group fit behind those that were judged, with which they are judged then.
+fn group_fits(confs: &[Conf], judged: &mut Judged, group: &Group) -> bool
+    ensures { (flat : List ℕ → Conf) (before : ℕ) (log : List Numbered) (rest : List Conf)
+        → HasReached flat log judged.old
+        → confs.now ≡ map flat (config_texts (log_of (log_with before log group.now.entries))) ++ rest
+        → MatchBool result (HasReached flat (log_with before log group.now.entries) judged.new)
+        (¬ (FitsLog flat (log_with before log group.now.entries))) }
+{
+    entries_fit(confs, judged, group.entries.as_slice())
+}
+
+/// Whether entries fit behind those that were judged, with which they are judged then. The configurations of their
+/// Configs stand behind those of the Configs before, and more may follow.
+fn entries_fit(confs: &[Conf], judged: &mut Judged, entries: &[Entry]) -> bool
+    ensures { (flat : List ℕ → Conf) (before : ℕ) (log : List Numbered) (rest : List Conf)
+        → HasReached flat log judged.old
+        → confs.now ≡ map flat (config_texts (log_of (log_with before log entries.now))) ++ rest
+        → MatchBool result (HasReached flat (log_with before log entries.now) judged.new)
+        (¬ (FitsLog flat (log_with before log entries.now))) }
 {
     for entry in entries {
-        if !entry_fits(conf, *last, entry) {
+        if !entry_fits(confs, judged, entry) {
             return false;
         }
-        *last = Some(entry.moment());
+        *judged = judged_with(judged, entry);
     }
     true
 }
@@ -85,7 +122,23 @@ fn is_config(entry: &Entry) -> bool
     }
 }
 
-/// Whether an entry may bring a value for an item.
+/// What was judged with one more entry.
+fn judged_with(judged: &Judged, entry: &Entry) -> Judged
+    ensures last { result.last ≡ Some (moment_of entry.now) }
+    ensures configs { judged.now.configs + length (texts_of entry.now) ≤ usize.MAX
+        → result.configs ≡ judged.now.configs + length (texts_of entry.now) }
+{
+    let configs = match entry {
+        Entry::Config { .. } => judged.configs.saturating_add(1),
+        Entry::Value { .. } | Entry::Tick { .. } => judged.configs,
+    };
+    Judged {
+        last: Some(entry.moment()),
+        configs,
+    }
+}
+
+/// Whether an entry may bring a value for an item of a configuration.
 fn is_taking(conf: &Conf, item: u32) -> bool
     ensures { result ≡ is_taking (at_id conf.now.items item) }
 {
@@ -95,9 +148,19 @@ fn is_taking(conf: &Conf, item: u32) -> bool
     }
 }
 
-/// Whether an entry fits a configuration by itself.
-fn is_fitting(conf: &Conf, entry: &Entry) -> bool
-    ensures { IsTrue result ↔ IsFitting conf.now entry.now }
+/// The same in the configuration in force after so many Configs.
+fn is_taking_after(confs: &[Conf], configs: usize, item: u32) -> bool
+    ensures { result ≡ is_taking (at_id (in_force confs.now configs).items item) }
+{
+    match confs.get(configs.saturating_sub(1)) {
+        Some(conf) => is_taking(conf, item),
+        None => false,
+    }
+}
+
+/// Whether an entry fits the configuration in force after so many Configs.
+fn is_fitting(confs: &[Conf], configs: usize, entry: &Entry) -> bool
+    ensures { IsTrue result ↔ IsFitting (in_force confs.now configs) entry.now }
 {
     match entry {
         Entry::Config { .. } | Entry::Tick { .. } => true,
@@ -106,17 +169,17 @@ fn is_fitting(conf: &Conf, entry: &Entry) -> bool
             item,
             time,
             ..
-        } => is_taking(conf, *item) && *time <= *now,
+        } => is_taking_after(confs, configs, *item) && *time <= *now,
     }
 }
 
-/// Whether an entry fits behind a log that has reached this moment.
-fn entry_fits(conf: &Conf, last: Option<Moment>, entry: &Entry) -> bool
-    ensures { IsTrue result ↔ FitsBehind conf.now last entry.now }
+/// Whether an entry fits behind those that were judged.
+fn entry_fits(confs: &[Conf], judged: &Judged, entry: &Entry) -> bool
+    ensures { IsTrue result
+        ↔ FitsAfter (in_force confs.now judged.now.configs) judged.now.last entry.now }
 {
-    let follows = match last {
-        None => is_config(entry),
-        Some(last) => !is_config(entry) && last <= entry.moment(),
-    };
-    follows && is_fitting(conf, entry)
+    match judged.last {
+        None => is_config(entry) && entry.moment() == Moment::zero(),
+        Some(last) => last <= entry.moment() && is_fitting(confs, judged.configs, entry),
+    }
 }

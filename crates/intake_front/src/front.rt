@@ -1,19 +1,20 @@
 //! The intake of a run over its journal.
 
 ghost use Rattle.outside.specs.declared.event.WireEvent.{WireEvent};
+ghost use Rattle.zbx_types.specs.declared.conf.Conf.{Conf};
 ghost use Rattle.intake_front.specs.Intake.{Intake};
 ghost use Rattle.std.specs.Prelude.{List, ◌⊎◌, ◌≡◌, ◌≢◌, ◌≤◌, ◌<◌, ℕ, ◌++◌, ◌+◌, [], ◌∷◌, length, Some, None, Err, is_some, IsTrue, IfSome, IfOk, IfErr, OnOk, OnErr};
 ghost use Rattle.outside.specs.Causes.{Rose};
 ghost use Rattle.outside.specs.Disk.{LeavesOnly};
-ghost use Rattle.entry_step.specs.Log.{log_of, IsFull, Fits};
+ghost use Rattle.entry_step.specs.InForce.{FitsLog};
+ghost use Rattle.entry_step.specs.Log.{log_of, IsFull};
 ghost use Rattle.intake_journal.specs.Block.{entries_with_all, bytes_with_all, passes_with_all};
 ghost use Rattle.intake_journal.specs.declared.state.State.TheVariants as state;
-ghost use Rattle.intake_front.specs.Intake.{start, handled, first_group, IsSound};
+ghost use Rattle.intake_front.specs.Intake.{start, handled, opening_group, IsSound};
 ghost use Rattle.intake_front.specs.Fronted.{HasJournaled, KeepsEither, IsKept, IsReady, limits_of, refused_group, disk_of};
 ghost use Rattle.intake_front.specs.Batch.{answered, IsIdle, HasTaken, goes_on};
 ghost use Rattle.intake_front.specs.declared.answer.Stop.TheVariants as stop;
 ghost use Rattle.intake_front.specs.declared.answer.FrontError.TheVariants as error;
-ghost use Rattle.entry_step.specs.Start.{first_start};
 
 use crate::answer::{Answer, FrontError, Stop, Unmade};
 use crate::batch::{Batch, commit};
@@ -21,7 +22,7 @@ use crate::collection::Collection;
 use crate::held::Held;
 use crate::offering::{receive, receive_alone};
 use crate::opening::open;
-use entry_step::Ready;
+use conf_index::Ready;
 use intake_journal::{Block, Journal};
 use outside::{Disk, WireEvent};
 use std::alloc::Global;
@@ -58,9 +59,10 @@ impl<D: Disk> Model for Front<D> {
 }
 
 impl<D: Disk> Front<D> {
-    /// The intake of a run over a journal of which all groups were read, and whose kept entries these are. Where it
-    /// kept none the text of the configuration of `ready` is journaled as entry 1, at moment 0, a group of its own.
-    /// No connection is there. All memory is taken before the write.
+    /// The intake of a run over a journal of which all groups were read, and whose kept entries these are. The
+    /// configuration of `ready` is the one in force from here on: unless the last Config of the kept entries has its
+    /// very text, this is journaled behind them, a group of its own, at the moment of the last entry, or as entry 1 at
+    /// moment 0 where there is none. No connection is there. All memory is taken before the write.
     ///
     /// # Errors
     ///
@@ -76,27 +78,29 @@ impl<D: Disk> Front<D> {
         requires journaled { HasJournaled D.tells journal kept (journal.at + 1) }
 
         ensures made { IfOk result (λ f. f.intake ≡ start ready.now.conf.text kept (journal.at + 1)) }
-        ensures sound { IfOk result (λ f. IsFull (log_of kept) → Fits (first_start ready.now.conf) (log_of kept)
-            → IsSound ready.now.conf f.intake) }
+        ensures sound { IfOk result (λ f. (flat : List ℕ → Conf) → flat ready.now.conf.text ≡ ready.now.conf
+            → IsFull (log_of kept) → FitsLog flat (log_of kept) → IsSound flat ready.now.conf f.intake) }
         ensures durable { IfOk result (λ f. IsKept (D.tells f.journal.disk) f.intake.entries) }
         ensures state { IfOk result (λ f. IsReady journal f.journal) }
         ensures idle { IfOk result (λ f. IsIdle f) }
 
         ensures back { IfErr result (λ u. u.kept ≡ kept) }
-        ensures full { kept ≡ [] → IsTrue (passes_with_all journal (first_group ready.now.conf.text ∷ []))
+        ensures full { opening_group ready.now.conf.text kept ≢ []
+            → IsTrue (passes_with_all journal (opening_group ready.now.conf.text kept ∷ []))
             → IfOk result (λ _. ⊥) × IfErr result (λ u. u.error ≢ error.DiskFault) }
-        ensures only_full { IfErr result (λ u. (entries bytes : ℕ) → u.error ≡ error.Full entries bytes → (kept ≡ [])
-            × IsTrue (passes_with_all journal (first_group ready.now.conf.text ∷ []))
-            × (entries ≡ entries_with_all journal (first_group ready.now.conf.text ∷ []))
-            × (bytes ≡ bytes_with_all journal (first_group ready.now.conf.text ∷ []))) }
-        ensures fault { IfErr result (λ u. u.error ≡ error.DiskFault → (kept ≡ [])
+        ensures only_full { IfErr result (λ u. (entries bytes : ℕ) → u.error ≡ error.Full entries bytes
+            → (opening_group ready.now.conf.text kept ≢ [])
+            × IsTrue (passes_with_all journal (opening_group ready.now.conf.text kept ∷ []))
+            × (entries ≡ entries_with_all journal (opening_group ready.now.conf.text kept ∷ []))
+            × (bytes ≡ bytes_with_all journal (opening_group ready.now.conf.text kept ∷ []))) }
+        ensures fault { IfErr result (λ u. u.error ≡ error.DiskFault → (opening_group ready.now.conf.text kept ≢ [])
             × Rose (D.tells journal.disk).faults (D.tells u.disk).faults) }
         ensures same { IfErr result (λ u. u.error ≢ error.DiskFault → u.disk ≡ journal.disk) }
         ensures later { (D.tells journal.disk).faults ≤ (D.tells (disk_of result)).faults }
         ensures told { is_some (D.tells (disk_of result)).bytes ≡ is_some (D.tells journal.disk).bytes }
 
-        // A crash at any moment of the call leaves the entries that were kept, or with none of these the
-        // configuration alone.
+        // A crash at any moment of the call leaves the entries that were kept, or these with the configuration behind
+        // them.
         ensures any_moment { IfSome (D.tells journal.disk).bytes
             (λ _. LeavesOnly (D.tells journal.disk) (D.tells (disk_of result))
             (KeepsEither kept (start ready.now.conf.text kept (journal.at + 1)).entries)) }
@@ -156,8 +160,9 @@ impl<D: Disk> Front<D> {
     /// Where the journal has no room for a group, or its disk failed, that group isn't kept and no event follows: a
     /// reply to its values counts all of them as failed, and behind a Tick that isn't kept the event isn't handled.
     ///
-    /// Entries that fit the configuration of `ready` stay so. Each event is to be given that of entry 1. No value is
-    /// looked up by a walk over the configuration or the entries. All memory is taken before the append.
+    /// Entries that fit stay so where the configuration of `ready` is the one in force behind them: each event is to
+    /// be given the one with which the front was made. No value is looked up by a walk over the configuration or the
+    /// entries. All memory is taken before the append.
     ///
     /// # Errors
     ///
@@ -177,7 +182,8 @@ impl<D: Disk> Front<D> {
         ensures after { IfOk result (λ a. self.new.intake ≡ (handled
             (limits_of self.old.journal (refused_group self.old.intake a.stop)) ready.now.conf self.old.intake
             event.now).intake) }
-        ensures keeps { OnOk result (IsSound ready.now.conf self.old.intake → IsSound ready.now.conf self.new.intake) }
+        ensures keeps { OnOk result ((flat : List ℕ → Conf) → IsSound flat ready.now.conf self.old.intake
+            → IsSound flat ready.now.conf self.new.intake) }
         ensures err { OnErr result ((self.new.intake.entries ≡ self.old.intake.entries)
             × (self.new.journal ≡ self.old.journal)) }
 
@@ -236,7 +242,8 @@ impl<D: Disk> Front<D> {
             → (answered (limits_of self.old.journal 0) collection.old begun events).stop ≡ None
             → HasTaken collection.old begun events self.old
             → HasTaken collection.old begun (events ++ event.now ∷ []) self.new) }
-        ensures keeps { OnOk result (IsSound collection.old self.old.intake → IsSound collection.old self.new.intake) }
+        ensures keeps { OnOk result ((flat : List ℕ → Conf) → IsSound flat collection.old self.old.intake
+            → IsSound flat collection.old self.new.intake) }
         ensures same { collection.new ≡ collection.old }
         ensures journal { self.new.journal ≡ self.old.journal }
         ensures kept { self.new.kept ≡ self.old.kept }

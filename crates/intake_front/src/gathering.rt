@@ -8,7 +8,7 @@ use crate::origin::Origin;
 use crate::refusal::ValueRefusal;
 use crate::taking::{agent_taken, taken};
 use agent_json::AgentAsked;
-use entry_step::Ready;
+use conf_index::Ready;
 use sender_json::{Asked, Gatherer};
 use std::alloc::Global;
 use std::marker::Model;

@@ -34,7 +34,7 @@ impl Model for Held {
 }
 
 /// The moment of the last entry, or moment 0.
-fn last_moment(entries: &[Numbered]) -> Moment
+pub(crate) fn last_moment(entries: &[Numbered]) -> Moment
     ensures { result ≡ moment_from 0 (log_of entries.now) }
 {
     match entries.last() {

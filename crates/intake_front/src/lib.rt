@@ -3,7 +3,11 @@
 //! A `Front` holds the journal, the moment that the events have reached, the half minute of the last Tick, the
 //! connections of the wire and all entries that were numbered. Its contract in a sentence: each event leaves the
 //! intake that the definition `handled` says and is answered as it says, once each crash leaves the entries that it
-//! added; and entries that fit their configuration stay so.
+//! added; and entries that fit, each the configuration in force where it stands, stay so.
+//!
+//! The configuration in force is that of the last Config. Entry 1 is one. A run that goes on with a configuration of
+//! another text than that of the last Config journals it, at the moment that the entries have reached. `Judge` judges
+//! the groups that a journal kept beside the configurations of their Configs.
 //!
 //! An event sets the moment, which never goes back, and offers a Tick to the journal where none was numbered in this
 //! half minute. Then it does what it means for its connection. A whole frame is read as a request of the sender
@@ -24,7 +28,7 @@
 //! aren't kept count as failed, and behind a Tick that isn't kept the event isn't handled.
 //!
 //! ```text
-//! let mut front = Front::new(alloc, &ready, journal, kept)?; // entry 1 is the configuration of `ready`
+//! let mut front = Front::new(alloc, &ready, journal, kept)?; // the configuration of `ready` is in force
 //! let mut collection = Collection::new(&ready);
 //! front.take(alloc, &mut collection, &event)?;               // more events while `front.goes_on()`
 //! for answer in front.commit(alloc).as_slice() { .. }        // durable: send its reply, then close answer.shut

@@ -16,7 +16,7 @@ use crate::drafts::{Draft, stop_of, ticks_at, turned};
 use crate::held::Held;
 use crate::settling::{Settled, enter, groups_of, numbered_both, settle, ticked_with};
 use crate::staging::stage_both;
-use entry_step::Ready;
+use conf_index::Ready;
 use intake_journal::Journal;
 use outside::{Disk, WireEvent};
 use std::alloc::Global;

@@ -1,113 +1,136 @@
 //! The intake of a run that begins or goes on.
 
-ghost use Rattle.std.specs.Prelude.{◌≡◌, ◌≢◌, ◌≤◌, ◌<◌, ℕ, ◌+◌, ◌^◌, [], ◌∷◌, All, false, Some, None, is_some, IsTrue, IfSome, IfOk, IfErr, OnOk};
+ghost use Rattle.std.specs.Prelude.{◌≡◌, ◌≢◌, ◌≤◌, ◌<◌, ℕ, ◌+◌, [], ◌∷◌, All, false, Some, None, is_some, IsTrue, IfSome, IfOk, IfErr, OnOk, OnErr};
 ghost use Rattle.outside.specs.Causes.{Rose};
 ghost use Rattle.outside.specs.Disk.{LeavesOnly};
+ghost use Rattle.entry_step.specs.Log.{log_of};
 ghost use Rattle.intake_journal.specs.Block.{entries_with_all, bytes_with_all, passes_with_all};
 ghost use Rattle.intake_journal.specs.declared.state.State.TheVariants as state;
 ghost use Rattle.intake_journal.specs.Bytes.{HasShortValue};
-ghost use Rattle.intake_front.specs.Intake.{start, first_group, numbered_from};
+ghost use Rattle.intake_front.specs.Intake.{start, opening_group, config_behind, is_text, is_text_with, last_text, with_group, bytes_with};
 ghost use Rattle.intake_front.specs.Fronted.{HasJournaled, KeepsEither, IsReady};
 ghost use Rattle.intake_front.specs.declared.answer.FrontError.TheVariants as error;
 
 use crate::answer::{FrontError, Stop};
-use crate::held::Held;
+use crate::held::{Held, last_moment};
+use crate::settling::enter;
 use crate::staging::{stage, write};
-use entry_step::Ready;
+use conf_index::Ready;
 use intake_journal::{Block, Journal};
 use outside::Disk;
 use std::alloc::Global;
-use zbx_types::{Entry, Many, Moment, Numbered, OutOfMemory};
+use zbx_types::{Entry, Many, Numbered, OutOfMemory, Text, is_same};
 
-/// The entries of a group, with the numbers from this one on.
-#[tactic(auto, using(crate::proofs::Numbers::length_numbered, crate::proofs::Numbers::numbered_step))]
-fn numbered(alloc: Global, first: u64, group: Many<Entry>) -> Result<Many<Numbered>, OutOfMemory>
-    requires { first ≤ 2 ^ 63 }
-    ensures { IfOk result (λ made. made ≡ numbered_from first group) }
+/// Whether the last Config has this text, with one more entry.
+fn is_text_with(before: bool, text: &Text, entry: &Entry) -> bool
+    ensures { result ≡ is_text_with before text.now entry.now }
 {
-    let mut made = Many::new(alloc);
-    for entry in group.into_vec() {
-        let number = first + made.as_slice().len() as u64;
-        made.push(Numbered { number, entry })?;
+    match entry {
+        Entry::Config { text: found, .. } => is_same(found, text),
+        Entry::Value { .. } | Entry::Tick { .. } => before,
     }
-    Ok(made)
 }
 
-/// The configuration as a group.
-fn first_group(alloc: Global, ready: &Ready) -> Result<Many<Entry>, OutOfMemory>
-    ensures made { IfOk result (λ made. made ≡ first_group ready.now.conf.text) }
+/// Whether the last Config has this text.
+#[tactic(auto, using(crate::proofs::Openings::text_more))]
+fn is_last_text(text: &Text, kept: &[Numbered]) -> bool
+    ensures { result ≡ is_text text.now (last_text (log_of kept.now)) }
+{
+    let mut is_last = false;
+    for numbered in kept {
+        is_last = is_text_with(is_last, text, &numbered.entry);
+    }
+    is_last
+}
+
+/// The configuration as a group behind entries.
+fn config_behind(
+    alloc: Global,
+    ready: &Ready,
+    kept: &[Numbered],
+) -> Result<Many<Entry>, OutOfMemory>
+    ensures made { IfOk result (λ made. made ≡ config_behind ready.now.conf.text kept.now) }
     ensures short { IfOk result (λ made. All HasShortValue made) }
 {
     let mut made = Many::new(alloc);
     made.push(Entry::Config {
-        now: Moment::zero(),
+        now: last_moment(kept),
         text: ready.conf().text.copy(alloc)?,
     })?;
     Ok(made)
 }
 
-/// Stages the configuration's group, which is numbered then.
-fn staged_first<D: Disk>(
+/// Stages the configuration's group, which is handed out then.
+fn staged_config<D: Disk>(
     alloc: Global,
     ready: &Ready,
     journal: &Journal<D>,
     block: &mut Block,
-) -> Result<Many<Numbered>, FrontError>
+    kept: &[Numbered],
+) -> Result<Many<Entry>, FrontError>
     requires { block.old ≡ [] }
-    ensures made { IfOk result (λ made. made ≡ numbered_from 1 (first_group ready.now.conf.text)) }
-    ensures staged { OnOk result (block.new ≡ first_group ready.now.conf.text ∷ []) }
-    ensures room { OnOk result (passes_with_all journal.now (first_group ready.now.conf.text ∷ []) ≡ false) }
+    ensures made { IfOk result (λ made. made ≡ config_behind ready.now.conf.text kept.now) }
+    ensures staged { OnOk result (block.new ≡ config_behind ready.now.conf.text kept.now ∷ []) }
+    ensures room { OnOk result
+        (passes_with_all journal.now (config_behind ready.now.conf.text kept.now ∷ []) ≡ false) }
     ensures full { IfErr result (λ e. (entries bytes : ℕ) → e ≡ error.Full entries bytes
-        → IsTrue (passes_with_all journal.now (first_group ready.now.conf.text ∷ []))
-        × (entries ≡ entries_with_all journal.now (first_group ready.now.conf.text ∷ []))
-        × (bytes ≡ bytes_with_all journal.now (first_group ready.now.conf.text ∷ []))) }
+        → IsTrue (passes_with_all journal.now (config_behind ready.now.conf.text kept.now ∷ []))
+        × (entries ≡ entries_with_all journal.now (config_behind ready.now.conf.text kept.now ∷ []))
+        × (bytes ≡ bytes_with_all journal.now (config_behind ready.now.conf.text kept.now ∷ []))) }
     ensures no_fault { IfErr result (λ e. e ≢ error.DiskFault) }
 {
-    let group = first_group(alloc, ready)?;
+    let group = config_behind(alloc, ready, kept)?;
     match stage(journal, block, group.as_slice())? {
-        None => Ok(numbered(alloc, 1, group)?),
+        None => Ok(group),
         Some(Stop::Full { entries, bytes }) => Err(FrontError::Full { entries, bytes }),
         Some(Stop::Closed) | Some(Stop::DiskFault) => Err(FrontError::OutOfMemory),
     }
 }
 
-/// The intake behind the configuration, which is journaled.
-fn first<D: Disk>(
+/// Journals the configuration behind kept entries, among which it stands then.
+fn enter_config<D: Disk>(
     alloc: Global,
     ready: &Ready,
     journal: &mut Journal<D>,
-) -> Result<Held, FrontError>
+    kept: &mut Vec<Numbered>,
+) -> Result<(), FrontError>
     requires read { journal.old.state ≡ state.Ready }
-    requires journaled { HasJournaled D.tells journal.old [] (journal.old.at + 1) }
-    ensures made { IfOk result (λ h. h ≡ start ready.now.conf.text [] (journal.old.at + 1)) }
-    ensures journaled { IfOk result (λ h. HasJournaled D.tells journal.new h.entries h.bytes) }
-    ensures state { IfOk result (λ h. IsReady journal.old journal.new) }
-    ensures full { IsTrue (passes_with_all journal.old (first_group ready.now.conf.text ∷ []))
+    requires journaled { HasJournaled D.tells journal.old kept.old.items (journal.old.at + 1) }
+    ensures made { OnOk result (kept.new.items
+        ≡ with_group 0 kept.old.items (config_behind ready.now.conf.text kept.old.items)) }
+    ensures journaled { OnOk result (HasJournaled D.tells journal.new kept.new.items
+        (bytes_with (journal.old.at + 1) (config_behind ready.now.conf.text kept.old.items))) }
+    ensures state { OnOk result (IsReady journal.old journal.new) }
+    ensures back { OnErr result (kept.new.items ≡ kept.old.items) }
+    ensures full { IsTrue (passes_with_all journal.old (config_behind ready.now.conf.text kept.old.items ∷ []))
         → IfOk result (λ _. ⊥) × IfErr result (λ e. e ≢ error.DiskFault) }
     ensures only_full { IfErr result (λ e. (entries bytes : ℕ) → e ≡ error.Full entries bytes
-        → IsTrue (passes_with_all journal.old (first_group ready.now.conf.text ∷ []))
-        × (entries ≡ entries_with_all journal.old (first_group ready.now.conf.text ∷ []))
-        × (bytes ≡ bytes_with_all journal.old (first_group ready.now.conf.text ∷ []))) }
+        → IsTrue (passes_with_all journal.old (config_behind ready.now.conf.text kept.old.items ∷ []))
+        × (entries ≡ entries_with_all journal.old (config_behind ready.now.conf.text kept.old.items ∷ []))
+        × (bytes ≡ bytes_with_all journal.old (config_behind ready.now.conf.text kept.old.items ∷ []))) }
     ensures fault { IfErr result (λ e. e ≡ error.DiskFault
         → Rose (D.tells journal.old.disk).faults (D.tells journal.new.disk).faults) }
     ensures same { IfErr result (λ e. e ≢ error.DiskFault → journal.new ≡ journal.old) }
     ensures later { (D.tells journal.old.disk).faults ≤ (D.tells journal.new.disk).faults }
     ensures told { is_some (D.tells journal.new.disk).bytes ≡ is_some (D.tells journal.old.disk).bytes }
     ensures any_moment { IfSome (D.tells journal.old.disk).bytes
-        (λ _. LeavesOnly (D.tells journal.old.disk) (D.tells journal.new.disk)
-        (KeepsEither [] (start ready.now.conf.text [] (journal.old.at + 1)).entries)) }
+        (λ _. LeavesOnly (D.tells journal.old.disk) (D.tells journal.new.disk) (KeepsEither kept.old.items
+        (with_group 0 kept.old.items (config_behind ready.now.conf.text kept.old.items)))) }
 {
     let mut block = Block::new(alloc)?;
-    let entries = staged_first(alloc, ready, journal, &mut block)?;
-    if write(journal, &block) {
-        let bytes = journal.bytes();
-        Ok(Held::resumed(alloc, entries, bytes))
-    } else {
-        Err(FrontError::DiskFault)
+    let group = staged_config(alloc, ready, journal, &mut block, kept.as_slice())?;
+    if kept.reserve(group.as_slice().len()).is_err() {
+        return Err(FrontError::OutOfMemory);
     }
+    if !write(journal, &block) {
+        return Err(FrontError::DiskFault);
+    }
+    enter(0, kept, group);
+    Ok(())
 }
 
-/// The intake behind the kept entries, or behind the configuration where the journal kept none: then it is journaled.
+/// The intake behind the kept entries, behind which the configuration is journaled unless their last Config has its
+/// very text.
 pub(crate) fn open<D: Disk>(
     alloc: Global,
     ready: &Ready,
@@ -120,13 +143,15 @@ pub(crate) fn open<D: Disk>(
     ensures journaled { IfOk result (λ h. HasJournaled D.tells journal.new h.entries h.bytes) }
     ensures state { IfOk result (λ h. IsReady journal.old journal.new) }
     ensures back { IfErr result (λ u. u.0 ≡ kept) }
-    ensures full { kept ≡ [] → IsTrue (passes_with_all journal.old (first_group ready.now.conf.text ∷ []))
+    ensures full { opening_group ready.now.conf.text kept ≢ []
+        → IsTrue (passes_with_all journal.old (opening_group ready.now.conf.text kept ∷ []))
         → IfOk result (λ _. ⊥) × IfErr result (λ u. u.1 ≢ error.DiskFault) }
-    ensures only_full { IfErr result (λ u. (entries bytes : ℕ) → u.1 ≡ error.Full entries bytes → (kept ≡ [])
-        × IsTrue (passes_with_all journal.old (first_group ready.now.conf.text ∷ []))
-        × (entries ≡ entries_with_all journal.old (first_group ready.now.conf.text ∷ []))
-        × (bytes ≡ bytes_with_all journal.old (first_group ready.now.conf.text ∷ []))) }
-    ensures fault { IfErr result (λ u. u.1 ≡ error.DiskFault → (kept ≡ [])
+    ensures only_full { IfErr result (λ u. (entries bytes : ℕ) → u.1 ≡ error.Full entries bytes
+        → (opening_group ready.now.conf.text kept ≢ [])
+        × IsTrue (passes_with_all journal.old (opening_group ready.now.conf.text kept ∷ []))
+        × (entries ≡ entries_with_all journal.old (opening_group ready.now.conf.text kept ∷ []))
+        × (bytes ≡ bytes_with_all journal.old (opening_group ready.now.conf.text kept ∷ []))) }
+    ensures fault { IfErr result (λ u. u.1 ≡ error.DiskFault → (opening_group ready.now.conf.text kept ≢ [])
         × Rose (D.tells journal.old.disk).faults (D.tells journal.new.disk).faults) }
     ensures same { IfErr result (λ u. u.1 ≢ error.DiskFault → journal.new ≡ journal.old) }
     ensures later { (D.tells journal.old.disk).faults ≤ (D.tells journal.new.disk).faults }
@@ -135,12 +160,16 @@ pub(crate) fn open<D: Disk>(
         (λ _. LeavesOnly (D.tells journal.old.disk) (D.tells journal.new.disk)
         (KeepsEither kept (start ready.now.conf.text kept (journal.old.at + 1)).entries)) }
 {
-    if !kept.as_slice().is_empty() {
+    if is_last_text(&ready.conf().text, kept.as_slice()) {
         let bytes = journal.bytes();
         return Ok(Held::resumed(alloc, kept, bytes));
     }
-    match first(alloc, ready, journal) {
-        Ok(first) => Ok(first),
-        Err(error) => Err((kept, error)),
+    let mut kept = kept.into_vec();
+    match enter_config(alloc, ready, journal, &mut kept) {
+        Ok(()) => {
+            let bytes = journal.bytes();
+            Ok(Held::resumed(alloc, Many::from_vec(kept), bytes))
+        }
+        Err(error) => Err((Many::from_vec(kept), error)),
     }
 }

@@ -3,7 +3,7 @@
 ghost use Rattle.std.specs.Prelude.{◌≡◌, ◌&&◌, not, false, IfOk, option_and_then, option_copied};
 ghost use Rattle.maintenance.specs.Force.{is_in_force};
 ghost use Rattle.maintenance.specs.Suppression.{is_collected};
-ghost use Rattle.entry_step.specs.Names.{host_named, item_keyed};
+ghost use Rattle.conf_index.specs.Names.{host_named, item_keyed};
 ghost use Rattle.zbx_types.specs.Items.{is_trapper_item};
 ghost use Rattle.agent_json.specs.Checks.{is_active_kind};
 ghost use Rattle.intake_front.specs.Taking.{is_enabled_host, is_enabled_item, is_active_item, comes_from, not_from, is_unsupported, AllCollected, clocked, valued, keyed, hosted, supported, taken_of, agent_taken_of};
@@ -11,7 +11,7 @@ ghost use Rattle.intake_front.specs.Taking.{is_enabled_host, is_enabled_item, is
 use crate::origin::Origin;
 use crate::refusal::ValueRefusal;
 use agent_json::AgentAsked;
-use entry_step::Ready;
+use conf_index::Ready;
 use maintenance::{collects, in_force};
 use sender_json::{Asked, Clock};
 use zbx_types::{

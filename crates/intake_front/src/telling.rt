@@ -6,7 +6,7 @@ ghost use Rattle.intake_front.specs.Telling.{or_too_many, told_host, told};
 
 use crate::taking::{asked_host, is_enabled_host};
 use agent_json::{ChecksRefusal, checks, refusal};
-use entry_step::Ready;
+use conf_index::Ready;
 use std::alloc::Global;
 use zbx_types::{Bytes, Conf, OutOfMemory, Text, by_id};
 

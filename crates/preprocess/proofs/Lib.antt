@@ -10,3 +10,7 @@ pub mod Becoming
 pub mod Plain
 pub mod Logs
 pub mod Exchanging
+mod Named
+pub mod GoingOn
+mod Moving
+pub mod Stands

@@ -10,4 +10,8 @@ pub mod Walks
 pub mod Draft
 pub mod Putting
 pub mod Cells
+pub mod Carry
+pub mod Naming
+pub mod Standing
+pub mod Moves
 pub mod Laws

@@ -1,17 +1,21 @@
 //! What a run keeps of the items.
 
-ghost use Rattle.std.specs.Prelude.{◌≡◌, IfOk, OnOk, map, option_copied, ℕ};
+ghost use Rattle.std.specs.Prelude.{◌≡◌, IfOk, OnOk, OnErr, map, option_copied, ℕ};
 ghost use Rattle.std.specs.Option.{unwrap_or};
 ghost use Rattle.zbx_types.specs.Ids.{at_id};
 ghost use Rattle.preprocess.specs.Rows.{with_row};
+ghost use Rattle.preprocess.specs.Carry.{AreCarried};
 ghost use Rattle.preprocess.specs.Cells.{AreNew, empty, no_marks};
 ghost use Rattle.preprocess.specs.Draft.{kept_of, HasRoom};
 
+use crate::carrying::cells_for;
 use crate::exchange::exchange_at;
+use crate::memories::memories_for;
+use crate::naming::old_items;
 use prep_steps::StepMemory;
 use std::alloc::Global;
 use value_cache::{ItemCell, Keep, keeps};
-use zbx_types::{Conf, Item, Many, OutOfMemory, by_id};
+use zbx_types::{Conf, Item, Many, Moment, OutOfMemory, by_id};
 
 /// What a run keeps of the items of a configuration, in the order of their ids: the cell of each, and what its steps
 /// remember.
@@ -23,7 +27,7 @@ pub struct Cells {
 
 /// Cells without values.
 
-fn empty_cells(alloc: Global, keeps: &[Keep]) -> Result<Vec<ItemCell>, OutOfMemory>
+pub(crate) fn empty_cells(alloc: Global, keeps: &[Keep]) -> Result<Vec<ItemCell>, OutOfMemory>
     ensures { IfOk result (λ cells. map kept_of cells.items ≡ map empty keeps.now) }
 {
     let mut cells = Vec::new(alloc);
@@ -34,7 +38,7 @@ fn empty_cells(alloc: Global, keeps: &[Keep]) -> Result<Vec<ItemCell>, OutOfMemo
 }
 
 /// The memories of steps that no value has marked.
-fn no_marks(alloc: Global, item: &Item) -> Result<Many<StepMemory>, OutOfMemory>
+pub(crate) fn no_marks(alloc: Global, item: &Item) -> Result<Many<StepMemory>, OutOfMemory>
     ensures { IfOk result (λ marks. marks ≡ no_marks item.now) }
 {
     let mut marks = Many::new(alloc);
@@ -98,6 +102,40 @@ impl Cells {
     {
         exchange_at(&mut self.cells, id, cell);
         exchange_at(&mut self.memories, id, marks);
+    }
+
+    /// Goes over to a configuration that follows the old one, at a moment that isn't before that of an earlier value. Each
+    /// of its items has a cell that is to keep what its calls ask for. An item of the old configuration with the same
+    /// name of its host, the same key and the same value type goes on as it: its values are those that the old one's cell
+    /// is to keep at this moment, and its steps remember what the old ones do, each while it and those before it are
+    /// equal to the old ones. Any other item has no values, and no step of it has a mark.
+    ///
+    /// [`OutOfMemory`] where there is no room; all is then as before. Items are found by an index of their names, so that
+    /// it takes time by the lengths of the names and of what is kept.
+    #[tactic(auto, using(crate::proofs::GoingOn::as_many, crate::proofs::GoingOn::values_are))]
+    pub fn carry(
+        &mut self,
+        alloc: Global,
+        old: &Conf,
+        new: &Conf,
+        now: Moment,
+    ) -> Result<(), OutOfMemory>
+        ensures ok { OnOk result (AreCarried old.now new.now now self.old self.new) }
+        ensures err { OnErr result (self.new ≡ self.old) }
+    {
+        let olds = old_items(alloc, old, new)?;
+        let keeps = keeps(alloc, new)?;
+        let memories = memories_for(alloc, old, new, olds.as_slice(), self.memories.as_slice())?;
+        let cells = cells_for(
+            alloc,
+            &mut self.cells,
+            olds.as_slice(),
+            keeps.as_slice(),
+            now,
+        )?;
+        self.cells = cells;
+        self.memories = memories;
+        Ok(())
     }
 }
 

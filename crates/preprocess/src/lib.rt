@@ -29,8 +29,13 @@
 //! let made = prepare(alloc, &conf, &patterns, &chains, &mut cells, item, &value, time, number)?;
 //! commit(&mut cells, made.draft, now);            // made.failures: records
 //! ```
+//!
+//! Over a configuration that follows another one the cells go on by [`Cells::carry`]: an item that has the names and the
+//! value type of an old one goes on with what that one's cell is to keep, and its steps with what the old ones remember,
+//! up to the first that differs.
 #![tactic(auto)]
 
+mod carrying;
 mod cells;
 mod chain;
 mod chains;
@@ -39,6 +44,8 @@ mod ended;
 mod exchange;
 mod json;
 pub mod laws;
+mod memories;
+mod naming;
 mod putting;
 mod running;
 mod step;

@@ -19,7 +19,7 @@ use zbx_types::{Bytes, Entry, Many, Numbered, OutOfMemory, Text};
 
 /// What a crash leaves of a piece that no sync followed.
 #[derive(Clone, Copy)]
-enum Torn {
+pub(crate) enum Torn {
     /// Nothing.
     Nothing,
     /// Its first half.
@@ -35,10 +35,11 @@ enum Torn {
 /// A disk in memory that also keeps a file that a crash leaves of it: what it held at its last sync, with what is left of
 /// each piece that it was to write since.
 #[derive(Drop)]
-struct CrashDisk {
+pub(crate) struct CrashDisk {
     alloc: Global,
     disk: MemDisk,
-    left: MemDisk,
+    /// The file that a crash leaves.
+    pub(crate) left: MemDisk,
     torn: Torn,
     faults: u64,
 }
@@ -56,12 +57,18 @@ fn fill(
 }
 
 impl CrashDisk {
-    /// A disk of no bytes.
-    fn new(alloc: Global, fails: Many<u64>, torn: Torn) -> CrashDisk {
+    /// A disk of these bytes, which a crash leaves as they are until something is written.
+    pub(crate) fn new(
+        alloc: Global,
+        bytes: Bytes,
+        left: Bytes,
+        fails: Many<u64>,
+        torn: Torn,
+    ) -> CrashDisk {
         CrashDisk {
             alloc,
-            disk: MemDisk::new(alloc, Bytes::new(alloc), fails),
-            left: MemDisk::new(alloc, Bytes::new(alloc), Many::new(alloc)),
+            disk: MemDisk::new(alloc, bytes, fails),
+            left: MemDisk::new(alloc, left, Many::new(alloc)),
             torn,
             faults: 0,
         }
@@ -179,7 +186,7 @@ fn values_in(entries: &[Numbered]) -> Option<usize> {
 }
 
 /// How many replies tell a value as processed.
-fn answered(sent: &[(u64, Bytes)]) -> usize {
+pub(crate) fn answered(sent: &[(u64, Bytes)]) -> usize {
     sent.iter()
         .filter(|(_, reply)| {
             reply
@@ -204,7 +211,7 @@ fn has(over: &Over<TestWire, MemDisk>, least: usize) -> bool {
 
 /// How a run ended of which a call was to fail.
 #[derive(Clone, Copy, PartialEq, Eq)]
-enum Stop {
+pub(crate) enum Stop {
     /// With Ok: no call failed.
     None,
     /// With the fault of the object whose call failed.
@@ -214,7 +221,7 @@ enum Stop {
 }
 
 /// How a run ended with a status, where this is the fault of the object whose call was to fail.
-fn stop_of(status: &Status, fault: &Status) -> Stop {
+pub(crate) fn stop_of(status: &Status, fault: &Status) -> Stop {
     if *status == Status::Ok {
         Stop::None
     } else if status == fault {
@@ -226,7 +233,7 @@ fn stop_of(status: &Status, fault: &Status) -> Stop {
 
 /// How a run went of which a call was to fail.
 #[derive(Clone, Copy, PartialEq, Eq)]
-enum Went {
+pub(crate) enum Went {
     /// No call failed, and a run behind it had all.
     Through,
     /// It ended with the fault of its object, and a run behind it had all that was to stay, and nothing that didn't come.
@@ -236,7 +243,7 @@ enum Went {
 }
 
 /// How a run went that ended so, where the one behind it had what was to stay, or hadn't.
-fn judged(has_all: bool, stop: Stop) -> Went {
+pub(crate) fn judged(has_all: bool, stop: Stop) -> Went {
     match (has_all, stop) {
         (true, Stop::None) => Went::Through,
         (true, Stop::Fault) => Went::Kept,
@@ -254,8 +261,7 @@ fn run_up_to<R: Threads + Wait + Sync>(
 ) -> Result<Over<TestWire, CrashDisk>, OutOfMemory> {
     let setup = setup_of(alloc, parts, call)?;
     let (ports, journal, fails) = ports_of(alloc, setup);
-    drop(journal);
-    let disk = CrashDisk::new(alloc, fails, torn);
+    let disk = CrashDisk::new(alloc, journal, Bytes::new(alloc), fails, torn);
     Ok(beside(rt, alloc, ports, disk, &OpenGate))
 }
 
@@ -302,7 +308,7 @@ fn calls_kept<R: Threads + Wait + Sync>(
 }
 
 /// What a crash leaves, by a name.
-fn torn_of(name: &str) -> Option<Torn> {
+pub(crate) fn torn_of(name: &str) -> Option<Torn> {
     match name {
         "nothing" => Some(Torn::Nothing),
         "front" => Some(Torn::Front),

@@ -6,6 +6,8 @@
 #[cfg(test)]
 mod crashes;
 #[cfg(test)]
+mod reloads;
+#[cfg(test)]
 mod rows;
 #[cfg(test)]
 mod runs;

@@ -20,6 +20,11 @@ pub(crate) fn plain_config() -> &'static str {
     "{\"hosts\":[{\"name\":\"h\",\"groups\":[\"g\"],\"items\":[{\"key\":\"k\"}],\"triggers\":[{\"name\":\"hot\",\"expression\":\"last(/h/k)>5\",\"severity\":3}]}]}"
 }
 
+/// Another text of the same configuration: a space stands behind it.
+fn spaced_config() -> &'static str {
+    "{\"hosts\":[{\"name\":\"h\",\"groups\":[\"g\"],\"items\":[{\"key\":\"k\"}],\"triggers\":[{\"name\":\"hot\",\"expression\":\"last(/h/k)>5\",\"severity\":3}]}]} "
+}
+
 /// A wire of a script that says of each event that it stands ready, or of none.
 #[derive(Drop)]
 pub(crate) struct TestWire {
@@ -261,6 +266,20 @@ impl Setup {
         self.outbox.extend(outbox)
     }
 
+    /// Gives what a line of parts says, what an earlier run left, and the number of the disk's call that fails.
+    fn fill_over(
+        &mut self,
+        alloc: Global,
+        parts: &str,
+        journal: &[u8],
+        outbox: &[u8],
+        call: u64,
+    ) -> Result<(), OutOfMemory> {
+        self.fill(alloc, parts, "disk", call)?;
+        self.journal.extend(journal)?;
+        self.outbox.extend(outbox)
+    }
+
     /// What was filled, or nothing where memory was refused for it.
     fn filled(self, filled: Result<(), OutOfMemory>) -> Result<Setup, OutOfMemory> {
         match filled {
@@ -322,6 +341,19 @@ pub(crate) fn setup_behind(
 ) -> Result<Setup, OutOfMemory> {
     let mut setup = Setup::new(alloc);
     let filled = setup.fill_behind(alloc, script, journal, outbox);
+    setup.filled(filled)
+}
+
+/// What a run is given behind an earlier one, as a line of parts says, where the disk's call of this number fails.
+pub(crate) fn setup_over(
+    alloc: Global,
+    parts: &str,
+    journal: &[u8],
+    outbox: &[u8],
+    call: u64,
+) -> Result<Setup, OutOfMemory> {
+    let mut setup = Setup::new(alloc);
+    let filled = setup.fill_over(alloc, parts, journal, outbox, call);
     setup.filled(filled)
 }
 
@@ -413,7 +445,6 @@ pub(crate) fn status_name(status: &Status) -> &'static str {
         Status::OutOfMemory => "OutOfMemory",
         Status::NotOurs => "NotOurs",
         Status::Damaged { .. } => "Damaged",
-        Status::ConfigDiffers { .. } => "ConfigDiffers",
         Status::OutboxAhead { .. } => "OutboxAhead",
         Status::OutboxDiffers { .. } => "OutboxDiffers",
         Status::DiskFault => "DiskFault",
@@ -515,6 +546,11 @@ fn hostile_report() -> &'static str {
     "Ok begun C1T2 1:0 4:1 5:2 6:3 7:4\n4 {\"response\":\"failed\",\"info\":\"not JSON\"}\n5 {\"response\":\"failed\",\"info\":\"not JSON\"}\n6 {\"response\":\"failed\",\"info\":\"unsupported request\"}\n7 {\"response\":\"success\",\"info\":\"processed: 0; failed: 2; total: 2; seconds spent: 0.000000\"}\nstatus: Ok; entries: 2; problems: 0; recoveries: 0; messages: 0; outbox bytes: 0\n"
 }
 
+/// One connection brings the value 1.
+fn back_frame() -> &'static str {
+    "100.000000000 open 1\n100.000000000 frame 1 {\"request\":\"sender data\",\"data\":[{\"host\":\"h\",\"key\":\"k\",\"value\":\"1\"}]}\n100.000000000 closed\n"
+}
+
 /// The plain configuration with an action of three steps and a recovery, and a maintenance in which they wait.
 fn steps_config() -> &'static str {
     "{\"hosts\":[{\"name\":\"h\",\"groups\":[\"g\"],\"items\":[{\"key\":\"k\"}],\"triggers\":[{\"name\":\"hot\",\"expression\":\"last(/h/k)>5\",\"severity\":3}]}],\"maintenances\":[{\"name\":\"night\",\"since\":0,\"till\":100000,\"hosts\":[\"h\"],\"periods\":[{\"kind\":\"once\",\"start\":235,\"length\":\"5m\"}]}],\"actions\":[{\"name\":\"act\",\"step_duration\":\"60s\",\"operations\":[{\"from\":1,\"to\":2,\"recipients\":[\"ops\"],\"subject\":\"{EVENT.NAME}\",\"body\":\"b1\"},{\"from\":3,\"to\":0,\"recipients\":[\"boss\"],\"subject\":\"{EVENT.NAME}\",\"body\":\"b2\"}],\"recovery\":[{\"recipients\":[\"ops\"],\"subject\":\"{EVENT.NAME}\",\"body\":\"ok\"}]}]}"
@@ -534,6 +570,7 @@ pub(crate) fn steps_lines() -> &'static str {
 fn config_of(script: &str) -> &'static str {
     match script {
         "steps" => steps_config(),
+        "spaced" => spaced_config(),
         _ => plain_config(),
     }
 }
@@ -548,6 +585,7 @@ fn script_of(name: &str) -> &'static str {
         "halves" => halves(),
         "hostile" => hostile(),
         "steps" => steps(),
+        "spaced" => back_frame(),
         _ => "",
     }
 }

@@ -1,50 +1,62 @@
 -- Laws of what bars a run: one thing at most, and nothing where the journal and the outbox are accepted.
-use Rattle.std.proofs.Common.{◌≡◌, ◌⊎◌, ℕ, ◌+◌, ◌≤◌, ◌<◌, true, false, true≢false, List, [], ◌∷◌, ◌++◌, length, length-append, Option, Some, None, refl, sym, ap, ap₂, ◌∙◌, subst, arith, inl, inr, append_assoc}
-use Rattle.std.proofs.lemmas.Bool.Decides.{nat_tests}
-use Rattle.std.specs.Prelude.{◌≢◌, nat_lt, ◌||◌, ◌==◌, get_or, is_some, IfSome}
+use Rattle.std.proofs.Common.{◌≡◌, ◌⊎◌, ℕ, ◌+◌, ◌≤◌, ◌<◌, true, true≢false, List, [], ◌∷◌, ◌++◌, length, All, Option, Some, None, refl, sym, ap, ap₂, ◌∙◌, subst, arith, inl, inr, append_assoc}
+use Rattle.std.specs.Prelude.{◌≢◌, get_or, is_some, IfSome}
 use Rattle.std.specs.List.{flat_map}
-use Rattle.std.specs.Option.{option_map}
 use Rattle.std.proofs.lemmas.Grind.{flat_map-append}
+use Rattle.std.proofs.lemmas.List.{reverse-append}
+use Rattle.std.proofs.lemmas.List.Elements.{All-contains}
 use Rattle.zbx_types.specs.declared.conf.Conf.{Conf}
 use Rattle.zbx_types.specs.declared.entries.Entry.{Entry}
-use Rattle.zbx_types.specs.declared.entries.Entry.TheVariants.{Config}
-use Rattle.intake_journal.specs.Bytes.{number_bytes, moment_bytes, text_bytes, entry_bytes, entries_bytes}
 use Rattle.zbx_types.specs.declared.entries.Numbered.{Numbered}
-use Rattle.intake_journal.specs.Kept.{longest_journal, kept, groups_of}
+use Rattle.intake_journal.specs.Kept.{kept, groups_of}
 use Rattle.intake_journal.specs.Kept.Kept.{NotOurs, Damaged}
 use Rattle.intake_journal.specs.declared.format.Group.{Group}
-use Rattle.entry_step.specs.Log.{log_of, Fits}
+use Rattle.entry_step.specs.InForce.{FitsLog, config_texts}
+use Rattle.entry_step.specs.Log.{log_of}
+use Rattle.entry_laws.proofs.InForce.{config_texts_append}
 use Rattle.intake_front.specs.Intake.{numbered_from}
 use Rattle.intake_front.specs.Fronted.{numbered_of}
-use Rattle.intake_front.specs.Misfit.{GroupsFit, IsFirstMisfit}
+use Rattle.intake_front.specs.Misfit.{GroupsFit}
 use Rattle.server_words.specs.declared.status.Status.{Status}
 use Rattle.server_words.specs.declared.status.Status.TheVariants as status
-use Rattle.server_run.specs.Opening.{differ_at, kept_text, IsRejectedFor, IsRejected, IsAccepted, IsFullAtFirst, opening_lines}
-use Rattle.server_run.specs.Outbox.{IsAhead, IsOther}
-use Rattle.server_run.specs.Reasons.{Bars, IsSeen, NamesOutbox}
-use Rattle.book.specs.Outgoing.{IsMendable}
+use Rattle.journal_opening.specs.Opening.{IsRejected, IsAccepted, IsFullAtOpening, HasRoomAtOpening, KeptText, opening_lines}
+use Rattle.journal_opening.specs.Outbox.{IsAhead, IsOther}
+use Rattle.journal_opening.specs.Reasons.{Bars, IsSeen, NamesOutbox}
+use Rattle.journal_opening.specs.Replayed.{flat, IsFlat, AreFlat}
+use Rattle.book_opening.specs.Outgoing.{IsMendable}
 use Rattle.outside.specs.Others.{first_other}
 use Rattle.outside.specs.Tells.{SinkTells}
-use Rattle.server_run.proofs.Logs.{log_of-append, fits_front}
-use Rattle.entry_step.specs.Start.{first_start}
+use Rattle.journal_opening.proofs.Judging.{all_front}
 
--- ---- the first misfit
+-- ---- what holds of groups holds of those in front
 
 numbered_append : (n : ℕ) (a b : List Entry) → (more : List Numbered) × (numbered_from n (a ++ b) ≡ numbered_from n a ++ more)
 numbered_append n [] b = (numbered_from n b, refl)
 numbered_append n (e ∷ es) b = let rest = numbered_append (n + 1) es b in (rest.0, ap (λ l. record { number = n; entry = e } ∷ l) rest.1)
 
--- where groups fit, those in front fit
-pub fits_prefix : (conf : Conf) (a b : List Group) → GroupsFit conf (a ++ b) → GroupsFit conf a
-fits_prefix conf a b fits =
+-- the entries of groups are those of the groups in front, and more
+entries_front : (a b : List Group) → (more : List Numbered) × (numbered_of (a ++ b) ≡ numbered_of a ++ more)
+entries_front a b =
     let entries : List Group → List Entry = λ gs. flat_map (λ (g : Group). g.entries) gs in
     let more = numbered_append 1 (entries a) (entries b) in
-    let all : numbered_of (a ++ b) ≡ numbered_of a ++ more.0 = ap (numbered_from 1) (flat_map-append (λ (g : Group). g.entries) a b) ∙ more.1 in
-    fits_front conf (log_of (numbered_of a)) more.0 (subst (Fits (first_start conf)) (ap log_of all ∙ sym (log_of-append (numbered_of a) more.0)) fits)
+    (more.0, ap (numbered_from 1) (flat_map-append (λ (g : Group). g.entries) a b) ∙ more.1)
 
-misfit_not : (conf : Conf) (groups : List Group) (at : ℕ) → IsFirstMisfit conf groups None → IsFirstMisfit conf groups (Some at) → ⊥
-misfit_not conf groups at fits (before, g, rest, is, place, first, misfits) =
-    misfits (fits_prefix conf (before ++ g ∷ []) rest (subst (GroupsFit conf) (is ∙ sym (append_assoc before (g ∷ []) rest)) fits))
+-- what fits with entries behind it fits
+fits_front : (newer log : List Numbered) → FitsLog flat (newer ++ log) → FitsLog flat log
+fits_front [] log fits = fits
+fits_front (e ∷ newer) log fits = fits_front newer log fits.0
+
+-- where groups fit, those in front fit
+fits_prefix : (a b : List Group) → GroupsFit flat (a ++ b) → GroupsFit flat a
+fits_prefix a b fits =
+    let more = entries_front a b in
+    fits_front (log_of more.0) (log_of (numbered_of a)) (subst (FitsLog flat) (ap log_of more.1 ∙ reverse-append (numbered_of a) more.0) fits)
+
+-- and where their texts are accepted, those in front are
+flat_prefix : (a b : List Group) → AreFlat (numbered_of (a ++ b)) → AreFlat (numbered_of a)
+flat_prefix a b all =
+    let more = entries_front a b in
+    all_front IsFlat (config_texts (numbered_of a)) (config_texts more.0) (subst (All IsFlat) (ap config_texts more.1 ∙ config_texts_append (numbered_of a) more.0) all)
 
 cons_head : (a b : Group) (xs ys : List Group) → a ∷ xs ≡ b ∷ ys → a ≡ b
 cons_head a b xs ys e = cc
@@ -70,25 +82,24 @@ split_same (x ∷ xs) (y ∷ ys) g1 g2 r1 r2 e =
     next (inr (inl (more, is))) = inr (inl (more, ap (λ l. y ∷ l) is ∙ ap (λ g. g ∷ (xs ++ g1 ∷ []) ++ more) (sym heads)))
     next (inr (inr (more, is))) = inr (inr (more, ap (λ l. x ∷ l) is ∙ ap (λ g. g ∷ (ys ++ g2 ∷ []) ++ more) heads))
 
-misfit_one : (conf : Conf) (groups : List Group) (a b : ℕ) → IsFirstMisfit conf groups (Some a) → IsFirstMisfit conf groups (Some b) → a ≡ b
-misfit_one conf groups a b (b1, g1, r1, is1, at1, fits1, misfits1) (b2, g2, r2, is2, at2, fits2, misfits2) = by (split_same b1 b2 g1 g2 r1 r2 (sym is1 ∙ is2))
-  where
-    by : (g1 ≡ g2) ⊎ (((more : List Group) × (b2 ≡ (b1 ++ g1 ∷ []) ++ more)) ⊎ ((more : List Group) × (b1 ≡ (b2 ++ g2 ∷ []) ++ more))) → a ≡ b
-    by (inl same) = sym at1 ∙ ap (λ (g : Group). g.at) same ∙ at2
-    by (inr (inl (more, is))) = absurd (misfits1 (fits_prefix conf (b1 ++ g1 ∷ []) more (subst (GroupsFit conf) is fits2)))
-    by (inr (inr (more, is))) = absurd (misfits2 (fits_prefix conf (b2 ++ g2 ∷ []) more (subst (GroupsFit conf) is fits1)))
+-- the first group with which something doesn't hold any more that held before it
+module _ (Holds : List Group → Type 0) (prefix : (a b : List Group) → Holds (a ++ b) → Holds a) where
+  abbrev FirstWithout : List Group → ℕ → Type 0
+  FirstWithout groups at = (before : List Group) × (group : Group) × (rest : List Group) × (groups ≡ before ++ group ∷ rest) × (group.at ≡ at) × Holds before × ¬ (Holds (before ++ group ∷ []))
 
--- ---- texts
+  -- there is none where it holds of all
+  none_without : (groups : List Group) (at : ℕ) → Holds groups → FirstWithout groups at → ⊥
+  none_without groups at holds (before, g, rest, is, place, first, fails) =
+      fails (prefix (before ++ g ∷ []) rest (subst Holds (is ∙ sym (append_assoc before (g ∷ []) rest)) holds))
 
-same_byte : (a : ℕ) → (a == a) ≡ true
-same_byte a = refl_eqb a
-  where
-    refl_eqb : (a : ℕ) → (a == a) ≡ true
-    refl_eqb a = grind arith
-
-differ_same : (text : List ℕ) → differ_at text text ≡ None
-differ_same [] = refl
-differ_same (x ∷ xs) = rw (same_byte x) (ap (option_map (λ n. n + 1)) (differ_same xs))
+  -- else it is one
+  one_without : (groups : List Group) (a b : ℕ) → FirstWithout groups a → FirstWithout groups b → a ≡ b
+  one_without groups a b (b1, g1, r1, is1, at1, holds1, fails1) (b2, g2, r2, is2, at2, holds2, fails2) = by (split_same b1 b2 g1 g2 r1 r2 (sym is1 ∙ is2))
+    where
+      by : (g1 ≡ g2) ⊎ (((more : List Group) × (b2 ≡ (b1 ++ g1 ∷ []) ++ more)) ⊎ ((more : List Group) × (b1 ≡ (b2 ++ g2 ∷ []) ++ more))) → a ≡ b
+      by (inl same) = sym at1 ∙ ap (λ (g : Group). g.at) same ∙ at2
+      by (inr (inl (more, is))) = absurd (fails1 (prefix (b1 ++ g1 ∷ []) more (subst Holds is holds2)))
+      by (inr (inr (more, is))) = absurd (fails2 (prefix (b2 ++ g2 ∷ []) more (subst Holds is holds1)))
 
 some_same : {A : Type 0} (a b : A) → Some a ≡ Some b → a ≡ b
 some_same a b e = cc
@@ -96,60 +107,18 @@ some_same a b e = cc
 none_some : {A : Type 0} (a : A) → None ≡ Some a → ⊥
 none_some a e = cc
 
--- ---- what is rejected isn't accepted, and is so for one reason
+-- ---- what is rejected isn't accepted, and is so at one place
 
-rejected_for : (conf : Conf) (groups : List Group) (o : Option (List ℕ)) (s : Status) → o ≡ Some conf.text → IsFirstMisfit conf groups None → IsRejectedFor conf groups o s → ⊥
-rejected_for conf groups None s text fits why = none_some conf.text text
-rejected_for conf groups (Some t) (status.ConfigDiffers at) text fits why =
-    none_some at (sym (differ_same conf.text) ∙ sym (ap (differ_at conf.text) (some_same t conf.text text)) ∙ why)
-rejected_for conf groups (Some t) (status.Damaged at) text fits why = misfit_not conf groups at fits why.1
-rejected_for conf groups (Some t) _ text fits none = none
+rejected_not : (groups : List Group) (s : Status) → IsAccepted groups → IsRejected groups s → ⊥
+rejected_not groups (status.Damaged at) accepted (inl refused) = none_without (λ gs. AreFlat (numbered_of gs)) flat_prefix groups at accepted.0 refused
+rejected_not groups (status.Damaged at) accepted (inr misfit) = none_without (GroupsFit flat) fits_prefix groups at accepted.1 misfit.1
+rejected_not groups _ accepted none = none
 
-rejected_not : (conf : Conf) (groups : List Group) (s : Status) → IsAccepted conf groups → IsRejected conf groups s → ⊥
-rejected_not conf [] s accepted none = none
-rejected_not conf (g ∷ gs) s accepted why = rejected_for conf (g ∷ gs) (kept_text (g ∷ gs)) s accepted.0 accepted.1 why
-
-damaged_one : (conf : Conf) (groups : List Group) (o : Option (List ℕ)) (a : ℕ) (t : Status) → IsRejectedFor conf groups o (status.Damaged a) → IsRejectedFor conf groups o t → status.Damaged a ≡ t
-damaged_one conf groups None a (status.Damaged b) p q = ap status.Damaged (p ∙ sym q)
-damaged_one conf groups None a _ p none = absurd none
-damaged_one conf groups (Some x) a (status.Damaged b) p q = ap status.Damaged (misfit_one conf groups a b p.1 q.1)
-damaged_one conf groups (Some x) a (status.ConfigDiffers b) p q = absurd (none_some b (sym (differ_same conf.text) ∙ sym (ap (differ_at conf.text) p.0) ∙ q))
-damaged_one conf groups (Some x) a _ p none = absurd none
-
-differs_one : (conf : Conf) (groups : List Group) (o : Option (List ℕ)) (a : ℕ) (t : Status) → IsRejectedFor conf groups o (status.ConfigDiffers a) → IsRejectedFor conf groups o t → status.ConfigDiffers a ≡ t
-differs_one conf groups None a t none q = absurd none
-differs_one conf groups (Some x) a (status.ConfigDiffers b) p q = ap status.ConfigDiffers (some_same a b (sym p ∙ q))
-differs_one conf groups (Some x) a (status.Damaged b) p q = absurd (none_some a (sym (differ_same conf.text) ∙ sym (ap (differ_at conf.text) q.0) ∙ p))
-differs_one conf groups (Some x) a _ p none = absurd none
-
-reasons_one : (conf : Conf) (groups : List Group) (o : Option (List ℕ)) (s t : Status) → IsRejectedFor conf groups o s → IsRejectedFor conf groups o t → s ≡ t
-reasons_one conf groups None (status.Damaged a) t p q = damaged_one conf groups None a t p q
-reasons_one conf groups None _ t none q = absurd none
-reasons_one conf groups (Some x) (status.Damaged a) t p q = damaged_one conf groups (Some x) a t p q
-reasons_one conf groups (Some x) (status.ConfigDiffers a) t p q = differs_one conf groups (Some x) a t p q
-reasons_one conf groups (Some x) _ t none q = absurd none
-
-rejected_one : (conf : Conf) (groups : List Group) (s t : Status) → IsRejected conf groups s → IsRejected conf groups t → s ≡ t
-rejected_one conf [] s t none q = absurd none
-rejected_one conf (g ∷ gs) s t p q = reasons_one conf (g ∷ gs) (kept_text (g ∷ gs)) s t p q
-
--- ---- a first entry has room
-
-first_long : (text : List ℕ) → length (entries_bytes (Config 0 text ∷ [])) ≡ 13 + length text
-unfolding entry_bytes
-first_long text =
-    omega (arith, length-append (entry_bytes (Config 0 text)) [], length-append (moment_bytes 0) (text_bytes text), length-append (number_bytes 0) (number_bytes 0), length-append (number_bytes (length text)) text)
-
-not_less : (n m : ℕ) → m ≤ n → nat_lt n m ≡ false
-not_less n m le = grind (arith, nat_tests, le)
-
--- a plan that allows an entry allows the configuration's
-pub has_room_first : (most : ℕ) (conf : Conf) (entries bytes : ℕ) → 0 < most → length conf.text ≤ 16777216 → IsFullAtFirst most conf entries bytes → ⊥
-has_room_first most conf entries bytes some short full =
-    let long = first_long conf.text in
-    let few : nat_lt most entries ≡ false = not_less most entries (omega (arith, some, full.0)) in
-    let small : nat_lt longest_journal bytes ≡ false = not_less longest_journal bytes (omega (arith, short, long, full.1)) in
-    true≢false (sym full.2 ∙ ap (λ b. b || nat_lt longest_journal bytes) few ∙ small)
+rejected_one : (groups : List Group) (a b : ℕ) → IsRejected groups (status.Damaged a) → IsRejected groups (status.Damaged b) → a ≡ b
+rejected_one groups a b (inl p) (inl q) = one_without (λ gs. AreFlat (numbered_of gs)) flat_prefix groups a b p q
+rejected_one groups a b (inl p) (inr q) = absurd (none_without (λ gs. AreFlat (numbered_of gs)) flat_prefix groups a q.0 p)
+rejected_one groups a b (inr p) (inl q) = absurd (none_without (λ gs. AreFlat (numbered_of gs)) flat_prefix groups b p.0 q)
+rejected_one groups a b (inr p) (inr q) = one_without (GroupsFit flat) fits_prefix groups a b p.1 q.1
 
 -- ---- one thing bars
 
@@ -178,13 +147,13 @@ other_zero : (bytes : Option (List ℕ)) (lines : List ℕ) (at : ℕ) → is_so
 other_zero None lines at told zeros other = true≢false (sym told)
 other_zero (Some b) lines at told zeros other = other.1 (subst (λ o. IfSome o (λ place. get_or b place 0 ≡ 0)) other.0 zeros)
 
-module _ (conf : Conf) (most : ℕ) (outbox : SinkTells) (b : List ℕ) (some : 0 < most) (short : length conf.text ≤ 16777216) where
+module _ (conf : Conf) (most : ℕ) (outbox : SinkTells) (b : List ℕ) where
   -- what bars a run that has found groups
   abbrev BarsGroups : List Group → Status → Type 0
-  BarsGroups groups (status.Damaged at) = IsRejected conf groups (status.Damaged at)
-  BarsGroups groups (status.ConfigDiffers at) = IsRejected conf groups (status.ConfigDiffers at)
-  BarsGroups groups (status.OutboxAhead told count) = IsAccepted conf groups × IsAhead outbox (opening_lines conf groups) told count
-  BarsGroups groups (status.OutboxDiffers at) = IsAccepted conf groups × IsOther outbox (opening_lines conf groups) at
+  BarsGroups groups (status.Damaged at) = IsRejected groups (status.Damaged at)
+  BarsGroups groups (status.Full entries bytes) = IsAccepted groups × IsFullAtOpening most conf groups entries bytes
+  BarsGroups groups (status.OutboxAhead told count) = IsAccepted groups × HasRoomAtOpening most conf groups × IsAhead outbox (opening_lines conf groups) told count
+  BarsGroups groups (status.OutboxDiffers at) = IsAccepted groups × HasRoomAtOpening most conf groups × IsOther outbox (opening_lines conf groups) at
   BarsGroups groups _ = ⊥
 
   abbrev Way : Status → Type 0
@@ -195,32 +164,31 @@ module _ (conf : Conf) (most : ℕ) (outbox : SinkTells) (b : List ℕ) (some : 
   ways status.NotOurs is = inl (refl, is)
   ways (status.Damaged at) (inl is) = inr (inl (at, refl, is))
   ways (status.Damaged at) (inr (groups, found, why)) = inr (inr (groups, found, why))
-  ways (status.ConfigDiffers at) (groups, found, why) = inr (inr (groups, found, why))
-  ways (status.OutboxAhead told count) (groups, found, accepted, why) = inr (inr (groups, found, (accepted, why)))
-  ways (status.OutboxDiffers at) (groups, found, accepted, why) = inr (inr (groups, found, (accepted, why)))
-  ways (status.Full entries bytes) (found, full) = absurd (has_room_first most conf entries bytes some short full)
+  ways (status.OutboxAhead told count) (groups, found, accepted, room, why) = inr (inr (groups, found, (accepted, room, why)))
+  ways (status.OutboxDiffers at) (groups, found, accepted, room, why) = inr (inr (groups, found, (accepted, room, why)))
+  ways (status.Full entries bytes) (groups, found, accepted, full) = inr (inr (groups, found, (accepted, full)))
   ways _ none = absurd none
 
   groups_one : (groups : List Group) (s t : Status) → IsSeen outbox t → BarsGroups groups s → BarsGroups groups t → s ≡ t
-  groups_one groups (status.Damaged x) (status.Damaged y) seen p q = rejected_one conf groups (status.Damaged x) (status.Damaged y) p q
-  groups_one groups (status.Damaged x) (status.ConfigDiffers y) seen p q = rejected_one conf groups (status.Damaged x) (status.ConfigDiffers y) p q
-  groups_one groups (status.Damaged x) (status.OutboxAhead told count) seen p q = absurd (rejected_not conf groups (status.Damaged x) q.0 p)
-  groups_one groups (status.Damaged x) (status.OutboxDiffers y) seen p q = absurd (rejected_not conf groups (status.Damaged x) q.0 p)
+  groups_one groups (status.Damaged x) (status.Damaged y) seen p q = ap status.Damaged (rejected_one groups x y p q)
+  groups_one groups (status.Damaged x) (status.Full entries bytes) seen p q = absurd (rejected_not groups (status.Damaged x) q.0 p)
+  groups_one groups (status.Damaged x) (status.OutboxAhead told count) seen p q = absurd (rejected_not groups (status.Damaged x) q.0 p)
+  groups_one groups (status.Damaged x) (status.OutboxDiffers y) seen p q = absurd (rejected_not groups (status.Damaged x) q.0 p)
   groups_one groups (status.Damaged x) _ seen p none = absurd none
-  groups_one groups (status.ConfigDiffers x) (status.Damaged y) seen p q = rejected_one conf groups (status.ConfigDiffers x) (status.Damaged y) p q
-  groups_one groups (status.ConfigDiffers x) (status.ConfigDiffers y) seen p q = rejected_one conf groups (status.ConfigDiffers x) (status.ConfigDiffers y) p q
-  groups_one groups (status.ConfigDiffers x) (status.OutboxAhead told count) seen p q = absurd (rejected_not conf groups (status.ConfigDiffers x) q.0 p)
-  groups_one groups (status.ConfigDiffers x) (status.OutboxDiffers y) seen p q = absurd (rejected_not conf groups (status.ConfigDiffers x) q.0 p)
-  groups_one groups (status.ConfigDiffers x) _ seen p none = absurd none
-  groups_one groups (status.OutboxAhead told count) (status.Damaged y) seen p q = absurd (rejected_not conf groups (status.Damaged y) p.0 q)
-  groups_one groups (status.OutboxAhead told count) (status.ConfigDiffers y) seen p q = absurd (rejected_not conf groups (status.ConfigDiffers y) p.0 q)
-  groups_one groups (status.OutboxAhead told count) (status.OutboxAhead told' count') seen p q = ap₂ status.OutboxAhead (p.1.0 ∙ sym q.1.0) (p.1.1 ∙ sym q.1.1)
-  groups_one groups (status.OutboxAhead told count) (status.OutboxDiffers y) seen p q = absurd (omega (arith, p.1.0, p.1.1, p.1.2, q.1.0))
+  groups_one groups (status.Full entries bytes) (status.Damaged y) seen p q = absurd (rejected_not groups (status.Damaged y) p.0 q)
+  groups_one groups (status.Full entries bytes) (status.Full entries' bytes') seen p q = ap₂ status.Full (p.1.1 ∙ sym q.1.1) (p.1.2 ∙ sym q.1.2)
+  groups_one groups (status.Full entries bytes) (status.OutboxAhead told count) seen p q = absurd (q.1 entries bytes p.1)
+  groups_one groups (status.Full entries bytes) (status.OutboxDiffers y) seen p q = absurd (q.1 entries bytes p.1)
+  groups_one groups (status.Full entries bytes) _ seen p none = absurd none
+  groups_one groups (status.OutboxAhead told count) (status.Damaged y) seen p q = absurd (rejected_not groups (status.Damaged y) p.0 q)
+  groups_one groups (status.OutboxAhead told count) (status.Full entries bytes) seen p q = absurd (p.1 entries bytes q.1)
+  groups_one groups (status.OutboxAhead told count) (status.OutboxAhead told' count') seen p q = ap₂ status.OutboxAhead (p.2.0 ∙ sym q.2.0) (p.2.1 ∙ sym q.2.1)
+  groups_one groups (status.OutboxAhead told count) (status.OutboxDiffers y) seen p q = absurd (omega (arith, p.2.0, p.2.1, p.2.2, q.2.0))
   groups_one groups (status.OutboxAhead told count) _ seen p none = absurd none
-  groups_one groups (status.OutboxDiffers x) (status.Damaged y) seen p q = absurd (rejected_not conf groups (status.Damaged y) p.0 q)
-  groups_one groups (status.OutboxDiffers x) (status.ConfigDiffers y) seen p q = absurd (rejected_not conf groups (status.ConfigDiffers y) p.0 q)
-  groups_one groups (status.OutboxDiffers x) (status.OutboxAhead told count) seen p q = absurd (omega (arith, q.1.0, q.1.1, q.1.2, p.1.0))
-  groups_one groups (status.OutboxDiffers x) (status.OutboxDiffers y) seen p q = ap status.OutboxDiffers (other_one outbox.bytes (opening_lines conf groups) x y seen p.1.2 q.1.2)
+  groups_one groups (status.OutboxDiffers x) (status.Damaged y) seen p q = absurd (rejected_not groups (status.Damaged y) p.0 q)
+  groups_one groups (status.OutboxDiffers x) (status.Full entries bytes) seen p q = absurd (p.1 entries bytes q.1)
+  groups_one groups (status.OutboxDiffers x) (status.OutboxAhead told count) seen p q = absurd (omega (arith, q.2.0, q.2.1, q.2.2, p.2.0))
+  groups_one groups (status.OutboxDiffers x) (status.OutboxDiffers y) seen p q = ap status.OutboxDiffers (other_one outbox.bytes (opening_lines conf groups) x y seen p.2.2 q.2.2)
   groups_one groups (status.OutboxDiffers x) _ seen p none = absurd none
   groups_one groups _ t seen none q = absurd none
 
@@ -238,8 +206,8 @@ module _ (conf : Conf) (most : ℕ) (outbox : SinkTells) (b : List ℕ) (some : 
       by (inr (inr (groups, found, why))) (inr (inl (at, is', k'))) = absurd (damaged_groups b at groups k' found)
       by (inr (inr (g, found, why))) (inr (inr (h, found', why'))) = groups_one g s t seen why (subst (λ x. BarsGroups x t) (same_groups b h g found' found) why')
 
-  -- where the groups are accepted
-  module _ (groups : List Group) (found : groups_of (kept b) ≡ Some groups) (accepted : IsAccepted conf groups) where
+  -- where the groups are accepted, and there is room for the configuration
+  module _ (groups : List Group) (found : groups_of (kept b) ≡ Some groups) (accepted : IsAccepted groups) (room : HasRoomAtOpening most conf groups) where
     by_groups : (s : Status) {P : Type 0} → (BarsGroups groups s → P) → Bars conf most (Some b) outbox s → P
     by_groups s {P} goes bars = by (ways s bars)
       where
@@ -253,11 +221,11 @@ module _ (conf : Conf) (most : ℕ) (outbox : SinkTells) (b : List ℕ) (some : 
     not_barred s mendable seen bars = by_groups s (no_groups s seen) bars
       where
         no_groups : (s : Status) → (outbox.held ≡ 0) ⊎ IsSeen outbox s → BarsGroups groups s → ⊥
-        no_groups (status.Damaged at) seen why = rejected_not conf groups (status.Damaged at) accepted why
-        no_groups (status.ConfigDiffers at) seen why = rejected_not conf groups (status.ConfigDiffers at) accepted why
-        no_groups (status.OutboxAhead told count) seen why = omega (arith, mendable.enough, why.1.0, why.1.1, why.1.2)
-        no_groups (status.OutboxDiffers at) (inl none) why = omega (arith, none, why.1.1)
-        no_groups (status.OutboxDiffers at) (inr seen) why = other_zero outbox.bytes (opening_lines conf groups) at seen mendable.zeros why.1.2
+        no_groups (status.Damaged at) seen why = rejected_not groups (status.Damaged at) accepted why
+        no_groups (status.Full entries bytes) seen why = room entries bytes why.1
+        no_groups (status.OutboxAhead told count) seen why = omega (arith, mendable.enough, why.2.0, why.2.1, why.2.2)
+        no_groups (status.OutboxDiffers at) (inl none) why = omega (arith, none, why.2.1)
+        no_groups (status.OutboxDiffers at) (inr seen) why = other_zero outbox.bytes (opening_lines conf groups) at seen mendable.zeros why.2.2
         no_groups _ seen none = none
 
     -- what bars it names the outbox
@@ -265,8 +233,14 @@ module _ (conf : Conf) (most : ℕ) (outbox : SinkTells) (b : List ℕ) (some : 
     outbox_only s bars = by_groups s (names s) bars
       where
         names : (s : Status) → BarsGroups groups s → NamesOutbox s
-        names (status.Damaged at) why = absurd (rejected_not conf groups (status.Damaged at) accepted why)
-        names (status.ConfigDiffers at) why = absurd (rejected_not conf groups (status.ConfigDiffers at) accepted why)
+        names (status.Damaged at) why = absurd (rejected_not groups (status.Damaged at) accepted why)
+        names (status.Full entries bytes) why = absurd (room entries bytes why.1)
         names (status.OutboxAhead told count) why = tt
         names (status.OutboxDiffers at) why = tt
         names _ none = absurd none
+
+-- ---- texts that are kept
+
+-- where groups are accepted, what is said of a text of their Configs is said of one that is accepted
+pub kept_flat : (file : Option (List ℕ)) (Is : List ℕ → Type 0) → KeptText file Is → (text : List ℕ) × IsFlat text × Is text
+kept_flat file Is (groups, found, accepted, text, among, is) = (text, All-contains IsFlat (config_texts (numbered_of groups)) text accepted.0 among, is)

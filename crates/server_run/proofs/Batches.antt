@@ -22,7 +22,8 @@ use Rattle.intake_front.specs.declared.answer.Stop.TheVariants as stop
 use Rattle.server_run.specs.Events.{Doing, Gave, HasGiven, Gathered, GatheredBy, GatheredMore, Ran, Took}
 use Rattle.server_run.specs.Sending.{Outgoing, nothing_out, with_answer, outgoing_from, outgoing, Shows}
 use Rattle.server_run.specs.Statuses.{Ending, at_wire_fault, anywhere, at_refusal, LeftIs}
-use Rattle.server_run.specs.Stops.{refusing, IsEither, IsReached, Journals}
+use Rattle.server_run.specs.Stops.{refusing, IsReached}
+use Rattle.journal_opening.specs.Journals.{IsEither, Journals}
 use Rattle.server_run.proofs.Handling.{served_stop}
 use Rattle.server_run.proofs.Joining.{no_last, same_front_of, given_none, given_both}
 use Rattle.server_run.proofs.Sending.{shows_since}
@@ -107,7 +108,7 @@ gathered_start conf front w idle = record {
   runs_on = λ front last is. absurd (no_last front last is);
   stop_is = refl;
   intake_is = λ none. refl;
-  sound = λ sound. sound;
+  sound = λ flat sound. sound;
 }
 
 module _ {D : Type 0} (conf : Conf) (front0 front1 front2 : Fronted D) (w0 w1 w2 : WireTells) (count : ℕ) (g : Gathered conf front0 front1 w0 w1 count None None anywhere) where
@@ -125,7 +126,7 @@ module _ {D : Type 0} (conf : Conf) (front0 front1 front2 : Fronted D) (w0 w1 w2
       → s ≡ (handled l1 conf front1.intake e).answer.stop → front2.intake ≡ (handled l1 conf front1.intake e).intake
       → ((begun : Intake) (events : List WireEvent) → front1.intake ≡ (answered l1 conf begun events).intake → (answered l1 conf begun events).stop ≡ None
       → HasTaken conf begun events front1 → HasTaken conf begun (events ++ e ∷ []) front2)
-      → (IsSound conf front1.intake → IsSound conf front2.intake) → Gathered conf front0 front2 w0 w2 (count + 1) s None anywhere
+      → ((flat : List ℕ → Conf) → IsSound flat conf front1.intake → IsSound flat conf front2.intake) → Gathered conf front0 front2 w0 w2 (count + 1) s None anywhere
   gathered_more e s gives journal stops after takes keeps =
       let so_far = answered l0 conf front0.intake g.events in
       let here : front1.intake ≡ so_far.intake = g.intake_is refl in
@@ -142,7 +143,7 @@ module _ {D : Type 0} (conf : Conf) (front0 front1 front2 : Fronted D) (w0 w1 w2
         runs_on = λ front last is. ap (λ (es : List WireEvent). (answered l0 conf front0.intake es).stop) (sym (same_front_of g.events front e last is)) ∙ running;
         stop_is = stops ∙ ap (λ (h : Handled). h.answer.stop) at ∙ sym (ap (λ (a : Answered). a.stop) one);
         intake_is = λ none. intake;
-        sound = λ sound. subst (IsSound conf) intake (keeps (subst (IsSound conf) (sym here) (g.sound sound)));
+        sound = λ flat sound. subst (IsSound flat conf) intake (keeps flat (subst (IsSound flat conf) (sym here) (g.sound flat sound)));
       }
 
   -- no event more, since the wire gave none, or there was no memory for one
@@ -245,7 +246,7 @@ module _ {D : Type 0} (tells : D → DiskTells)
     ran : Ran (refusing l (refused_group i0 s)) conf i0.entries i0 front2.intake did w0 w2 count s lost ending
     stops : (s ≡ s0) ⊎ (s ≡ Some stop.DiskFault)
     none_added : s ≡ Some stop.DiskFault → front2.intake.entries ≡ i0.entries
-    sound : IsSound conf i0 → (i : Intake) × IsSound conf i × (front2.intake.entries ≡ i.entries) × (s ≡ None → lost ≡ None → front2.intake ≡ i)
+    sound : (flat : List ℕ → Conf) → IsSound flat conf i0 → (i : Intake) × IsSound flat conf i × (front2.intake.entries ≡ i.entries) × (s ≡ None → lost ≡ None → front2.intake ≡ i)
     ready : (s ≡ Some stop.DiskFault → ⊥) → IsReady front0.journal front2.journal
 
   module _ (count : ℕ) (s0 : Option Stop) (lost : Option WireEvent) (ending : Ending) (g : Gathered conf front0 front1 w0 w1 count s0 lost ending) where
@@ -308,7 +309,7 @@ module _ {D : Type 0} (tells : D → DiskTells)
               (ran_as 0 are entries (λ running kept. intake kept) (journals 0 (λ fault. absurd (other fault)) (λ well. durable ready)));
           stops = inl (stops ∙ sym (ties 0).stop_is ∙ sym g.stop_is);
           none_added = λ fault. absurd (other fault);
-          sound = λ sound. ((made 0).intake, g.sound sound, entries, λ running kept. intake kept);
+          sound = λ flat sound. ((made 0).intake, g.sound flat sound, entries, λ running kept. intake kept);
           ready = λ well. subst (λ (j : Journaled D). IsReady j front2.journal) g.journal_stays d.2;
         }
 
@@ -328,7 +329,7 @@ module _ {D : Type 0} (tells : D → DiskTells)
               (ran_as m are (stays ∙ sym refuses) (λ running kept. absurd (clash running stops)) (journals m (λ fault. f.3) (λ other. absurd (other stops))));
           stops = inr stops;
           none_added = λ fault. stays;
-          sound = λ sound. (i0, sound, stays, λ running kept. absurd (clash running stops));
+          sound = λ flat sound. (i0, sound, stays, λ running kept. absurd (clash running stops));
           ready = λ other. absurd (other stops);
         }
       where

@@ -1,5 +1,5 @@
 -- Laws of how a whole run ends.
-use Rattle.std.proofs.Common.{◌≡◌, ◌⊎◌, ⊎_elim, ℕ, ◌+◌, ◌-◌, ◌==◌, ◌≤◌, ◌<◌, [], ◌∷◌, ◌++◌, append-nil, take, All, slice_get, if◌then◌else◌, Bool, true, false, true≢false, List, length, Option, Some, None, refl, sym, ap, ◌∙◌, subst, arith, inl, inr}
+use Rattle.std.proofs.Common.{◌≡◌, ◌⊎◌, ⊎_elim, ℕ, ◌+◌, ◌-◌, ◌==◌, ◌≤◌, ◌<◌, [], ◌∷◌, ◌++◌, append-nil, take, All, Contains, slice_get, if◌then◌else◌, Bool, true, false, true≢false, List, length, Option, Some, None, refl, sym, ap, ◌∙◌, subst, arith, inl, inr}
 use Rattle.std.specs.Prelude.{Ok, IfSome, IsSome, IsSomeAnd, is_some, chars}
 use Rattle.zbx_types.specs.declared.causes.Cause.{Cause}
 use Rattle.zbx_types.specs.declared.conf.Conf.{Conf}
@@ -10,6 +10,7 @@ use Rattle.outside.specs.Tells.{WireTells}
 use Rattle.config_templates.specs.Flat.{flat_of}
 use Rattle.intake_journal.specs.Kept.{kept, groups_of}
 use Rattle.intake_journal.specs.declared.format.Group.{Group}
+use Rattle.entry_step.specs.InForce.{config_texts}
 use Rattle.intake_front.specs.Fronted.{Keeps, numbered_of}
 use Rattle.intake_front.specs.declared.answer.Stop.{Stop}
 use Rattle.intake_front.specs.declared.answer.Stop.TheVariants as stop
@@ -19,29 +20,30 @@ use Rattle.server_words.specs.declared.status.Status.{Status}
 use Rattle.server_words.specs.declared.status.Status.TheVariants as status
 use Rattle.server_words.specs.Words.{plan_of}
 use Rattle.host_layout.specs.Places.{refuse}
-use Rattle.std.proofs.lemmas.List.Elements.{All-get_or}
+use Rattle.std.proofs.lemmas.List.Elements.{All-get_or, All-contains}
 use Rattle.std.proofs.lemmas.Option.{slice_get_within, get_or_from_slice_get}
 use Rattle.regex_syntax.specs.Grammar.{read}
 use Rattle.regex.specs.Patterns.{default_config}
 use Rattle.zbx_types.specs.Ids.{at_id}
 use Rattle.pattern_set.specs.Patterns.{IsPattern, IsNoPattern}
-use Rattle.server_run.specs.Patterns.{HasFlawAt, HoldsBrace}
-use Rattle.server_run.specs.Opening.{IsAccepted, opening_lines}
-use Rattle.server_run.specs.Reasons.{Bars, IsSeen, NamesOutbox}
-use Rattle.book.specs.Outgoing.{IsMendable}
+use Rattle.journal_opening.specs.Patterns.{HasFlawAt, HoldsBrace}
+use Rattle.journal_opening.specs.Opening.{IsAccepted, HasRoomAtOpening, KeptText, opening_intake, opening_lines}
+use Rattle.journal_opening.specs.Replayed.{flat}
+use Rattle.journal_opening.specs.Reasons.{Bars, IsSeen, NamesOutbox}
+use Rattle.book_opening.specs.Outgoing.{IsMendable}
 use Rattle.server_run.specs.Statuses.{Ending, at_limit, at_full, YieldsTo, EndsPrinted}
 use Rattle.server_run.specs.Stops.{refusing}
 use Rattle.server_run.specs.Events.{Doing}
-use Rattle.server_run.specs.Runs.{Objects, Configured, Refuses, IsBarred, Finished, Followed, limits_by, opening_intake}
+use Rattle.server_run.specs.Runs.{Objects, Configured, Refuses, IsBarred, Finished, Followed, limits_by}
 use Rattle.std.specs.Option.{option_to_list}
 use Rattle.std.proofs.Math.Seq.{take-append-add}
 use Rattle.outside.specs.declared.event.WireEvent.{WireEvent}
 use Rattle.intake_front.specs.Intake.{Limits, Intake}
 use Rattle.intake_front.specs.Served.{Served, served_on, served_from, served}
 use Rattle.server_run.proofs.Handling.{served_from-append}
-use Rattle.server_run.proofs.Barring.{bars_one, not_barred, outbox_only}
+use Rattle.server_run.proofs.Barring.{bars_one, not_barred, outbox_only, kept_flat}
+use Rattle.journal_opening.proofs.Beginning.{flat_is}
 use Rattle.server_run.proofs.Runs.{same_flaw}
-use Rattle.server_run.proofs.Texts.{at_end_of}
 
 -- what holds of a run that began, and of one that didn't
 pub either_way : {A : Type 0} (began : Bool) → (began ≡ true → A) → (began ≡ false → A) → A
@@ -67,9 +69,6 @@ config_same words source plan conf conf' text c is found =
     let same = told_text source text conf.text is c.text_is in
     conf_same text conf conf' (ap flat_of (sym same) ∙ c.conf_is) found
 
-short_text : (words : List (List ℕ)) (source : Option (List ℕ)) (plan : Plan) (conf : Conf) → Configured words source plan conf → length conf.text ≤ 16777216
-short_text words source plan conf c = at_end_of conf.text conf c.conf_is
-
 some_text : (a b : List ℕ) → Some a ≡ Some b → a ≡ b
 some_text a b e = cc
 
@@ -89,38 +88,44 @@ of_source (Some x) text P is p = subst P (some_text x text is) p
 flat_not : (text : List ℕ) (conf : Conf) (path : List ℕ) (cause : Cause) → flat_of text ≡ Ok conf → flat_of text ≡ refuse path cause → ⊥
 flat_not text conf path cause found refused = cc
 
+-- so no text of a Config that a file keeps is, whose groups are accepted
+pub kept_not_refused : (file : Option (List ℕ)) (path : List ℕ) (cause : Cause) → KeptText file (λ text. flat_of text ≡ refuse path cause) → ⊥
+kept_not_refused file path cause why = let kept = kept_flat file (λ text. flat_of text ≡ refuse path cause) why in flat_not kept.0 (flat kept.0) path cause kept.1 kept.2
+
 module _ (words : List (List ℕ)) (before after : Objects) (plan : Plan) (text : List ℕ) (conf : Conf) (b : List ℕ)
-    (plan_is : plan_of words ≡ Some plan) (some : 0 < plan.max_entries) (source_is : before.source ≡ Some text) (conf_is : flat_of text ≡ Ok conf) (file_is : before.disk.bytes ≡ Some b) where
+    (plan_is : plan_of words ≡ Some plan) (source_is : before.source ≡ Some text) (conf_is : flat_of text ≡ Ok conf) (file_is : before.disk.bytes ≡ Some b) where
   -- what bars a run is said of this plan, this configuration and this file
-  bar_here : (s : Status) → IsBarred words before s → Bars conf plan.max_entries (Some b) before.outbox s × (length conf.text ≤ 16777216)
+  bar_here : (s : Status) → IsBarred words before s → Bars conf plan.max_entries (Some b) before.outbox s
   bar_here s (plan', conf', c, why) =
       let same = config_same words before.source plan' conf' conf text c source_is conf_is in
-      let plans : plan' ≡ plan = plan_same words plan' plan c.plan_is plan_is in (
-        subst (λ o. Bars conf plan.max_entries o before.outbox s) file_is
-            (subst (λ (p : Plan). Bars conf p.max_entries before.disk.bytes before.outbox s) plans (subst (λ (k : Conf). Bars k plan'.max_entries before.disk.bytes before.outbox s) same why)),
-        subst (λ (k : Conf). length k.text ≤ 16777216) same (short_text words before.source plan' conf' c),
-      )
+      let plans : plan' ≡ plan = plan_same words plan' plan c.plan_is plan_is in
+      subst (λ o. Bars conf plan.max_entries o before.outbox s) file_is
+      (subst (λ (p : Plan). Bars conf p.max_entries before.disk.bytes before.outbox s) plans (subst (λ (k : Conf). Bars k plan'.max_entries before.disk.bytes before.outbox s) same why))
 
   -- two things that bar a run are one
   same_bar : (t : Status) → Bars conf plan.max_entries (Some b) before.outbox t → IsSeen before.outbox t → (s : Status) → IsBarred words before s → s ≡ t
-  same_bar t bars seen s barred = let here = bar_here s barred in bars_one conf plan.max_entries before.outbox b some here.1 s t seen here.0 bars
+  same_bar t bars seen s barred = bars_one conf plan.max_entries before.outbox b s t seen (bar_here s barred) bars
+
+  -- room for the configuration is said of this plan and this configuration
+  room_here : (plan' : Plan) (conf' : Conf) (groups : List Group) → Configured words before.source plan' conf' → HasRoomAtOpening plan'.max_entries conf' groups → HasRoomAtOpening plan.max_entries conf groups
+  room_here plan' conf' groups c room =
+      subst (λ (p : Plan). HasRoomAtOpening p.max_entries conf groups) (plan_same words plan' plan c.plan_is plan_is)
+      (subst (λ (k : Conf). HasRoomAtOpening plan'.max_entries k groups) (config_same words before.source plan' conf' conf text c source_is conf_is) room)
 
   -- what bars a run that didn't begin is its status, or another fault stood before it
   pub bars_unbegun : (t : Status) → Bars conf plan.max_entries (Some b) before.outbox t → IsSeen before.outbox t → (s : Status) → Refuses words before after s → (s ≡ t) ⊎ (YieldsTo s ⊎ (NamesOutbox t × (s ≡ status.OutboxFault)))
   bars_unbegun t bars seen status.Usage (inl none) = absurd (cc)
   bars_unbegun t bars seen status.SourceFault (inl why) = inr (inl (inl refl))
   bars_unbegun t bars seen status.OutOfMemory why = inr (inl (inr (inr (inl refl))))
-  bars_unbegun t bars seen (status.PatternRefused path) (inl why) = inr (inl (inr (inr (inr tt))))
-  bars_unbegun t bars seen (status.PatternTooLarge path) (inl why) = inr (inl (inr (inr (inr tt))))
+  bars_unbegun t bars seen (status.PatternRefused path) why = inr (inl (inr (inr (inr tt))))
+  bars_unbegun t bars seen (status.PatternTooLarge path) why = inr (inl (inr (inr (inr tt))))
   bars_unbegun t bars seen (status.ConfigRefused path cause) (inl why) = absurd (flat_not text conf path cause conf_is (of_source before.source text (λ x. flat_of x ≡ refuse path cause) source_is why.1))
+  bars_unbegun t bars seen (status.ConfigRefused path cause) (inr why) = absurd (kept_not_refused before.disk.bytes path cause why.3)
   bars_unbegun t bars seen status.DiskFault (inr why) = inr (inl (inr (inl refl)))
-  bars_unbegun t bars seen status.OutboxFault (inr (plan', conf', c, (groups, found, accepted, rose))) =
-      let same : conf' ≡ conf = config_same words before.source plan' conf' conf text c source_is conf_is in
-      let short : length conf.text ≤ 16777216 = subst (λ (k : Conf). length k.text ≤ 16777216) same (short_text words before.source plan' conf' c) in
-      inr (inr (outbox_only conf plan.max_entries before.outbox b some short groups (found_same before.disk.bytes b groups file_is found) (subst (λ (k : Conf). IsAccepted k groups) same accepted) t bars, refl))
+  bars_unbegun t bars seen status.OutboxFault (inr (plan', conf', c, (groups, found, accepted, room, rose))) =
+      inr (inr (outbox_only conf plan.max_entries before.outbox b groups (found_same before.disk.bytes b groups file_is found) accepted (room_here plan' conf' groups c room) t bars, refl))
   bars_unbegun t bars seen status.NotOurs (inr why) = inl (same_bar t bars seen status.NotOurs why)
   bars_unbegun t bars seen (status.Damaged at) (inr why) = inl (same_bar t bars seen (status.Damaged at) why)
-  bars_unbegun t bars seen (status.ConfigDiffers at) (inr why) = inl (same_bar t bars seen (status.ConfigDiffers at) why)
   bars_unbegun t bars seen (status.OutboxAhead told count) (inr why) = inl (same_bar t bars seen (status.OutboxAhead told count) why)
   bars_unbegun t bars seen (status.OutboxDiffers at) (inr why) = inl (same_bar t bars seen (status.OutboxDiffers at) why)
   bars_unbegun t bars seen (status.Full entries bytes) (inr why) = inl (same_bar t bars seen (status.Full entries bytes) why)
@@ -132,7 +137,8 @@ module _ (words : List (List ℕ)) (before after : Objects) (plan : Plan) (text 
   bars_begun t bars seen s entries IsTold f =
       let same = config_same words before.source f.plan f.conf conf text f.configured source_is conf_is in
       let bars' : Bars f.conf plan.max_entries (Some b) before.outbox t = subst (λ (c : Conf). Bars c plan.max_entries (Some b) before.outbox t) (sym same) bars in
-      not_barred f.conf plan.max_entries before.outbox b some (short_text words before.source f.plan f.conf f.configured) f.groups (found_same before.disk.bytes b f.groups file_is f.found) f.accepted t f.mendable (inr seen) bars'
+      let room : HasRoomAtOpening plan.max_entries f.conf f.groups = subst (λ (p : Plan). HasRoomAtOpening p.max_entries f.conf f.groups) (plan_same words f.plan plan f.configured.plan_is plan_is) f.room in
+      not_barred f.conf plan.max_entries before.outbox b f.groups (found_same before.disk.bytes b f.groups file_is f.found) f.accepted room t f.mendable (inr seen) bars'
 
 module _ (words : List (List ℕ)) (before after : Objects) (entries : List Numbered) (IsTold : Counts → Type 0) where
   -- a run that ended by a fault of its disk
@@ -173,8 +179,9 @@ no_pattern : (pattern : List ℕ) → IsPattern pattern → IsNoPattern pattern 
 no_pattern pattern is flaw = deep_or_not (read default_config (chars pattern)) (λ p. p.0.depth) default_config.nest_limit is flaw
 
 module _ (words : List (List ℕ)) (before after : Objects) (plan : Plan) (text : List ℕ) (conf : Conf) (b : List ℕ) (groups : List Group)
-    (plan_is : plan_of words ≡ Some plan) (some : 0 < plan.max_entries) (source_is : before.source ≡ Some text) (conf_is : flat_of text ≡ Ok conf) (file_is : before.disk.bytes ≡ Some b)
-    (found : groups_of (kept b) ≡ Some groups) (accepted : IsAccepted conf groups) (mendable : IsMendable before.outbox (opening_lines conf groups)) (seen : (before.outbox.held ≡ 0) ⊎ IsSome before.outbox.bytes)
+    (plan_is : plan_of words ≡ Some plan) (source_is : before.source ≡ Some text) (conf_is : flat_of text ≡ Ok conf) (file_is : before.disk.bytes ≡ Some b)
+    (found : groups_of (kept b) ≡ Some groups) (accepted : IsAccepted groups) (room : HasRoomAtOpening plan.max_entries conf groups)
+    (kept_patterns : All (λ kept_text. All IsPattern (flat kept_text).patterns) (config_texts (numbered_of groups))) (mendable : IsMendable before.outbox (opening_lines conf groups)) (seen : (before.outbox.held ≡ 0) ⊎ IsSome before.outbox.bytes)
     (source_well : Rose before.source_faults after.source_faults → ⊥) (disk_well : Rose before.disk.faults after.disk.faults → ⊥) (outbox_well : Rose before.outbox.faults after.outbox.faults → ⊥)
     (patterns : All IsPattern conf.patterns) where
   seen_at : (s : Status) → (before.outbox.held ≡ 0) ⊎ IsSeen before.outbox s
@@ -187,15 +194,25 @@ module _ (words : List (List ℕ)) (before after : Objects) (plan : Plan) (text 
   -- what is accepted isn't barred
   isnt_barred : (s : Status) → IsBarred words before s → ⊥
   isnt_barred s barred =
-      let here = bar_here words before after plan text conf b plan_is some source_is conf_is file_is s barred in
-      not_barred conf plan.max_entries before.outbox b some here.1 groups found accepted s mendable (seen_at s) here.0
+      not_barred conf plan.max_entries before.outbox b groups found accepted room s mendable (seen_at s) (bar_here words before after plan text conf b plan_is source_is conf_is file_is s barred)
+
+  -- nor has a pattern of a kept text a flaw
+  not_flawed : (path : List ℕ) → KeptText before.disk.bytes (HasFlawAt IsNoPattern path) → ⊥
+  not_flawed path (h, found', accepted', kept_text, among, u) =
+      let same : h ≡ groups = groups_same (sym (found_same before.disk.bytes b h file_is found') ∙ found) in
+      let here : All IsPattern (flat kept_text).patterns = All-contains (λ t. All IsPattern (flat t).patterns) (config_texts (numbered_of groups)) kept_text kept_patterns (subst (λ gs. Contains (config_texts (numbered_of gs)) kept_text) same among) in
+      no_pattern u.flawed.pattern (all_with_id IsPattern u.conf.patterns u.flawed.place u.flawed.pattern (subst (λ (k : Conf). All IsPattern k.patterns) (flat_is kept_text u.conf u.conf_is) here) u.flawed.pattern_is) u.flawed.flaw
+    where
+      groups_same : {x y : List Group} → Some x ≡ Some y → x ≡ y
+      groups_same e = cc
 
   -- so its run begins, unless memory is refused or a pattern is too large
   pub begins_well : (s : Status) → Refuses words before after s → (s ≡ status.OutOfMemory) ⊎ ((path : List ℕ) × (s ≡ status.PatternTooLarge path))
   begins_well status.Usage (inl none) = absurd (cc)
   begins_well status.SourceFault (inl why) = absurd (source_well why.1)
   begins_well status.OutOfMemory why = inl refl
-  begins_well (status.PatternTooLarge path) (inl why) = inr (path, refl)
+  begins_well (status.PatternTooLarge path) why = inr (path, refl)
+  begins_well (status.PatternRefused path) (inr why) = absurd (not_flawed path why.3)
   begins_well (status.PatternRefused path) (inl why) = absurd (flawed (of_source before.source text (HasFlawAt IsNoPattern path) source_is why.1))
     where
       flawed : HasFlawAt IsNoPattern path text → ⊥
@@ -203,11 +220,11 @@ module _ (words : List (List ℕ)) (before after : Objects) (plan : Plan) (text 
           let same = conf_same text conf u.conf conf_is u.conf_is in
           no_pattern u.flawed.pattern (all_with_id IsPattern u.conf.patterns u.flawed.place u.flawed.pattern (subst (λ (k : Conf). All IsPattern k.patterns) same patterns) u.flawed.pattern_is) u.flawed.flaw
   begins_well (status.ConfigRefused path cause) (inl why) = absurd (flat_not text conf path cause conf_is (of_source before.source text (λ x. flat_of x ≡ refuse path cause) source_is why.1))
+  begins_well (status.ConfigRefused path cause) (inr why) = absurd (kept_not_refused before.disk.bytes path cause why.3)
   begins_well status.DiskFault (inr why) = absurd (disk_well why.3)
-  begins_well status.OutboxFault (inr (plan', conf', c, (h, found', accepted', rose))) = absurd (outbox_well rose)
+  begins_well status.OutboxFault (inr (plan', conf', c, (h, found', accepted', room', rose))) = absurd (outbox_well rose)
   begins_well status.NotOurs (inr why) = absurd (isnt_barred status.NotOurs why)
   begins_well (status.Damaged at) (inr why) = absurd (isnt_barred (status.Damaged at) why)
-  begins_well (status.ConfigDiffers at) (inr why) = absurd (isnt_barred (status.ConfigDiffers at) why)
   begins_well (status.OutboxAhead told count) (inr why) = absurd (isnt_barred (status.OutboxAhead told count) why)
   begins_well (status.OutboxDiffers at) (inr why) = absurd (isnt_barred (status.OutboxDiffers at) why)
   begins_well (status.Full entries bytes) (inr why) = absurd (isnt_barred (status.Full entries bytes) why)

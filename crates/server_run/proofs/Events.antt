@@ -5,6 +5,8 @@ use Rattle.std.specs.Option.{option_to_list}
 use Rattle.outside.specs.Disk.{DiskTells, IsLawful}
 use Rattle.zbx_types.specs.declared.conf.Conf.{Conf}
 use Rattle.zbx_types.specs.declared.entries.Numbered.{Numbered}
+use Rattle.entry_step.specs.Each.{Each}
+use Rattle.entry_step.specs.InForce.{IsPlain}
 use Rattle.outside.specs.Causes.{Rose}
 use Rattle.zbx_types.specs.declared.memory.OutOfMemory.{OutOfMemory}
 use Rattle.outside.specs.Tells.{WireTells}
@@ -23,17 +25,18 @@ use Rattle.server_run.specs.Events.{Doing, Gave, ending_of, Ran, Took, Ends}
 use Rattle.server_run.specs.Sending.{Shows}
 use Rattle.server_run.specs.Statuses.{Ending, never, at_closed, at_limit, at_wire_fault, at_disk_fault, at_full, anywhere, at_refusal, behind_disk, ended_with, course_of, status_of, EndsAs, LeftIs}
 use Rattle.server_run.specs.Going.{IsCause}
-use Rattle.server_run.specs.Stops.{refusing, IsReached, Journals}
+use Rattle.server_run.specs.Stops.{refusing, IsReached}
+use Rattle.journal_opening.specs.Journals.{Journals}
 use Rattle.server_run.specs.Runs.{Finished}
-use Rattle.server_run.proofs.Handling.{served_grow}
+use Rattle.server_run.proofs.Handling.{served_plain}
 use Rattle.server_run.proofs.Joining.{no_last, runs_on_both, gave_none, gave_both, behind, served_then, same_before, same_front, refused_is, reached_before, reached_then}
 use Rattle.server_run.proofs.Sending.{shows_none, shows_both}
 use Rattle.server_run.proofs.Stopping.{journals_none, journals_on}
 
--- entries stand behind those that were there
+-- entries stand behind those that were there, and none of them is a Config
 pub ran_grows : (limits : Limits) (conf : Conf) (recovered : List Numbered) (old new : Intake) (did : Doing) (w w' : WireTells) (count : ℕ) (s : Option Stop) (lost : Option WireEvent) (ending : Ending)
-    → Ran limits conf recovered old new did w w' count s lost ending → (more : List Numbered) × (new.entries ≡ old.entries ++ more)
-ran_grows limits conf recovered old new did w w' count s lost ending r = let grown = served_grow limits conf old r.taken in (grown.0, r.entries_are ∙ grown.1)
+    → Ran limits conf recovered old new did w w' count s lost ending → (more : List Numbered) × (new.entries ≡ old.entries ++ more) × Each IsPlain more
+ran_grows limits conf recovered old new did w w' count s lost ending r = let grown = served_plain limits conf old r.taken in (grown.0, r.entries_are ∙ grown.1, grown.2)
 
 -- ---- how a run ends
 

@@ -1,5 +1,5 @@
 -- Laws of the taking of events behind what a run had done.
-use Rattle.entry_step.specs.Start.{Start, first_start}
+use Rattle.entry_step.specs.Start.{Start}
 use Rattle.std.proofs.Common.{◌≡◌, ◌⊎◌, ⊎_elim, ℕ, ◌+◌, ◌-◌, ◌≤◌, ◌<◌, List, [], ◌++◌, append-nil, refl, sym, ap, ◌∙◌, subst, arith, inl, inr, length, drop, true≢false}
 use Rattle.std.specs.Prelude.{◌≢◌, Option, Some, None, IfSome, Result, Ok, Err, OnOk, true, false}
 use Rattle.std.specs.Option.{option_to_list}
@@ -14,13 +14,13 @@ use Rattle.outside.specs.declared.event.WireEvent.{WireEvent}
 use Rattle.outside.specs.declared.event.Trouble.{Trouble}
 use Rattle.book.specs.Ends.{HeadView}
 use Rattle.book.specs.Entries.{IsWholeLog}
-use Rattle.book.specs.Outgoing.{IsMendable, log_lines}
-use Rattle.book.specs.Tally.{tally_of}
-use Rattle.book.specs.declared.errors.BookError.{BookError}
-use Rattle.book.specs.declared.errors.BookError.TheVariants as refusal
-use Rattle.entry_step.specs.Log.{log_of}
-use Rattle.entry_step.specs.Records.{replay}
-use Rattle.server_words.specs.declared.status.Counts.{Counts}
+use Rattle.book_opening.specs.Outgoing.{IsMendable, log_lines}
+use Rattle.book_opening.specs.declared.errors.BookError.{BookError}
+use Rattle.book_opening.specs.declared.errors.BookError.TheVariants as refusal
+use Rattle.entry_step.specs.Each.{Each}
+use Rattle.entry_step.specs.InForce.{IsPlain, FitsLog, conf_behind, behind_all}
+use Rattle.entry_step.specs.Log.{log_of, IsFull}
+use Rattle.entry_step.proofs.Members.{each_append}
 use Rattle.intake_front.specs.Batch.{IsIdle}
 use Rattle.intake_front.specs.Intake.{Limits, Intake, IsSound}
 use Rattle.intake_front.specs.Fronted.{Fronted, IsKept, IsReady, limits_of, refused_group}
@@ -32,14 +32,16 @@ use Rattle.server_run.specs.declared.serving.Taken.{Taken}
 use Rattle.server_run.specs.declared.serving.Taken.TheVariants as taken
 use Rattle.server_run.specs.Events.{Doing, Ran, Took, Ends, ending_of}
 use Rattle.server_run.specs.Going.{Reaches, TakesOn, IsServing, HasServed, IsEndedAt, IsSentAt, IsCause, IsJoined, IsWorse, IsOpened, IsBookless, HasGone, book_status}
-use Rattle.server_run.specs.Outbox.{LinesAre, IsAhead, IsOther}
-use Rattle.server_run.specs.Tally.{run_counts}
+use Rattle.server_run.specs.Outbox.{LinesAre}
+use Rattle.journal_opening.specs.Outbox.{IsAhead, IsOther}
+use Rattle.journal_opening.specs.Tally.{counts_over}
 use Rattle.server_run.specs.Runs.{Finished}
 use Rattle.server_run.specs.Statuses.{at_limit, anywhere, at_refusal, course_of, ended_with, EndsAs, LeftIs, IsCourse, IsUnprinted}
-use Rattle.server_run.specs.Stops.{refusing, Journals}
+use Rattle.server_run.specs.Stops.{refusing}
+use Rattle.journal_opening.specs.Journals.{Journals}
 use Rattle.server_run.proofs.Events.{ran_grows, ran_none, ran_on, finish_on, finish_with, goes_on_is, no_trouble, ended_sent, limits_kept}
 use Rattle.book.proofs.Numbers.{whole_of}
-use Rattle.server_run.proofs.Logs.{behind_sent, sent_front}
+use Rattle.server_run.proofs.Logs.{behind_old, behind_sent, sent_front}
 use Rattle.server_run.proofs.Runs.{finished_refused, is_ending}
 
 -- ---- what is sent
@@ -69,32 +71,42 @@ pub took_as : (limits : Limits) (k conf : Conf) (old new : Intake) (did : Doing)
 took_as limits k conf old new did w w' most count s g same took = subst (λ (x : Conf). Took limits x old new did w w' most count s g) same took
 
 module _ (limits : Limits) (k conf : Conf) (same : k ≡ conf) (old new : Intake) (did : Doing) (w w' : WireTells) (most count : ℕ) (s : Option Stop) (g : Result (Unit {0}) Trouble) (took : Took limits k old new did w w' most count s g)
-    (sound : IsSound conf old) (kept sent : List Numbered) (is : kept ++ sent ≡ old.entries) (n : ℕ) (size : n ≡ length old.entries) where
+    (flat : List ℕ → Conf) (sound : IsSound flat conf old) (kept sent : List Numbered) (some : 0 < length kept) (plain : Each IsPlain sent) (is : kept ++ sent ≡ old.entries) (n : ℕ) (size : n ≡ length old.entries) where
   here : Took limits conf old new did w w' most count s g
   here = subst (λ (x : Conf). Took limits x old new did w w' most count s g) same took
 
+  grown : (more : List Numbered) × (new.entries ≡ old.entries ++ more) × Each IsPlain more
+  grown = ran_grows (refusing limits (refused_group old s)) conf old.entries old new did w w' count s here.lost (ending_of g) here.ran
+
   -- with their entries all are sent
   batch_all : kept ++ (sent ++ drop n new.entries) ≡ new.entries
-  batch_all = behind_sent kept sent old.entries new.entries n is size (ran_grows (refusing limits (refused_group old s)) conf old.entries old new did w w' count s here.lost (ending_of g) here.ran)
+  batch_all = behind_sent kept sent old.entries new.entries n grown.0 is size grown.1
 
-  -- which are a whole log
-  pub batch_whole : (begins : Start) → begins ≡ first_start conf → IsWholeLog begins (kept ++ (sent ++ drop n new.entries))
-  batch_whole begins first =
-      let i = here.sound sound in
-      subst (λ (b : Start). IsWholeLog b (kept ++ (sent ++ drop n new.entries))) (sym first)
-      (subst (IsWholeLog (first_start conf)) (sym (batch_all ∙ i.2)) (whole_of (first_start conf) _ refl i.1.full i.1.fits))
+  -- and none is a Config
+  batch_plain : Each IsPlain (sent ++ drop n new.entries)
+  batch_plain = each_append IsPlain sent (drop n new.entries) plain (subst (Each IsPlain) (sym (behind_old old.entries new.entries n grown.0 size grown.1)) grown.2)
+
+  -- so they are a whole log behind what the kept entries leave
+  pub batch_whole : (start : Start) → start ≡ behind_all flat (log_of kept) → IsWholeLog start (sent ++ drop n new.entries)
+  batch_whole start first =
+      let i = here.sound flat sound in
+      let entries : kept ++ (sent ++ drop n new.entries) ≡ i.0.entries = batch_all ∙ i.2 in
+      whole_of flat kept (sent ++ drop n new.entries) start first some batch_plain (subst (λ es. IsFull (log_of es)) (sym entries) i.1.full) (subst (λ es. FitsLog flat (log_of es)) (sym entries) i.1.fits)
 
   module _ (t : Result (Unit {0}) OutOfMemory) (sent' : List Numbered) (all : OnOk t (sent' ≡ sent ++ drop n new.entries)) (front : IsPrefix sent' (sent ++ drop n new.entries)) where
+    sent_is : (u : Unit {0}) → t ≡ Ok u → sent' ≡ sent ++ drop n new.entries
+    sent_is u well = subst (λ r. OnOk r (sent' ≡ sent ++ drop n new.entries)) well all
+
     sent_ok : (u : Unit {0}) → t ≡ Ok u → kept ++ sent' ≡ new.entries
-    sent_ok u well = ap (λ l. kept ++ l) (subst (λ r. OnOk r (sent' ≡ sent ++ drop n new.entries)) well all) ∙ batch_all
+    sent_ok u well = ap (λ l. kept ++ l) (sent_is u well) ∙ batch_all
 
     -- where the run goes on, and it serves
-    pub batch_on : ended_with s g t ≡ None → (kept ++ sent' ≡ new.entries) × IsSound conf new
+    pub batch_on : ended_with s g t ≡ None → (kept ++ sent' ≡ new.entries) × IsSound flat conf new × Each IsPlain sent'
     batch_on on =
         let why = goes_on_is s g t on in
-        let i = here.sound sound in
+        let i = here.sound flat sound in
         let kept_is : here.lost ≡ None = lost_none g here why.1.0 why.1.1 in
-        (sent_ok why.2.0 why.2.1, subst (IsSound conf) (sym (i.3 why.0 kept_is)) i.1)
+        (sent_ok why.2.0 why.2.1, subst (IsSound flat conf) (sym (i.3 why.0 kept_is)) i.1, subst (Each IsPlain) (sym (sent_is why.2.0 why.2.1)) batch_plain)
       where
         lost_none : (x : Result (Unit {0}) Trouble) (h : Took limits conf old new did w w' most count s x) (u : Unit {0}) → x ≡ Ok u → h.lost ≡ None
         lost_none (Ok enough) h u same = no_trouble h.lost (Ok enough) enough refl h.lost_is
@@ -149,7 +161,6 @@ is_wire (status.PatternRefused path) = inr (λ e. cc)
 is_wire (status.PatternTooLarge path) = inr (λ e. cc)
 is_wire status.NotOurs = inr (λ e. cc)
 is_wire (status.Damaged at) = inr (λ e. cc)
-is_wire (status.ConfigDiffers at) = inr (λ e. cc)
 is_wire (status.OutboxAhead held lines) = inr (λ e. cc)
 is_wire (status.OutboxDiffers at) = inr (λ e. cc)
 is_wire (status.BadLine at) = inr (λ e. cc)
@@ -242,9 +253,9 @@ module _ {D : Type 0} (tells : D → DiskTells) where
 
   -- ---- what somebody else made of it
 
-  module _ (conf : Conf) (kept : List Numbered) (old mid : Fronted D) (w0 w1 : WireTells) (head : HeadView) (turns : ℕ) where
+  module _ (flat : List ℕ → Conf) (conf : Conf) (kept : List Numbered) (old mid : Fronted D) (w0 w1 : WireTells) (head : HeadView) (turns : ℕ) where
     abbrev Served : Taken → Type 0
-    Served t = HasServed tells conf kept old mid w0 w1 head turns t
+    Served t = HasServed tells flat conf kept old mid w0 w1 head turns t
 
     -- want of memory beside it ends the taking of events
     spent : (t : Taken) → Served t → Served (taken.Ended status.OutOfMemory)
@@ -279,7 +290,7 @@ module _ {D : Type 0} (tells : D → DiskTells) where
 
   -- ---- events that are taken beside syncers, and behind them
 
-  module _ (conf : Conf) (kept : List Numbered) (old mid : Fronted D) (w0 w1 : WireTells) (head : HeadView) (turns : ℕ) where
+  module _ (flat : List ℕ → Conf) (conf : Conf) (kept : List Numbered) (old mid : Fronted D) (w0 w1 : WireTells) (head : HeadView) (turns : ℕ) where
     abbrev Ends_as : Status → Type 0
     Ends_as s = TakesOn tells conf old mid w0 w1 turns (taken.Ended s)
 
@@ -289,15 +300,15 @@ module _ {D : Type 0} (tells : D → DiskTells) where
         finished_worse (limits_of old.journal 0) conf recovered start mid.intake.entries (count + turns) (doing d0 mid.journal.disk) w w1 s t worse (λ is. omega (arith, r.later, wire is)) (takes recovered start d0 w count r)
 
     -- or ends them
-    pub takes_fault : (n : ℕ) → HasServed tells conf kept old mid w0 w1 head turns (taken.Going n) → Ends_as status.OutboxFault
+    pub takes_fault : (n : ℕ) → HasServed tells flat conf kept old mid w0 w1 head turns (taken.Going n) → Ends_as status.OutboxFault
     takes_fault n h = λ recovered start d0 w count r.
         at_fault_of (limits_of old.journal 0) conf recovered start mid.intake d0 mid.journal.disk w w1 count n (h.takes.1 recovered start d0 w count r) turns h.takes.0
 
-    pub fault_ended : IsServing conf kept mid head → IsEndedAt kept mid w0 w1 head status.OutboxFault
+    pub fault_ended : IsServing flat conf kept mid head → IsEndedAt kept mid w0 w1 head status.OutboxFault
     fault_ended s = record { idle = s.idle; sent = s.sent; unprinted = tt; wire = λ e. cc }
 
     -- more are taken on one thread, behind those that the syncers had
-    module _ (new : Fronted D) (w2 : WireTells) (head' : HeadView) (n : ℕ) (h : HasServed tells conf kept old mid w0 w1 head turns (taken.Going n)) (s : Status) where
+    module _ (new : Fronted D) (w2 : WireTells) (head' : HeadView) (n : ℕ) (h : HasServed tells flat conf kept old mid w0 w1 head turns (taken.Going n)) (s : Status) where
       pub takes_then : TakesOn tells conf mid new w1 w2 (turns - n) (taken.Ended s) → TakesOn tells conf old new w0 w2 turns (taken.Ended s)
       takes_then then = λ recovered start d0 w count r.
           let before = h.takes.1 recovered start d0 w count r in
@@ -315,9 +326,9 @@ module _ {D : Type 0} (tells : D → DiskTells) where
   at_none limits conf recovered start now d0 d1 w0 w1 count r = let same : count ≡ count + 0 = omega arith in subst (λ k. At limits conf recovered start now d0 d1 w0 w1 k) same r
 
   -- where nobody takes events, none is taken
-  pub served_none : (conf : Conf) (kept : List Numbered) (front : Fronted D) (w : WireTells) (head : HeadView) (turns : ℕ) → IsServing conf kept front head
-      → HasServed tells conf kept front front w w head turns (taken.Going 0)
-  served_none conf kept front w head turns s = record {
+  pub served_none : (flat : List ℕ → Conf) (conf : Conf) (kept : List Numbered) (front : Fronted D) (w : WireTells) (head : HeadView) (turns : ℕ) → IsServing flat conf kept front head
+      → HasServed tells flat conf kept front front w w head turns (taken.Going 0)
+  served_none flat conf kept front w head turns s = record {
     later = omega arith;
     takes = (omega arith, λ recovered start d0 w0 count r. at_none (limits_of front.journal 0) conf recovered start front.intake d0 front.journal.disk w0 w count r);
     served = (s, (s.going, refl, refl));
@@ -330,9 +341,9 @@ module _ {D : Type 0} (tells : D → DiskTells) where
   Since conf old now w w1 n = (recovered : List Numbered) (start : Intake) (d0 : D) (w0 : WireTells) (count : ℕ) → At (limits_of old.journal 0) conf recovered start old.intake d0 old.journal.disk w0 w count
       → At (limits_of old.journal 0) conf recovered start now.intake d0 now.journal.disk w0 w1 (count + n)
 
-  module _ (conf : Conf) (kept : List Numbered) (old now : Fronted D) (w w1 : WireTells) (turns n : ℕ) (ran : Since conf old now w w1 n) (later : w.faults ≤ w1.faults) (ready : IsReady old.journal now.journal) (within : n ≤ turns) where
+  module _ (flat : List ℕ → Conf) (conf : Conf) (kept : List Numbered) (old now : Fronted D) (w w1 : WireTells) (turns n : ℕ) (ran : Since conf old now w w1 n) (later : w.faults ≤ w1.faults) (ready : IsReady old.journal now.journal) (within : n ≤ turns) where
     -- by want of memory
-    pub served_refused : (head : HeadView) → IsIdle now → kept ++ head.sent ≡ now.intake.entries → HasServed tells conf kept old now w w1 head turns (taken.Ended status.OutOfMemory)
+    pub served_refused : (head : HeadView) → IsIdle now → kept ++ head.sent ≡ now.intake.entries → HasServed tells flat conf kept old now w w1 head turns (taken.Ended status.OutOfMemory)
     served_refused head idle sent = record {
       later = later;
       takes = λ recovered start d0 w0 count r. at_refusal_of (limits_of old.journal 0) conf recovered start now.intake d0 now.journal.disk w0 w1 count n (ran recovered start d0 w0 count r) turns within;
@@ -340,7 +351,7 @@ module _ {D : Type 0} (tells : D → DiskTells) where
     }
 
     -- by their number
-    pub served_limit : (head : HeadView) → IsIdle now → kept ++ head.sent ≡ now.intake.entries → n ≡ turns → HasServed tells conf kept old now w w1 head turns (taken.Ended status.TurnLimit)
+    pub served_limit : (head : HeadView) → IsIdle now → kept ++ head.sent ≡ now.intake.entries → n ≡ turns → HasServed tells flat conf kept old now w w1 head turns (taken.Ended status.TurnLimit)
     served_limit head idle sent all = record {
       later = later;
       takes = λ recovered start d0 w0 count r. at_limit_of (limits_of old.journal 0) conf recovered start now.intake d0 now.journal.disk w0 w1 count n (ran recovered start d0 w0 count r) turns all;
@@ -350,7 +361,7 @@ module _ {D : Type 0} (tells : D → DiskTells) where
     -- by the last of them
     pub served_end : (new : Fronted D) (w2 : WireTells) (head : HeadView) (most : ℕ) (e : Status) → Ends (limits_of now.journal 0) conf now.intake new.intake (doing now.journal.disk new.journal.disk) w1 w2 most e → n + most ≤ turns
         → IsIdle new → IsSentAt kept head.sent new.intake.entries e → IsCause e → (e ≡ status.WireFault → Rose w1.faults w2.faults) → w1.faults ≤ w2.faults
-        → HasServed tells conf kept old new w w2 head turns (taken.Ended e)
+        → HasServed tells flat conf kept old new w w2 head turns (taken.Ended e)
     served_end new w2 head most e ends few idle sent cause wire more = record {
       later = omega (arith, later, more);
       takes = λ recovered start d0 w0 count r. at_end (limits_of old.journal 0) conf recovered start now.intake d0 now.journal.disk w0 w1 count n (ran recovered start d0 w0 count r) new.intake new.journal.disk w2 most turns e
@@ -360,31 +371,45 @@ module _ {D : Type 0} (tells : D → DiskTells) where
 
   -- ---- a whole run
 
+  -- one that begins serves
+  pub serving_first : (flat : List ℕ → Conf) (conf : Conf) (kept : List Numbered) (front : Fronted D) (head : HeadView) → IsOpened tells flat conf kept front → head.sent ≡ [] → 0 < head.capacity → IsServing flat conf kept front head
+  serving_first flat conf kept front head o none room = record {
+    going = o.going;
+    idle = o.idle;
+    sound = o.sound;
+    some = subst (λ (es : List Numbered). 0 < length es) o.entries_are o.sound.begun;
+    plain = subst (Each IsPlain) (sym none) tt;
+    sent = ap (λ l. kept ++ l) none ∙ append-nil kept ∙ sym o.entries_are;
+    room = room;
+  }
+
   -- what events made that were taken from the beginning on
-  pub finished_taken : (conf : Conf) (kept : List Numbered) (old new : Fronted D) (w w' : WireTells) (turns : ℕ) (s : Status) → IsOpened tells conf kept old → IsLawful (tells old.journal.disk)
+  pub finished_taken : (flat : List ℕ → Conf) (conf : Conf) (kept : List Numbered) (old new : Fronted D) (w w' : WireTells) (turns : ℕ) (s : Status) → IsOpened tells flat conf kept old → IsLawful (tells old.journal.disk)
       → TakesOn tells conf old new w w' turns (taken.Ended s)
-      → Finished (limits_of old.journal 0) conf kept old.intake new.intake.entries turns (doing old.journal.disk new.journal.disk) w w' (course_of s).ending
-  finished_taken conf kept old new w w' turns s o lawful takes =
+      → Finished (limits_of old.journal 0) (conf_behind flat (log_of kept)) kept old.intake new.intake.entries turns (doing old.journal.disk new.journal.disk) w w' (course_of s).ending
+  finished_taken flat conf kept old new w w' turns s o lawful takes =
       let all = takes old.intake.entries old.intake old.journal.disk w 0 (at_start (limits_of old.journal 0) conf old.intake old.journal.disk w lawful o.durable) in
       let sum : 0 + turns ≡ turns = omega arith in
-      subst (λ es. Finished (limits_of old.journal 0) conf es old.intake new.intake.entries turns (doing old.journal.disk new.journal.disk) w w' (course_of s).ending) o.entries_are
-      (subst (λ n. Finished (limits_of old.journal 0) conf old.intake.entries old.intake new.intake.entries n (doing old.journal.disk new.journal.disk) w w' (course_of s).ending) sum all)
+      let in_force : conf_behind flat (log_of kept) ≡ conf = ap (λ es. conf_behind flat (log_of es)) (sym o.entries_are) ∙ o.sound.in_force in
+      subst (λ (k : Conf). Finished (limits_of old.journal 0) k kept old.intake new.intake.entries turns (doing old.journal.disk new.journal.disk) w w' (course_of s).ending) (sym in_force)
+      (subst (λ es. Finished (limits_of old.journal 0) conf es old.intake new.intake.entries turns (doing old.journal.disk new.journal.disk) w w' (course_of s).ending) o.entries_are
+      (subst (λ n. Finished (limits_of old.journal 0) conf old.intake.entries old.intake new.intake.entries n (doing old.journal.disk new.journal.disk) w w' (course_of s).ending) sum all))
 
-  module _ {O : Type 0} (shows : O → SinkTells) (begins : Start) (kept : List Numbered) (outbox : SinkTells) (front : Fronted D) (turns : ℕ) (w w' : WireTells) (course : Course D O) where
+  module _ {O : Type 0} (shows : O → SinkTells) (flat : List ℕ → Conf) (kept : List Numbered) (outbox : SinkTells) (front : Fronted D) (turns : ℕ) (w w' : WireTells) (course : Course D O) where
     abbrev Gone : Type 0
-    Gone = HasGone tells shows begins kept outbox front turns w w' course
+    Gone = HasGone tells shows flat kept outbox front turns w w' course
 
     abbrev s : Status
     s = course.status
 
     -- one that got no book
     pub gone_held : course.began ≡ false → course.disk ≡ front.journal.disk → course.entries ≡ front.intake.entries → (error : BookError) → s ≡ book_status error
-        → IsBookless (log_lines begins (log_of kept)) outbox (shows course.outbox) (book_status error) → Gone
+        → IsBookless (log_lines flat (log_of kept)) outbox (shows course.outbox) (book_status error) → Gone
     gone_held isnt disk_is entries_are error is why = record {
       wire = λ e. absurd (not_wire error (sym is ∙ e));
       fault = λ e. fault_of error (sym is ∙ e) why;
       unprinted = subst IsUnprinted (sym is) (own error);
-      held_back = λ f. record { disk_is = disk_is; entries_are = entries_are; why = subst (IsBookless (log_lines begins (log_of kept)) outbox (shows course.outbox)) (sym is) why };
+      held_back = λ f. record { disk_is = disk_is; entries_are = entries_are; why = subst (IsBookless (log_lines flat (log_of kept)) outbox (shows course.outbox)) (sym is) why };
       mendable = λ so. absurd (clash so);
       finished = λ so. absurd (clash so);
       lines = λ so. absurd (clash so);
@@ -400,7 +425,7 @@ module _ {D : Type 0} (tells : D → DiskTells) where
         not_wire refusal.OutboxFault e = cc
         not_wire refusal.OutOfMemory e = cc
 
-        fault_of : (e : BookError) → book_status e ≡ status.OutboxFault → IsBookless (log_lines begins (log_of kept)) outbox (shows course.outbox) (book_status e) → Rose outbox.faults (shows course.outbox).faults
+        fault_of : (e : BookError) → book_status e ≡ status.OutboxFault → IsBookless (log_lines flat (log_of kept)) outbox (shows course.outbox) (book_status e) → Rose outbox.faults (shows course.outbox).faults
         fault_of (refusal.OutboxAhead h l) e w = absurd cc
         fault_of (refusal.OutboxDiffers at) e w = absurd cc
         fault_of refusal.OutboxFault e w = w
@@ -420,20 +445,20 @@ module _ {D : Type 0} (tells : D → DiskTells) where
 
     -- one that took events
     pub gone_course : (new : Fronted D) (t : Status) → course.began ≡ true → course.disk ≡ new.journal.disk → course.entries ≡ new.intake.entries → IsWorse t s → IsUnprinted t → (t ≡ status.WireFault → Rose w.faults w'.faults)
-        → IsMendable outbox (log_lines begins (log_of kept)) → Finished (limits_of front.journal 0) begins.stage.conf kept front.intake new.intake.entries turns (doing front.journal.disk new.journal.disk) w w' (course_of t).ending
-        → (s ≡ status.OutboxFault → Rose outbox.faults (shows course.outbox).faults) → LinesAre (course_of s).out outbox (shows course.outbox) (log_lines begins (log_of new.intake.entries))
-        → (s ≡ status.Ok → course.counts ≡ run_counts begins new.intake.entries) → Gone
+        → IsMendable outbox (log_lines flat (log_of kept)) → Finished (limits_of front.journal 0) (conf_behind flat (log_of kept)) kept front.intake new.intake.entries turns (doing front.journal.disk new.journal.disk) w w' (course_of t).ending
+        → (s ≡ status.OutboxFault → Rose outbox.faults (shows course.outbox).faults) → LinesAre (course_of s).out outbox (shows course.outbox) (log_lines flat (log_of new.intake.entries))
+        → (s ≡ status.Ok → course.counts ≡ counts_over flat new.intake.entries) → Gone
     gone_course new t is_so disk_is entries_are worse own wire mendable f fault lines counts_are = record {
       wire = wire_worse worse;
       fault = fault;
       unprinted = own_worse worse;
       held_back = λ isnt. absurd (true≢false (sym is_so ∙ isnt));
       mendable = λ y. mendable;
-      finished = λ y. subst (λ d. Finished (limits_of front.journal 0) begins.stage.conf kept front.intake course.entries turns (doing front.journal.disk d) w w' (course_of s).ending) (sym disk_is)
-          (subst (λ es. Finished (limits_of front.journal 0) begins.stage.conf kept front.intake es turns (doing front.journal.disk new.journal.disk) w w' (course_of s).ending) (sym entries_are)
-          (finished_worse (limits_of front.journal 0) begins.stage.conf kept front.intake new.intake.entries turns (doing front.journal.disk new.journal.disk) w w' t s worse wire f));
-      lines = λ y. subst (λ es. LinesAre (course_of s).out outbox (shows course.outbox) (log_lines begins (log_of es))) (sym entries_are) lines;
-      counts_are = λ is. subst (λ es. course.counts ≡ run_counts begins es) (sym entries_are) (counts_are is);
+      finished = λ y. subst (λ d. Finished (limits_of front.journal 0) (conf_behind flat (log_of kept)) kept front.intake course.entries turns (doing front.journal.disk d) w w' (course_of s).ending) (sym disk_is)
+          (subst (λ es. Finished (limits_of front.journal 0) (conf_behind flat (log_of kept)) kept front.intake es turns (doing front.journal.disk new.journal.disk) w w' (course_of s).ending) (sym entries_are)
+          (finished_worse (limits_of front.journal 0) (conf_behind flat (log_of kept)) kept front.intake new.intake.entries turns (doing front.journal.disk new.journal.disk) w w' t s worse wire f));
+      lines = λ y. subst (λ es. LinesAre (course_of s).out outbox (shows course.outbox) (log_lines flat (log_of es))) (sym entries_are) lines;
+      counts_are = λ is. subst (λ es. course.counts ≡ counts_over flat es) (sym entries_are) (counts_are is);
     }
       where
         wire_worse : IsWorse t s → s ≡ status.WireFault → Rose w.faults w'.faults

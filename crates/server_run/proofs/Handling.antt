@@ -1,5 +1,5 @@
 -- Laws of what events do over a journal whose disk refuses a group or none.
-use Rattle.std.proofs.Common.{◌≡◌, ℕ, ◌+◌, ◌≤◌, ◌<◌, Bool, true, false, List, [], ◌∷◌, ◌++◌, refl, sym, ap, ◌∙◌, subst, arith, append_assoc, append-nil, true≢false}
+use Rattle.std.proofs.Common.{◌≡◌, ℕ, ◌+◌, ◌≤◌, ◌<◌, max, Bool, true, false, List, [], ◌∷◌, ◌++◌, length, refl, sym, ap, ◌∙◌, subst, arith, append_assoc, append-nil, true≢false}
 use Rattle.std.specs.Prelude.{Option, Some, None, ◌==◌, ◌||◌, nat_lt, if◌then◌else◌}
 use Rattle.std.proofs.lemmas.Bool.{ne_eqb}
 use Rattle.zbx_types.specs.declared.conf.Conf.{Conf}
@@ -9,8 +9,15 @@ use Rattle.outside.specs.declared.event.WireEvent.{WireEvent}
 use Rattle.outside.specs.declared.event.WireEvent.TheVariants as event
 use Rattle.intake_front.specs.declared.answer.Stop.{Stop}
 use Rattle.intake_front.specs.declared.answer.Stop.TheVariants as stop
-use Rattle.intake_front.proofs.Sound.{sound_handled}
-use Rattle.intake_front.specs.Intake.{Limits, Intake, IsSound, numbered_behind, refused_at, refused, kept_with, ticked, stop_of, values_offered, behind_tick, tick_offered, offered, handled}
+use Rattle.std.specs.List.{All}
+use Rattle.std.proofs.lemmas.List.Elements.{All-head, All-tail}
+use Rattle.entry_step.specs.Each.{Each}
+use Rattle.entry_step.specs.InForce.{IsPlain}
+use Rattle.entry_step.proofs.Members.{each_append}
+use Rattle.wire_core.specs.Peers.{turn_of}
+use Rattle.outside.specs.Script.{moment_at}
+use Rattle.intake_front.proofs.Sound.{IsTakenAt, turned_fits, tick_fits, sound_handled}
+use Rattle.intake_front.specs.Intake.{Limits, Intake, Handled, IsSound, numbered_from, numbered_behind, is_due, half_minute, ticks_at, turned, come_to, refused_at, refused, kept_with, ticked, stop_of, values_offered, behind_tick, tick_offered, offered, handled}
 use Rattle.intake_front.specs.Served.{Served, grown, served_on, served_from, served}
 use Rattle.server_run.specs.Stops.{refusing}
 
@@ -127,45 +134,57 @@ front_groups limits conf i a b =
     let start : Served = record { intake = i; replies = []; shut = []; stop = None } in
     subst (λ (s : Served). (served limits conf i a).intake.groups ≤ s.intake.groups) (sym (served_from-append limits conf start a b)) (from_groups limits conf (served limits conf i a) b)
 
--- ---- entries grow
+-- ---- entries grow, by Values and Ticks
 
 abbrev Grows : Intake → Intake → Type 0
-Grows old new = (more : List Numbered) × (new.entries ≡ old.entries ++ more)
+Grows old new = (more : List Numbered) × (new.entries ≡ old.entries ++ more) × Each IsPlain more
 
 stays : (i : Intake) → Grows i i
-stays i = ([], sym (append-nil i.entries))
+stays i = ([], sym (append-nil i.entries), tt)
 
 grows_on : (a b c : Intake) → Grows a b → Grows b c → Grows a c
-grows_on a b c p q = (p.0 ++ q.0, q.1 ∙ ap (λ l. l ++ q.0) p.1 ∙ append_assoc a.entries p.0 q.0)
+grows_on a b c p q = (p.0 ++ q.0, q.1 ∙ ap (λ l. l ++ q.0) p.1 ∙ append_assoc a.entries p.0 q.0, each_append IsPlain p.0 q.0 p.2 q.2)
 
-kept_grows : (i : Intake) (group : List Entry) → Grows i (kept_with i group)
-kept_grows i [] = stays i
-kept_grows i (e ∷ es) = (_, refl)
+module _ (conf : Conf) (now : ℕ) where
+  abbrev AllTaken : List Entry → Type 0
+  AllTaken group = All (IsTakenAt conf now) group
 
-ticked_grows : (i : Intake) (ticks : List Entry) → Grows i (ticked i ticks)
-ticked_grows i [] = stays i
-ticked_grows i (e ∷ es) = (_, refl)
+  taken_plain : (n : ℕ) (group : List Entry) → AllTaken group → Each IsPlain (numbered_from n group)
+  taken_plain n [] all = tt
+  taken_plain n (e ∷ es) all = ((All-head (IsTakenAt conf now) e es all).plain, taken_plain (n + 1) es (All-tail (IsTakenAt conf now) e es all))
 
-values_grow : (i : Intake) (ticks : List Numbered) (made : _) (last o : Option Stop) → Grows i (values_offered i ticks made last o).intake
-values_grow i ticks made last None = kept_grows i made.group
-values_grow i ticks made last (Some s) = stays i
+  kept_grows : (i : Intake) (group : List Entry) → AllTaken group → Grows i (kept_with i group)
+  kept_grows i [] all = stays i
+  kept_grows i (e ∷ es) all = (numbered_behind i.before i.entries (e ∷ es), refl, taken_plain (i.before + length i.entries + 1) (e ∷ es) all)
 
-behind_grow : (limits : Limits) (i : Intake) (ticks : List Numbered) (made : _) (last : Option Stop) → Grows i (behind_tick limits i ticks made last).intake
-unfolding behind_tick
-behind_grow limits i ticks made last = values_grow i ticks made last (refused limits i made.group)
+  ticked_grows : (i : Intake) (ticks : List Entry) → AllTaken ticks → Grows i (ticked i ticks)
+  ticked_grows i [] all = stays i
+  ticked_grows i (e ∷ es) all = (numbered_behind i.before i.entries (e ∷ es), refl, taken_plain (i.before + length i.entries + 1) (e ∷ es) all)
 
-tick_grow : (limits : Limits) (i : Intake) (ticks : List Entry) (made : _) (last o : Option Stop) → Grows i (tick_offered limits i ticks made last o).intake
-tick_grow limits i ticks made last None = grows_on i (ticked i ticks) (behind_tick limits (ticked i ticks) (numbered_behind i.before i.entries ticks) made last).intake (ticked_grows i ticks) (behind_grow limits (ticked i ticks) (numbered_behind i.before i.entries ticks) made last)
-tick_grow limits i ticks made last (Some s) = stays i
+  values_grow : (i : Intake) (ticks : List Numbered) (made : _) (last o : Option Stop) (h : Handled) → h ≡ values_offered i ticks made last o → AllTaken made.group → Grows i h.intake
+  values_grow i ticks made last None h is all = subst (λ (x : Handled). Grows i x.intake) (sym is) (kept_grows i made.group all)
+  values_grow i ticks made last (Some s) h is all = subst (λ (x : Handled). Grows i x.intake) (sym is) (stays i)
 
-offered_grow : (limits : Limits) (i : Intake) (ticks : List Entry) (made : _) (last : Option Stop) → Grows i (offered limits i ticks made last).intake
-unfolding offered
-offered_grow limits i ticks made last = tick_grow limits i ticks made last (refused limits i ticks)
+  behind_grow : (limits : Limits) (i : Intake) (ticks : List Numbered) (made : _) (last : Option Stop) (h : Handled) → h ≡ behind_tick limits i ticks made last → AllTaken made.group → Grows i h.intake
+  unfolding behind_tick
+  behind_grow limits i ticks made last h is all = values_grow i ticks made last (refused limits i made.group) h is all
 
--- an event's entries stand behind those that were there
-pub grows : (limits : Limits) (conf : Conf) (i : Intake) (e : WireEvent) → (more : List Numbered) × ((handled limits conf i e).intake.entries ≡ i.entries ++ more)
+  tick_grow : (limits : Limits) (i : Intake) (ticks : List Entry) (made : _) (last o : Option Stop) (h : Handled) → h ≡ tick_offered limits i ticks made last o → AllTaken ticks → AllTaken made.group → Grows i h.intake
+  tick_grow limits i ticks made last None h is all values =
+      grows_on i (ticked i ticks) h.intake (ticked_grows i ticks all) (behind_grow limits (ticked i ticks) (numbered_behind i.before i.entries ticks) made last h is values)
+  tick_grow limits i ticks made last (Some s) h is all values = subst (λ (x : Handled). Grows i x.intake) (sym is) (stays i)
+
+  offered_grow : (limits : Limits) (i : Intake) (ticks : List Entry) (made : _) (last : Option Stop) (h : Handled) → h ≡ offered limits i ticks made last → AllTaken ticks → AllTaken made.group → Grows i h.intake
+  unfolding offered
+  offered_grow limits i ticks made last h is all values = tick_grow limits i ticks made last (refused limits i ticks) h is all values
+
+-- an event's entries stand behind those that were there, and none is a Config
+pub grows : (limits : Limits) (conf : Conf) (i : Intake) (e : WireEvent) → (more : List Numbered) × ((handled limits conf i e).intake.entries ≡ i.entries ++ more) × Each IsPlain more
 unfolding handled
-grows limits conf i e = offered_grow limits _ _ _ _
+grows limits conf i e =
+    let now = max i.now (moment_at e) in
+    let t = turn_of i.peers now e in
+    offered_grow conf now limits (come_to i e) (ticks_at i.tick now) (turned conf now t) (stop_of e) _ refl (tick_fits conf now (is_due i.tick (half_minute now))) (turned_fits conf now t)
 
 on_grow : (o : Option Stop) (limits : Limits) (conf : Conf) (s : Served) (e : WireEvent) → Grows s.intake (served_on o limits conf s e).intake
 on_grow (Some x) limits conf s e = stays s.intake
@@ -177,22 +196,23 @@ from_grow limits conf s (e ∷ es) =
     let next = served_on s.stop limits conf s e in grows_on s.intake next.intake (served_from limits conf next es).intake (on_grow s.stop limits conf s e) (from_grow limits conf next es)
 
 -- and so do those of a list of events
-pub served_grow : (limits : Limits) (conf : Conf) (i : Intake) (es : List WireEvent) → (more : List Numbered) × ((served limits conf i es).intake.entries ≡ i.entries ++ more)
-served_grow limits conf i es = from_grow limits conf (record { intake = i; replies = []; shut = []; stop = None }) es
+pub served_plain : (limits : Limits) (conf : Conf) (i : Intake) (es : List WireEvent) → (more : List Numbered) × ((served limits conf i es).intake.entries ≡ i.entries ++ more) × Each IsPlain more
+served_plain limits conf i es = from_grow limits conf (record { intake = i; replies = []; shut = []; stop = None }) es
 
 -- ---- entries stay whole and fit
 
-on_sound : (o : Option Stop) (limits : Limits) (conf : Conf) (s : Served) (e : WireEvent) → IsSound conf s.intake → IsSound conf (served_on o limits conf s e).intake
-on_sound (Some x) limits conf s e sound = sound
-on_sound None limits conf s e sound = sound_handled limits conf s.intake e sound
+module _ (flat : List ℕ → Conf) where
+  on_sound : (o : Option Stop) (limits : Limits) (conf : Conf) (s : Served) (e : WireEvent) → IsSound flat conf s.intake → IsSound flat conf (served_on o limits conf s e).intake
+  on_sound (Some x) limits conf s e sound = sound
+  on_sound None limits conf s e sound = sound_handled limits flat conf s.intake e sound
 
-from_sound : (limits : Limits) (conf : Conf) (s : Served) (es : List WireEvent) → IsSound conf s.intake → IsSound conf (served_from limits conf s es).intake
-from_sound limits conf s [] sound = sound
-from_sound limits conf s (e ∷ es) sound = from_sound limits conf (served_on s.stop limits conf s e) es (on_sound s.stop limits conf s e sound)
+  from_sound : (limits : Limits) (conf : Conf) (s : Served) (es : List WireEvent) → IsSound flat conf s.intake → IsSound flat conf (served_from limits conf s es).intake
+  from_sound limits conf s [] sound = sound
+  from_sound limits conf s (e ∷ es) sound = from_sound limits conf (served_on s.stop limits conf s e) es (on_sound s.stop limits conf s e sound)
 
--- what events make of a sound intake is one
-pub served_sound : (limits : Limits) (conf : Conf) (i : Intake) (es : List WireEvent) → IsSound conf i → IsSound conf (served limits conf i es).intake
-served_sound limits conf i es sound = from_sound limits conf (record { intake = i; replies = []; shut = []; stop = None }) es sound
+  -- what events make of a sound intake is one
+  pub served_sound : (limits : Limits) (conf : Conf) (i : Intake) (es : List WireEvent) → IsSound flat conf i → IsSound flat conf (served limits conf i es).intake
+  served_sound limits conf i es sound = from_sound limits conf (record { intake = i; replies = []; shut = []; stop = None }) es sound
 
 -- ---- a disk that refuses no group stops nothing
 

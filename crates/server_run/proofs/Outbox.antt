@@ -1,9 +1,9 @@
 -- Laws of what an outbox has of the lines of a run's entries.
-use Rattle.entry_step.specs.Start.{Start}
 use Rattle.std.proofs.Common.{◌≡◌, ◌⊎◌, ℕ, ◌+◌, ◌≤◌, List, [], ◌++◌, length, length-append, take, drop, reverse, refl, sym, ap, ◌∙◌, subst, arith, ◌∷◌, inl, inr}
 use Rattle.std.proofs.lemmas.List.{reverse-append, take-append-le}
 use Rattle.std.specs.Prelude.{Option, Some, None, IfSome, unwrap_or}
 use mathlib.Core.List.{IsPrefix}
+use Rattle.zbx_types.specs.declared.conf.Conf.{Conf}
 use Rattle.zbx_types.specs.declared.entries.Numbered.{Numbered}
 use Rattle.outside.specs.Others.{first_other}
 use Rattle.outside.specs.Tells.{SinkTells}
@@ -11,11 +11,11 @@ use Rattle.outside.proofs.OtherLemmas.{or_then}
 use Rattle.entry_step.specs.Log.{log_of}
 use Rattle.server_words.specs.declared.status.Status.{Status}
 use Rattle.server_words.specs.declared.status.Status.TheVariants as status
-use Rattle.book.specs.Outgoing.{HasFront, HasAll, IsLeft, log_lines, stays}
+use Rattle.book_opening.specs.Outgoing.{HasFront, HasAll, IsLeft, log_lines, stays}
 use Rattle.server_run.specs.Statuses.{Extent, no_lines, all_lines, front_lines, course_of, IsCourse, EndsPrinted}
 use Rattle.server_run.specs.Outbox.{LinesAre}
-use Rattle.book.proofs.Comparing.{other_more, stays_more}
-use Rattle.book.proofs.Growing.{lines_newer}
+use Rattle.book_opening.proofs.Comparing.{other_more, stays_more}
+use Rattle.book_opening.proofs.Growing.{lines_newer}
 
 -- an outbox that was left alone
 pub left_so : (outbox : SinkTells) → IsLeft outbox outbox
@@ -56,39 +56,39 @@ front_grown outbox sink lines more front = record { size = omega (arith, front.s
 prefix_log : (a rest : List Numbered) → log_of (a ++ rest) ≡ reverse rest ++ log_of a
 prefix_log a rest = reverse-append a rest
 
-pub front_of_more : (start : Start) (a all : List Numbered) (outbox sink : SinkTells) → IsPrefix a all → HasFront outbox sink (log_lines start (log_of a)) → HasFront outbox sink (log_lines start (log_of all))
-front_of_more start a all outbox sink (rest, is) front =
-    let newer = lines_newer start (reverse rest) (log_of a) in
-    let before = log_lines start (log_of a) in
-    let lines : log_lines start (log_of all) ≡ before ++ newer.0 = ap (λ l. log_lines start (log_of l)) (sym is) ∙ ap (log_lines start) (prefix_log a rest) ∙ newer.1 in
+pub front_of_more : (flat : List ℕ → Conf) (a all : List Numbered) (outbox sink : SinkTells) → IsPrefix a all → HasFront outbox sink (log_lines flat (log_of a)) → HasFront outbox sink (log_lines flat (log_of all))
+front_of_more flat a all outbox sink (rest, is) front =
+    let newer = lines_newer flat (reverse rest) (log_of a) in
+    let before = log_lines flat (log_of a) in
+    let lines : log_lines flat (log_of all) ≡ before ++ newer.0 = ap (λ l. log_lines flat (log_of l)) (sym is) ∙ ap (log_lines flat) (prefix_log a rest) ∙ newer.1 in
     subst (HasFront outbox sink) (sym lines) (front_grown outbox sink before newer.0 front)
 
 -- ---- what a run leaves
 
 -- what stands of the lines of all entries where the last of them were written
-pub written_whole : (start : Start) (a all : List Numbered) (outbox sink : SinkTells) (s : Status) → IsCourse s → (s ≡ status.OutOfMemory → IsPrefix a all) → ((s ≡ status.OutOfMemory → ⊥) → a ≡ all)
-    → HasAll outbox sink (log_lines start (log_of a)) → LinesAre (course_of s).out outbox sink (log_lines start (log_of all))
-written_whole start a all outbox sink s course spent whole has = by s course refl
+pub written_whole : (flat : List ℕ → Conf) (a all : List Numbered) (outbox sink : SinkTells) (s : Status) → IsCourse s → (s ≡ status.OutOfMemory → IsPrefix a all) → ((s ≡ status.OutOfMemory → ⊥) → a ≡ all)
+    → HasAll outbox sink (log_lines flat (log_of a)) → LinesAre (course_of s).out outbox sink (log_lines flat (log_of all))
+written_whole flat a all outbox sink s course spent whole has = by s course refl
   where
-    all_of_them : (s ≡ status.OutOfMemory → ⊥) → HasAll outbox sink (log_lines start (log_of all))
-    all_of_them other = subst (λ es. HasAll outbox sink (log_lines start (log_of es))) (whole other) has
+    all_of_them : (s ≡ status.OutOfMemory → ⊥) → HasAll outbox sink (log_lines flat (log_of all))
+    all_of_them other = subst (λ es. HasAll outbox sink (log_lines flat (log_of es))) (whole other) has
 
-    by : (t : Status) → IsCourse t → s ≡ t → LinesAre (course_of t).out outbox sink (log_lines start (log_of all))
+    by : (t : Status) → IsCourse t → s ≡ t → LinesAre (course_of t).out outbox sink (log_lines flat (log_of all))
     by status.Ok c is = all_of_them (λ e. cc)
     by status.PrintFault c is = all_of_them (λ e. cc)
     by status.TurnLimit c is = all_of_them (λ e. cc)
     by status.WireFault c is = all_of_them (λ e. cc)
     by status.OutboxFault c is = all_front outbox sink _ (all_of_them (λ e. cc))
-    by status.OutOfMemory c is = front_of_more start a all outbox sink (spent is) (all_front outbox sink _ has)
+    by status.OutOfMemory c is = front_of_more flat a all outbox sink (spent is) (all_front outbox sink _ has)
     by status.DiskFault c is = all_of_them (λ e. cc)
     by (status.Full entries bytes) c is = all_of_them (λ e. cc)
     by _ c is = absurd c
 
 -- and where some weren't
-pub written_front : (start : Start) (a all : List Numbered) (outbox sink : SinkTells) (s : Status) → (s ≡ status.OutOfMemory) ⊎ (s ≡ status.OutboxFault) → IsPrefix a all
-    → HasFront outbox sink (log_lines start (log_of a)) → LinesAre (course_of s).out outbox sink (log_lines start (log_of all))
-written_front start a all outbox sink s (inl is) front has = subst (λ t. LinesAre (course_of t).out outbox sink (log_lines start (log_of all))) (sym is) (front_of_more start a all outbox sink front has)
-written_front start a all outbox sink s (inr is) front has = subst (λ t. LinesAre (course_of t).out outbox sink (log_lines start (log_of all))) (sym is) (front_of_more start a all outbox sink front has)
+pub written_front : (flat : List ℕ → Conf) (a all : List Numbered) (outbox sink : SinkTells) (s : Status) → (s ≡ status.OutOfMemory) ⊎ (s ≡ status.OutboxFault) → IsPrefix a all
+    → HasFront outbox sink (log_lines flat (log_of a)) → LinesAre (course_of s).out outbox sink (log_lines flat (log_of all))
+written_front flat a all outbox sink s (inl is) front has = subst (λ t. LinesAre (course_of t).out outbox sink (log_lines flat (log_of all))) (sym is) (front_of_more flat a all outbox sink front has)
+written_front flat a all outbox sink s (inr is) front has = subst (λ t. LinesAre (course_of t).out outbox sink (log_lines flat (log_of all))) (sym is) (front_of_more flat a all outbox sink front has)
 
 -- ---- printing changes no line
 

@@ -2,14 +2,9 @@
 use Rattle.std.proofs.Common.{◌≡◌, ◌⊎◌, ⊎_elim, ℕ, List, [], ◌∷◌, ◌++◌, ◌≤◌, length, refl, sym, ap, ap₂, ◌∙◌, subst, arith, inl, inr}
 use Rattle.std.specs.Prelude.{Option, Some, None, Result, Ok, Err, IfSome, IsSome, is_some}
 use Rattle.std.specs.Option.{option_to_list}
-use Rattle.std.specs.List.{flat_map}
-use Rattle.std.specs.Result.{result_ok}
 use Rattle.std.specs.Io.KnownBytes.{IsAtEnd}
 use Rattle.std.proofs.KnownBytes.{Consumes-nil}
-use Rattle.std.proofs.lemmas.List.Concat.{flat_map-cons}
 use Rattle.zbx_types.specs.declared.conf.Conf.{Conf}
-use Rattle.zbx_types.specs.declared.entries.Entry.{Entry}
-use Rattle.zbx_types.specs.declared.entries.Entry.TheVariants.{Config, Value, Tick}
 use Rattle.zbx_types.specs.declared.entries.Numbered.{Numbered}
 use Rattle.outside.specs.Causes.{Rose}
 use Rattle.outside.specs.Disk.{DiskTells, IsLawful, LeavesOnly}
@@ -19,11 +14,12 @@ use Rattle.config_templates.specs.Flat.{flat_of}
 use Rattle.host_layout.specs.Places.{Flaw, refuse}
 use Rattle.host_layout.specs.Places.Flaw.{refused}
 use Rattle.zbx_types.specs.declared.causes.Cause.{Cause}
-use Rattle.entry_step.specs.Start.{first_start}
-use Rattle.entry_step.specs.Log.{log_of, IsFull, Fits}
+use Rattle.entry_step.specs.InForce.{conf_behind, behind_all, FitsLog}
+use Rattle.entry_laws.proofs.InForce.{conf_is_behind}
+use Rattle.entry_step.specs.Log.{log_of, IsFull}
 use Rattle.intake_journal.specs.Settled.{KeepsAsOneOf}
 use Rattle.intake_journal.specs.declared.format.Group.{Group}
-use Rattle.intake_front.specs.Intake.{Limits, Intake, IsSound, numbered_from, start}
+use Rattle.intake_front.specs.Intake.{Limits, Intake, IsSound, last_text}
 use Rattle.intake_front.specs.Served.{served}
 use Rattle.intake_front.specs.Fronted.{Fronted, numbered_of, limits_of}
 use Rattle.intake_front.specs.declared.answer.Stop.{Stop}
@@ -33,28 +29,31 @@ use Rattle.server_words.specs.declared.status.Status.{Status}
 use Rattle.server_words.specs.declared.status.Status.TheVariants as status
 use Rattle.server_words.specs.Words.{plan_of}
 use Rattle.server_words.specs.Printed.{printed_text}
-use Rattle.book.specs.Outgoing.{Grew, GrewByFront, IsMendable}
+use Rattle.book_opening.specs.Outgoing.{Grew, GrewByFront, IsMendable}
 use Rattle.server_run.specs.Ports.{IsTextUpTo, ReadsUpTo}
 use Rattle.pattern_set.specs.Patterns.{IsNoPattern}
-use Rattle.server_run.specs.Patterns.{HasFlawAt, HoldsBrace}
-use Rattle.book.specs.Outgoing.{log_lines}
-use Rattle.server_run.specs.Replayed.{conf_in, conf_of_run}
-use Rattle.server_run.specs.Opening.{config_text, first_text, IsAccepted, FoundEntries, OfLines, opening_lines, opening_entries}
-use Rattle.server_run.specs.Reasons.{Reason, no_reason, in_words, by_memory, by_source, in_text, by_disk, in_journal, by_outbox, in_outbox, reason_of, ends_opening, IsRefusal, names_object, IsBarring, IsUntaken, unconfigured_for, Unconfigured, bars_for, unopened_for, Unopened, has_for, enters_for}
-use Rattle.server_run.specs.Resumed.{TurnedAway, HasBegun}
+use Rattle.journal_opening.specs.Patterns.{HasFlawAt, HoldsBrace}
+use Rattle.journal_opening.specs.Recovered.{journal_bytes}
+use Rattle.journal_opening.specs.Replayed.{flat, AreFlat, run_lines, run_counts}
+use Rattle.journal_opening.specs.Opening.{FoundEntries, OfLines, opening_intake, opening_lines, opening_entries}
+use Rattle.journal_opening.specs.Reasons.{Reason, no_reason, in_words, by_memory, by_source, in_text, by_disk, in_journal, by_outbox, in_outbox, reason_of, ends_opening, IsRefusal, names_object, IsBarring, IsUntaken, unconfigured_for, Unconfigured, bars_for, unopened_for, Unopened, has_for, enters_for}
+use Rattle.journal_opening.specs.Resumed.{TurnedAway, HasBegun}
 use Rattle.server_run.specs.Statuses.{Ending, never, at_closed, at_limit, at_wire_fault, at_disk_fault, at_full, anywhere, at_refusal, course_of, cut_short, IsEnding, IsCourse, IsUnprinted, EndsPrinted, EndsAs, LeftIs}
-use Rattle.server_run.specs.Stops.{refusing, KeepsSome, IsEither, IsReached, Journals}
+use Rattle.server_run.specs.Stops.{refusing, IsReached}
+use Rattle.journal_opening.specs.Journals.{KeepsSome, IsEither, Journals}
 use Rattle.server_run.specs.Events.{Doing}
 use Rattle.server_run.specs.Going.{IsOpened, IsHeldBack, IsBookless}
-use Rattle.server_run.specs.Outbox.{LinesAre, IsAhead, IsOther}
-use Rattle.server_run.specs.Tally.{run_counts}
-use Rattle.server_run.specs.Runs.{Objects, IsConfigured, Refuses, IsBarred, FoundBy, BeginsBy, HasBy, EntersBy, Unbegun, Opened, Finished, Followed, Prints, limits_by, opening_intake}
-use Rattle.book.proofs.Growing.{all_front, none_front}
-use Rattle.server_run.proofs.Handling.{served_grow, served_sound}
-use Rattle.server_run.proofs.Logs.{conf_front}
+use Rattle.server_run.specs.Outbox.{LinesAre}
+use Rattle.journal_opening.specs.Outbox.{IsAhead, IsOther}
+use Rattle.server_run.specs.Runs.{Objects, IsConfigured, Refuses, IsBarred, FoundBy, BeginsBy, HasBy, EntersBy, Unbegun, Opened, Finished, Followed, Prints, limits_by}
+use Rattle.book_opening.proofs.Growing.{all_front, none_front}
+use Rattle.server_run.proofs.Handling.{served_plain, served_sound}
+use Rattle.journal_opening.proofs.KeptTexts.{opening_flat, opening_last, flat_on, last_on}
 use Rattle.server_run.proofs.Outbox.{lines_printed}
-use Rattle.server_run.proofs.Stopping.{journals_on, leaves_more}
-use Rattle.server_run.proofs.Texts.{text_told, text_kept, flaw_told, at_end_of}
+use Rattle.server_run.proofs.Stopping.{journals_on}
+use Rattle.journal_opening.proofs.Leaving.{leaves_more}
+use Rattle.server_run.proofs.Texts.{text_told, flaw_told, at_end_of}
+use Rattle.journal_opening.proofs.Texts.{text_kept}
 
 some_plan : (o : Option Plan) (plan : Plan) → o ≡ Some plan → IsSome o
 some_plan o plan is = ap is_some is
@@ -178,9 +177,10 @@ unbegun_turned words source source' faults faults' wire wire' outbox outbox' tur
     by es found = (c.plan, conf, c.configured, found)
 
 pub opened : {D : Type 0} (tells : D → DiskTells) (words : List (List ℕ)) (source source' : Option (List ℕ)) (turns most : ℕ) (conf : Conf) (old : D) (made : Fronted D)
-    → IsConfigured words source source' turns most conf → HasBegun tells conf most old made → Opened tells words source source' old turns conf made
+    → IsConfigured words source source' turns most conf → HasBegun tells conf most old made → Opened tells words source source' old turns made
 opened tells words source source' turns most conf old made c b = record {
   plan = c.plan;
+  conf = conf;
   configured = c.configured;
   turns_are = c.turns_are;
   at_end = c.at_end;
@@ -190,36 +190,16 @@ opened tells words source source' turns most conf old made c b = record {
 abbrev limits_at : ℕ → ℕ → Limits
 limits_at a b = record { max_entries = a; max_bytes = b; stop = 0 }
 
--- the configuration of the entries with which a run goes on is its own
-conf_in_first : (conf : Conf) (e : Entry) → flat_of conf.text ≡ Ok conf → config_text e ≡ Some conf.text → conf_in e ≡ Some conf
-conf_in_first conf (Config now text) is same = let texts : text ≡ conf.text = some_same text conf.text same in ap (λ t. result_ok (flat_of t)) texts ∙ ap result_ok is
-  where
-    some_same : (a b : List ℕ) → Some a ≡ Some b → a ≡ b
-    some_same a b h = cc
-conf_in_first conf (Value now item time value) is same = absurd (cc)
-conf_in_first conf (Tick now) is same = absurd (cc)
-
-conf_in_entries : (conf : Conf) (es rest : List Entry) → flat_of conf.text ≡ Ok conf → first_text es ≡ Some conf.text → conf_of_run (start conf.text (numbered_from 1 (es ++ rest)) 0).entries ≡ Some conf
-conf_in_entries conf [] rest is same = absurd (cc)
-conf_in_entries conf (e ∷ es) rest is same = conf_in_first conf e is same
-
-entries_any : (text : List ℕ) (kept : List Numbered) (a b : ℕ) → (start text kept a).entries ≡ (start text kept b).entries
-entries_any text [] a b = refl
-entries_any text (e ∷ es) a b = refl
-
-conf_of_groups : (conf : Conf) (groups : List Group) → flat_of conf.text ≡ Ok conf → IsAccepted conf groups → conf_of_run (opening_entries conf groups) ≡ Some conf
-conf_of_groups conf [] is accepted = ap result_ok is
-conf_of_groups conf (g ∷ gs) is accepted =
-    let parts : numbered_of (g ∷ gs) ≡ numbered_from 1 (g.entries ++ flat_map (λ (h : Group). h.entries) gs) = ap (numbered_from 1) (flat_map-cons (λ (h : Group). h.entries) g gs) in
-    ap conf_of_run (entries_any conf.text (numbered_of (g ∷ gs)) _ 0 ∙ ap (λ k. (start conf.text k 0).entries) parts) ∙ conf_in_entries conf g.entries _ is accepted.0
-
 module _ {D : Type 0} (tells : D → DiskTells) (words : List (List ℕ)) (source source' : Option (List ℕ)) where
-  module _ (turns : ℕ) (old : D) (conf : Conf) (made : Fronted D) (o : Opened tells words source source' old turns conf made) where
+  module _ (turns : ℕ) (old : D) (made : Fronted D) (o : Opened tells words source source' old turns made) where
+    abbrev conf : Conf
+    conf = o.conf
+
     are : made.intake.entries ≡ opening_entries conf o.begun.groups
     are = ap (λ (i : Intake). i.entries) o.begun.intake_is
 
     -- the front with which a run begins that was opened
-    pub is_opened : (kept : List Numbered) → kept ≡ made.intake.entries → IsOpened tells conf kept made
+    is_opened : (kept : List Numbered) → kept ≡ made.intake.entries → IsOpened tells flat o.conf kept made
     is_opened kept same = record {
       going = o.begun.ready;
       idle = o.begun.idle;
@@ -228,9 +208,17 @@ module _ {D : Type 0} (tells : D → DiskTells) (words : List (List ℕ)) (sourc
       durable = o.begun.journaled.kept (λ none. cc);
     }
 
-    -- the lines of its entries are those of its groups
-    kept_lines : (kept : List Numbered) → kept ≡ made.intake.entries → log_lines (first_start conf) (log_of kept) ≡ opening_lines conf o.begun.groups
-    kept_lines kept same = ap (λ es. log_lines (first_start conf) (log_of es)) (same ∙ are)
+    -- its configuration is in force behind them
+    pub in_force : (kept : List Numbered) → kept ≡ made.intake.entries → conf_behind flat (log_of kept) ≡ o.conf
+    in_force kept same = ap (λ es. conf_behind flat (log_of es)) same ∙ o.begun.sound.in_force
+
+    -- and so it is in what they leave
+    pub opened_behind : (kept : List Numbered) → kept ≡ made.intake.entries → IsOpened tells flat (behind_all flat (log_of kept)).stage.conf kept made
+    opened_behind kept same = subst (λ (c : Conf). IsOpened tells flat c kept made) (sym (conf_is_behind flat (log_of kept) ∙ in_force kept same)) (is_opened kept same)
+
+    -- the lines of its entries are those with which it goes on behind its groups
+    kept_lines : (kept : List Numbered) → kept ≡ made.intake.entries → run_lines kept ≡ opening_lines conf o.begun.groups
+    kept_lines kept same = ap run_lines (same ∙ are)
 
     -- what the objects tell before a run and behind it
     abbrev at_first : ℕ → WireTells → D → SinkTells → Objects
@@ -241,7 +229,7 @@ module _ {D : Type 0} (tells : D → DiskTells) (words : List (List ℕ)) (sourc
 
     -- a run that got no book didn't begin
     pub unbegun_held : (faults faults' : ℕ) (wire wire' : WireTells) (outbox outbox' : SinkTells) (kept : List Numbered) → kept ≡ made.intake.entries → (new : D) (entries : List Numbered) (s : Status)
-        → IsHeldBack (log_lines (first_start conf) (log_of kept)) outbox outbox' made new entries s → Unbegun words (at_first faults wire old outbox) (at_last faults' wire' new outbox') entries s
+        → IsHeldBack (run_lines kept) outbox outbox' made new entries s → Unbegun words (at_first faults wire old outbox) (at_last faults' wire' new outbox') entries s
     unbegun_held faults faults' wire wire' outbox outbox' kept same new entries s h =
         subst (λ d. Unbegun words (at_first faults wire old outbox) (at_last faults' wire' d outbox') entries s) (sym h.disk_is) (record {
           why = inr (o.plan, conf, o.configured, why s h.why);
@@ -262,10 +250,10 @@ module _ {D : Type 0} (tells : D → DiskTells) (words : List (List ℕ)) (sourc
         found = (o.plan, conf, o.configured, (o.begun.groups, o.begun.found, inr entries_are))
 
         Bookless : Status → Type 0
-        Bookless s = IsBookless (log_lines (first_start conf) (log_of kept)) outbox outbox' s
+        Bookless s = IsBookless (run_lines kept) outbox outbox' s
 
-        over : (Is : List ℕ → Type 0) → Is (log_lines (first_start conf) (log_of kept)) → OfLines conf (tells old).bytes Is
-        over Is is = (o.begun.groups, o.begun.found, o.begun.accepted, subst Is (kept_lines kept same) is)
+        over : (Is : List ℕ → Type 0) → Is (run_lines kept) → OfLines o.plan.max_entries conf (tells old).bytes Is
+        over Is is = (o.begun.groups, o.begun.found, o.begun.accepted, o.begun.room, subst Is (kept_lines kept same) is)
 
         why : (s : Status) → Bookless s → Unopened conf o.plan.max_entries (tells old) (tells made.journal.disk) outbox outbox' s
         why status.OutOfMemory spent = tt
@@ -294,24 +282,26 @@ module _ {D : Type 0} (tells : D → DiskTells) (words : List (List ℕ)) (sourc
         among : (es : List Numbered) → IsEither (numbered_of o.begun.groups) made.intake.entries es → FoundBy words source (tells old).bytes es
         among es is = (o.plan, conf, o.configured, (o.begun.groups, o.begun.found, ⊎_elim (λ kept. inl kept) (λ here. inr (here ∙ are)) is))
 
-    -- the configuration of a run's entries is its own
-    pub conf_kept : (kept : List Numbered) → kept ≡ made.intake.entries → (did : Doing) (entries : List Numbered) (wire wire' : WireTells) (e : Ending)
-        → Finished (limits_of made.journal 0) conf kept made.intake entries turns did wire wire' e → conf_of_run entries ≡ Some conf
-    conf_kept kept same did entries wire wire' e f =
-        let grown = served_grow (refusing (limits_of made.journal 0) f.refused) conf made.intake f.handled in
-        let first : conf_of_run made.intake.entries ≡ Some conf = ap conf_of_run are ∙ conf_of_groups conf o.begun.groups o.configured.conf_is o.begun.accepted in
-        ap conf_of_run (f.entries_are ∙ grown.1) ∙ conf_front made.intake.entries grown.0 conf first
+    -- the texts of the Configs among its entries are accepted, and the last one is its own
+    kept_flat : AreFlat made.intake.entries
+    kept_flat = subst AreFlat (sym are) (opening_flat conf (numbered_of o.begun.groups) o.configured.conf_is o.begun.accepted.0 (journal_bytes o.begun.groups))
+
+    kept_last : last_text (log_of made.intake.entries) ≡ Some conf.text
+    kept_last = ap (λ es. last_text (log_of es)) are ∙ opening_last conf (numbered_of o.begun.groups) o.configured.conf_is o.begun.accepted.0 (journal_bytes o.begun.groups)
 
     -- one that got its book took events
-    pub followed : (faults faults' : ℕ) (wire wire' : WireTells) (outbox outbox' : SinkTells) (kept : List Numbered) → kept ≡ made.intake.entries → IsMendable outbox (log_lines (first_start conf) (log_of kept))
+    pub followed : (faults faults' : ℕ) (wire wire' : WireTells) (outbox outbox' : SinkTells) (kept : List Numbered) → kept ≡ made.intake.entries → IsMendable outbox (run_lines kept)
         → (new : D) (entries : List Numbered) (s : Status) (IsTold : Counts → Type 0)
         → Finished (limits_of made.journal 0) conf kept made.intake entries turns (Journals (λ c. ⊥) (tells made.journal.disk) (tells new)) wire wire' (course_of s).ending
-        → LinesAre (course_of s).out outbox outbox' (log_lines (first_start conf) (log_of entries)) → IsTold (run_counts (first_start conf) entries)
+        → LinesAre (course_of s).out outbox outbox' (run_lines entries) → IsTold (run_counts entries)
         → Followed words (at_first faults wire old outbox) (at_last faults' wire' new outbox') s entries IsTold
     followed faults faults' wire wire' outbox outbox' kept same mendable new entries s IsTold f lines counts =
         let begun = o.begun in
         let limits : limits_of made.journal 0 ≡ limits_by o.plan = ap₂ (λ a b. limits_at a b) begun.limits.0 begun.limits.1 in
-        let sound : IsSound conf (served (refusing (limits_of made.journal 0) f.refused) conf made.intake f.handled).intake = served_sound (refusing (limits_of made.journal 0) f.refused) conf made.intake f.handled begun.sound in
+        let limits_then : Limits = refusing (limits_of made.journal 0) f.refused in
+        let sound : IsSound flat conf (served limits_then conf made.intake f.handled).intake = served_sound flat limits_then conf made.intake f.handled begun.sound in
+        let more = served_plain limits_then conf made.intake f.handled in
+        let grown : entries ≡ made.intake.entries ++ more.0 = f.entries_are ∙ more.1 in
         record {
           plan = o.plan;
           conf = conf;
@@ -319,10 +309,12 @@ module _ {D : Type 0} (tells : D → DiskTells) (words : List (List ℕ)) (sourc
           groups = begun.groups;
           found = begun.found;
           accepted = begun.accepted;
+          room = begun.room;
           mendable = subst (IsMendable outbox) (kept_lines kept same) mendable;
           whole = subst (λ es. IsFull (log_of es)) (sym f.entries_are) sound.full;
-          fits = subst (λ es. Fits (first_start conf) (log_of es)) (sym f.entries_are) sound.fits;
-          first = conf_kept kept same _ entries wire wire' (course_of s).ending f;
+          fits = subst (λ es. FitsLog flat (log_of es)) (sym f.entries_are) sound.fits;
+          taken = subst AreFlat (sym grown) (flat_on made.intake.entries more.0 more.2 kept_flat);
+          in_force = ap (λ es. last_text (log_of es)) grown ∙ last_on made.intake.entries more.0 more.2 ∙ kept_last;
           finished =
               subst (λ (i : Intake). Finished (limits_by o.plan) conf (numbered_of begun.groups) i entries o.plan.turns (Journals (KeepsAsOneOf (tells old)) (tells old) (tells new)) wire wire' (course_of s).ending) begun.intake_is
               (subst (λ n. Finished (limits_by o.plan) conf (numbered_of begun.groups) made.intake entries n (Journals (KeepsAsOneOf (tells old)) (tells old) (tells new)) wire wire' (course_of s).ending) o.turns_are
@@ -456,7 +448,7 @@ module _ (words : List (List ℕ)) (before after : Objects) where
   -- one that was refused for its outbox saw it fail
   outbox_failed : Refused_at status.OutboxFault → Rose before.outbox.faults after.outbox.faults
   outbox_failed (inl none) = absurd none
-  outbox_failed (inr (plan, conf, c, (groups, found, accepted, rose))) = rose
+  outbox_failed (inr (plan, conf, c, (groups, found, accepted, room, rose))) = rose
 
   -- which comes before anything is printed, and isn't that of one that takes events
   pub never_begun : (s : Status) → Refused_at s → IsUnprinted s × ((s ≡ status.WireFault → ⊥) × ((s ≡ status.OutboxFault → Rose before.outbox.faults after.outbox.faults) × (s ≡ status.Ok → ⊥)))
@@ -540,9 +532,9 @@ prints_any _ c c' line line' is printed = printed
 
 module _ (words : List (List ℕ)) (before after : Objects) (entries : List Numbered) where
   -- the same run, of whose counts something else is told
-  abbrev told_as : {s t : Status} {Is Other : Counts → Type 0} → (f : Followed words before after s entries Is) → Other (run_counts (first_start f.conf) entries)
+  abbrev told_as : {s t : Status} {Is Other : Counts → Type 0} → (f : Followed words before after s entries Is) → Other (run_counts entries)
       → Finished (limits_by f.plan) f.conf (numbered_of f.groups) (opening_intake f.conf f.groups) entries f.plan.turns (Journals (KeepsAsOneOf before.disk) before.disk after.disk) before.wire after.wire (course_of t).ending
-      → LinesAre (course_of t).out before.outbox after.outbox (log_lines (first_start f.conf) (log_of entries)) → Followed words before after t entries Other
+      → LinesAre (course_of t).out before.outbox after.outbox (run_lines entries) → Followed words before after t entries Other
   told_as f counts finished lines = record {
     plan = f.plan;
     conf = f.conf;
@@ -550,10 +542,12 @@ module _ (words : List (List ℕ)) (before after : Objects) (entries : List Numb
     groups = f.groups;
     found = f.found;
     accepted = f.accepted;
+    room = f.room;
     mendable = f.mendable;
     whole = f.whole;
     fits = f.fits;
-    first = f.first;
+    taken = f.taken;
+    in_force = f.in_force;
     finished = finished;
     lines = lines;
     counts = counts;

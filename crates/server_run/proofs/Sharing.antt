@@ -10,8 +10,8 @@ use Rattle.entry_step.below.regex_extract.proofs.frames.Frame.TheSendSync as m_e
 use Rattle.entry_step.below.regex_nfa.proofs.nfa.Nfa.TheSendSync as m_entry_step_regex_nfa_nfa_nfa
 use Rattle.entry_step.below.regex_nfa.proofs.state.State.TheSendSync as m_entry_step_regex_nfa_state_state
 use Rattle.entry_step.below.regex_nfa.proofs.state.Transition.TheSendSync as m_entry_step_regex_nfa_state_transition
-use Rattle.entry_step.proofs.packed.Packed.TheSendSync as m_entry_step_packed_packed
-use Rattle.entry_step.proofs.plans.Node.TheSendSync as m_entry_step_plans_node
+use Rattle.conf_index.proofs.packed.Packed.TheSendSync as m_entry_step_packed_packed
+use Rattle.conf_index.proofs.plans.Node.TheSendSync as m_entry_step_plans_node
 use Rattle.footprint.proofs.feet.Feet.TheSendSync as m_footprint_feet_feet
 use Rattle.json_path.proofs.path.Comparison.TheSendSync as m_json_path_path_comparison
 use Rattle.json_path.proofs.path.Condition.TheSendSync as m_json_path_path_condition
@@ -66,6 +66,7 @@ use Rattle.std.proofs.boxed.Box.TheSendSync as m_std_boxed_box
 use Rattle.std.proofs.collections.HashMap.TheSendSync as m_std_collections_hashmap
 use Rattle.std.proofs.string.String.TheSendSync as m_std_string_string
 use Rattle.std.proofs.vec.Vec.TheSendSync as m_std_vec_vec
+use Rattle.trigger_state.proofs.stage.Told.TheSendSync as m_trigger_state_stage_told
 use Rattle.zbx_types.proofs.actions.Action.TheSendSync as m_zbx_types_actions_action
 use Rattle.zbx_types.proofs.calls.Call.TheSendSync as m_zbx_types_calls_call
 use Rattle.zbx_types.proofs.conf.Host.TheSendSync as m_zbx_types_conf_host
@@ -83,19 +84,19 @@ use Rattle.zbx_types.specs.contracts.many.Many as manys
 use Rattle.zbx_types.specs.contracts.triggers.Trigger as trigger
 use Rattle.zbx_types.specs.contracts.expr.Expr as expr
 use Rattle.zbx_types.specs.contracts.conf.Conf as conf
-use Rattle.book.specs.declared.names.StartName
+use Rattle.book_opening.specs.declared.names.StartName
 use Rattle.server_run.specs.contracts.shared.Prepared
 use denote.RattleType.{RattleType}
 use Rattle.trigger_state.specs.contracts.stage.InForce as force
 use Rattle.trigger_state.specs.contracts.stage.InForce.TheInside as force_inside
-use Rattle.entry_step.specs.contracts.index.Ready as ready
-use Rattle.entry_step.specs.contracts.index.Ready.TheInside as inside
-use Rattle.entry_step.specs.contracts.indexes.ItemIndex as item_index
-use Rattle.entry_step.specs.contracts.indexes.Expressions as expressions
-use Rattle.entry_step.specs.contracts.indexes.Turns as turns
-use Rattle.entry_step.specs.contracts.indexes.Reaches as reaches
-use Rattle.entry_step.specs.contracts.indexes.TriggerIndex as trigger_index
-use Rattle.entry_step.specs.contracts.indexes.Indexes as indexes
+use Rattle.conf_index.specs.contracts.index.Ready as ready
+use Rattle.conf_index.specs.contracts.index.Ready.TheInside as inside
+use Rattle.conf_index.specs.contracts.indexes.ItemIndex as item_index
+use Rattle.conf_index.specs.contracts.indexes.Expressions as expressions
+use Rattle.conf_index.specs.contracts.indexes.Turns as turns
+use Rattle.conf_index.specs.contracts.indexes.Reaches as reaches
+use Rattle.conf_index.specs.contracts.indexes.TriggerIndex as trigger_index
+use Rattle.conf_index.specs.contracts.indexes.Indexes as indexes
 use Rattle.regex_hir.specs.contracts.hir.Hir as hir
 use Rattle.regex_meta.specs.contracts.plan.Plan as plan
 use Rattle.regex_meta.specs.contracts.plan.Plans as plans
@@ -242,7 +243,7 @@ f_indexes : IsSync (as_row indexes.the_field)
 f_indexes = search (s_indexes, sendable) depth 60 fits 20000
 
 force_inside_sync : IsSync force_inside.the_row
-force_inside_sync = declared_sync force_inside.the_type (f_conf, tt)
+force_inside_sync = declared_sync force_inside.the_type (f_conf, (search (m_core_option_option.the_field_sync, m_core_option_option.the_sync, m_trigger_state_stage_told.the_field_sync, m_trigger_state_stage_told.the_sync, Crossing.crosses, sendable) depth 60 fits 20000, tt))
 
 s_force : IsSync force.the_row
 s_force = view_sync _ _ _ _ _ force_inside_sync

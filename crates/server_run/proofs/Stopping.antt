@@ -8,7 +8,8 @@ use Rattle.intake_journal.proofs.Openings.{and_then}
 use Rattle.intake_front.specs.Fronted.{Keeps, KeepsEither, IsKept}
 use Rattle.intake_front.specs.declared.answer.Stop.{Stop}
 use Rattle.intake_front.specs.declared.answer.Stop.TheVariants as stop
-use Rattle.server_run.specs.Stops.{KeepsSome, IsEither, Journals}
+use Rattle.journal_opening.specs.Journals.{KeepsSome, IsEither, Journals}
+use Rattle.journal_opening.proofs.Leaving.{leaves_more, rose_since}
 
 -- where one is told, so is the other
 pub both_told : (o o' : Option (List ℕ)) (P : List ℕ → Type 0) (Q : Type 0) → is_some o' ≡ is_some o → IfSome o' P → ((b : List ℕ) → P b → Q) → IfSome o (λ _. Q)
@@ -16,20 +17,8 @@ both_told None o' P Q told is goes = tt
 both_told (Some a) None P Q told is goes = absurd (true≢false (sym told))
 both_told (Some a) (Some b) P Q told is goes = goes b is
 
--- a count rose since an earlier moment
-pub rose_since : (a b c : ℕ) → a ≤ b → Rose b c → Rose a c
-rose_since a b c later rose = omega (arith, later, rose)
-
 some_more : (A B : List Numbered → Type 0) (c : List ℕ) → ((es : List Numbered) → A es → B es) → KeepsSome A c → KeepsSome B c
 some_more A B c goes (es, among, keeps) = (es, goes es among, keeps)
-
--- what a crash leaves may be more
-pub leaves_more : (old new : DiskTells) (P Q : List ℕ → Type 0) → ((c : List ℕ) → P c → Q c) → LeavesOnly old new P → LeavesOnly old new Q
-leaves_more old new P Q goes l = record {
-  later = l.later;
-  each = λ c left. goes c (l.each c left);
-  before = λ t c le left. ⊎_elim (λ past. inl past) (λ p. inr (goes c p)) (l.before t c le left);
-}
 
 -- and so may be the entries
 pub journals_more : (also : List ℕ → Type 0) (old new : DiskTells) (A B : List Numbered → Type 0) (s : Option Stop) (entries : List Numbered) → ((es : List Numbered) → A es → B es)

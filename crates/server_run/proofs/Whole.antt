@@ -1,29 +1,25 @@
 -- The contract of a whole run, from what holds of it up to its printed line.
-use Rattle.std.proofs.Common.{◌≡◌, ◌⊎◌, ⊎_elim, inl, inr, ℕ, ◌<◌, arith, List, Bool, true, false, true≢false, Option, sym, ◌∙◌, subst}
+use Rattle.std.proofs.Common.{◌≡◌, ◌⊎◌, ⊎_elim, inl, inr, ℕ, List, Bool, true, false, true≢false, Option, sym, ◌∙◌, subst}
 use Rattle.zbx_types.specs.declared.conf.Conf.{Conf}
 use Rattle.zbx_types.specs.declared.entries.Numbered.{Numbered}
 use Rattle.outside.specs.Causes.{Rose}
 use Rattle.outside.specs.Disk.{DiskTells}
 use Rattle.outside.specs.Tells.{SinkTells, WireTells}
-use Rattle.book.specs.Outgoing.{IsLeft}
-use Rattle.intake_front.specs.Fronted.{Fronted}
-use Rattle.server_words.proofs.Ranges.{plan_within}
-use Rattle.server_words.specs.Words.{plan_of}
-use Rattle.server_words.specs.declared.words.Call.TheVariants.{Run}
-use Rattle.server_words.specs.declared.words.Plan.{Plan}
-use Rattle.std.specs.Prelude.{Some}
+use Rattle.book_opening.specs.Outgoing.{IsLeft}
+use Rattle.intake_front.specs.Fronted.{Fronted, limits_of}
 use Rattle.server_words.specs.declared.status.Counts.{Counts}
 use Rattle.server_words.specs.declared.status.Status.{Status}
 use Rattle.server_words.specs.declared.status.Status.TheVariants as status
 use Rattle.server_run.specs.declared.course.Course.{Course}
-use Rattle.entry_step.specs.Start.{first_start}
+use Rattle.journal_opening.specs.Replayed.{flat}
+use Rattle.journal_opening.specs.Journals.{Journals}
 use Rattle.server_run.specs.Going.{HasGone}
 use Rattle.server_run.specs.Ports.{ReadsUpTo}
 use Rattle.server_run.specs.Ran.{IsUpToLine, IsRun}
-use Rattle.server_run.specs.Runs.{Objects, Opened, Refuses, Unbegun, Followed, Prints}
-use Rattle.server_run.specs.Statuses.{EndsPrinted}
-use Rattle.server_run.proofs.Closings.{either_way, disk_fault, keeps_at_end, bars_unbegun, bars_begun, begins_well, ends_well, fault_before, no_plan, refused_text, begun_planned, begun_flat}
-use Rattle.server_run.proofs.Runs.{unbegun_held, followed, never_begun, unbegun_printed, followed_printed, is_course, is_refusal, barred_of, prints_any}
+use Rattle.server_run.specs.Runs.{Objects, Opened, Refuses, Unbegun, Finished, Followed, Prints}
+use Rattle.server_run.specs.Statuses.{course_of, EndsPrinted}
+use Rattle.server_run.proofs.Closings.{either_way, disk_fault, keeps_at_end, bars_unbegun, bars_begun, begins_well, ends_well, fault_before, no_plan, refused_text, begun_planned, begun_flat, kept_not_refused}
+use Rattle.server_run.proofs.Runs.{in_force, unbegun_held, followed, never_begun, unbegun_printed, followed_printed, is_course, is_refusal, barred_of, prints_any}
 
 -- ---- up to the line
 
@@ -47,22 +43,25 @@ refused_so_far words before after began entries counts s isnt taken u wire outbo
     clash t = true≢false (sym t ∙ isnt)
 
 -- a run that was opened, and went on over a book or got none
-pub gone_so_far : {D O : Type 0} (tells : D → DiskTells) (shows : O → SinkTells) (words : List (List ℕ)) (source source' : Option (List ℕ)) (faults faults' turns : ℕ) (disk : D) (conf : Conf) (made : Fronted D)
-    → Opened tells words source source' disk turns conf made → (kept : List Numbered) → kept ≡ made.intake.entries → (outbox : SinkTells) (w w' : WireTells) (course : Course D O)
-    → HasGone tells shows (first_start conf) kept outbox made turns w w' course → ReadsUpTo 16777216 source source' → (course.began ≡ false → (w' ≡ w) × IsLeft outbox (shows course.outbox))
+pub gone_so_far : {D O : Type 0} (tells : D → DiskTells) (shows : O → SinkTells) (words : List (List ℕ)) (source source' : Option (List ℕ)) (faults faults' turns : ℕ) (disk : D) (made : Fronted D)
+    → Opened tells words source source' disk turns made → (kept : List Numbered) → kept ≡ made.intake.entries → (outbox : SinkTells) (w w' : WireTells) (course : Course D O)
+    → HasGone tells shows flat kept outbox made turns w w' course → ReadsUpTo 16777216 source source' → (course.began ≡ false → (w' ≡ w) × IsLeft outbox (shows course.outbox))
     → IsUpToLine words (record { source = source; source_faults = faults; wire = w; disk = tells disk; outbox = outbox })
     (record { source = source'; source_faults = faults'; wire = w'; disk = tells course.disk; outbox = shows course.outbox }) course.began course.entries course.counts course.status
-gone_so_far tells shows words source source' faults faults' turns disk conf made o kept same outbox w w' course gone taken untouched = record {
+gone_so_far tells shows words source source' faults faults' turns disk made o kept same outbox w w' course gone taken untouched = record {
   taken = taken;
   to_the_end = λ t. o.at_end;
   wire = gone.wire;
   outbox = gone.fault;
   unprinted = gone.unprinted;
-  unbegun = λ f. unbegun_held tells words source source' turns disk conf made o faults faults' w w' outbox (shows course.outbox) kept same course.disk course.entries course.status (gone.held_back f);
+  unbegun = λ f. unbegun_held tells words source source' turns disk made o faults faults' w w' outbox (shows course.outbox) kept same course.disk course.entries course.status (gone.held_back f);
   untouched = untouched;
-  followed = λ t. followed tells words source source' turns disk conf made o faults faults' w w' outbox (shows course.outbox) kept same (gone.mendable t) course.disk course.entries course.status
-      (λ c. course.status ≡ status.Ok → course.counts ≡ c) (gone.finished t) (gone.lines t) gone.counts_are;
+  followed = λ t. followed tells words source source' turns disk made o faults faults' w w' outbox (shows course.outbox) kept same (gone.mendable t) course.disk course.entries course.status
+      (λ c. course.status ≡ status.Ok → course.counts ≡ c) (subst Ends_with (in_force tells words source source' turns disk made o kept same) (gone.finished t)) (gone.lines t) gone.counts_are;
 }
+  where
+    Ends_with : Conf → Type 0
+    Ends_with conf = Finished (limits_of made.journal 0) conf kept made.intake course.entries turns (Journals (λ c. ⊥) (tells made.journal.disk) (tells course.disk)) w w' (course_of course.status).ending
 
 -- ---- and behind it
 
@@ -93,15 +92,15 @@ module _ (words : List (List ℕ)) (before after : Objects) (print print' : Sink
     not_command = λ none. either_way began (λ y. absurd (begun_planned words before after ended entries IsPrinted (begun y) none)) (λ n. no_plan words before after none ended (unbegun n).why);
     taken = g.taken;
     to_the_end = g.to_the_end;
-    config_refused = λ path cause is. at_status (status.ConfigRefused path cause) is (⊎_elim (λ why. why.1) (λ why. absurd why.3)) (λ f. absurd f.finished.ends);
+    config_refused = λ path cause is. at_status (status.ConfigRefused path cause) is (⊎_elim (λ why. why.1) (λ why. absurd (kept_not_refused before.disk.bytes path cause why.3))) (λ f. absurd f.finished.ends);
     refused_text = λ text path cause is flaw. either_way began (λ y. absurd (begun_flat words before after ended entries IsPrinted (begun y) text is path cause flaw))
         (λ n. refused_text words before after text is path cause flaw ended (unbegun n).why);
-    pattern_refused = λ path is. at_status (status.PatternRefused path) is (⊎_elim (λ why. why.1) (λ why. absurd why.3)) (λ f. absurd f.finished.ends);
-    pattern_too_large = λ path is. at_status (status.PatternTooLarge path) is (⊎_elim (λ why. why.1) (λ why. absurd why.3)) (λ f. absurd f.finished.ends);
+    pattern_refused = λ path is. at_status (status.PatternRefused path) is (⊎_elim (λ why. inl why.1) (λ why. inr why.3)) (λ f. absurd f.finished.ends);
+    pattern_too_large = λ path is. at_status (status.PatternTooLarge path) is (⊎_elim (λ why. inl why.1) (λ why. inr why.3)) (λ f. absurd f.finished.ends);
     barred = λ n names. barred_of words before after ended names (unbegun n).why;
-    bars = λ plan text conf file t plan_is source_is conf_is file_is bars seen. let some = some_entries plan plan_is in either_way began
-        (λ y. absurd (bars_begun words before after plan text conf file plan_is some source_is conf_is file_is t bars seen ended entries IsPrinted (begun y)))
-        (λ n. bars_unbegun words before after plan text conf file plan_is some source_is conf_is file_is t bars seen ended (unbegun n).why);
+    bars = λ plan text conf file t plan_is source_is conf_is file_is bars seen. either_way began
+        (λ y. absurd (bars_begun words before after plan text conf file plan_is source_is conf_is file_is t bars seen ended entries IsPrinted (begun y)))
+        (λ n. bars_unbegun words before after plan text conf file plan_is source_is conf_is file_is t bars seen ended (unbegun n).why);
     source = λ is. at_status status.SourceFault is (⊎_elim (λ why. why.1) (λ why. absurd why.3)) (λ f. absurd f.finished.ends);
     wire = λ is. g.wire (fault_before s ended status.WireFault ends is (λ e. cc) (λ e. cc));
     disk = disk_of;
@@ -116,16 +115,13 @@ module _ (words : List (List ℕ)) (before after : Objects) (print print' : Sink
     printed = λ n c. prints_any ended counts c print print' (is_refusal words before after ended (unbegun n).why) prints;
     keeps = λ y none. keeps_at_end words before after entries IsPrinted ended (begun y) none;
     told = either_way began (λ y. (begun y).finished.journaled.told) (λ n. (unbegun n).told);
-    complete = λ plan text conf file groups all plan_is source_is conf_is file_is found accepted mendable seen left closes none patterns. let some = some_entries plan plan_is in either_way began
+    complete = λ plan text conf file groups all plan_is source_is conf_is file_is found accepted room kept_patterns mendable seen left closes none patterns. either_way began
         (λ y. ⊎_elim (λ well. inl well) (λ spent. inr (inl spent)) (ends_well words before after entries IsPrinted plan text conf file groups all plan_is source_is conf_is file_is found left closes
         ended (λ is. none.wire (g.wire (fault_before s ended status.WireFault ends is (λ e. cc) (λ e. cc)))) (λ is. none.disk (disk_of is))
         (λ is. none.outbox (g.outbox (fault_before s ended status.OutboxFault ends is (λ e. cc) (λ e. cc)))) (λ is. none.printer (fault is)) (begun y)))
-        (λ n. inr (begins_well words before after plan text conf file groups plan_is some source_is conf_is file_is found accepted mendable seen none.source none.disk none.outbox patterns ended (unbegun n).why));
+        (λ n. inr (begins_well words before after plan text conf file groups plan_is source_is conf_is file_is found accepted room kept_patterns mendable seen none.source none.disk none.outbox patterns ended (unbegun n).why));
   }
     where
-      some_entries : (plan : Plan) → plan_of words ≡ Some plan → 0 < plan.max_entries
-      some_entries plan is = let within = plan_within Run words plan is in omega (arith, within.entries.0)
-
       disk_of : ended ≡ status.DiskFault → Rose before.disk.faults after.disk.faults
       disk_of is = either_way began (λ y. disk_fault words before after entries IsPrinted ended is (begun y)) (λ n. refused (subst Refused_with is (unbegun n).why))
         where

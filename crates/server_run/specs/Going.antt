@@ -1,20 +1,22 @@
--- How far the taking of events has come, and what of their entries was sent.
-use Rattle.entry_step.specs.Start.{Start}
-use Rattle.std.specs.Prelude.{◌≡◌, ◌≢◌, ◌⊎◌, ◌≤◌, ◌<◌, ◌+◌, ℕ, List, ◌++◌, length, drop, true, false, None, Result, Ok, Err, ⊤}
+-- How far the taking of events has come, and what of their entries was sent. `flat` tells the configuration that a text
+-- stands for.
+use Rattle.std.specs.Prelude.{◌≡◌, ◌≢◌, ◌⊎◌, ◌≤◌, ◌<◌, ◌+◌, ℕ, List, ◌++◌, length, true, false, None, Result, Ok, Err, ⊤}
 use mathlib.Core.List.{IsPrefix}
 use Rattle.zbx_types.specs.declared.conf.Conf.{Conf}
 use Rattle.zbx_types.specs.declared.entries.Numbered.{Numbered}
 use Rattle.outside.specs.Causes.{Rose}
 use Rattle.outside.specs.Disk.{DiskTells}
 use Rattle.outside.specs.Tells.{SinkTells, WireTells}
+use Rattle.entry_step.specs.Each.{Each}
+use Rattle.entry_step.specs.InForce.{IsPlain, conf_behind}
 use Rattle.entry_step.specs.Log.{log_of}
 use Rattle.book.specs.Ends.{HeadView}
-use Rattle.book.specs.Outgoing.{IsMendable, log_lines}
-use Rattle.server_words.specs.declared.status.Counts.{Counts}
-use Rattle.server_run.specs.Outbox.{LinesAre, IsAhead, IsOther}
-use Rattle.server_run.specs.Tally.{run_counts}
-use Rattle.book.specs.declared.errors.BookError.{BookError}
-use Rattle.book.specs.declared.errors.BookError.TheVariants as refusal
+use Rattle.book_opening.specs.Outgoing.{IsMendable, log_lines}
+use Rattle.server_run.specs.Outbox.{LinesAre}
+use Rattle.journal_opening.specs.Outbox.{IsAhead, IsOther}
+use Rattle.journal_opening.specs.Tally.{counts_over}
+use Rattle.book_opening.specs.declared.errors.BookError.{BookError}
+use Rattle.book_opening.specs.declared.errors.BookError.TheVariants as refusal
 use Rattle.intake_journal.specs.declared.state.State.TheVariants.{Ready}
 use Rattle.intake_front.specs.Intake.{Limits, Intake, IsSound}
 use Rattle.intake_front.specs.Fronted.{Fronted, IsKept, IsReady, limits_of}
@@ -27,7 +29,8 @@ use Rattle.server_run.specs.declared.serving.Taken.TheVariants as taken
 use Rattle.server_run.specs.Events.{Ran}
 use Rattle.server_run.specs.Runs.{Finished}
 use Rattle.server_run.specs.Statuses.{anywhere, course_of, IsUnprinted}
-use Rattle.server_run.specs.Stops.{refusing, Journals}
+use Rattle.server_run.specs.Stops.{refusing}
+use Rattle.journal_opening.specs.Journals.{Journals}
 
 -- the entries behind those with which a run began are sent, all of them, or, where memory was refused, some from the
 -- front
@@ -50,12 +53,15 @@ abbrev pub IsGoing : Taken → Type 0
 IsGoing (taken.Going count) = ⊤
 IsGoing (taken.Ended s) = ⊥
 
--- a run that serves: nothing waits for a commit, the intake is sound, and all its entries are sent
-pub record IsServing {D : Type 0} (conf : Conf) (kept : List Numbered) (front : Fronted D)
+-- a run that serves: nothing waits for a commit, the intake is sound, and all its entries behind those with which it
+-- began are sent, none of which is a Config
+pub record IsServing {D : Type 0} (flat : List ℕ → Conf) (conf : Conf) (kept : List Numbered) (front : Fronted D)
     (head : HeadView) : Type 0 where
   pub going : front.journal.state ≡ Ready
   pub idle : IsIdle front
-  pub sound : IsSound conf front.intake
+  pub sound : IsSound flat conf front.intake
+  pub some : 0 < length kept
+  pub plain : Each IsPlain head.sent
   pub sent : kept ++ head.sent ≡ front.intake.entries
   pub room : 0 < head.capacity
 
@@ -91,17 +97,18 @@ pub record IsEndedAt {D : Type 0} (kept : List Numbered) (new : Fronted D) (w w'
   pub wire : s ≡ status.WireFault → Rose w.faults w'.faults
 
 -- the run serves, where the taking of events goes on; or it has ended, but not for its outbox
-abbrev pub IsServedAt : {D : Type 0} → Conf → List Numbered → Fronted D → Fronted D → WireTells → WireTells
-    → HeadView → Taken → Type 0
-IsServedAt conf kept old new w w' head (taken.Going n) = IsServing conf kept new head × IsReady old.journal new.journal
-IsServedAt conf kept old new w w' head (taken.Ended s) = IsEndedAt kept new w w' head s × IsCause s
+abbrev pub IsServedAt : {D : Type 0} → (List ℕ → Conf) → Conf → List Numbered → Fronted D → Fronted D → WireTells
+    → WireTells → HeadView → Taken → Type 0
+IsServedAt flat conf kept old new w w' head (taken.Going n) =
+    IsServing flat conf kept new head × IsReady old.journal new.journal
+IsServedAt flat conf kept old new w w' head (taken.Ended s) = IsEndedAt kept new w w' head s × IsCause s
 
 -- Events were taken by a run that served, at most so many, and answered; and their entries were sent.
-pub record HasServed {D : Type 0} (tells : D → DiskTells) (conf : Conf) (kept : List Numbered) (old new : Fronted D)
-    (w w' : WireTells) (head : HeadView) (turns : ℕ) (t : Taken) : Type 0 where
+pub record HasServed {D : Type 0} (tells : D → DiskTells) (flat : List ℕ → Conf) (conf : Conf) (kept : List Numbered)
+    (old new : Fronted D) (w w' : WireTells) (head : HeadView) (turns : ℕ) (t : Taken) : Type 0 where
   pub later : w.faults ≤ w'.faults
   pub takes : TakesOn tells conf old new w w' turns t
-  pub served : IsServedAt conf kept old new w w' head t
+  pub served : IsServedAt flat conf kept old new w w' head t
 
 -- what taking events came to, or want of memory of somebody beside it
 abbrev pub IsJoined : Taken → Taken → Type 0
@@ -109,11 +116,11 @@ IsJoined t joined = (joined ≡ t) ⊎ (joined ≡ taken.Ended status.OutOfMemor
 
 -- A front with which a run begins: its journal is ready and keeps these entries, nothing waits for a commit, and the
 -- intake is sound.
-pub record IsOpened {D : Type 0} (tells : D → DiskTells) (conf : Conf) (kept : List Numbered)
+pub record IsOpened {D : Type 0} (tells : D → DiskTells) (flat : List ℕ → Conf) (conf : Conf) (kept : List Numbered)
     (front : Fronted D) : Type 0 where
   pub going : front.journal.state ≡ Ready
   pub idle : IsIdle front
-  pub sound : IsSound conf front.intake
+  pub sound : IsSound flat conf front.intake
   pub entries_are : front.intake.entries ≡ kept
   pub durable : IsKept (tells front.journal.disk) front.intake.entries
 
@@ -146,18 +153,21 @@ abbrev pub IsWorse : Status → Status → Type 0
 IsWorse s worse =
     (worse ≡ s) ⊎ ((worse ≡ status.OutOfMemory) ⊎ ((worse ≡ status.OutboxFault) × (s ≢ status.OutOfMemory)))
 
--- A run that was opened went up to its printed line: it got no book, or it took events up to some ending; and so many
--- lines and counts are those of its entries.
-pub record HasGone {D O : Type 0} (tells : D → DiskTells) (shows : O → SinkTells) (start : Start) (kept : List Numbered)
-    (outbox : SinkTells) (front : Fronted D) (turns : ℕ) (w w' : WireTells) (course : Course D O) : Type 0 where
+-- A run that was opened went up to its printed line: it got no book, or it took events up to some ending, with the
+-- configuration in force behind the kept entries; and so many lines and counts are those of its entries.
+pub record HasGone {D O : Type 0} (tells : D → DiskTells) (shows : O → SinkTells) (flat : List ℕ → Conf)
+    (kept : List Numbered) (outbox : SinkTells) (front : Fronted D) (turns : ℕ) (w w' : WireTells)
+    (course : Course D O) : Type 0 where
   pub wire : course.status ≡ status.WireFault → Rose w.faults w'.faults
   pub fault : course.status ≡ status.OutboxFault → Rose outbox.faults (shows course.outbox).faults
   pub unprinted : IsUnprinted course.status
   pub held_back : course.began ≡ false
-      → IsHeldBack (log_lines start (log_of kept)) outbox (shows course.outbox) front course.disk course.entries course.status
-  pub mendable : course.began ≡ true → IsMendable outbox (log_lines start (log_of kept))
-  pub finished : course.began ≡ true → Finished (limits_of front.journal 0) start.stage.conf kept front.intake course.entries turns
-      (Journals (λ c. ⊥) (tells front.journal.disk) (tells course.disk)) w w' (course_of course.status).ending
+      → IsHeldBack (log_lines flat (log_of kept)) outbox (shows course.outbox) front course.disk course.entries
+      course.status
+  pub mendable : course.began ≡ true → IsMendable outbox (log_lines flat (log_of kept))
+  pub finished : course.began ≡ true → Finished (limits_of front.journal 0) (conf_behind flat (log_of kept)) kept
+      front.intake course.entries turns (Journals (λ c. ⊥) (tells front.journal.disk) (tells course.disk)) w w'
+      (course_of course.status).ending
   pub lines : course.began ≡ true → LinesAre (course_of course.status).out outbox (shows course.outbox)
-      (log_lines start (log_of course.entries))
-  pub counts_are : course.status ≡ status.Ok → course.counts ≡ run_counts start course.entries
+      (log_lines flat (log_of course.entries))
+  pub counts_are : course.status ≡ status.Ok → course.counts ≡ counts_over flat course.entries

@@ -1,12 +1,5 @@
 pub mod Ports
-pub mod Patterns
-pub mod Replayed
-pub mod Tally
-pub mod Recovered
-pub mod Opening
-pub mod Reasons
 pub mod Stops
-pub mod Resumed
 pub mod Sending
 pub mod Statuses
 pub mod Events

@@ -13,7 +13,8 @@ use Rattle.host_layout.specs.Places.{refuse}
 use Rattle.intake_journal.specs.Kept.{kept, groups_of}
 use Rattle.intake_journal.specs.Settled.{KeepsAsOneOf}
 use Rattle.intake_journal.specs.declared.format.Group.{Group}
-use Rattle.intake_front.specs.Fronted.{Keeps}
+use Rattle.entry_step.specs.InForce.{config_texts}
+use Rattle.intake_front.specs.Fronted.{Keeps, numbered_of}
 use Rattle.intake_front.specs.Served.{served}
 use Rattle.intake_front.specs.declared.answer.Stop.TheVariants as stop
 use Rattle.server_words.specs.Words.{plan_of}
@@ -22,14 +23,15 @@ use Rattle.server_words.specs.declared.status.Counts.{Counts}
 use Rattle.server_words.specs.declared.status.Status.{Status}
 use Rattle.server_words.specs.declared.status.Status.TheVariants as status
 use Rattle.pattern_set.specs.Patterns.{IsPattern, IsNoPattern}
-use Rattle.server_run.specs.Patterns.{HasFlawAt, HoldsBrace}
+use Rattle.journal_opening.specs.Patterns.{HasFlawAt, HoldsBrace}
 use Rattle.server_run.specs.Statuses.{YieldsTo, IsCourse, IsUnprinted}
-use Rattle.server_run.specs.Stops.{KeepsSome}
-use Rattle.book.specs.Outgoing.{IsLeft, IsMendable}
-use Rattle.server_run.specs.Opening.{IsAccepted, opening_lines}
-use Rattle.server_run.specs.Reasons.{IsRefusal, IsBarring, NamesOutbox, IsSeen, Bars}
+use Rattle.journal_opening.specs.Journals.{KeepsSome}
+use Rattle.book_opening.specs.Outgoing.{IsLeft, IsMendable}
+use Rattle.journal_opening.specs.Opening.{IsAccepted, HasRoomAtOpening, KeptText, opening_intake, opening_lines}
+use Rattle.journal_opening.specs.Replayed.{flat}
+use Rattle.journal_opening.specs.Reasons.{IsRefusal, IsBarring, NamesOutbox, IsSeen, Bars}
 use Rattle.server_run.specs.Ports.{ReadsUpTo}
-use Rattle.server_run.specs.Runs.{Objects, IsBarred, FoundBy, HasBy, EntersBy, Unbegun, Followed, Prints, limits_by, opening_intake}
+use Rattle.server_run.specs.Runs.{Objects, IsBarred, FoundBy, HasBy, EntersBy, Unbegun, Followed, Prints, limits_by}
 
 -- no count of faults rose
 pub record NoneRose (before after : Objects) (line line' : SinkTells) : Type 0 where
@@ -68,14 +70,17 @@ pub record IsRun (words : List (List ℕ)) (before after : Objects) (line line' 
   pub refused_text : (text path : List ℕ) (cause : Cause) → before.source ≡ Some text
       → flat_of text ≡ refuse path cause → (s ≡ status.ConfigRefused path cause)
       ⊎ ((s ≡ status.SourceFault) ⊎ ((s ≡ status.Usage) ⊎ (s ≡ status.OutOfMemory)))
-  -- PatternRefused comes only where a pattern isn't one, and PatternTooLarge where one holds a brace; the path is where
-  -- the first such pattern is used first
+  -- PatternRefused comes only where a pattern isn't one, and PatternTooLarge where one holds a brace, of the source's
+  -- configuration, or of one that the journal kept; the path is where the first such pattern is used first
   pub pattern_refused : (path : List ℕ) → s ≡ status.PatternRefused path
       → IfSome before.source (HasFlawAt IsNoPattern path)
+      ⊎ KeptText before.disk.bytes (HasFlawAt IsNoPattern path)
   pub pattern_too_large : (path : List ℕ) → s ≡ status.PatternTooLarge path
       → IfSome before.source (HasFlawAt HoldsBrace path)
-  -- NotOurs, Damaged, ConfigDiffers, OutboxAhead, OutboxDiffers, and Full at the opening, come exactly where the journal
-  -- or the outbox is so, with the place or the numbers; a fault of the outbox stands before the two that name it
+      ⊎ KeptText before.disk.bytes (HasFlawAt HoldsBrace path)
+  -- NotOurs, Damaged, OutboxAhead, OutboxDiffers, and Full at the opening, come exactly where the journal or the outbox
+  -- is so, with the place or the numbers; what the journal is stands before what the outbox is, and a fault of the
+  -- outbox before the two that name it
   pub barred : began ≡ false → IsBarring s → IsBarred words before s
   pub bars : (plan : Plan) (text : List ℕ) (conf : Conf) (file : List ℕ) (t : Status) → plan_of words ≡ Some plan
       → before.source ≡ Some text → flat_of text ≡ Ok conf → before.disk.bytes ≡ Some file
@@ -106,12 +111,15 @@ pub record IsRun (words : List (List ℕ)) (before after : Objects) (line line' 
   pub printed : began ≡ false → (counts : Counts) → Prints s counts line line'
   pub keeps : began ≡ true → (Rose before.disk.faults after.disk.faults → ⊥) → IfSome after.disk.bytes (Keeps entries)
   pub told : is_some after.disk.bytes ≡ is_some before.disk.bytes
-  -- What is accepted and doesn't fail ends well, if memory is there. An outbox is accepted that holds nothing, or that
-  -- tells its bytes and can be completed.
+  -- What is accepted and doesn't fail ends well, if memory is there. A journal is accepted where the texts and the
+  -- patterns of its Configs are, its entries fit, and there is room for the configuration, if that is to be journaled.
+  -- An outbox is accepted that holds nothing, or that tells its bytes and can be completed.
   pub complete : (plan : Plan) (text : List ℕ) (conf : Conf) (file : List ℕ) (groups : List Group)
       (all : List WireEvent) → plan_of words ≡ Some plan → before.source ≡ Some text
       → flat_of text ≡ Ok conf → before.disk.bytes ≡ Some file → groups_of (kept file) ≡ Some groups
-      → IsAccepted conf groups → IsMendable before.outbox (opening_lines conf groups)
+      → IsAccepted groups → HasRoomAtOpening plan.max_entries conf groups
+      → All (λ kept_text. All IsPattern (flat kept_text).patterns) (config_texts (numbered_of groups))
+      → IsMendable before.outbox (opening_lines conf groups)
       → (before.outbox.held ≡ 0) ⊎ IsSome before.outbox.bytes
       → before.wire.left ≡ Some all → (served (limits_by plan) conf (opening_intake conf groups)
       (take plan.turns all)).stop ≡ Some stop.Closed → NoneRose before after line line' → All IsPattern conf.patterns

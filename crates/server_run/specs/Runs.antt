@@ -8,9 +8,9 @@ use Rattle.outside.specs.Causes.{Rose}
 use Rattle.outside.specs.Disk.{DiskTells, LeavesOnly}
 use Rattle.outside.specs.Tells.{SinkTells, WireTells}
 use Rattle.outside.specs.declared.event.WireEvent.{WireEvent}
-use Rattle.entry_step.specs.Start.{first_start}
-use Rattle.entry_step.specs.Log.{log_of, IsFull, Fits}
-use Rattle.intake_front.specs.Intake.{Limits, Intake, start}
+use Rattle.entry_step.specs.InForce.{FitsLog}
+use Rattle.entry_step.specs.Log.{log_of, IsFull}
+use Rattle.intake_front.specs.Intake.{Limits, Intake, last_text}
 use Rattle.intake_front.specs.Served.{served}
 use Rattle.intake_front.specs.Fronted.{Fronted, numbered_of}
 use Rattle.intake_front.specs.declared.answer.Stop.TheVariants as stop
@@ -24,16 +24,15 @@ use Rattle.server_words.specs.declared.words.Plan.{Plan}
 use Rattle.server_words.specs.Words.{plan_of}
 use Rattle.server_words.specs.Printed.{ok_text, printed_text}
 use Rattle.config_templates.specs.Flat.{flat_of}
-use Rattle.server_run.specs.Recovered.{journal_bytes}
-use Rattle.server_run.specs.Opening.{FoundGroups, IsAccepted, BeginningEntries, FoundEntries, opening_lines}
-use Rattle.server_run.specs.Reasons.{reason_of, Unconfigured, Bars, Unopened, has_for, enters_for}
-use Rattle.server_run.specs.Resumed.{HasBegun}
-use Rattle.server_run.specs.Stops.{refusing, RunsOn, IsReached, KeepsSome, Journals}
+use Rattle.journal_opening.specs.Opening.{FoundGroups, IsAccepted, HasRoomAtOpening, BeginningEntries, FoundEntries, opening_intake, opening_lines}
+use Rattle.journal_opening.specs.Reasons.{reason_of, Unconfigured, Bars, Unopened, has_for, enters_for}
+use Rattle.journal_opening.specs.Resumed.{HasBegun}
+use Rattle.server_run.specs.Stops.{refusing, RunsOn, IsReached}
+use Rattle.journal_opening.specs.Journals.{KeepsSome, Journals}
 use Rattle.server_run.specs.Outbox.{LinesAre}
-use Rattle.server_run.specs.Replayed.{conf_of_run}
-use Rattle.server_run.specs.Tally.{run_counts}
+use Rattle.journal_opening.specs.Replayed.{flat, AreFlat, run_lines, run_counts}
 use Rattle.server_run.specs.Events.{Doing}
-use Rattle.book.specs.Outgoing.{Grew, GrewByFront, IsMendable, log_lines}
+use Rattle.book_opening.specs.Outgoing.{Grew, GrewByFront, IsMendable}
 use Rattle.server_run.specs.Sending.{Shows}
 use Rattle.server_run.specs.Statuses.{Ending, Printing, whole_line, own_line, front_of_line, front_of_ok, course_of, EndsAs, LeftIs}
 
@@ -67,7 +66,8 @@ IsBarred words before s =
     (plan : Plan) × (conf : Conf) × Configured words before.source plan conf
     × Bars conf plan.max_entries before.disk.bytes before.outbox s
 
--- why a run didn't begin: it wasn't configured, or it was, and its journal or its outbox wasn't opened, or it was barred
+-- why a run didn't begin: it wasn't configured, or it was, and its journal or its outbox wasn't opened, or what the
+-- journal kept couldn't be made ready, or it was barred
 abbrev pub Refuses : List (List ℕ) → Objects → Objects → Status → Type 0
 Refuses words before after s =
     Unconfigured words before.source before.source_faults after.source_faults s
@@ -97,10 +97,6 @@ EntersBy words source file s = enters_for (reason_of s) (FoundBy words source fi
 abbrev pub limits_by : Plan → Limits
 limits_by plan = record { max_entries = plan.max_entries; max_bytes = longest_journal; stop = 0 }
 
--- the intake of a run behind groups
-abbrev pub opening_intake : Conf → List Group → Intake
-opening_intake conf groups = start conf.text (numbered_of groups) (journal_bytes groups)
-
 -- A run that began with an intake handled some events, of which only the last may have stopped it, and memory may have
 -- been refused for one more. The wire gave these and no other, and where it tells its events they were its first; what
 -- it tells is left stood behind them, unless a call of next failed. The run's entries, replies and closings are those
@@ -124,10 +120,11 @@ pub record Finished (limits : Limits) (conf : Conf) (recovered : List Numbered) 
   pub journaled : did (IsReached (refusing limits refused) conf recovered begun handled)
       (served (refusing limits refused) conf begun handled).stop entries
 
--- A run that began: its words had a plan, its configuration is flat, its journal kept groups of it, its outbox could be
--- completed to their lines, and it took events. Its entries are numbered 1, 2, 3 and so on, and fit its configuration,
--- which the first of them holds. The outbox has the lines of one thread that replays them, and what is told of their
--- counts is so.
+-- A run that began: its words had a plan, its configuration is flat, its journal kept groups that are accepted, behind
+-- which there was room for the configuration, its outbox could be completed to the lines with which it goes on, and it
+-- took events. Its entries are numbered 1, 2, 3 and so on, and each fits the configuration in force where it stands. The
+-- text of each Config among them is accepted, and that of the last one is the run's. The outbox has the lines of one
+-- thread that replays them, and what is told of their counts is so.
 pub record Followed (words : List (List ℕ)) (before after : Objects) (s : Status) (entries : List Numbered)
     (IsTold : Counts → Type 0) : Type 0 where
   pub plan : Plan
@@ -135,21 +132,24 @@ pub record Followed (words : List (List ℕ)) (before after : Objects) (s : Stat
   pub configured : Configured words before.source plan conf
   pub groups : List Group
   pub found : FoundGroups before.disk.bytes groups
-  pub accepted : IsAccepted conf groups
+  pub accepted : IsAccepted groups
+  pub room : HasRoomAtOpening plan.max_entries conf groups
   pub mendable : IsMendable before.outbox (opening_lines conf groups)
   pub whole : IsFull (log_of entries)
-  pub fits : Fits (first_start conf) (log_of entries)
-  pub first : conf_of_run entries ≡ Some conf
+  pub fits : FitsLog flat (log_of entries)
+  pub taken : AreFlat entries
+  pub in_force : last_text (log_of entries) ≡ Some conf.text
   pub finished : Finished (limits_by plan) conf (numbered_of groups) (opening_intake conf groups) entries plan.turns
       (Journals (KeepsAsOneOf before.disk) before.disk after.disk) before.wire after.wire (course_of s).ending
-  pub lines : LinesAre (course_of s).out before.outbox after.outbox (log_lines (first_start conf) (log_of entries))
-  pub counts : IsTold (run_counts (first_start conf) entries)
+  pub lines : LinesAre (course_of s).out before.outbox after.outbox (run_lines entries)
+  pub counts : IsTold (run_counts entries)
 
 -- What a run has begun with: the plan's turns, the configuration of the text that the source told, all of which was
 -- read, and the intake behind its journal.
 pub record Opened {D : Type 0} (tells : D → DiskTells) (words : List (List ℕ)) (source source' : Option (List ℕ))
-    (old : D) (turns : ℕ) (conf : Conf) (front : Fronted D) : Type 0 where
+    (old : D) (turns : ℕ) (front : Fronted D) : Type 0 where
   pub plan : Plan
+  pub conf : Conf
   pub configured : Configured words source plan conf
   pub turns_are : turns ≡ plan.turns
   pub at_end : IsAtEnd source'

@@ -90,7 +90,6 @@ course_of (status.PatternRefused path) = refusal
 course_of (status.PatternTooLarge path) = refusal
 course_of status.NotOurs = refusal
 course_of (status.Damaged at) = refusal
-course_of (status.ConfigDiffers at) = refusal
 course_of (status.OutboxAhead held lines) = refusal
 course_of (status.OutboxDiffers at) = refusal
 course_of status.DiskFault = ends at_disk_fault all_lines own_line
@@ -107,7 +106,7 @@ NamesPattern (status.PatternTooLarge path) = ⊤
 NamesPattern _ = ⊥
 
 -- a status that stands before one that names what the journal or the outbox was: a fault of what is read, a pattern
--- of the configuration, or want of memory
+-- of a configuration, or want of memory
 abbrev pub YieldsTo : Status → Type 0
 YieldsTo s = (s ≡ status.SourceFault) ⊎ ((s ≡ status.DiskFault) ⊎ ((s ≡ status.OutOfMemory) ⊎ NamesPattern s))
 

@@ -1,24 +1,29 @@
 //! The course of a run over its book, from its opening to its last line.
 
-ghost use Rattle.std.specs.Prelude.{◌≡◌, ◌⊎◌, ◌<◌, ◌++◌, List, IsTrue, IfOk, true, false, length};
+ghost use Rattle.std.specs.Prelude.{◌≡◌, ◌⊎◌, ◌<◌, ◌++◌, List, ℕ, map, IsTrue, IfOk, true, false, length};
 ghost use Rattle.zbx_types.specs.declared.entries.Numbered.{Numbered};
 ghost use Rattle.outside.specs.Causes.{Rose};
+ghost use Rattle.trigger_state.specs.Stages.{first_stage};
+ghost use Rattle.entry_step.specs.InForce.{config_texts};
 ghost use Rattle.entry_step.specs.Log.{log_of};
-ghost use Rattle.entry_step.specs.Records.{replay};
-ghost use Rattle.book.specs.Outgoing.{IsLeft, log_lines};
-ghost use Rattle.book.specs.Tally.{tally_of};
+ghost use Rattle.entry_step.specs.Named.{AreDistinct};
+ghost use Rattle.entry_step.specs.Start.{nothing};
+ghost use Rattle.entry_step.specs.Whole.{whole_replay};
+ghost use Rattle.book_opening.specs.Outgoing.{IsLeft, log_lines};
+ghost use Rattle.book_opening.specs.Tally.{tally_of};
 ghost use Rattle.intake_front.specs.Batch.{IsIdle};
 ghost use Rattle.server_run.specs.Going.{IsServing, TakesOn, IsEndedAt, IsSentAt, IsOpened, IsWorse, HasGone, book_status};
 ghost use Rattle.server_run.specs.declared.serving.Taken.TheVariants as Taken;
 ghost use Rattle.server_run.specs.Outbox.{LinesAre};
 ghost use Rattle.server_run.specs.Statuses.{course_of, IsCourse};
-ghost use Rattle.server_run.specs.Tally.{counts_with, run_counts};
+ghost use Rattle.journal_opening.specs.Tally.{counts_with, counts_over};
 
 use crate::crew::{Alone, serve_syncers};
 use crate::serving::{Taken, serve};
 use crate::shared::Prepared;
-use book::{Book, BookError, FlushError, Ring, RingHead, RunName, StartName, Tally};
-use entry_step::Ready;
+use book::{Book, FlushError, Ring, RingHead, RunName};
+use book_opening::{BookError, StartName, Tally};
+use conf_index::Ready;
 use intake_front::Front;
 use outside::{Disk, Gate, Sink, Wire};
 use server_words::{Counts, Status};
@@ -111,7 +116,7 @@ fn serve_alone<S: StartName, N: RunName, W: Wire, D: Disk, O: Sink>(
     head: &mut RingHead<S, N>,
     alone: &mut Alone<S, N, O>,
 ) -> Status
-    requires { IsServing S.start.stage.conf S.kept front.old head.old }
+    requires { IsServing S.flat S.start.stage.conf S.kept front.old head.old }
     ensures takes { TakesOn D.tells S.start.stage.conf front.old front.new (W.tells wire.old) (W.tells wire.new) turns
         (Taken.Ended result) }
     ensures ended { IsEndedAt S.kept front.new (W.tells wire.old) (W.tells wire.new) head.new result }
@@ -153,7 +158,7 @@ where
     O: Sink + Send,
     R: Threads + Wait + Sync,
     G: Gate + Sync,
-    requires serving { IsServing S.start.stage.conf S.kept front.old head.old }
+    requires serving { IsServing S.flat S.start.stage.conf S.kept front.old head.old }
     requires before { before ≡ S.outbox.faults }
     ensures takes { TakesOn D.tells S.start.stage.conf front.old front.new (W.tells wire.old) (W.tells wire.new) turns
         (Taken.Ended result.1) }
@@ -214,10 +219,10 @@ fn finish<S: StartName, N: RunName, O: Sink>(
     requires fault { status ≡ Status.OutboxFault → Rose S.outbox.faults book.sink.faults }
     ensures status { IsWorse status result.status }
     ensures lines { (entries : List Numbered) → IsSentAt S.kept head.sent entries status
-        → LinesAre (course_of result.status).out S.outbox (O.tells result.outbox) (log_lines S.start (log_of entries)) }
+        → LinesAre (course_of result.status).out S.outbox (O.tells result.outbox) (log_lines S.flat (log_of entries)) }
     ensures outbox { result.status ≡ Status.OutboxFault → Rose S.outbox.faults (O.tells result.outbox).faults }
     ensures counts { result.status ≡ Status.Ok → result.tally ≡ tally_of
-        (replay S.start (log_of (S.kept ++ head.sent))) }
+        (whole_replay S.flat nothing (log_of (S.kept ++ head.sent))) }
 {
     let _since = book.faults();
     match book.finish(alloc, prepared.ready(), head) {
@@ -269,9 +274,9 @@ fn close<S: StartName, N: RunName, D: Disk, O: Sink>(
     ensures entries { result.entries ≡ front.intake.entries }
     ensures status { IsWorse status result.status }
     ensures lines { LinesAre (course_of result.status).out S.outbox (O.tells result.outbox)
-        (log_lines S.start (log_of front.intake.entries)) }
+        (log_lines S.flat (log_of front.intake.entries)) }
     ensures outbox { result.status ≡ Status.OutboxFault → Rose S.outbox.faults (O.tells result.outbox).faults }
-    ensures counts { result.status ≡ Status.Ok → result.counts ≡ run_counts S.start front.intake.entries }
+    ensures counts { result.status ≡ Status.Ok → result.counts ≡ counts_over S.flat front.intake.entries }
 {
     let Written {
         status,
@@ -293,11 +298,12 @@ fn close<S: StartName, N: RunName, D: Disk, O: Sink>(
     }
 }
 
-/// Runs on one thread over a book that is made of the kept entries and the end of a ring.
+/// Runs on one thread over a book that is made of the kept entries and the end of a ring. The configurations are those
+/// of the Configs among these, each made ready.
 fn named<S: StartName, N: RunName, W: Wire, D: Disk, O: Sink>(
     alloc: Global,
     turns: u64,
-    prepared: Prepared<S>,
+    epochs: Vec<Ready>,
     wire: &mut W,
     front: Front<D>,
     ring: Ring<S>,
@@ -305,20 +311,20 @@ fn named<S: StartName, N: RunName, W: Wire, D: Disk, O: Sink>(
 ) -> Course<D, O>
     requires ring { ring.id ≡ N.ring }
     requires room { 0 < ring.capacity }
-    requires opened { IsOpened D.tells S.start.stage.conf S.kept front }
+    requires texts { (text : List ℕ) → AreDistinct (S.flat text) }
+    requires epochs { epochs.items ≡ map (λ text. first_stage (S.flat text)) (config_texts S.kept) }
+    requires opened { IsOpened D.tells S.flat S.start.stage.conf S.kept front }
     requires outbox { O.tells outbox ≡ S.outbox }
-    ensures gone { HasGone D.tells O.tells S.start S.kept S.outbox front turns (W.tells wire.old) (W.tells wire.new)
+    ensures gone { HasGone D.tells O.tells S.flat S.kept S.outbox front turns (W.tells wire.old) (W.tells wire.new)
         result }
     ensures untouched { result.began ≡ false → (wire.new ≡ wire.old) × IsLeft (O.tells outbox) (O.tells result.outbox) }
 {
     let (head, end) = ring.named::<N>();
-    let book = match Book::new(alloc, prepared.ready(), front.entries(), end, outbox) {
-        Ok(book) => book,
-        Err((outbox, error)) => {
-            forget(prepared.into_ready());
-            return held_back(front, refused(error), outbox);
-        }
+    let (book, ready) = match Book::new(alloc, epochs, front.entries(), end, outbox) {
+        Ok(made) => made,
+        Err((outbox, error)) => return held_back(front, refused(error), outbox),
     };
+    let prepared = Prepared::<S>::new(ready);
     let mut front = front;
     let mut head = head;
     let mut alone = Alone { book };
@@ -332,41 +338,39 @@ fn named<S: StartName, N: RunName, W: Wire, D: Disk, O: Sink>(
 /// How many entries a ring has room for.
 const RING_CAPACITY: usize = 4096;
 
-/// Runs on one thread behind what the journal kept, with which and with what the outbox tells the run begins.
+/// Runs on one thread behind what the journal kept, with which and with what the outbox tells the run begins. The
+/// configurations are those of the Configs among the kept entries, in their order, each made ready: that of the run is
+/// the last one.
 pub(crate) fn started<S: StartName, W: Wire, D: Disk, O: Sink>(
     alloc: Global,
     turns: u64,
-    ready: Ready,
+    epochs: Vec<Ready>,
     wire: &mut W,
     front: Front<D>,
     outbox: O,
 ) -> Course<D, O>
-    requires conf { ready ≡ S.start.stage }
-    requires opened { IsOpened D.tells S.start.stage.conf S.kept front }
+    requires texts { (text : List ℕ) → AreDistinct (S.flat text) }
+    requires epochs { epochs.items ≡ map (λ text. first_stage (S.flat text)) (config_texts S.kept) }
+    requires opened { IsOpened D.tells S.flat S.start.stage.conf S.kept front }
     requires outbox { O.tells outbox ≡ S.outbox }
-    ensures gone { HasGone D.tells O.tells S.start S.kept S.outbox front turns (W.tells wire.old) (W.tells wire.new)
+    ensures gone { HasGone D.tells O.tells S.flat S.kept S.outbox front turns (W.tells wire.old) (W.tells wire.new)
         result }
     ensures untouched { result.began ≡ false → (wire.new ≡ wire.old) × IsLeft (O.tells outbox) (O.tells result.outbox) }
 {
-    let prepared = Prepared::<S>::new(ready);
     match Ring::<S>::new(alloc, RING_CAPACITY) {
-        Ok(ring) => {
-            named::<S, Brand, W, D, O>(alloc, turns, prepared, wire, front, ring, outbox)
-        }
-        Err(OutOfMemory) => {
-            forget(prepared.into_ready());
-            held_back(front, Status::OutOfMemory, outbox)
-        }
+        Ok(ring) => { named::<S, Brand, W, D, O>(alloc, turns, epochs, wire, front, ring, outbox) }
+        Err(OutOfMemory) => held_back(front, Status::OutOfMemory, outbox),
     }
 }
 
-/// Runs beside syncers over a book that is made of the kept entries and the end of a ring.
+/// Runs beside syncers over a book that is made of the kept entries and the end of a ring. The configurations are those
+/// of the Configs among these, each made ready.
 fn named_beside<S, N, W, D, O, R, G>(
     rt: &R,
     alloc: Global,
     syncers: u32,
     turns: u64,
-    prepared: Prepared<S>,
+    epochs: Vec<Ready>,
     wire: &mut W,
     front: Front<D>,
     ring: Ring<S>,
@@ -383,21 +387,21 @@ where
     G: Gate + Sync,
     requires ring { ring.id ≡ N.ring }
     requires room { 0 < ring.capacity }
-    requires opened { IsOpened D.tells S.start.stage.conf S.kept front }
+    requires texts { (text : List ℕ) → AreDistinct (S.flat text) }
+    requires epochs { epochs.items ≡ map (λ text. first_stage (S.flat text)) (config_texts S.kept) }
+    requires opened { IsOpened D.tells S.flat S.start.stage.conf S.kept front }
     requires outbox { O.tells outbox ≡ S.outbox }
-    ensures gone { HasGone D.tells O.tells S.start S.kept S.outbox front turns (W.tells wire.old) (W.tells wire.new)
+    ensures gone { HasGone D.tells O.tells S.flat S.kept S.outbox front turns (W.tells wire.old) (W.tells wire.new)
         result }
     ensures untouched { result.began ≡ false → (wire.new ≡ wire.old) × IsLeft (O.tells outbox) (O.tells result.outbox) }
 {
     let before = outbox.faults();
     let (head, end) = ring.named::<N>();
-    let book = match Book::new(alloc, prepared.ready(), front.entries(), end, outbox) {
-        Ok(book) => book,
-        Err((outbox, error)) => {
-            forget(prepared.into_ready());
-            return held_back(front, refused(error), outbox);
-        }
+    let (book, ready) = match Book::new(alloc, epochs, front.entries(), end, outbox) {
+        Ok(made) => made,
+        Err((outbox, error)) => return held_back(front, refused(error), outbox),
     };
+    let prepared = Prepared::<S>::new(ready);
     let mut front = front;
     let mut head = head;
     let (book, status) = serve_all(
@@ -406,13 +410,15 @@ where
     close(alloc, prepared, front, book, head, status)
 }
 
-/// Runs beside syncers behind what the journal kept, with which and with what the outbox tells the run begins.
+/// Runs beside syncers behind what the journal kept, with which and with what the outbox tells the run begins. The
+/// configurations are those of the Configs among the kept entries, in their order, each made ready: that of the run is
+/// the last one.
 pub(crate) fn started_beside<S, W, D, O, R, G>(
     rt: &R,
     alloc: Global,
     syncers: u32,
     turns: u64,
-    ready: Ready,
+    epochs: Vec<Ready>,
     wire: &mut W,
     front: Front<D>,
     outbox: O,
@@ -425,23 +431,20 @@ where
     O: Sink + Send,
     R: Threads + Wait + Sync,
     G: Gate + Sync,
-    requires conf { ready ≡ S.start.stage }
-    requires opened { IsOpened D.tells S.start.stage.conf S.kept front }
+    requires texts { (text : List ℕ) → AreDistinct (S.flat text) }
+    requires epochs { epochs.items ≡ map (λ text. first_stage (S.flat text)) (config_texts S.kept) }
+    requires opened { IsOpened D.tells S.flat S.start.stage.conf S.kept front }
     requires outbox { O.tells outbox ≡ S.outbox }
-    ensures gone { HasGone D.tells O.tells S.start S.kept S.outbox front turns (W.tells wire.old) (W.tells wire.new)
+    ensures gone { HasGone D.tells O.tells S.flat S.kept S.outbox front turns (W.tells wire.old) (W.tells wire.new)
         result }
     ensures untouched { result.began ≡ false → (wire.new ≡ wire.old) × IsLeft (O.tells outbox) (O.tells result.outbox) }
 {
-    let prepared = Prepared::<S>::new(ready);
     match Ring::<S>::new(alloc, RING_CAPACITY) {
         Ok(ring) => {
             named_beside::<S, Brand, W, D, O, R, G>(
-                rt, alloc, syncers, turns, prepared, wire, front, ring, outbox, gate,
+                rt, alloc, syncers, turns, epochs, wire, front, ring, outbox, gate,
             )
         }
-        Err(OutOfMemory) => {
-            forget(prepared.into_ready());
-            held_back(front, Status::OutOfMemory, outbox)
-        }
+        Err(OutOfMemory) => held_back(front, Status::OutOfMemory, outbox),
     }
 }

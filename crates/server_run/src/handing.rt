@@ -4,8 +4,9 @@ ghost use Rattle.std.specs.Prelude.{◌≡◌, ◌<◌, ◌++◌, ◌∷◌, [],
 ghost use mathlib.Core.List.{IsPrefix};
 ghost use Rattle.book.specs.Entries.{IsWholeLog};
 
-use book::{RingHead, RunName, StartName};
-use entry_step::Ready;
+use book::{RingHead, RunName};
+use book_opening::StartName;
+use conf_index::Ready;
 use intake_front::Front;
 use outside::Disk;
 use std::alloc::Global;
@@ -44,7 +45,7 @@ fn send_one<S: StartName, N: RunName, K: Worker<S, N>>(
     head: &mut RingHead<S, N>,
     worker: &mut K,
 ) -> Result<(), OutOfMemory>
-    requires whole { IsWholeLog S.start (S.kept ++ (head.old.sent ++ entry ∷ [])) }
+    requires whole { IsWholeLog S.start (head.old.sent ++ entry ∷ []) }
     requires room { 0 < head.old.capacity }
     ensures capacity { head.new.capacity ≡ head.old.capacity }
     ensures ok { OnOk result (head.new.sent ≡ head.old.sent ++ entry ∷ []) }
@@ -67,7 +68,7 @@ fn send_all<S: StartName, N: RunName, K: Worker<S, N>>(
     head: &mut RingHead<S, N>,
     worker: &mut K,
 ) -> Result<(), OutOfMemory>
-    requires whole { IsWholeLog S.start (S.kept ++ (head.old.sent ++ entries.now)) }
+    requires whole { IsWholeLog S.start (head.old.sent ++ entries.now) }
     requires room { 0 < head.old.capacity }
     ensures capacity { head.new.capacity ≡ head.old.capacity }
     ensures all { OnOk result (head.new.sent ≡ head.old.sent ++ entries.now) }
@@ -100,7 +101,7 @@ pub(crate) fn send_after<S: StartName, N: RunName, D: Disk, K: Worker<S, N>>(
     head: &mut RingHead<S, N>,
     worker: &mut K,
 ) -> Result<(), OutOfMemory>
-    requires whole { IsWholeLog S.start (S.kept ++ (head.old.sent ++ drop first front.now.intake.entries)) }
+    requires whole { IsWholeLog S.start (head.old.sent ++ drop first front.now.intake.entries) }
     requires room { 0 < head.old.capacity }
     ensures capacity { head.new.capacity ≡ head.old.capacity }
     ensures all { OnOk result (head.new.sent ≡ head.old.sent ++ drop first front.entry.now.intake.entries) }

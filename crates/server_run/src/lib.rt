@@ -14,10 +14,13 @@
 //! answered value is lost is a clause of each commit, which hands an answer out only once each crash leaves its
 //! entries.
 //!
-//! A run goes through its opening, in which each refusal ends it: the words; reading the configuration; flattening
-//! it; opening the journal and reading its groups, which must be those of a run with this configuration; journaling
-//! that where there are none; replaying the entries; and comparing the outbox. Then, begun, it writes the lines that
-//! the outbox lacks and takes the events, up to one that closes the wire. Last it prints one line.
+//! A run goes through its opening, in which each refusal ends it (what concerns the journal is in the crate
+//! `journal_opening`, what concerns the outbox in `book_opening`): the words; reading the configuration; flattening
+//! it; its patterns; opening the journal and reading its groups; flattening the text of each configuration that is
+//! among them, which must be accepted, and judging the entries, each of which must fit the configuration in force where
+//! it stands; the patterns of these configurations; journaling that of the run where there is none, or the last one
+//! has another text; replaying the entries; and comparing the outbox. Then, begun, it writes the lines that the outbox
+//! lacks and takes the events, up to one that closes the wire. Last it prints one line.
 //!
 //! ```text
 //! let ended = run_single(alloc, words.as_slice(), &mut source, &mut wire, disk, outbox, &mut printer);
@@ -29,11 +32,8 @@ mod course;
 mod crew;
 mod delivery;
 mod handing;
-mod numbering;
 mod opening;
 mod reading;
-mod recovering;
-mod resuming;
 mod run;
 mod serving;
 mod shared;

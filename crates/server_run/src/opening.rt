@@ -1,37 +1,39 @@
 //! The opening of a run: its words, its configuration, its journal, and what its outbox lacks.
 
-ghost use Rattle.std.specs.Prelude.{◌≡◌, ◌≤◌, Ok, Some, None, All, IfOk, IfErr};
+ghost use Rattle.std.specs.Prelude.{◌≡◌, ◌≤◌, map, Ok, Some, None, IfOk, IfErr};
+ghost use Rattle.std.specs.Coded.{codes, Coded-set};
+ghost use Rattle.std.specs.Result.{result_ok};
+ghost use Rattle.zbx_types.specs.Tree.{tree_code};
 ghost use Rattle.outside.specs.Tells.{SinkTells, WireTells};
-ghost use Rattle.zbx_types.specs.Ids.{at_id};
-ghost use Rattle.pattern_set.specs.Patterns.{IsPattern};
 ghost use Rattle.config_templates.specs.Flat.{flat_of};
+ghost use Rattle.entry_step.specs.InForce.{config_texts};
 ghost use Rattle.server_words.specs.Words.{plan_of};
 ghost use Rattle.server_run.specs.Ports.{ReadsUpTo};
-ghost use Rattle.server_run.specs.Reasons.{IsUntaken, Unconfigured};
-ghost use Rattle.server_run.specs.Resumed.{HasBegun, TurnedAway};
+ghost use Rattle.journal_opening.specs.Reasons.{IsUntaken, Unconfigured};
+ghost use Rattle.journal_opening.specs.Resumed.{HasBegun, TurnedAway};
 ghost use Rattle.trigger_state.specs.Stages.{first_stage};
-ghost use Rattle.server_run.specs.Patterns.{IsUnready};
+ghost use Rattle.journal_opening.specs.Replayed.{flat};
 ghost use Rattle.server_run.specs.Runs.{IsConfigured, Opened, Unbegun};
 
 use crate::reading::{ReadError, read_all};
-use crate::resuming::{Refused, resume};
+use conf_index::Ready;
 use config_templates::{FlatError, flat};
-use entry_step::{BuildError, Ready};
 use intake_front::Front;
+use journal_opening::{Refused, ready_of, resume};
 use outside::{Disk, Source};
 use server_words::{PlanError, Status, plan};
 use std::alloc::Global;
-use std::mem::forget;
-use zbx_types::{Conf, LONGEST_TEXT, Many, OutOfMemory, Text, by_id, copy_texts};
+use zbx_types::{Conf, LONGEST_TEXT, Many, Text};
 
-/// What a run has begun with.
+/// What a run has begun with. The configurations are those of the Configs among its entries, in their order, each made
+/// ready: that of the run is the last one.
 #[derive(Drop)]
 pub(crate) struct Begun<D: Disk> {
     pub turns: u64,
     pub syncers: u32,
-    pub ready: Ready,
+    pub epochs: Vec<Ready>,
     pub front: Front<D>,
-    ghost first: { ready ≡ first_stage ready.conf },
+    ghost epochs_are: { epochs.items ≡ map (λ text. first_stage (flat text)) (config_texts front.intake.entries) },
 }
 
 /// What the words and the configuration of a run ask for.
@@ -42,6 +44,7 @@ struct Setup {
     max_entries: u64,
     ready: Ready,
     ghost first: { ready ≡ first_stage ready.conf },
+    ghost conf_is: { result_ok (flat_of ready.conf.text) ≡ Some ready.conf } by { Coded-set (Prim.hlevel (codes, tree_code)) (result_ok (flat_of ready.conf.text)) (Some ready.conf) },
 }
 
 /// The flat configuration of these bytes.
@@ -53,39 +56,6 @@ fn configure(alloc: Global, bytes: &[u8]) -> Result<Conf, Status>
         Ok(conf) => Ok(conf),
         Err(FlatError::Refused { path, cause }) => Err(Status::ConfigRefused { path, cause }),
         Err(FlatError::OutOfMemory) => Err(Status::OutOfMemory),
-    }
-}
-
-/// The path at a place, counted from 1. Each pattern has one.
-fn path_at(alloc: Global, paths: &Many<Text>, place: u32) -> Result<Text, OutOfMemory>
-    ensures { IfOk result (λ path. at_id paths.now place ≡ Some path) }
-{
-    match by_id(paths.as_slice(), place) {
-        Some(path) => path.copy(alloc),
-        None => Err(OutOfMemory),
-    }
-}
-
-/// Makes a configuration ready. Where a pattern of it isn't taken, the status has the path where it is used first.
-fn ready_of(alloc: Global, conf: Conf) -> Result<Ready, Status>
-    ensures ok { IfOk result (λ ready. ready ≡ first_stage conf) }
-    ensures patterns { IfOk result (λ _. All IsPattern conf.patterns) }
-    ensures err { IfErr result (IsUnready conf) }
-{
-    let Ok(paths) = copy_texts(alloc, &conf.pattern_paths) else {
-        return Err(Status::OutOfMemory);
-    };
-    match Ready::build(alloc, conf) {
-        Ok(ready) => Ok(ready),
-        Err(BuildError::Refused { place }) => match path_at(alloc, &paths, place) {
-            Ok(path) => Err(Status::PatternRefused { path }),
-            Err(OutOfMemory) => Err(Status::OutOfMemory),
-        },
-        Err(BuildError::TooLarge { place }) => match path_at(alloc, &paths, place) {
-            Ok(path) => Err(Status::PatternTooLarge { path }),
-            Err(OutOfMemory) => Err(Status::OutOfMemory),
-        },
-        Err(BuildError::OutOfMemory) => Err(Status::OutOfMemory),
     }
 }
 
@@ -134,22 +104,19 @@ fn set_up<S: Source>(alloc: Global, words: &[Text], config: &mut S) -> Result<Se
 
 /// Goes on with a run that was configured, behind what its journal kept.
 fn resume_setup<D: Disk>(alloc: Global, setup: Setup, disk: D) -> Result<Begun<D>, Refused<D>>
-    ensures ok { IfOk result (λ b. (b.turns ≡ setup.turns) × (b.ready ≡ setup.ready)
+    ensures ok { IfOk result (λ b. (b.turns ≡ setup.turns)
         × HasBegun D.tells setup.ready.conf setup.max_entries disk b.front) }
     ensures err { IfErr result (λ r. (outbox outbox' : SinkTells) → TurnedAway setup.ready.conf setup.max_entries
         (D.tells disk) (D.tells r.disk) outbox outbox' r.entries r.status) }
 {
-    match resume(alloc, &setup.ready, disk, setup.max_entries) {
-        Ok(front) => Ok(Begun {
+    match resume(alloc, setup.ready, disk, setup.max_entries) {
+        Ok((epochs, front)) => Ok(Begun {
             turns: setup.turns,
             syncers: setup.syncers,
-            ready: setup.ready,
+            epochs,
             front,
         }),
-        Err(refused) => {
-            forget(setup.ready);
-            Err(refused)
-        }
+        Err(refused) => Err(refused),
     }
 }
 
@@ -164,7 +131,7 @@ pub(crate) fn open<S: Source, D: Disk>(
     ensures unread { plan_of words.now ≡ None → config.new ≡ config.old }
     ensures taken { ReadsUpTo 16777216 (S.left config.old) (S.left config.new) }
     ensures ok { IfOk result (λ b. Opened D.tells words.now
-        (S.left config.old) (S.left config.new) disk b.turns b.ready.conf b.front) }
+        (S.left config.old) (S.left config.new) disk b.turns b.front) }
     ensures err { IfErr result (λ r. (wire wire' : WireTells) (outbox outbox' : SinkTells) → Unbegun words.now
         (record {
           source = S.left config.old;

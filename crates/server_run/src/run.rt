@@ -2,7 +2,7 @@
 
 ghost use Rattle.std.specs.Prelude.{◌≡◌, false, None};
 ghost use Rattle.outside.specs.Causes.{Rose};
-ghost use Rattle.book.specs.Outgoing.{IsLeft};
+ghost use Rattle.book_opening.specs.Outgoing.{IsLeft};
 ghost use Rattle.server_words.specs.Words.{plan_of};
 ghost use Rattle.server_run.specs.Ran.{IsUpToLine, IsRun};
 ghost use Rattle.server_run.specs.Runs.{Prints};
@@ -10,14 +10,13 @@ ghost use Rattle.server_run.specs.Statuses.{cut_short, IsUnprinted, EndsPrinted}
 
 use crate::course::{Course, NOTHING, started, started_beside};
 use crate::opening::{Begun, open};
-use crate::resuming::Refused;
-use book::write_all;
+use book_opening::write_all;
+use journal_opening::Refused;
 use outside::{Disk, Failed, Gate, Sink, Source, Wire};
 use server_words::{Counts, Status, printed};
 use std::alloc::Global;
 use std::convert::AsStr;
 use std::marker::Brand;
-use std::mem::forget;
 use std::sync::Wait;
 use std::thread::Threads;
 use zbx_types::{Many, Numbered, OutOfMemory, Text};
@@ -33,8 +32,9 @@ pub struct Ended<D, O> {
     pub disk: D,
     /// The outbox that was handed in.
     pub outbox: O,
-    /// All entries, in the order of their numbers. Entry 1 holds the configuration's text. Where the run didn't begin
-    /// they are none, or those that its journal kept.
+    /// All entries, in the order of their numbers. Entry 1 holds a configuration's text, and the last entry that holds
+    /// one, that of the run. Where the run didn't begin they are none, or those that its journal kept, or these with
+    /// the configuration behind them.
     pub entries: Many<Numbered>,
 }
 
@@ -67,7 +67,7 @@ fn go<S: Source, W: Wire, D: Disk, O: Sink>(
     let Begun {
         turns,
         syncers: _,
-        ready,
+        epochs,
         front,
     } = match open(alloc, words, config, disk) {
         Ok(begun) => begun,
@@ -87,7 +87,7 @@ fn go<S: Source, W: Wire, D: Disk, O: Sink>(
             };
         }
     };
-    started::<Brand, W, D, O>(alloc, turns, ready, wire, front, outbox)
+    started::<Brand, W, D, O>(alloc, turns, epochs, wire, front, outbox)
 }
 
 /// Runs beside syncers up to the printed line.
@@ -128,7 +128,7 @@ where
     let Begun {
         turns,
         syncers,
-        ready,
+        epochs,
         front,
     } = match open(alloc, words, config, disk) {
         Ok(begun) => begun,
@@ -149,7 +149,7 @@ where
         }
     };
     started_beside::<Brand, W, D, O, R, G>(
-        rt, alloc, syncers, turns, ready, wire, front, outbox, gate,
+        rt, alloc, syncers, turns, epochs, wire, front, outbox, gate,
     )
 }
 
@@ -188,14 +188,22 @@ fn cut_short(status: Status) -> Status
 /// Where the journal kept entries the run goes on behind them. The bytes that the outbox holds are taken for the
 /// first of their lines, and those that it lacks are written first.
 ///
+/// The configuration is journaled as entry 1, at moment 0. Where the journal kept one, and the text of the last one
+/// that it kept isn't that of the source, byte for byte, the changed configuration is journaled behind the kept
+/// entries, as an entry and a group of its own, at the moment of the last of them. It is in force from there on: items
+/// and triggers go on that are in both configurations, by their names, and problems that it leaves no trigger for are
+/// closed, as the lines of this entry tell. The entries before it stay those of the configurations before it.
+///
 /// # Statuses
 ///
 /// `Usage`, `SourceFault`, `ConfigRefused`, `PatternRefused` and `PatternTooLarge`, and then `NotOurs`, `Damaged`,
-/// `ConfigDiffers` and `OutboxAhead`, end the opening: no event was taken, and wire and outbox are as they were. `Ok`
-/// comes where the wire was read to its end. `TurnLimit` comes where as many events as the plan allows were taken and
-/// none closed the wire. `Full` comes where the next group would have made the journal larger than the plan allows,
-/// or than 1,073,741,824 bytes. `DiskFault`, `WireFault`, `OutboxFault` and `PrintFault` come where that object
-/// failed. `OutOfMemory` may come wherever memory is taken.
+/// `PatternRefused` and `PatternTooLarge` of a configuration that the journal kept, `OutboxAhead` and `OutboxDiffers`,
+/// end the opening: no event was taken, and wire and outbox are as they were. `Damaged` comes too where the text of a
+/// kept configuration is refused, or a kept entry doesn't fit the configuration in force where it stands. `Ok` comes
+/// where the wire was read to its end. `TurnLimit` comes where as many events as the plan allows were taken and none
+/// closed the wire. `Full` comes where the next group would have made the journal larger than the plan allows, or than
+/// 1,073,741,824 bytes, that of a changed configuration too, which ends the opening. `DiskFault`, `WireFault`,
+/// `OutboxFault` and `PrintFault` come where that object failed. `OutOfMemory` may come wherever memory is taken.
 pub fn run_single<S: Source, W: Wire, D: Disk, O: Sink, P: Sink>(
     alloc: Global,
     words: &[Text],

@@ -7,12 +7,13 @@ ghost use Rattle.intake_front.specs.Batch.{IsIdle};
 ghost use Rattle.server_run.specs.Events.{TookOrEnded};
 ghost use Rattle.server_run.specs.Going.{IsServing, HasServed, IsGoing, IsSentBy, IsCause};
 ghost use Rattle.server_run.specs.Statuses.{status_of, behind_disk, ended_with};
-ghost use Rattle.server_run.specs.Stops.{Journals};
+ghost use Rattle.journal_opening.specs.Journals.{Journals};
 
 use crate::handing::{Worker, send_after};
 use crate::shared::Prepared;
 use crate::taking::{Batch, take_batch};
-use book::{RingHead, RunName, StartName};
+use book::{RingHead, RunName};
+use book_opening::StartName;
 use intake_front::{Collection, Front, Stop};
 use outside::{Disk, Trouble, Wire};
 use server_words::Status;
@@ -79,7 +80,7 @@ fn serve_batch<S: StartName, N: RunName, W: Wire, D: Disk, K: Worker<S, N>>(
     worker: &mut K,
 ) -> Result<u64, Status>
     requires conf { collection.old ≡ S.start.stage.conf }
-    requires serving { IsServing S.start.stage.conf S.kept front.old head.old }
+    requires serving { IsServing S.flat S.start.stage.conf S.kept front.old head.old }
     ensures wire_later { (W.tells wire.old).faults ≤ (W.tells wire.new).faults }
     ensures wire { IsErrOf result Status.WireFault → Rose (W.tells wire.old).faults (W.tells wire.new).faults }
     ensures cause { IfErr result IsCause }
@@ -87,7 +88,7 @@ fn serve_batch<S: StartName, N: RunName, W: Wire, D: Disk, K: Worker<S, N>>(
         (Journals (λ c. ⊥) (D.tells front.old.journal.disk) (D.tells front.new.journal.disk))
         (W.tells wire.old) (W.tells wire.new) most result }
     ensures sent { IsSentBy S.kept head.new.sent front.new.intake.entries result }
-    ensures serving { OnOk result (IsServing S.start.stage.conf S.kept front.new head.new) }
+    ensures serving { OnOk result (IsServing S.flat S.start.stage.conf S.kept front.new head.new) }
     ensures ready { OnOk result (IsReady front.old.journal front.new.journal) }
     ensures same { collection.new ≡ collection.old }
     ensures idle { IsIdle front.new }
@@ -119,8 +120,8 @@ pub(crate) fn serve<S: StartName, N: RunName, W: Wire, D: Disk, K: Worker<S, N>>
     head: &mut RingHead<S, N>,
     worker: &mut K,
 ) -> Taken
-    requires { IsServing S.start.stage.conf S.kept front.old head.old }
-    ensures served { HasServed D.tells S.start.stage.conf S.kept front.old front.new
+    requires { IsServing S.flat S.start.stage.conf S.kept front.old head.old }
+    ensures served { HasServed D.tells S.flat S.start.stage.conf S.kept front.old front.new
         (W.tells wire.old) (W.tells wire.new) head.new turns result }
     ensures stops { IsGoing result → K.stops worker.new }
 {

@@ -2,8 +2,10 @@
 
 ghost use Rattle.std.specs.Prelude.{◌≡◌, OnOk};
 
-use book::{Book, Done, FlushError, Order, RingHead, RunName, StartName};
-use entry_step::{Ready, Steps};
+use book::{Book, Done, FlushError, Order, RingHead, RunName};
+use book_opening::StartName;
+use conf_index::Ready;
+use entry_step::Steps;
 use outside::Sink;
 use std::alloc::Global;
 use std::marker::PhantomData;

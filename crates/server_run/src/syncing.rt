@@ -3,7 +3,8 @@
 ghost use Rattle.std.specs.Prelude.{◌≡◌, ◌<◌};
 
 use crate::shared::{Prepared, Shared};
-use book::{Order, RunName, StartName};
+use book::{Order, RunName};
+use book_opening::StartName;
 use entry_step::Steps;
 use outside::{Gate, Sink};
 use std::alloc::Global;

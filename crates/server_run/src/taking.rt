@@ -9,7 +9,7 @@ ghost use Rattle.intake_front.specs.Batch.{IsIdle};
 ghost use Rattle.intake_front.specs.declared.answer.Stop.TheVariants as stop;
 ghost use Rattle.server_run.specs.Events.{Gathered, GatheredBy, GatheredMore, Took};
 ghost use Rattle.server_run.specs.Statuses.{anywhere};
-ghost use Rattle.server_run.specs.Stops.{Journals};
+ghost use Rattle.journal_opening.specs.Journals.{Journals};
 
 use crate::delivery::deliver_all;
 use intake_front::{Collection, Front, Stop};

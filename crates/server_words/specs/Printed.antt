@@ -7,7 +7,7 @@ use Rattle.server_words.specs.declared.status.Counts.{Counts}
 use Rattle.server_words.specs.declared.status.Status.{Status}
 use Rattle.server_words.specs.declared.status.Status.TheVariants as status
 
--- the number with which the program exits
+-- the number with which the program exits; no status has 8
 abbrev pub exit_of : Status → ℕ
 exit_of status.Ok = 0
 exit_of status.Usage = 2
@@ -16,7 +16,6 @@ exit_of (status.PatternRefused path) = 4
 exit_of status.SourceFault = 5
 exit_of status.NotOurs = 6
 exit_of (status.Damaged at) = 7
-exit_of (status.ConfigDiffers at) = 8
 exit_of (status.OutboxAhead held lines) = 9
 exit_of status.DiskFault = 10
 exit_of status.OutboxFault = 11
@@ -85,7 +84,6 @@ printed_text (status.PatternTooLarge path) c = path_text (codes "status: Pattern
 printed_text status.SourceFault c = codes "status: SourceFault\n"
 printed_text status.NotOurs c = codes "status: NotOurs\n"
 printed_text (status.Damaged at) c = count_text (codes "status: Damaged; at: ") at ++ codes "\n"
-printed_text (status.ConfigDiffers at) c = count_text (codes "status: ConfigDiffers; at: ") at ++ codes "\n"
 printed_text (status.OutboxAhead held lines) c = count_text (codes "status: OutboxAhead; held: ") held ++ count_text (codes "; lines: ") lines ++ codes "\n"
 printed_text (status.OutboxDiffers at) c = count_text (codes "status: OutboxDiffers; at: ") at ++ codes "\n"
 printed_text status.DiskFault c = codes "status: DiskFault\n"

@@ -140,7 +140,6 @@ pub fn printed(alloc: Global, status: &Status, counts: &Counts) -> Result<Text, 
         Status::SourceFault => Text::of(alloc, "status: SourceFault\n"),
         Status::NotOurs => Text::of(alloc, "status: NotOurs\n"),
         Status::Damaged { at } => count_line(alloc, "status: Damaged; at: ", *at),
-        Status::ConfigDiffers { at } => count_line(alloc, "status: ConfigDiffers; at: ", *at),
         Status::OutboxAhead { held, lines } => two_counts_line(
             alloc,
             "status: OutboxAhead; held: ",

@@ -33,14 +33,9 @@ pub enum Status {
     },
     /// The journal's file is no journal.
     NotOurs,
-    /// The journal is damaged.
+    /// The journal is damaged, or its entries don't fit the configurations that it holds.
     Damaged {
         /// The place in the journal's bytes, counted from 0.
-        at: u64,
-    },
-    /// The configuration isn't the one that the journal was begun with.
-    ConfigDiffers {
-        /// The place of the first byte that differs, counted from 0.
         at: u64,
     },
     /// The outbox holds more bytes than the lines of the kept entries have.
@@ -96,7 +91,7 @@ pub enum Status {
 }
 
 impl Status {
-    /// The number with which the program exits.
+    /// The number with which the program exits. No status has 8.
     pub fn exit(&self) -> u8
         ensures { result ≡ exit_of self.now }
     {
@@ -108,7 +103,6 @@ impl Status {
             Status::SourceFault => 5,
             Status::NotOurs => 6,
             Status::Damaged { .. } => 7,
-            Status::ConfigDiffers { .. } => 8,
             Status::OutboxAhead { .. } => 9,
             Status::DiskFault => 10,
             Status::OutboxFault => 11,

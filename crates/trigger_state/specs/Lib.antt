@@ -1,5 +1,10 @@
 pub mod Stages
 pub mod Problems
+pub mod Each
+pub mod Order
+pub mod Carry
+pub mod Naming
+pub mod Origins
 pub mod Cells
 pub mod Verdicts
 pub mod Laws

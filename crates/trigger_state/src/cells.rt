@@ -3,15 +3,17 @@
 ghost use Rattle.std.specs.Prelude.{◌≡◌, [], ◌∷◌, None, Some, length, replicate, IfOk, OnOk, OnErr};
 ghost use Rattle.std.specs.Option.{option_or};
 ghost use Rattle.trigger_state.specs.Cells.{opens_in, HasOpen, none_open};
+ghost use Rattle.trigger_state.specs.Carry.{carried, gone_of, all_open};
 ghost use Rattle.trigger_state.specs.Problems.{grown};
 
 use crate::absorbing::{add, close, run};
+use crate::carrying::{Carried, carry_over, ids_in_order};
 use crate::looking::Opens;
 use crate::problems::Open;
 use crate::stage::InForce;
 use std::alloc::Global;
 use std::marker::Model;
-use zbx_types::{Conf, Many, Moment, OutOfMemory, Rec};
+use zbx_types::{Conf, EventId, Many, Moment, OutOfMemory, Rec};
 
 /// What a run keeps of triggers: the open problems of each, in the order in which they were made, and the moment of
 /// the first Tick. Contracts see the rows, and read them by `opens_in`.
@@ -38,6 +40,17 @@ fn no_rows(alloc: Global, count: usize) -> Result<Vec<Many<Open>>, OutOfMemory>
         rows.push(Many::new(alloc))?;
     }
     Ok(rows)
+}
+
+/// Rows behind one with nothing open, which is that of no trigger.
+fn with_first(alloc: Global, rows: Vec<Many<Open>>) -> Result<Vec<Many<Open>>, OutOfMemory>
+    ensures { IfOk result (λ made. made.items ≡ [] ∷ rows.items) }
+{
+    let mut made = Vec::new(alloc);
+    let mut rest = rows;
+    made.push(Many::new(alloc))?;
+    made.append(&mut rest)?;
+    Ok(made)
 }
 
 impl TriggerCells {
@@ -91,6 +104,33 @@ impl TriggerCells {
             Rec::Step { event, .. } => run(alloc, &mut self.rows, stage.home(*event), rec),
             Rec::Failure { .. } | Rec::Message { .. } => Ok(()),
         }
+    }
+
+    /// Goes on with a configuration that follows the old one. Each trigger of the new one has the open problems of the
+    /// old one's trigger with the names of its host and its own, in their order, but for those that are gone: an open
+    /// problem is gone where no trigger has the names of its host and its trigger, or where the one that has them
+    /// hasn't, in order, tags with the names of the problem's tags. The result lists the events of all open problems of
+    /// the old configuration's triggers that are gone, in the order of making (what is carried over where the
+    /// configuration changes is this project's own).
+    ///
+    /// [`OutOfMemory`] where there is no room for the copies; what is open is then as before. Triggers are found by an
+    /// index of their names, so that it takes time by their number and that of the open problems.
+    #[tactic(auto, using(crate::proofs::Leaving::row_carried))]
+    pub fn carry(
+        &mut self,
+        alloc: Global,
+        old: &Conf,
+        new: &Conf,
+    ) -> Result<Many<EventId>, OutOfMemory>
+        ensures opens { OnOk result (HasOpen self.new (carried old.now new.now (opens_in self.old))) }
+        ensures gone { IfOk result (λ gone. gone ≡ gone_of new.now (all_open old.now (opens_in self.old))) }
+        ensures same { OnErr result (self.new.rows ≡ self.old.rows) }
+        ensures first_tick { self.new.first_tick ≡ self.old.first_tick }
+    {
+        let ids = ids_in_order(alloc, old)?;
+        let Carried { rows, gone, .. } = carry_over(alloc, old, new, &*self, ids.as_slice())?;
+        self.rows = with_first(alloc, rows)?;
+        Ok(gone)
     }
 }
 

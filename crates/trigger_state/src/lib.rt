@@ -19,7 +19,15 @@
 //! p 0, mode none                        nothing
 //! ```
 //!
-//! With a `close_tag` only those close that share a value of it with the trigger's tags as they are now. A short use:
+//! With a `close_tag` only those close that share a value of it with the trigger's tags as they are now.
+//!
+//! Where another configuration follows, [`TriggerCells::carry`] goes on with the open problems (`specs/Carry.antt`): each
+//! with the trigger that has the names of its host and its trigger, if that has, in order, the names of its tags. The
+//! others are gone, and are told in the order of making. Events keep their ids, so the trigger id in the event of such a
+//! problem is no longer that of its trigger: [`carry_over`] tells the origins of those that go on, and with
+//! [`InForce::follow`] the configuration finds their triggers by these.
+//!
+//! A short use:
 //!
 //! ```text
 //! let stage = InForce::first(conf);
@@ -34,18 +42,21 @@
 
 mod absorbing;
 mod answer;
+mod carrying;
 mod cells;
 mod judging;
 pub mod laws;
 mod looking;
+mod naming;
 mod problems;
 mod stage;
 mod steps;
 
 pub use absorbing::absorb_into;
 pub use answer::Verdict;
+pub use carrying::{Carried, carry_over};
 pub use cells::TriggerCells;
 pub use judging::{held_by, verdict, verdict_over};
 pub use looking::Opens;
 pub use problems::Open;
-pub use stage::InForce;
+pub use stage::{InForce, Origin, Told};

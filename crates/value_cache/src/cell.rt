@@ -159,6 +159,18 @@ impl ItemCell {
         self.keep
     }
 
+    /// The cell with another rule from a moment on, which isn't before that of the last insert: of its values it has those
+    /// that it is to keep at that moment by its rule so far. Takes no memory.
+    #[tactic(auto, using(crate::proofs::Pruning::trimmed_ordered))]
+    pub fn with_keep(self, keep: Keep, now: Moment) -> ItemCell
+        ensures keep { result.keep ≡ keep }
+        ensures values { result.values ≡ trim self.keep now self.values }
+    {
+        let mut values = self.values;
+        trim(&mut values, self.keep, now);
+        ItemCell { keep, values }
+    }
+
     /// A copy. [`OutOfMemory`] where there is no room for it.
     pub fn copy(&self, alloc: Global) -> Result<ItemCell, OutOfMemory>
         ensures { IfOk result (λ made. IsSame made self.now) }

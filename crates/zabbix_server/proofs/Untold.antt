@@ -14,7 +14,7 @@ use Rattle.server_words.specs.declared.status.Status.{Status}
 use Rattle.server_run.specs.Ran.{IsRun}
 use Rattle.server_run.specs.Runs.{Objects, Followed}
 use Rattle.server_words.specs.declared.status.Counts.{Counts}
-use Rattle.server_run.specs.Stops.{Journals}
+use Rattle.journal_opening.specs.Journals.{Journals}
 use Rattle.outside.specs.Causes.{Rose}
 use Rattle.alert_marks.specs.Marks.{marks_in, EachKeeps}
 use Rattle.alert_media.specs.declared.media.Media.{Media}
@@ -62,10 +62,12 @@ followed_too words before after s entries IsTold f = record {
   groups = f.groups;
   found = f.found;
   accepted = f.accepted;
+  room = f.room;
   mendable = f.mendable;
   whole = f.whole;
   fits = f.fits;
-  first = f.first;
+  taken = f.taken;
+  in_force = f.in_force;
   finished = record {
     handled = f.finished.handled;
     lost = f.finished.lost;
@@ -111,8 +113,8 @@ run_too words before after line line' began entries s r = record {
   printed = r.printed;
   keeps = r.keeps;
   told = r.told;
-  complete = λ plan text conf file groups all a b d e f g h i j k none patterns.
-      r.complete plan text conf file groups all a b d e f g h i j k (record { source = none.source; wire = none.wire; disk = none.disk; outbox = none.outbox; printer = none.printer }) patterns;
+  complete = λ plan text conf file groups all a b d e f g h i j k l m none patterns.
+      r.complete plan text conf file groups all a b d e f g h i j k l m (record { source = none.source; wire = none.wire; disk = none.disk; outbox = none.outbox; printer = none.printer }) patterns;
 }
 
 -- ---- alerts

@@ -74,7 +74,7 @@ pub enum Cause2 {
     Expression,
     /// A rule of global correlation (the Zabbix 6.0 manual, "Global event correlation").
     Correlation,
-    /// No trigger of the configuration is that of the problem any more. Nothing closes so yet.
+    /// No trigger of a changed configuration is that of the problem (this project's own).
     Removed,
 }
 

@@ -6,12 +6,11 @@ use Rattle.syncer_gate.specs.Marks.{is_open, is_pending}
 use Rattle.std.specs.List.{list_any}
 use Rattle.trigger_state.specs.Stages.{Stage}
 use Rattle.book.proofs.Claiming.{some_claimed, few_claimed, none_claimed, idle_claimed}
-use Rattle.book.specs.Entries.{point}
 use Rattle.book.proofs.inputs.take_batch.Goals as goal
 
 pub returns-clause-some : goal.returns-clause-some
 returns-clause-some g c =
-    some_claimed (point g.S.StartName.start g.S.StartName.kept) (told_by c.feet.result.now) c.args.entries.now c.args.claims.now c.claim.new.self c.args.limit c.in_ok-taken.taken (c.feet.ensures ∙ ap (λ (s : Stage). feet_of s.conf) c.requires.conf)
+    some_claimed g.S.StartName.start (told_by c.feet.result.now) c.args.entries.now c.args.claims.now c.claim.new.self c.args.limit c.in_ok-taken.taken (c.feet.ensures ∙ ap (λ (s : Stage). feet_of s.conf) c.requires.conf)
     c.in_ok-taken.ensures.batch c.in_ok-taken.ensures.gate c.claim.ensures.alike c.in_ok-taken.ensures.step
 
 pub returns-clause-few : goal.returns-clause-few

@@ -1,6 +1,6 @@
 use Rattle.std.proofs.Common.{rules, ◌≡◌, ◌++◌, ◌∷◌, [], ◌∙◌}
 use Rattle.book.proofs.Numbers.{came_whole}
-use Rattle.book.proofs.Replaying.{blank_row}
+use Rattle.book.proofs.Finishing.{blank_row}
 use Rattle.book.proofs.progress.pull_known.Goals as goal
 
 pub loop-entry-preserved : goal.loop-entry-preserved
@@ -9,7 +9,7 @@ loop-entry-preserved g c = record {
   fifo = search rules;
   capacity = search rules;
   counted = search rules;
-  whole = came_whole g.S.StartName.start g.S.StartName.kept c.loop-entry.ring.received c.take_known.new.self.received c.loop-entry.entries.items c.push_reserved.new.self.items c.take_known.result c.loop-entry.invariant.received c.take_known.ensures.received c.push_reserved.ensures.items c.take_known.ensures.whole;
+  whole = came_whole g.S.StartName.start c.loop-entry.ring.received c.take_known.new.self.received c.loop-entry.entries.items c.push_reserved.new.self.items c.take_known.result c.loop-entry.invariant.received c.take_known.ensures.received c.push_reserved.ensures.items c.take_known.ensures.whole;
   room = search rules;
   rows = search rules;
   size = search rules;

@@ -1,11 +1,17 @@
 use Rattle.std.proofs.Common.{refl}
 use Rattle.std.specs.Prelude.{[], ◌∷◌}
-use Rattle.entry_step.specs.Start.{first_start}
 use Rattle.zbx_types.specs.declared.entries.Entry.TheVariants.{Config}
-use Rattle.book.specs.Entries.{no_conf}
-use Rattle.book.specs.Outgoing.{no_outbox}
+use Rattle.entry_step.specs.InForce.{behind_all}
+use Rattle.entry_step.specs.Start.{no_conf}
+use Rattle.book_opening.specs.Outgoing.{no_outbox}
 use Rattle.book_examples.proofs.rings.entries_cross_threads.Given as goal
 
 -- a run whose journal kept the entry of the configuration
 abbrev pub ghosts-cross_behind : goal.ghosts-cross_behind
-ghosts-cross_behind g a = record { start = first_start no_conf; first = refl; kept = record { number = 1; entry = Config 0 [] } ∷ []; outbox = no_outbox }
+ghosts-cross_behind g a = record {
+  flat = λ text. no_conf;
+  kept = record { number = 1; entry = Config 0 [] } ∷ [];
+  start = behind_all (λ text. no_conf) (record { number = 1; entry = Config 0 [] } ∷ []);
+  first = refl;
+  outbox = no_outbox;
+}

@@ -2,8 +2,8 @@ use Rattle.std.proofs.Common.{◌∙◌, sym, ap, neg_ℤ, option_map, Option, �
 use Rattle.expr_eval.specs.Operations.{negation_of, operation}
 use Rattle.expr_eval.specs.Values.{value_over}
 use Rattle.entry_step.specs.Calls.{value_in}
-use Rattle.entry_step.specs.declared.plans.Node.TheVariants.{Const, Called, Neg, Not, Bin}
-use Rattle.entry_step.specs.Plans.{flat}
+use Rattle.conf_index.specs.declared.plans.Node.TheVariants.{Const, Called, Neg, Not, Bin}
+use Rattle.conf_index.specs.Plans.{flat}
 use Rattle.entry_step.proofs.Planned.{headed, no_nodes}
 use Rattle.entry_step.proofs.evaluation.+value_at.Goals as goal
 

@@ -7,7 +7,7 @@ use Rattle.preprocess.specs.declared.draft.Draft.{Draft}
 use Rattle.preprocess.specs.declared.draft.Prepared.{Prepared}
 use Rattle.preprocess.specs.declared.visit.Visit.{Visit}
 use Rattle.entry_step.specs.History.{visits_at}
-use Rattle.entry_step.specs.Index.{triggers_under}
+use Rattle.conf_index.specs.Index.{triggers_under}
 use Rattle.entry_step.specs.Records.{triggers_at}
 use Rattle.entry_step.specs.Represents.{CellsView}
 use Rattle.entry_step.specs.Changes.{is_asked}

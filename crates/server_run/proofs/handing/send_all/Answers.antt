@@ -14,5 +14,5 @@ send_one-requires-clause-whole g c =
     let next : drop i es ≡ e ∷ drop (i + 1) es = drop-cons es i e below ∙ ap (λ x. x ∷ drop (suc i) es) (sym c.entry-item.is) ∙ ap (λ n. e ∷ drop n es) (sym (add-one i)) in
     let same : c.in_ok-copy.copy ≡ e = search rules in
     let sent = c.loop-entry.head.sent in
-    subst (λ (x : Numbered). IsWholeLog g.S.StartName.start (g.S.StartName.kept ++ (sent ++ x ∷ []))) (sym same)
-    (next_whole g.S.StartName.start g.S.StartName.kept sent e (drop (i + 1) es) _ (ap (λ l. sent ++ l) (sym next) ∙ c.loop-entry.invariant.sent) c.requires.whole)
+    subst (λ (x : Numbered). IsWholeLog g.S.StartName.start (sent ++ x ∷ [])) (sym same)
+    (next_whole g.S.StartName.start sent e (drop (i + 1) es) _ (ap (λ l. sent ++ l) (sym next) ∙ c.loop-entry.invariant.sent) c.requires.whole)

@@ -1,7 +1,10 @@
 use Rattle.std.proofs.Common.{refl}
-use Rattle.entry_step.specs.Start.{first_start}
+use Rattle.entry_step.specs.InForce.{behind_all}
+use Rattle.entry_step.specs.Log.{log_of}
+use Rattle.journal_opening.specs.Replayed.{flat}
 use Rattle.server_run.proofs.run.go.Given as goal
 
 -- with what the run begins
 abbrev pub ghosts-started : goal.ghosts-started
-ghosts-started g a = record { start = first_start a.ready.conf; first = refl; kept = a.front.intake.entries; outbox = g.O.Sink.tells a.outbox }
+ghosts-started g a =
+    record { flat = flat; kept = a.front.intake.entries; start = behind_all flat (log_of a.front.intake.entries); first = refl; outbox = g.O.Sink.tells a.outbox }

@@ -1,7 +1,7 @@
 use Rattle.std.proofs.Common.{◌≡◌, length, sym, subst}
 use Rattle.book.specs.Progress.{ProgressView}
 use Rattle.book.specs.Book.{AreApplied}
-use Rattle.book.proofs.Growing.{on_ok}
+use Rattle.book_opening.proofs.Growing.{on_ok}
 use Rattle.book.proofs.Books.{frontier_at_end}
 use Rattle.book.proofs.book.Book.settle.Goals as goal
 

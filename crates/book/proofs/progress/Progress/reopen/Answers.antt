@@ -3,12 +3,11 @@ use Rattle.syncer_gate.specs.Gate.{Gate}
 use Rattle.std.proofs.lemmas.List.{length-map}
 use Rattle.syncer_gate.specs.Marks.{reopened}
 use Rattle.book.proofs.Finishing.{reopened_going}
-use Rattle.book.specs.Entries.{point}
 use Rattle.book.proofs.progress.Progress.reopen.Goals as goal
 
 pub invariant_of-self : goal.invariant_of-self
 invariant_of-self g c = (
-  reopened_going (point g.S.StartName.start g.S.StartName.kept) (record { entries = c.self.inside.entries.items; gate = c.self.inside.claims; cells = c.self.inside.cells; made = c.self.inside.made.items }) c.give_back_all.new.self c.self.invariant.0 c.give_back_all.ensures,
+  reopened_going g.S.StartName.start (record { entries = c.self.inside.entries.items; gate = c.self.inside.claims; cells = c.self.inside.cells; made = c.self.inside.made.items }) c.give_back_all.new.self c.self.invariant.0 c.give_back_all.ensures,
   c.self.invariant.1,
   c.self.invariant.2,
   c.self.invariant.3,

@@ -11,7 +11,7 @@ use mathlib.Core.List.{List, [], ◌∷◌}
 use borrow.Author.Rules.{rules}
 use Rattle.std.proofs.alloc.Global.TheSendSync as global
 use Rattle.std.specs.contracts.alloc.Global
-use Rattle.book.specs.declared.names.StartName
+use Rattle.book_opening.specs.declared.names.StartName
 use Rattle.book.specs.declared.names.RunName
 use Rattle.outside.specs.declared.ports.Sink
 use Rattle.server_run.specs.contracts.shared.Prepared

@@ -1,0 +1,7 @@
+use Rattle.std.proofs.Common.{[], refl, ap, subst}
+use Rattle.entry_step.specs.Represents.{Holds}
+use Rattle.entry_step.specs.Start.{Start, first_start}
+use Rattle.book_opening.proofs.present.Present.first.Goals as goal
+
+pub returns : goal.returns
+returns c = (refl, subst (λ (s : Start). Holds s c.in_ok-cells.cells []) (ap first_start c.conf.ensures) c.in_ok-cells.ensures)

@@ -1,0 +1,38 @@
+//! With what a book begins: the entries that a journal kept are replayed by one thread, their lines made, and the outbox
+//! compared with them.
+//!
+//! [`begin`] replays them, from nothing on, one after another by `step` of `entry_step`, and a Config behind the first one
+//! by `carry`. What it answers stands for the search of the whole log: the configuration in force, the cells, and the counts
+//! of all records; and beside them the first place at which the outbox holds another byte than the lines of these records,
+//! and those of their bytes that it lacks where it is cut there (`specs/Opening.antt`). The outbox is only read.
+//!
+//! [`mend`] then cuts the outbox where it holds a 0 in place of the lines' byte, as a power cut may leave it, and refuses one
+//! that is ahead of the lines or holds other ones. Behind it the outbox has a front of the lines (`specs/Outgoing.antt`).
+//!
+//! A function with a parameter `S: StartName` is proved for every name. Its caller passes `Brand`, and picks the name in its
+//! own `Invariants.antt`, from what the run begins with.
+//!
+//! [`write_out`], [`write_all`], [`add_lines`], [`behind`] and [`Tally`] take lines of records to a sink and count them,
+//! in an opening and behind it.
+//!
+//! ```text
+//! let replayed = begin::<S, O>(alloc, epochs, &kept, &mut outbox)?;
+//! mend(&mut outbox, replayed.tally.bytes, replayed.other)?;
+//! ```
+#![tactic(auto)]
+
+mod errors;
+mod names;
+mod opening;
+mod outgoing;
+mod present;
+mod tally;
+mod writing;
+
+pub use errors::BookError;
+pub use names::StartName;
+pub use opening::{Replayed, begin, mend};
+pub use outgoing::{add_lines, behind, write_out};
+pub use present::Present;
+pub use tally::Tally;
+pub use writing::write_all;

@@ -1,0 +1,46 @@
+//! The name of what a run begins with. Contracts alone know it: a program computes nothing from it.
+
+use std::marker::Brand;
+
+/// With what a run begins. Each call of a program picks it, before the ring is made.
+pub trait StartName {
+    ghost use Rattle.std.specs.Prelude.{◌≡◌, ℕ, List};
+    ghost use Rattle.entry_step.specs.InForce.{behind_all};
+    ghost use Rattle.entry_step.specs.Log.{log_of};
+    ghost use Rattle.entry_step.specs.Start.{Start};
+    ghost use Rattle.zbx_types.specs.declared.conf.Conf.{Conf};
+    ghost use Rattle.zbx_types.specs.declared.entries.Numbered.{Numbered};
+    ghost use Rattle.outside.specs.Tells.{SinkTells};
+
+    /// The configuration that a text stands for.
+    ghost flat: { List ℕ → Conf };
+
+    /// The entries that the journal kept, from entry 1 on, in the order of their numbers. They don't go through the
+    /// ring.
+    ghost kept: { List Numbered };
+
+    /// What they leave for the entries that follow, with what is in force then.
+    ghost start: { Start };
+
+    ghost first: { start ≡ behind_all flat (log_of kept) };
+
+    /// What its outbox told at the opening.
+    ghost outbox: { SinkTells };
+}
+
+impl StartName for Brand {
+    ghost use Rattle.std.specs.Prelude.{[], refl};
+    ghost use Rattle.entry_step.specs.InForce.{behind_all};
+    ghost use Rattle.entry_step.specs.Start.{no_conf};
+    ghost use Rattle.book_opening.specs.Outgoing.{no_outbox};
+
+    ghost flat = { λ _. no_conf };
+
+    ghost kept = { [] };
+
+    ghost start = { behind_all (λ _. no_conf) [] };
+
+    ghost first = { refl };
+
+    ghost outbox = { no_outbox };
+}

@@ -1,0 +1,137 @@
+//! What is in force behind the entries that were replayed, and the cells.
+
+ghost use Rattle.std.specs.Prelude.{◌≡◌, ◌<◌, ◌+◌, [], ◌∷◌, List, true, length, IfOk, OnOk};
+ghost use Rattle.std.specs.VecDeque.{deque_len};
+ghost use Rattle.zbx_types.specs.declared.entries.Numbered.{Numbered};
+ghost use Rattle.entry_step.specs.InForce.{CarriesOver};
+ghost use Rattle.entry_step.specs.Log.{is_config};
+ghost use Rattle.entry_step.specs.Represents.{Holds};
+ghost use Rattle.entry_step.specs.Start.{first_start, nothing};
+ghost use Rattle.entry_step.specs.Whole.{point, out_at};
+ghost use Rattle.book_opening.specs.Opening.{IsSound, IsPresent, epochs_of};
+
+use crate::names::StartName;
+use conf_index::Ready;
+use entry_step::{Cells, Steps, carry, step};
+use std::alloc::Global;
+use std::collections::VecDeque;
+use std::mem::replace;
+use std::sync::ledger::Ledger;
+use zbx_types::{Entry, Many, Moment, Numbered, OutOfMemory, Rec};
+
+/// What is in force behind the entries so far, and the cells (this project's own).
+#[derive(Drop)]
+pub struct Present {
+    /// The configuration in force, and where the events of others before it come from.
+    pub ready: Ready,
+    /// The cells, as the entries leave them.
+    pub cells: Cells,
+}
+
+/// The first of the configurations that are still to come.
+pub(crate) fn next_epoch(epochs: &mut VecDeque<Ready>) -> Ready
+    requires { 0 < deque_len epochs.old }
+    ensures next { epochs.old.items ≡ result ∷ epochs.new.items }
+    ensures len { deque_len epochs.new + 1 ≡ deque_len epochs.old }
+{
+    epochs.pop_front().unwrap()
+}
+
+/// Carries the cells to the next configuration, at the entry with this number and moment.
+fn carried(
+    alloc: Global,
+    old: &Ready,
+    next: &mut Ready,
+    cells: &mut Cells,
+    number: u64,
+    at: Moment,
+) -> Result<Many<Rec>, OutOfMemory>
+    ensures { IfOk result (λ made. CarriesOver old.now next.old.conf number at cells.old made next.new cells.new) }
+{
+    carry(alloc, old, next, cells, number, at)
+}
+
+/// Puts a configuration in the place of another one, which is dropped.
+fn change(ready: &mut Ready, next: Ready)
+    ensures { ready.new ≡ next }
+{
+    drop(replace(ready, next));
+}
+
+/// Goes over to the next configuration, over what is in force and the cells, each by a reference of its own: lent out of one
+/// struct they take minutes to prove.
+fn exchanged(
+    alloc: Global,
+    ready: &mut Ready,
+    next: Ready,
+    cells: &mut Cells,
+    number: u64,
+    at: Moment,
+) -> Result<Many<Rec>, OutOfMemory>
+    ensures { IfOk result (λ made. CarriesOver ready.old next.conf number at cells.old made ready.new cells.new) }
+{
+    let mut next = next;
+    match carried(alloc, ready, &mut next, cells, number, at) {
+        Ok(made) => {
+            change(ready, next);
+            Ok(made)
+        }
+        Err(OutOfMemory) => {
+            drop(next);
+            Err(OutOfMemory)
+        }
+    }
+}
+
+impl Present {
+    /// Behind the first entry, which brings this configuration.
+    pub(crate) fn first(alloc: Global, ready: Ready) -> Result<Present, OutOfMemory>
+        ensures { IfOk result (λ made. (made.ready ≡ ready) × Holds (first_start ready.conf) made.cells []) }
+    {
+        let cells = Cells::new(alloc, ready.conf())?;
+        Ok(Present { ready, cells })
+    }
+
+    /// Goes over to the next configuration, at the entry with this number and moment, and drops the one before.
+    fn go_over(
+        &mut self,
+        alloc: Global,
+        next: Ready,
+        number: u64,
+        at: Moment,
+    ) -> Result<Many<Rec>, OutOfMemory>
+        ensures { IfOk result (λ made. CarriesOver self.old.ready next.conf number at self.old.cells made self.new.ready
+            self.new.cells) }
+    {
+        exchanged(alloc, &mut self.ready, next, &mut self.cells, number, at)
+    }
+
+    /// Takes the next entry, and answers its records. A Config brings the first of the configurations that are still to
+    /// come.
+    pub(crate) fn take<S: StartName, L: Ledger>(
+        &mut self,
+        alloc: Global,
+        entry: &Numbered,
+        epochs: &mut VecDeque<Ready>,
+        steps: &mut Steps<L>,
+    ) -> Result<Many<Rec>, OutOfMemory>
+        requires some { is_config entry.now.entry ≡ true → 0 < deque_len epochs.old }
+        ensures made { IfOk result (λ made. (log later : List Numbered) → 0 < length log → IsSound S.flat (entry.now ∷ log)
+            → epochs.old.items ≡ epochs_of S.flat (entry.now ∷ later) → IsPresent S.flat log self.old
+            → (made ≡ out_at S.flat (point S.flat nothing log) entry.now entry.now.entry)
+            × IsPresent S.flat (entry.now ∷ log) self.new) }
+        ensures epochs { OnOk result ((later : List Numbered) → epochs.old.items ≡ epochs_of S.flat (entry.now ∷ later)
+            → epochs.new.items ≡ epochs_of S.flat later) }
+        ensures len { OnOk result (deque_len epochs.old ≡ length epochs.old.items
+            → deque_len epochs.new ≡ length epochs.new.items) }
+    {
+        match &entry.entry {
+            Entry::Config { now, .. } => {
+                self.go_over(alloc, next_epoch(epochs), entry.number, *now)
+            }
+            Entry::Value { .. } | Entry::Tick { .. } => {
+                step(alloc, &self.ready, &mut self.cells, entry, steps)
+            }
+        }
+    }
+}

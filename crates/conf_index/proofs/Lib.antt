@@ -1,0 +1,8 @@
+mod Naming
+mod Listing
+mod Packing
+mod Planned
+mod Dependents
+mod Sight
+mod Reaches
+mod Asking

@@ -1,0 +1,4 @@
+pub mod Rising
+pub mod Previous
+pub mod Remembered
+pub mod FirstConfig

@@ -1,5 +1,0 @@
-use Rattle.entry_step.proofs.Orders.{applied_part}
-use Rattle.entry_step.proofs.laws.applied_part.Goals as goal
-
-pub returns : goal.returns
-returns c = applied_part

@@ -1,5 +1,0 @@
-use Rattle.entry_step.proofs.Meeting.{conflict_is_meeting}
-use Rattle.entry_step.proofs.laws.conflict_is_meeting.Goals as goal
-
-pub returns : goal.returns
-returns c = conflict_is_meeting

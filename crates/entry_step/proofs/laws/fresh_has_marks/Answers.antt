@@ -1,5 +1,0 @@
-use Rattle.entry_step.proofs.Previous.{fresh_has_marks}
-use Rattle.entry_step.proofs.laws.fresh_has_marks.Goals as goal
-
-pub returns : goal.returns
-returns c = fresh_has_marks

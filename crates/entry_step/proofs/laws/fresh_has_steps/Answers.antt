@@ -1,5 +1,0 @@
-use Rattle.entry_step.proofs.Rising.{fresh_has_steps}
-use Rattle.entry_step.proofs.laws.fresh_has_steps.Goals as goal
-
-pub returns : goal.returns
-returns c = fresh_has_steps

@@ -1,5 +1,0 @@
-use Rattle.entry_step.proofs.Orders.{insertion}
-use Rattle.entry_step.proofs.laws.insertion.Goals as goal
-
-pub returns : goal.returns
-returns c = insertion

@@ -1,6 +1,0 @@
-use Rattle.std.proofs.Common.{take}
-use Rattle.entry_step.proofs.Packing.{IsPacked}
-use Rattle.entry_step.proofs.packed.pack.Given as goal
-
-abbrev pub invariant-loop-ids : goal.invariant-loop-ids
-invariant-loop-ids l = IsPacked l.made.starts l.made.items (take l.ids-index l.rows)

@@ -1,6 +1,0 @@
-use Rattle.std.proofs.Common.{◌≡◌, map, take}
-use Rattle.entry_step.specs.Index.{some_reaches}
-use Rattle.entry_step.proofs.reached.reached.Given as goal
-
-abbrev pub invariant-loop-trigger : goal.invariant-loop-trigger
-invariant-loop-trigger l = l.made ≡ map (some_reaches l.rules) (take l.trigger-index l.triggers)

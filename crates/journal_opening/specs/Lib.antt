@@ -1,0 +1,10 @@
+pub mod Tally
+pub mod Replayed
+pub mod Recovered
+pub mod Opening
+pub mod Patterns
+pub mod Epochs
+pub mod Outbox
+pub mod Reasons
+pub mod Journals
+pub mod Resumed

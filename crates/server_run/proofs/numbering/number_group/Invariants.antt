@@ -1,8 +1,0 @@
-use Rattle.std.proofs.Common.{◌≡◌, ◌++◌, ◌+◌, length}
-use Rattle.std.specs.Vec.Iter.{into_iter_items}
-use Rattle.intake_front.specs.Intake.{numbered_from, with_group}
-use Rattle.server_run.proofs.numbering.number_group.Given as goal
-
--- the entries so far, and those that are left with the numbers behind them
-abbrev pub invariant-loop-entry : goal.invariant-loop-entry
-invariant-loop-entry l = l.numbered ++ numbered_from (length l.numbered + 1) (into_iter_items l.entry-iterator) ≡ with_group 0 l.fn.numbered l.fn.entries
