@@ -1,7 +1,7 @@
 -- The entries of batches, and what is kept of them.
-use Rattle.std.proofs.Common.{◌≡◌, ◌<◌, ◌≤◌, ◌+◌, ◌-◌, ℕ, zero, suc, ◌==◌, Option, Some, None, Bool, true, false, cond, ◌||◌, ◌⊎◌, inl, inr, List, [], ◌∷◌, ◌++◌, length, map, get_or, set, reverse, filter, refl, sym, ◌∙◌, ap, ap₂, subst, eqb-true, eq-eqb, ne_eqb, arith, add-one, drop, take, append_assoc, length-append, get_or-set_other, get_or-set_same}
+use Rattle.std.proofs.Common.{◌≡◌, ◌<◌, ◌≤◌, ◌+◌, ◌-◌, ℕ, zero, suc, ◌==◌, Option, Some, None, Bool, true, false, cond, ◌||◌, inl, inr, List, [], ◌∷◌, ◌++◌, length, map, get_or, set, reverse, filter, refl, sym, ◌∙◌, ap, ap₂, subst, eqb-true, eq-eqb, ne_eqb, arith, add-one, drop, take, length-append, get_or-set_other, get_or-set_same}
 use Rattle.std.specs.Prelude.{nat_lt, slice_get, IfSome, All}
-use Rattle.std.proofs.lemmas.Bool.{le-ltb, or_cases}
+use Rattle.std.proofs.lemmas.Bool.{le-ltb}
 use Rattle.std.proofs.lemmas.List.{reverse-reverse, get_or-map, length-map}
 use Rattle.std.proofs.lemmas.List.Elements.{All-push}
 use Rattle.std.proofs.lemmas.Grind.{get_or_default_zero}
@@ -12,22 +12,21 @@ use Rattle.zbx_types.specs.Masters.{has_id}
 use Rattle.zbx_types.specs.declared.entries.Entry.TheVariants.{Tick}
 use Rattle.zbx_types.specs.declared.entries.Numbered.{Numbered}
 use Rattle.zbx_types.specs.declared.entries.Rec.{Rec}
-use Rattle.entry_step.specs.Each.{Each, In}
+use Rattle.entry_step.specs.Each.{In}
 use Rattle.entry_step.specs.Cells.{Cells, ItemKey, TriggerKey}
 use Rattle.entry_step.specs.Laws.{any_touches}
 use Rattle.entry_step.specs.Represents.{CellsView, Represents}
 use Rattle.entry_step.specs.Parts.{PartView, cell_in, marks_in, problems_in, IsPartOf, IsSame}
 use Rattle.zbx_types.proofs.RowLemmas.{at_zero, at_suc}
-use Rattle.entry_step.proofs.Members.{map_cong, in_map}
+use Rattle.entry_step.proofs.Members.{map_cong}
 use Rattle.syncer_gate.specs.declared.marks.Mark.{Mark}
 use Rattle.syncer_gate.specs.declared.marks.Mark.TheVariants.{Pending, Taken}
 use Rattle.syncer_gate.specs.Marks.{is_taken}
 use Rattle.syncer_gate.specs.Gate.{Gate, mark_of, held_by}
 use Rattle.syncer_gate.specs.Core.{Core, Claim, happens, core_of}
-use Rattle.syncer_gate.proofs.Claimed.{ids_alike}
-use Rattle.syncer_gate.proofs.Opened.{RiseFrom, rise_above, rise_not, held_has, held_rise}
+use Rattle.syncer_gate.proofs.Opened.{RiseFrom, rise_above, rise_not, held_has}
 use Rattle.book.specs.Schedule.{batch_in, keeping}
-use Rattle.book.specs.Progress.{made_at, entries_with, entry_at, AreHere, IsAmong, AreWithin, IsKept}
+use Rattle.book.specs.Progress.{made_at, entries_with, entry_at, AreHere, IsAmong, AreWithin}
 use Rattle.book.proofs.Places.{filter_cong}
 use Rattle.trigger_state.specs.Stages.{Stage}
 

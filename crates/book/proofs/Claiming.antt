@@ -1,17 +1,15 @@
 -- What a claim, the end of a batch and a new start leave.
-use Rattle.std.proofs.Common.{◌≡◌, ◌<◌, ◌≤◌, ◌+◌, ◌-◌, ℕ, suc, Bool, true, false, cond, ◌&&◌, ◌||◌, inl, inr, Option, Some, None, List, [], ◌∷◌, ◌++◌, length, map, get_or, set, length-set, ◌==◌, eq-eqb, reverse, refl, sym, ◌∙◌, ap, subst, append-nil, arith, zero}
-use Rattle.std.specs.Prelude.{nat_lt, replicate, is_some, All, IfSome, IfNone, Result, Ok, Err, IfOk}
+use Rattle.std.proofs.Common.{◌≡◌, ◌<◌, ◌≤◌, ◌+◌, ◌-◌, ℕ, suc, Bool, true, false, cond, ◌&&◌, ◌||◌, Option, Some, None, List, [], ◌∷◌, length, map, get_or, set, length-set, ◌==◌, eq-eqb, refl, sym, ◌∙◌, ap, subst, append-nil, arith}
+use Rattle.std.specs.Prelude.{nat_lt, is_some, All, IfSome, IfNone, Result, Ok, Err, IfOk}
 use Rattle.std.proofs.lemmas.Bool.{le-ltb, ltb-true}
-use Rattle.std.proofs.lemmas.List.{length-map, length-replicate}
+use Rattle.std.proofs.lemmas.List.{length-map}
 use mathlib.Core.Path.{fun_ext}
-use Rattle.zbx_types.specs.Ids.{ids_from}
 use Rattle.zbx_types.specs.Masters.{has_id}
 use Rattle.zbx_types.specs.declared.entries.Numbered.{Numbered}
 use Rattle.zbx_types.specs.declared.entries.Rec.{Rec}
 use Rattle.footprint.specs.Feet.{Footing, feet_of}
 use Rattle.footprint.specs.Conflict.{conflict_by}
 use Rattle.zbx_types.specs.declared.entries.Entry.{Entry}
-use Rattle.entry_step.specs.Each.{In}
 use Rattle.entry_step.specs.Cells.{Key, ItemKey, TriggerKey, TickKey, Cells, after, look, AreCellsOf}
 use Rattle.entry_step.specs.History.{marks_of}
 use Rattle.entry_step.specs.Represents.{CellsView, Represents, StepsTo, Holds as HoldsLog}
@@ -19,21 +17,19 @@ use Rattle.entry_step.specs.Laws.{IsGood, cells_done, records_done}
 use Rattle.entry_step.specs.Parts.{AllCome, PartView, IsPartOf, IsSame, IsWorkable, IsReplaced, WorksOut}
 use Rattle.syncer_gate.specs.declared.batch.Batch.{Batch}
 use Rattle.syncer_gate.specs.declared.marks.Mark.{Mark}
-use Rattle.syncer_gate.specs.declared.marks.Mark.TheVariants.{Pending, Applied, Taken}
+use Rattle.syncer_gate.specs.declared.marks.Mark.TheVariants.{Pending, Applied}
 use Rattle.syncer_gate.specs.Marks.{is_pending, is_taken, ended}
-use Rattle.syncer_gate.specs.Gate.{Gate, AreOffered, AreAlike, mark_of, batch_of, with_taken, claimed, held_by, same_numbers, IsOpenBatch, with_ended}
+use Rattle.syncer_gate.specs.Gate.{Gate, AreAlike, mark_of, batch_of, with_taken, claimed, held_by, same_numbers, IsOpenBatch, with_ended}
 use Rattle.syncer_gate.specs.Chosen.{opens, conflicts_with, picked, chosen}
 use Rattle.syncer_gate.specs.Core.{Core, Claim, Apply, GiveBack, happens, start, offered, IsStep, core_of}
 use Rattle.syncer_gate.proofs.Claimed.{by_marks, chosen_free}
 use Rattle.syncer_gate.proofs.MarkLemmas.{same_is}
 use Rattle.syncer_gate.proofs.Ended.{not_same}
 use Rattle.syncer_gate.proofs.Opened.{single_marks, AreFresh, RiseFrom, rise_above, held_rise, picked_rise, held_taken, given_marks}
-use Rattle.book.specs.Entries.{IsWholeLog}
-use Rattle.book.specs.Schedule.{Worked, batch_in, keeping, worked, begin_worked}
-use Rattle.book.specs.Progress.{ProgressView, made_at, worked_of, IsGoing, entries_with, entry_at, AreHere, IsAmong, AreWithin, IsBlank, AreReady, AreOutputs, IsKept, IsWorkedIn, HasClaimed, IsSingle, IsClaim, IsOrder}
-use Rattle.book.proofs.Places.{Rises}
+use Rattle.book.specs.Schedule.{batch_in, keeping, worked, begin_worked}
+use Rattle.book.specs.Progress.{ProgressView, made_at, worked_of, IsGoing, entries_with, entry_at, AreHere, IsAmong, IsBlank, AreReady, AreOutputs, IsKept, IsWorkedIn, HasClaimed, IsSingle, IsClaim, IsOrder}
 use Rattle.book.proofs.Scheduled.{IsConsistent, stepped, batch_comes, begins}
-use Rattle.book.proofs.Going.{whole_rises, whole_offered, stands_of, HasCome, going_of, offers_stand, gate_going}
+use Rattle.book.proofs.Going.{stands_of, going_of, gate_going}
 use Rattle.book.proofs.Batches.{AreAmong, all_among, within_ones, with_at, numbers_at, open_within, open_entries, set_made, same_part, here_at, at_here}
 use Rattle.trigger_state.specs.Stages.{Stage, first_stage}
 use Rattle.zbx_types.specs.declared.conf.Conf.{Conf}

@@ -1,12 +1,11 @@
 -- Entries that are worked out late come after what the cells have seen all the same.
-use Rattle.std.proofs.Common.{◌≡◌, ◌<◌, ◌≤◌, ℕ, Bool, true, false, cond, inl, inr, List, [], ◌∷◌, filter, refl, sym, ◌∙◌, ap, subst, arith}
+use Rattle.std.proofs.Common.{◌≡◌, ◌<◌, ◌≤◌, ℕ, Bool, true, false, cond, inl, inr, List, [], ◌∷◌, filter, refl, sym, ap, subst, arith}
 use Rattle.std.proofs.lemmas.Bool.{cases_lt}
 use Rattle.zbx_types.specs.declared.entries.Numbered.{Numbered}
 use Rattle.zbx_types.specs.declared.entries.Rec.{Rec}
-use Rattle.entry_step.specs.Each.{Each, In, EachPair}
+use Rattle.entry_step.specs.Each.{In, EachPair}
 use Rattle.zbx_types.specs.Entries.{moment_of}
 use Rattle.entry_step.specs.Log.{last_moment, IsFitting, Suits}
-use Rattle.entry_step.specs.Records.{replay}
 use Rattle.entry_step.specs.Cells.{Cells, ItemKey, touches, records, after, seen_of, look, AreCellsOf}
 use Rattle.entry_step.specs.Laws.{IsGood, AreBehind, Apart}
 use Rattle.entry_step.specs.Represents.{ComesAfter}

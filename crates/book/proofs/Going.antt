@@ -1,24 +1,22 @@
 -- What holds of the work at all times, and the facts behind steps: each way from the one to the other.
-use Rattle.std.proofs.Common.{◌≡◌, ◌<◌, ◌≤◌, ◌+◌, ℕ, suc, Bool, true, false, inl, inr, List, [], ◌∷◌, ◌++◌, length, map, reverse, filter, refl, sym, ◌∙◌, ap, subst, append_assoc, arith}
+use Rattle.std.proofs.Common.{◌≡◌, ◌<◌, ◌≤◌, ◌+◌, ℕ, inl, inr, List, [], ◌∷◌, ◌++◌, length, map, reverse, filter, refl, sym, ◌∙◌, ap, subst, append_assoc, arith}
 use mathlib.Core.List.{reverse-cons}
-use Rattle.std.proofs.lemmas.List.{reverse-append, reverse-reverse, length-reverse, length-append, length-replicate}
+use Rattle.std.proofs.lemmas.List.{reverse-append, length-append, length-replicate}
 use Rattle.std.specs.Prelude.{replicate, get_or, ◌-◌}
 use Rattle.syncer_gate.specs.declared.marks.Mark.TheVariants.{Pending}
 use Rattle.zbx_types.specs.Ids.{ids_from}
 use Rattle.zbx_types.specs.declared.entries.Numbered.{Numbered}
 use Rattle.zbx_types.specs.declared.entries.Rec.{Rec}
 use Rattle.footprint.specs.Feet.{feet_of}
-use Rattle.entry_step.specs.Each.{Each, In, EachPair}
+use Rattle.entry_step.specs.Each.{In, EachPair}
 use Rattle.entry_step.specs.Laws.{IsGood, AreBehind}
-use Rattle.entry_step.specs.Log.{log_of}
-use Rattle.entry_step.specs.Cells.{Cells, AreCellsOf}
+use Rattle.entry_step.specs.Cells.{AreCellsOf}
 use Rattle.entry_step.specs.Represents.{CellsView, Represents}
 use Rattle.entry_step.proofs.Members.{each_from}
 use Rattle.syncer_gate.specs.Gate.{Gate, AreOffered, AreAlike}
-use Rattle.syncer_gate.specs.Core.{Core, Offer, happens, IsAllowed, InOrder, Holds, offered, core_of}
-use Rattle.syncer_gate.proofs.Claimed.{ids_alike}
+use Rattle.syncer_gate.specs.Core.{Core, Offer, InOrder, Holds, offered, core_of}
 use Rattle.book.specs.Entries.{IsWholeLog}
-use Rattle.book.specs.Schedule.{is_applied, Worked, worked, Facts}
+use Rattle.book.specs.Schedule.{is_applied, Worked, worked}
 use Rattle.book.specs.Progress.{ProgressView, made_at, worked_of, IsGoing}
 use Rattle.book.proofs.Places.{Rises, in_of, in_right, in_reverse, older_below, of_reverse, pairs_reverse}
 use Rattle.book.proofs.Scheduled.{IsConsistent, order_of, stepped}

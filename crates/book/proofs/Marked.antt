@@ -1,5 +1,5 @@
 -- Marks that say applied stay, whatever is offered, claimed, applied and given back.
-use Rattle.std.proofs.Common.{◌≡◌, ◌⊎◌, inl, inr, ⊎_elim, ℕ, zero, suc, ◌+◌, ◌-◌, ◌<◌, ◌≤◌, Bool, true, false, List, [], ◌∷◌, ◌++◌, length, map, get_or, replicate, refl, sym, ap, subst, ◌∙◌, arith, cond}
+use Rattle.std.proofs.Common.{◌≡◌, ℕ, zero, suc, ◌+◌, ◌-◌, Bool, true, false, List, [], ◌∷◌, ◌++◌, map, get_or, replicate, refl, sym, ap, subst, ◌∙◌, arith, cond}
 use Rattle.std.proofs.lemmas.Bool.{le-ltb}
 use Rattle.std.specs.Prelude.{nat_lt, Result, Ok, Err, OnOk, OnErr, IfOk}
 use Rattle.zbx_types.specs.Masters.{has_id}
@@ -8,8 +8,8 @@ use Rattle.footprint.specs.Feet.{Footing}
 use Rattle.syncer_gate.specs.declared.marks.Mark.{Mark}
 use Rattle.syncer_gate.specs.declared.marks.Mark.TheVariants.{Pending, Applied, Taken}
 use Rattle.syncer_gate.specs.declared.batch.Batch.{Batch}
-use Rattle.syncer_gate.specs.Marks.{is_taken, ended}
-use Rattle.syncer_gate.specs.Gate.{Gate, AreOffered, mark_of, claimed, with_taken, with_ended, held_by, IsOpenBatch, same_numbers}
+use Rattle.syncer_gate.specs.Marks.{ended}
+use Rattle.syncer_gate.specs.Gate.{Gate, AreOffered, claimed, with_taken, with_ended, held_by, IsOpenBatch, same_numbers}
 use Rattle.syncer_gate.specs.Chosen.{chosen}
 use Rattle.book.specs.Progress.{ProgressView}
 use Rattle.book.specs.Book.{StayApplied}

@@ -1,6 +1,6 @@
 //! What an order needs of the entries and the cells, and what comes of it.
 
-ghost use Rattle.std.specs.Prelude.{◌≡◌, ◌↔◌, ◌≤◌, ◌<◌, [], true, false, length, map, is_some, All, IfOk, IfErr, OnOk, OnErr, IfSome, IfNone};
+ghost use Rattle.std.specs.Prelude.{◌≡◌, ◌↔◌, ◌≤◌, ◌<◌, true, false, length, map, is_some, All, IfOk, IfErr, OnOk, OnErr, IfSome, IfNone};
 ghost use Rattle.footprint.specs.Feet.{feet_of};
 ghost use Rattle.syncer_gate.specs.Gate.{AreOffered, IsOpenBatch, batch_of, claimed};
 ghost use Rattle.syncer_gate.specs.Chosen.{chosen};

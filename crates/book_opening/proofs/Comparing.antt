@@ -2,8 +2,8 @@
 use Rattle.std.proofs.Common.{◌≡◌, ◌≢◌, get_or, ℕ, zero, suc, ◌+◌, ◌-◌, ◌≤◌, ◌<◌, ◌^◌, min, Bool, true, false, ◌==◌, eqb-true, List, [], ◌∷◌, ◌++◌, length, take, drop, Option, Some, None, refl, sym, ap, ap₂, ◌∙◌, subst, append_assoc, append-nil, length-append, arith, Result, Ok, Err}
 use Rattle.std.specs.Prelude.{IfSome, IfOk, unwrap_or, is_some, if◌then◌else◌}
 use Rattle.std.specs.Io.KnownBytes.{Appends}
-use Rattle.std.proofs.Math.Seq.{take-append_seam, take-append-add, take-length, drop-length}
-use Rattle.std.proofs.lemmas.List.{take-append-drop, take-append-le, drop-append-le, drop_all, length-take, length-drop}
+use Rattle.std.proofs.Math.Seq.{take-append_seam}
+use Rattle.std.proofs.lemmas.List.{take-append-drop, take-append-le, drop_all, length-take, length-drop}
 use Rattle.outside.specs.Others.{first_other}
 use Rattle.outside.specs.Tells.{SinkTells}
 use Rattle.outside.proofs.OtherLemmas.{or_then, in_parts, inside, none_behind}

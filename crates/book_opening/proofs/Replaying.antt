@@ -1,5 +1,5 @@
 -- Entries are replayed one after another.
-use Rattle.std.proofs.Common.{◌≡◌, ◌<◌, ◌≤◌, ◌+◌, ℕ, zero, suc, true, false, List, [], ◌∷◌, ◌++◌, length, get_or, take, drop, reverse, refl, sym, ◌∙◌, ◌⊎◌, inl, inr, ap, ap₂, subst, arith, append_assoc}
+use Rattle.std.proofs.Common.{◌≡◌, ◌<◌, ◌≤◌, ◌+◌, ℕ, zero, suc, true, false, List, [], ◌∷◌, ◌++◌, length, get_or, take, drop, refl, sym, ◌∙◌, ◌⊎◌, inl, inr, ap, ap₂, subst, arith, append_assoc}
 use Rattle.std.specs.Prelude.{Result, Ok, Err, IfOk, OnOk}
 use Rattle.std.proofs.lemmas.List.{reverse-append}
 use Rattle.std.proofs.Math.Seq.{drop-cons, take-suc}
@@ -11,7 +11,7 @@ use Rattle.zbx_types.specs.declared.entries.Entry.TheVariants.{Config, Value, Ti
 use Rattle.zbx_types.specs.declared.entries.Numbered.{Numbered}
 use Rattle.zbx_types.specs.declared.entries.Rec.{Rec}
 use Rattle.trigger_state.specs.Stages.{Stage, OwnsEvents, first_stage}
-use Rattle.entry_step.specs.Cells.{Cells, look, records, after}
+use Rattle.entry_step.specs.Cells.{Cells, look, records}
 use Rattle.entry_step.specs.Due.{by_making}
 use Rattle.entry_step.specs.InForce.{conf_behind, FitsBehind, FitsLog, behind_all, HoldsAt, CarriesOver}
 use Rattle.entry_step.specs.Laws.{IsGood}

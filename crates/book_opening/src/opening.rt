@@ -1,11 +1,10 @@
 //! The entries with which a run begins are replayed by one thread, one after another, their lines made, and the outbox
 //! compared with them.
 
-ghost use Rattle.std.specs.Prelude.{◌≡◌, ◌≢◌, ◌≤◌, ◌<◌, ◌++◌, [], ◌∷◌, ℕ, List, length, min, true, drop, get_or, Some, None, IfSome, IfOk, IfErr, OnOk, IsErrOf, unwrap_or};
+ghost use Rattle.std.specs.Prelude.{◌≡◌, ◌≢◌, ◌≤◌, ◌<◌, ◌++◌, [], ◌∷◌, ℕ, List, length, min, true, get_or, Some, None, IfSome, IfOk, IfErr, OnOk, IsErrOf, unwrap_or};
 ghost use Rattle.std.specs.VecDeque.{deque_len};
 ghost use Rattle.zbx_types.specs.declared.entries.Numbered.{Numbered};
 ghost use Rattle.outside.specs.Causes.{Rose, HasCause};
-ghost use Rattle.outside.specs.Others.{first_other};
 ghost use Rattle.entry_step.specs.Log.{log_of, is_config};
 ghost use Rattle.zbx_types.specs.declared.entries.Rec.{Rec};
 ghost use Rattle.book_opening.specs.declared.errors.BookError.TheVariants as BookError;

@@ -4,7 +4,7 @@ ghost use Rattle.std.specs.Prelude.{◌≡◌, ◌≤◌, ◌++◌, ℕ, List, [
 ghost use Rattle.zbx_types.specs.declared.entries.Rec.{Rec};
 ghost use Rattle.outside.specs.Causes.{HasCause};
 ghost use Rattle.event_text.specs.Lines.{lines_of};
-ghost use Rattle.book_opening.specs.Tally.{tally_of, tally_with};
+ghost use Rattle.book_opening.specs.Tally.{tally_with};
 ghost use Rattle.book_opening.specs.Outgoing.{Grew};
 
 use crate::tally::Tally;

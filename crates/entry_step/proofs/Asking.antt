@@ -1,5 +1,5 @@
 -- What calls are worth.
-use Rattle.std.proofs.Common.{◌≡◌, ◌≤◌, ◌<◌, ◌⊎◌, inl, inr, ◌-◌, ℕ, zero, suc, List, [], length, get_or, slice_get, Option, Some, None, ℤ, refl, sym, ◌∙◌, ap, subst, option_and_then, arith}
+use Rattle.std.proofs.Common.{◌≡◌, ◌≤◌, ◌<◌, ◌⊎◌, inl, inr, ℕ, zero, suc, List, [], length, get_or, slice_get, Option, Some, None, ℤ, refl, sym, ◌∙◌, ap, subst, option_and_then, arith}
 use Rattle.std.proofs.lemmas.Option.{slice_get_past}
 use Rattle.std.proofs.lemmas.Bool.{cases_order}
 use Rattle.zbx_types.specs.Ids.{at_id}

@@ -1,5 +1,5 @@
 -- The values of nodes.
-use Rattle.std.proofs.Common.{◌≡◌, ℕ, ◌-◌, List, [], ◌∷◌, Option, Some, ℤ, refl, sym, ◌∙◌, ap, subst, length}
+use Rattle.std.proofs.Common.{◌≡◌, ℕ, List, [], ◌∷◌, Option, Some, ℤ, refl, sym, ◌∙◌, ap, subst, length}
 use Rattle.zbx_types.specs.Tree.{Tree, constant, call, negative, negation, binary}
 use Rattle.expr_eval.specs.Values.{value_over}
 use Rattle.conf_index.specs.Plans.{flat}

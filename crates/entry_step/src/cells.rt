@@ -1,6 +1,7 @@
 //! The cells of a run.
 
-ghost use Rattle.std.specs.Prelude.{◌≡◌, [], replicate, IfOk};
+ghost use Rattle.std.specs.Prelude.{◌≡◌, [], map, replicate, IfOk};
+ghost use Rattle.entry_step.specs.Kept.{roomless};
 ghost use Rattle.entry_step.specs.Start.{first_start};
 ghost use Rattle.entry_step.specs.Represents.{Holds};
 
@@ -50,5 +51,43 @@ impl Cells {
             problems: no_problems(alloc, conf.triggers.len())?,
             tick: None,
         })
+    }
+
+    /// The cells with what is kept of the items, the open problems of each trigger, in the order of ids, and the moment of
+    /// the first Tick, where there was one. Takes no memory.
+    pub fn of(items: preprocess::Cells, problems: Vec<Many<Open>>, tick: Option<Moment>) -> Cells
+        ensures items { result.items ≡ map roomless items.cells.items }
+        ensures memories { result.memories ≡ items.memories.items }
+        ensures problems { result.problems ≡ problems.items }
+        ensures tick { result.tick ≡ tick }
+    {
+        Cells {
+            items,
+            problems,
+            tick,
+        }
+    }
+
+    /// What is kept of the items. Takes no memory.
+    pub fn items(&self) -> &preprocess::Cells
+        ensures cells { map roomless result.now.cells.items ≡ self.now.items }
+        ensures memories { result.now.memories.items ≡ self.now.memories }
+    {
+        &self.items
+    }
+
+    /// The open problems of each trigger in the order in which they were made, the triggers in the order of ids. Takes no
+    /// memory.
+    pub fn problems(&self) -> &[Many<Open>]
+        ensures { result.now ≡ self.now.problems }
+    {
+        self.problems.as_slice()
+    }
+
+    /// The moment of the first Tick, where there was one.
+    pub fn first_tick(&self) -> Option<Moment>
+        ensures { result ≡ self.now.tick }
+    {
+        self.tick
     }
 }

@@ -12,7 +12,7 @@ use Rattle.intake_journal.specs.Kept.Kept.{Fresh, NotOurs, Damaged, Groups}
 use Rattle.intake_journal.specs.Next.{ReadsNext}
 use Rattle.gated_file.specs.Moments.{IsAsBefore}
 use Rattle.intake_journal.specs.Opened.{left_of, IsOpened}
-use Rattle.intake_journal.specs.Settled.{Journaled, onto, count_entries}
+use Rattle.intake_journal.specs.Settled.{Journaled, onto}
 use Rattle.intake_journal.specs.declared.format.Group.{Group}
 use Rattle.intake_journal.specs.declared.state.State.TheVariants.{Reading, Broken}
 use Rattle.intake_journal.specs.declared.state.JournalError.{JournalError}

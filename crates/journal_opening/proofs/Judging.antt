@@ -1,5 +1,5 @@
 -- Laws of groups that are numbered, whose texts are taken, and that are judged, one after another.
-use Rattle.std.proofs.Common.{◌≡◌, ℕ, ◌+◌, ◌<◌, Bool, true, false, true≢false, MatchBool, List, [], ◌∷◌, ◌++◌, length, map, get_or, take, drop, All, Option, Some, None, refl, sym, ap, ◌∙◌, subst, arith, inl, inr, append_assoc, append-nil, length-append, take-append-drop}
+use Rattle.std.proofs.Common.{◌≡◌, ℕ, ◌+◌, ◌<◌, Bool, true, false, true≢false, MatchBool, List, [], ◌∷◌, ◌++◌, length, map, get_or, take, drop, All, Some, None, refl, sym, ap, ◌∙◌, subst, arith, inl, inr, append_assoc, append-nil, length-append, take-append-drop}
 use Rattle.std.specs.List.{flat_map}
 use Rattle.std.proofs.lemmas.List.{map-append, reverse-reverse, get_or_append_left, get_or-append-add}
 use Rattle.std.proofs.lemmas.List.Elements.{All-nil, All-append}
@@ -20,8 +20,8 @@ use Rattle.intake_front.proofs.Numbers.{length_numbered, numbered-append}
 use Rattle.server_words.specs.declared.status.Status.{Status}
 use Rattle.server_words.specs.declared.status.Status.TheVariants as status
 use Rattle.journal_opening.specs.declared.numbering.Numbering.{Numbering}
-use Rattle.journal_opening.specs.Recovered.{IsFirstRefused, AreTaken, AreJudged, IsNumbered}
-use Rattle.journal_opening.specs.Replayed.{flat, IsFlat, AreFlat, texts_in}
+use Rattle.journal_opening.specs.Recovered.{AreTaken, AreJudged, IsNumbered}
+use Rattle.journal_opening.specs.Replayed.{flat, IsFlat, texts_in}
 use Rattle.journal_opening.specs.Opening.{IsRejected, IsAccepted}
 
 -- ---- what one more group adds

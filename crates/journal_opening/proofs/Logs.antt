@@ -1,7 +1,6 @@
 -- Laws of logs with entries behind them.
 use Rattle.std.proofs.Common.{◌≡◌, List, [], ◌∷◌, ◌++◌, reverse, refl, sym, ap, ◌∙◌, append_assoc, ◌+◌}
 use Rattle.std.proofs.lemmas.List.{reverse-append}
-use mathlib.Core.List.{IsPrefix}
 use Rattle.zbx_types.specs.declared.entries.Numbered.{Numbered}
 
 -- a log with entries behind it, in the order of their numbers

@@ -1,11 +1,10 @@
 -- Laws of configurations that are made ready, one after another.
-use Rattle.std.proofs.Common.{◌≡◌, ℕ, suc, ◌+◌, ◌-◌, arith, Bool, true, false, List, [], ◌∷◌, ◌++◌, length, map, take, drop, Contains, Option, Some, None, refl, sym, ap, ◌∙◌, subst, take-append-drop, append_assoc, if◌then◌else◌}
+use Rattle.std.proofs.Common.{ℕ, suc, ◌-◌, arith, Bool, true, false, List, ◌∷◌, length, take, drop, Contains, refl, subst, take-append-drop, if◌then◌else◌}
 use Rattle.std.specs.Prelude.{slice_get}
 use Rattle.std.proofs.lemmas.List.Elements.{Contains-append_left}
 use Rattle.zbx_types.specs.declared.conf.Conf.{Conf}
 use Rattle.server_words.specs.declared.status.Status.{Status}
 use Rattle.server_words.specs.declared.status.Status.TheVariants as status
-use Rattle.trigger_state.specs.Stages.{Stage, first_stage}
 use Rattle.journal_opening.specs.Epochs.{has_text, earlier, AreUnready}
 use Rattle.journal_opening.specs.Patterns.{IsUnready}
 

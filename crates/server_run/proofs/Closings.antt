@@ -4,7 +4,6 @@ use Rattle.std.specs.Prelude.{Ok, IfSome, IsSome, IsSomeAnd, is_some, chars}
 use Rattle.zbx_types.specs.declared.causes.Cause.{Cause}
 use Rattle.zbx_types.specs.declared.conf.Conf.{Conf}
 use Rattle.zbx_types.specs.declared.entries.Numbered.{Numbered}
-use Rattle.outside.specs.Disk.{DiskTells}
 use Rattle.outside.specs.Causes.{Rose}
 use Rattle.outside.specs.Tells.{WireTells}
 use Rattle.config_templates.specs.Flat.{flat_of}

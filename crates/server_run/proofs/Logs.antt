@@ -1,5 +1,5 @@
 -- Laws of logs with entries behind them, and of entries in the order of their numbers.
-use Rattle.std.proofs.Common.{◌≡◌, List, [], ◌∷◌, ◌++◌, length, drop, map, reverse, refl, sym, ap, ap₂, ◌∙◌, subst, append_assoc, ℕ, ◌+◌}
+use Rattle.std.proofs.Common.{◌≡◌, List, [], ◌∷◌, ◌++◌, length, drop, map, refl, sym, ap, ap₂, ◌∙◌, subst, append_assoc, ℕ, ◌+◌}
 use Rattle.std.proofs.lemmas.List.{reverse-append}
 use mathlib.Core.List.{IsPrefix}
 use Rattle.zbx_types.specs.Ids.{ids_from}

@@ -1,5 +1,5 @@
 -- Laws of results.
-use Rattle.std.specs.Prelude.{◌≡◌, Option, Some, Result, Ok, Err, IfErr}
+use Rattle.std.specs.Prelude.{◌≡◌, Some, Result, Ok, Err, IfErr}
 use Rattle.std.specs.Result.{result_ok}
 
 -- what is said of an error

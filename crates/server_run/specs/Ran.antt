@@ -5,7 +5,7 @@ use Rattle.zbx_types.specs.declared.causes.Cause.{Cause}
 use Rattle.zbx_types.specs.declared.conf.Conf.{Conf}
 use Rattle.zbx_types.specs.declared.entries.Numbered.{Numbered}
 use Rattle.outside.specs.Causes.{Rose}
-use Rattle.outside.specs.Disk.{DiskTells, LeavesOnly}
+use Rattle.outside.specs.Disk.{LeavesOnly}
 use Rattle.outside.specs.Tells.{SinkTells}
 use Rattle.outside.specs.declared.event.WireEvent.{WireEvent}
 use Rattle.config_templates.specs.Flat.{flat_of}

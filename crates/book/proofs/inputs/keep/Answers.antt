@@ -1,4 +1,4 @@
-use Rattle.std.proofs.Common.{◌≡◌, ◌<◌, ◌+◌, ◌-◌, ◌∷◌, ◌∙◌, sym, refl, ap, arith, get_or, set, length, length-set}
+use Rattle.std.proofs.Common.{◌≡◌, ◌<◌, ◌+◌, ◌-◌, ◌∷◌, ◌∙◌, refl, ap, arith, get_or, set, length, length-set}
 use Rattle.std.specs.Vec.Iter.{into_iter_items}
 use Rattle.book.proofs.Batches.{keep_more}
 use Rattle.book.proofs.inputs.keep.Goals as goal

@@ -1,6 +1,3 @@
-use Rattle.std.proofs.Common.{◌≡◌, ◌∷◌, [], ◌++◌, Some, List, ap, sym, subst, ◌∙◌}
-use Rattle.std.specs.Option.{option_to_list}
-use Rattle.entry_step.specs.Represents.{Holds, CellsView}
 use Rattle.book.proofs.Batches.{all_popped}
 use Rattle.book.proofs.Claiming.{blank_made}
 use Rattle.book.specs.Progress.{IsBlank}

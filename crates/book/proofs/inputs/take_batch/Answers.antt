@@ -1,6 +1,5 @@
 use Rattle.std.proofs.Common.{◌∙◌, ap}
 use Rattle.footprint.specs.Feet.{feet_of, told_by}
-use Rattle.syncer_gate.specs.Gate.{batch_of, claimed}
 use Rattle.syncer_gate.specs.Chosen.{chosen}
 use Rattle.syncer_gate.specs.Marks.{is_open, is_pending}
 use Rattle.std.specs.List.{list_any}

@@ -1,4 +1,4 @@
-use Rattle.std.proofs.Common.{rules, ◌≡◌, ◌++◌, ◌∷◌, [], ◌∙◌}
+use Rattle.std.proofs.Common.{rules, ◌∙◌}
 use Rattle.book.proofs.Numbers.{came_whole}
 use Rattle.book.proofs.Finishing.{blank_row}
 use Rattle.book.proofs.progress.pull_known.Goals as goal

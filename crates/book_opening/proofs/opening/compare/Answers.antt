@@ -1,6 +1,5 @@
-use Rattle.std.proofs.Common.{rules, ◌≡◌, ◌<◌, ◌++◌, ◌-◌, ◌^◌, ℕ, List, drop, sym, ap, ap₂, ◌∙◌, subst}
+use Rattle.std.proofs.Common.{rules, ◌≡◌, ◌<◌, ◌++◌, ◌-◌, ◌^◌, drop, sym, ap, ap₂, ◌∙◌, subst}
 use Rattle.std.specs.Prelude.{unwrap_or}
-use Rattle.zbx_types.specs.declared.entries.Rec.{Rec}
 use Rattle.event_text.specs.Lines.{lines_of}
 use Rattle.book_opening.specs.Tally.{tally_with}
 use Rattle.book_opening.specs.Opening.{IsCompared}

@@ -1,4 +1,4 @@
-use Rattle.std.proofs.Common.{◌≡◌, ◌++◌, ◌∷◌, ◌∙◌, sym, ap, subst, List, ℕ}
+use Rattle.std.proofs.Common.{◌++◌, ◌∷◌, ◌∙◌, sym, subst, List}
 use Rattle.zbx_types.specs.declared.entries.Rec.{Rec}
 use Rattle.entry_step.specs.Start.{nothing}
 use Rattle.entry_step.specs.Whole.{whole_replay}

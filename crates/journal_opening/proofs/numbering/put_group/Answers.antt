@@ -1,4 +1,3 @@
-use Rattle.std.proofs.Common.{refl}
 use Rattle.journal_opening.proofs.Judging.{match_true, match_false, entry_taken, confs_next, entry_refused}
 use Rattle.journal_opening.proofs.numbering.put_group.Goals as goal
 

@@ -1,6 +1,6 @@
-use Rattle.std.proofs.Common.{◌≡◌, None, rules, subst, sym}
+use Rattle.std.proofs.Common.{rules, subst, sym}
 use Rattle.journal_opening.specs.Recovered.{GoesOn}
-use Rattle.journal_opening.proofs.Beginning.{turned_judged, turned_unread, taken_up}
+use Rattle.journal_opening.proofs.Beginning.{turned_judged}
 use Rattle.journal_opening.proofs.resuming.accepted.Goals as goal
 
 pub returns-in-Some-clause-err : goal.returns-in-Some-clause-err

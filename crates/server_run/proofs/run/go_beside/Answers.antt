@@ -1,4 +1,4 @@
-use Rattle.std.proofs.Common.{subst, refl, sym, ap, rules}
+use Rattle.std.proofs.Common.{refl, ap, rules}
 use Rattle.server_run.proofs.Runs.{opened_behind}
 use Rattle.server_run.proofs.Distinct.{all_distinct}
 use Rattle.server_run.proofs.Outbox.{left_so}

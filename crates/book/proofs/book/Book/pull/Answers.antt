@@ -1,4 +1,4 @@
-use Rattle.std.proofs.Common.{◌∙◌, ◌++◌, ap, sym}
+use Rattle.std.proofs.Common.{◌∙◌, ap, sym}
 use Rattle.book.specs.Book.{BookView}
 use Rattle.book.proofs.Marked.{keep_pulled}
 use Rattle.book.proofs.Books.{goes_on, pulled_front}

@@ -1,4 +1,4 @@
-use Rattle.std.proofs.Common.{◌≡◌, length, sym, subst}
+use Rattle.std.proofs.Common.{length, sym, subst}
 use Rattle.book.specs.Progress.{ProgressView}
 use Rattle.book.specs.Book.{AreApplied}
 use Rattle.book_opening.proofs.Growing.{on_ok}

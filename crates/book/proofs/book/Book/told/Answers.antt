@@ -1,4 +1,4 @@
-use Rattle.std.proofs.Common.{◌≡◌, [], subst, sym, ap, ◌∙◌}
+use Rattle.std.proofs.Common.{◌≡◌, [], subst}
 use Rattle.book.specs.Book.{BookView, lines_upto}
 use Rattle.book_opening.specs.Outgoing.{HasAll}
 use Rattle.book_opening.proofs.Comparing.{front_all}

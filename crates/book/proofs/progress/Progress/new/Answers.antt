@@ -1,5 +1,5 @@
 use Rattle.std.proofs.Common.{ap, sym, subst, ◌∙◌}
-use Rattle.std.specs.Prelude.{All, [], ◌≡◌, ◌+◌}
+use Rattle.std.specs.Prelude.{All, [], ◌+◌}
 use Rattle.std.proofs.lemmas.List.Elements.{All-nil}
 use Rattle.book.specs.Progress.{IsBlank}
 use Rattle.book.proofs.Claiming.{new_going}

@@ -1,4 +1,4 @@
-use Rattle.std.proofs.Common.{◌≡◌, [], ◌∷◌, ◌++◌, None, rules, sym, subst}
+use Rattle.std.proofs.Common.{◌≡◌, [], ◌∷◌, ◌++◌, rules, sym, subst}
 use Rattle.intake_front.specs.Intake.{with_group}
 use Rattle.journal_opening.specs.Recovered.{AreTaken}
 use Rattle.journal_opening.proofs.Judging.{numbers_more}
