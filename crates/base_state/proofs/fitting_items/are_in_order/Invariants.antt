@@ -1,0 +1,7 @@
+use Rattle.std.proofs.Common.{take}
+use Rattle.entry_step.specs.Each.{EachPair}
+use Rattle.base_state.specs.Fitting.{StandsBefore}
+use Rattle.base_state.proofs.fitting_items.are_in_order.Given as goal
+
+abbrev pub invariant-loop-place : goal.invariant-loop-place
+invariant-loop-place l = EachPair StandsBefore (take l.place l.values)
