@@ -1,3 +1,4 @@
+pub mod Grounds
 pub mod Growing
 pub mod Counting
 pub mod Numbers

@@ -1,3 +1,4 @@
 pub mod Tally
+pub mod Grounds
 pub mod Outgoing
 pub mod Opening

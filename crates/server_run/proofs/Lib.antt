@@ -15,3 +15,4 @@ pub mod Closings
 pub mod Sharing
 pub mod Whole
 pub mod Distinct
+pub mod Grounds

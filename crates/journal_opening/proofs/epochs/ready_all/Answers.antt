@@ -1,20 +1,17 @@
-use Rattle.std.proofs.Common.{◌≡◌, ℕ, [], ◌∷◌, ◌++◌, map, List, sym, ap, ◌∙◌, subst, append_assoc}
+use Rattle.std.proofs.Common.{◌≡◌, [], ◌∷◌, ◌++◌, map, List, sym, ap, ◌∙◌, subst, append_assoc}
 use Rattle.std.specs.Prelude.{Contains}
 use Rattle.std.specs.Vec.Iter.{into_iter_items}
 use Rattle.zbx_types.specs.declared.conf.Conf.{Conf}
 use Rattle.trigger_state.specs.Stages.{first_stage}
-use Rattle.journal_opening.specs.Epochs.{earlier}
-use Rattle.journal_opening.proofs.MadeReady.{earlier_among, one_unready, among_first, among_rest}
-use Rattle.journal_opening.proofs.epochs.epochs_of.Goals as goal
+use Rattle.journal_opening.proofs.MadeReady.{one_unready, among_first, among_rest}
+use Rattle.journal_opening.proofs.epochs.ready_all.Goals as goal
 
 pub loop-conf-init : goal.loop-conf-init
 loop-conf-init c =
-    let text = c.args.ready.conf.text in
-    let own = ap (λ (t : List ℕ). earlier t c.args.confs.items) (ap (λ (k : Conf). k.text) c.conf.ensures) in
-    let left : into_iter_items c.into_iter-conf-iterator.result ≡ earlier text c.args.confs.items = c.into_iter-conf-iterator.ensures.into_iter_gives.0 ∙ c.earlier-conf-items.ensures ∙ own in
+    let left : into_iter_items c.into_iter-conf-iterator.result ≡ c.args.confs.items = c.into_iter-conf-iterator.ensures.into_iter_gives.0 in
     record {
       made = ap (λ l. l ++ map first_stage (into_iter_items c.into_iter-conf-iterator.result)) c.new-epochs.ensures.items ∙ ap (map first_stage) left;
-      among = λ conf in_left. earlier_among text c.args.confs.items conf (subst (λ l. Contains l conf) left in_left);
+      among = λ conf in_left. subst (λ l. Contains l conf) left in_left;
     }
 
 pub loop-conf-preserved : goal.loop-conf-preserved

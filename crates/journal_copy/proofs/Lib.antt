@@ -1,0 +1,5 @@
+pub mod Places
+pub mod Keeping
+pub mod States
+pub mod Forming
+pub mod Copying
