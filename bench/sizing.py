@@ -100,7 +100,7 @@ def held(program, entries):
     with tempfile.TemporaryDirectory() as folder:
         opening.write_journal(f"{folder}/journal", entries, 250)
         with open(f"{folder}/configuration", "wb") as file:
-            file.write(opening.CONFIGURATION)
+            file.write(opening.configuration_of(1))
         open(f"{folder}/script", "w").close()
         words = ["--mode", "feed", "--config", f"{folder}/configuration", "--script", f"{folder}/script", "--journal", f"{folder}/journal"]
         out = os.open(os.devnull, os.O_WRONLY)

@@ -3,7 +3,7 @@ program."""
 
 import json
 import os
-import shutil
+import signal
 import socket
 import struct
 import subprocess
@@ -78,13 +78,33 @@ def entries_in(bytes_, count, keys):
     return found
 
 
+def base_in(bytes_):
+    """The base of a journal, or nothing where it has none."""
+    if bytes_[:8] != b"ZTSJRN02":
+        return b""
+    if bytes_[8] != 1:
+        raise SystemExit("the journal is an unfinished copy")
+    return bytes_[13 : 13 + struct.unpack_from("<I", bytes_, 9)[0]]
+
+
+def lines_before(base):
+    """How many bytes the lines before a base have."""
+    return struct.unpack_from("<Q", base, 33)[0] if base else 0
+
+
+def text_before(base):
+    """The configuration document of a base."""
+    return base[45 : 45 + struct.unpack_from("<I", base, 41)[0]]
+
+
 def kept_in(bytes_):
-    """The kept groups of a journal: how many entries each has, and their bytes."""
+    """The kept groups of a journal, behind its base if it has one: how many entries each has, and their bytes."""
     if len(bytes_) <= 9:
         return []
-    if bytes_[:8] != b"ZTSJRN01":
+    base = base_in(bytes_)
+    if not base and bytes_[:8] != b"ZTSJRN01":
         raise SystemExit("the journal has lost its first bytes")
-    at, groups = 8, []
+    at, groups = 13 + len(base) if base else 8, []
     while at < len(bytes_) and bytes_[at] == 1:
         size, count = struct.unpack_from("<II", bytes_, at + 1)
         if at + 9 + size >= len(bytes_):
@@ -99,10 +119,16 @@ def journal_of(groups):
     return b"ZTSJRN01" + b"".join(b"\1" + struct.pack("<II", len(bytes_), count) + bytes_ for count, bytes_ in groups) + b"\0"
 
 
+def values_of(groups, keys):
+    """These kept groups, each as its values, where these keys are in force before them."""
+    return [entries_in(bytes_, count, keys) for count, bytes_ in groups]
+
+
 def groups_of(path):
     """The kept groups of a journal, each as its values."""
-    keys = []
-    return [entries_in(bytes_, count, keys) for count, bytes_ in kept_in(held(path))]
+    bytes_ = held(path)
+    base = base_in(bytes_)
+    return values_of(kept_in(bytes_), keys_of(text_before(base)) if base else [])
 
 
 def held(path):
@@ -166,6 +192,8 @@ class Folder:
         self.program, self.path, self.journal, self.outbox = program, path, f"{path}/journal", f"{path}/outbox"
         self.sent = [[] for _ in range(SENDERS)]
         self.config = f"{path}/configuration"
+        # the groups in whose place a copy stands in the journal
+        self.before, self.copies = [], 0
         with open(self.config, "w") as it:
             json.dump(CONFIGURATION, it)
         open(f"{path}/script", "w").close()
@@ -178,10 +206,53 @@ class Folder:
             json.dump({"hosts": [{**host, "items": items, "triggers": triggers}]}, it)
             it.write(" " * chance.randrange(3))
 
-    def serve(self):
+    def serve(self, *words):
         port = free_port()
-        words = ["--mode", "serve", "--config", self.config, "--listen", f"127.0.0.1:{port}", "--journal", self.journal]
+        words = ["--mode", "serve", "--config", self.config, "--listen", f"127.0.0.1:{port}", "--journal", self.journal, *words]
         return subprocess.Popen([self.program, *words, "--outbox", self.outbox], stdout=subprocess.PIPE), port
+
+    def restart(self, ended, patience=None, above=0):
+        """Does what the service does between a run that ended so and the next one. With patience, what it does before that is
+        killed behind so many seconds. Tells what is wrong then, if something is."""
+        script = os.path.join(os.path.dirname(os.path.dirname(os.path.abspath(__file__))), "contrib", "checkpoint")
+        made = {**os.environ, "EXIT_STATUS": ended, "GIFTELDU_COPY_ABOVE": str(above)}
+        subprocess.run([script, "--stopped", self.journal, self.outbox], env=made, check=True)
+        if not os.path.exists(self.journal):
+            return None
+        old = held(self.journal)
+        words = [script, self.program, self.journal, self.outbox]
+        started = subprocess.Popen(words, env=made, stdout=subprocess.DEVNULL, start_new_session=True)
+        try:
+            started.wait(patience)
+        except subprocess.TimeoutExpired:
+            os.killpg(started.pid, signal.SIGKILL)
+            started.wait()
+        new = held(self.journal)
+        if new == old:
+            return None
+        if held(f"{self.journal}.old") != old:
+            return "the journal that was copied isn't kept"
+        if kept_in(new) or lines_before(base_in(new)) != len(held(self.outbox)):
+            return "the copy has entries, or counts other lines than the outbox has"
+        self.before += kept_in(old)
+        self.copies += 1
+        return None
+
+    def whole(self):
+        """All groups that were kept, those in whose place a copy stands among them."""
+        return self.before + kept_in(held(self.journal))
+
+    def values(self):
+        """The values of all these groups."""
+        return values_of(self.whole(), [])
+
+    def replay_whole(self):
+        """Opens a journal of all groups with an empty outbox, and gives the printed line and what the outbox has then."""
+        with open(f"{self.path}/copy", "wb") as it:
+            it.write(journal_of(self.whole()))
+        with open(f"{self.path}/again", "wb"):
+            pass
+        return self.replay(f"{self.path}/copy", f"{self.path}/again")
 
     def replay(self, journal, outbox):
         """Opens a journal with no event to come, and gives the printed line and what the outbox has then."""
@@ -193,13 +264,10 @@ class Folder:
         """What is wrong after a kill, if something is."""
         if not os.path.exists(self.journal):
             return "answered values, and no journal" if any(answered for frames in self.sent for _, answered in frames) else None
-        wrong = check_values(groups_of(self.journal), self.sent)
+        wrong = check_values(self.values(), self.sent)
         if wrong:
             return wrong
-        shutil.copyfile(self.journal, f"{self.path}/copy")
-        with open(f"{self.path}/again", "wb"):
-            pass
-        said, whole = self.replay(f"{self.path}/copy", f"{self.path}/again")
+        said, whole = self.replay_whole()
         if not said.startswith("status: Ok"):
             return f"the copy of the journal isn't replayed: {said}"
         left = held(self.outbox) if os.path.exists(self.outbox) else b""
@@ -208,9 +276,7 @@ class Folder:
     def end(self):
         """What is wrong once the folder is opened for the last time, if something is."""
         said, lines = self.replay(self.journal, self.outbox)
-        with open(f"{self.path}/again", "wb"):
-            pass
-        again, whole = self.replay(self.journal, f"{self.path}/again")
-        if not said.startswith("status: Ok") or said != again:
+        again, whole = self.replay_whole()
+        if not said.startswith("status: Ok") or (said != again and not self.copies):
             return f"the last opening: {said}, and {again}"
         return None if lines == whole else "the outbox isn't the replay's lines, each once"

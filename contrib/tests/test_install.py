@@ -54,7 +54,7 @@ class Installing(unittest.TestCase):
     def test_nothing_has_a_name_of_the_real_server(self):
         self.install(self.program)
         names = os.listdir(f"{self.prefix}/bin")
-        self.assertEqual(len(names), 5)
+        self.assertEqual(len(names), 6)
         self.assertTrue(all(name.startswith("gifteldu") for name in names), names)
 
     def test_the_tools_work_where_they_are(self):

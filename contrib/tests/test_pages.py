@@ -101,7 +101,7 @@ class Exits(unittest.TestCase):
         rows = [[cell.strip() for cell in line.strip("|").split("|")] for line in table.strip().split("\n")[1:]]
         listed = re.search(r"RestartPreventExitStatus=(.*)", held(f"{TOP}/contrib/gifteldu.service"))[1].split()
         for number, status, what, restart in rows:
-            if what.startswith("alerts: "):
+            if what.startswith(("alerts: ", "checkpoint: ")):
                 self.assertNotIn(number, listed, f"{number} {status}")
             elif number not in ("0", "12"):
                 self.assertEqual(restart == "no", number in listed, f"{number} {status}")

@@ -35,7 +35,7 @@ use Rattle.trigger_state.specs.Stages.{Stage, id_named}
 use Rattle.trigger_state.specs.declared.problems.Open.{Open}
 use Rattle.entry_step.specs.Due.{by_making}
 use Rattle.entry_step.specs.Each.{Each, In, EachPair}
-use Rattle.entry_step.specs.InForce.{left_by}
+use Rattle.entry_laws.specs.InForce.{left_by}
 use Rattle.entry_step.specs.Log.{IsRising}
 use Rattle.entry_step.specs.Making.{is_problem}
 use Rattle.entry_step.specs.Named.{AreDistinct}

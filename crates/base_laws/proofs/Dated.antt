@@ -36,7 +36,8 @@ use Rattle.entry_step.specs.Behind.{behind}
 use Rattle.entry_step.specs.Due.{by_making}
 use Rattle.entry_step.specs.Each.{Each, In, EachPair}
 use Rattle.entry_step.specs.History.{stored_of, marks_of, memory_of, with_stored}
-use Rattle.entry_step.specs.InForce.{SuitsWhole, left_by}
+use Rattle.entry_step.specs.InForce.{SuitsWhole}
+use Rattle.entry_laws.specs.InForce.{left_by}
 use Rattle.entry_step.specs.Log.{tick_of, IsFitting, IsRising}
 use Rattle.entry_step.specs.Records.{recovery_of}
 use Rattle.entry_step.specs.Start.{Start}

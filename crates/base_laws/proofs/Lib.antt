@@ -23,3 +23,4 @@ pub mod Memories
 pub mod Stamped
 pub mod Dated
 pub mod BaseFitting
+pub mod Grounds

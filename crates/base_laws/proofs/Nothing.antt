@@ -4,8 +4,8 @@ use Rattle.zbx_types.specs.Ids.{at_id}
 use Rattle.zbx_types.specs.declared.triggers.Trigger.{Trigger}
 use Rattle.trigger_state.specs.Stages.{first_stage}
 use Rattle.entry_step.specs.Named.{AreDistinct}
-use Rattle.entry_step.specs.Start.{no_conf}
-use Rattle.entry_laws.proofs.InForce.{rising_fits}
+use Rattle.entry_step.specs.Start.{no_conf, nothing}
+use Rattle.entry_laws.proofs.InForce.{nothing_is_ground, rising_fits}
 use Rattle.base_laws.specs.Alike.{HasShortPeriods}
 use Rattle.base_laws.specs.WholeBases.{IsRegular, WholeOverNothing}
 use Rattle.base_laws.proofs.Sound.{fresh_is_sound}
@@ -32,4 +32,4 @@ regular = record { triggers = distinct; actions = tt; periods = short }
 
 pub whole_over_nothing : WholeOverNothing
 whole_over_nothing flat log texts rising =
-    record { texts = texts; first = regular; sound = fresh_is_sound (first_stage no_conf) refl; fits = rising_fits flat log (λ text. (texts text).triggers) rising }
+    record { texts = texts; first = regular; sound = fresh_is_sound (first_stage no_conf) refl; fits = rising_fits flat nothing log (λ text. (texts text).triggers) nothing_is_ground rising }

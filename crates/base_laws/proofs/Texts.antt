@@ -4,7 +4,7 @@ use Rattle.zbx_types.specs.declared.conf.Conf.{Conf}
 use Rattle.zbx_types.specs.declared.entries.Entry.{Entry}
 use Rattle.zbx_types.specs.declared.entries.Entry.TheVariants.{Config, Value, Tick}
 use Rattle.zbx_types.specs.declared.entries.Numbered.{Numbered}
-use Rattle.entry_step.specs.InForce.{FitsLog}
+use Rattle.entry_laws.specs.InForce.{FitsLog}
 use Rattle.entry_step.specs.Log.{is_config}
 use Rattle.entry_step.specs.Start.{Start, nothing}
 use Rattle.entry_step.specs.Whole.{point_with, point}
@@ -20,7 +20,7 @@ text_at flat text start (e ∷ log) same = go e.entry (text_at flat text start l
     go (Value now item time value) ih = ih
     go (Tick now) ih = ih
 
-first_text : (flat : List ℕ → Conf) (text : List ℕ) (last : Numbered) (older : List Numbered) → FitsLog flat (last ∷ older) → flat (last_text text (last ∷ older)) ≡ conf_after flat nothing (last ∷ older)
+first_text : (flat : List ℕ → Conf) (text : List ℕ) (last : Numbered) (older : List Numbered) → FitsLog flat nothing (last ∷ older) → flat (last_text text (last ∷ older)) ≡ conf_after flat nothing (last ∷ older)
 first_text flat text last [] fits = go last.entry (fits.1).0
   where
     go : (entry : Entry) → is_config entry ≡ true → flat (text_with text entry) ≡ (point_with flat (point flat nothing []) last entry).start.stage.conf

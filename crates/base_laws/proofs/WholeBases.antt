@@ -14,7 +14,8 @@ use Rattle.entry_step.specs.Behind.{behind}
 use Rattle.entry_step.specs.Carry.{removed, next_stage, next_start}
 use Rattle.entry_step.specs.Each.{Each}
 use Rattle.entry_step.specs.History.{marks_of, history_of}
-use Rattle.entry_step.specs.InForce.{IsPlain, SuitsWhole, left_by}
+use Rattle.entry_step.specs.InForce.{SuitsWhole}
+use Rattle.entry_laws.specs.InForce.{IsPlain, left_by}
 use Rattle.entry_step.specs.Log.{is_config, first_tick, last_moment, last_number, IsFitting, IsRising, Suits}
 use Rattle.entry_step.specs.Records.{out_of, replay}
 use Rattle.entry_step.specs.Start.{Start}

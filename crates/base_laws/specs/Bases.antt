@@ -35,7 +35,7 @@ use Rattle.trigger_state.specs.declared.problems.Open.{Open}
 use Rattle.trigger_state.specs.declared.stage.Origin.{Origin}
 use Rattle.entry_step.specs.Behind.{behind}
 use Rattle.entry_step.specs.Due.{by_making}
-use Rattle.entry_step.specs.InForce.{left_by}
+use Rattle.entry_laws.specs.InForce.{left_by}
 use Rattle.entry_step.specs.Log.{tick_of}
 use Rattle.entry_step.specs.Records.{replay}
 use Rattle.entry_step.specs.Start.{Start}

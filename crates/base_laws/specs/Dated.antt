@@ -11,7 +11,8 @@ use Rattle.zbx_types.specs.declared.items.Item.{Item}
 use Rattle.zbx_types.specs.declared.steps.StepSpec.{StepSpec}
 use Rattle.zbx_types.specs.declared.triggers.Trigger.{Trigger}
 use Rattle.entry_step.specs.Each.{Each, EachPair}
-use Rattle.entry_step.specs.InForce.{SuitsWhole, left_by}
+use Rattle.entry_step.specs.InForce.{SuitsWhole}
+use Rattle.entry_laws.specs.InForce.{left_by}
 use Rattle.entry_step.specs.Log.{IsRising}
 use Rattle.entry_step.specs.Start.{Start, fresh}
 use Rattle.entry_step.specs.Whole.{point}

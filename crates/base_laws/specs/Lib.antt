@@ -5,3 +5,4 @@ pub mod FitsBase
 pub mod Restoring
 pub mod WholeBases
 pub mod Dated
+pub mod Grounds

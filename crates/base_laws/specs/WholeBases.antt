@@ -3,7 +3,8 @@ use Rattle.std.specs.Prelude.{◌≡◌, ℕ, List, ◌∷◌, ◌++◌}
 use Rattle.zbx_types.specs.declared.conf.Conf.{Conf}
 use Rattle.zbx_types.specs.declared.entries.Numbered.{Numbered}
 use Rattle.entry_step.specs.Each.{Each}
-use Rattle.entry_step.specs.InForce.{FitsLog, IsPlain, SuitsWhole, left_by}
+use Rattle.entry_step.specs.InForce.{SuitsWhole}
+use Rattle.entry_laws.specs.InForce.{FitsLog, IsPlain, left_by}
 use Rattle.entry_step.specs.Log.{IsRising, Suits}
 use Rattle.entry_step.specs.Named.{AreDistinct}
 use Rattle.entry_step.specs.Records.{replay}
@@ -83,5 +84,5 @@ TextInForce = (flat : List ℕ → Conf) (beside : Beside) (start : Start) (log 
 
 -- So it is where a log that fits begins over nothing.
 abbrev pub TextOverNothing : Type 0
-TextOverNothing = (flat : List ℕ → Conf) (beside : Beside) (last : Numbered) (older : List Numbered) → FitsLog flat (last ∷ older)
+TextOverNothing = (flat : List ℕ → Conf) (beside : Beside) (last : Numbered) (older : List Numbered) → FitsLog flat nothing (last ∷ older)
     → flat (whole_base flat beside nothing (last ∷ older)).text ≡ conf_after flat nothing (last ∷ older)

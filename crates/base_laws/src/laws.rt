@@ -4,6 +4,7 @@
 ghost use Rattle.base_laws.specs.Alike.{AlikeEntry, AlikeLogs};
 ghost use Rattle.base_laws.specs.Dated.{FreshIsDated, WholeIsDated, BaseFits, CheckpointFits};
 ghost use Rattle.base_laws.specs.FitsBase.{FitsIsSound, FitsIsStart};
+ghost use Rattle.base_laws.specs.Grounds.{StartIsGround};
 ghost use Rattle.base_laws.specs.Restoring.{RestoredHolds};
 ghost use Rattle.base_laws.specs.Sound.{FreshIsSound, BehindIsSound, BaseIsAlike, BaseIsSound, FollowsBase, CentralLaw};
 ghost use Rattle.base_laws.specs.WholeBases.{WholeOverNothing, WholeIsSound, ToldByBase, CheckpointLaw, WholeLaw, TextInForce, TextOverNothing};
@@ -128,4 +129,10 @@ pub fn base_fits()
 /// follows a base.
 pub fn checkpoint_fits()
     ensures { CheckpointFits }
+{}
+
+/// On what stands before the entries of a journal that begins with a base, empty or fitting the configuration of its document,
+/// a whole log can stand.
+pub fn start_is_ground()
+    ensures { StartIsGround }
 {}

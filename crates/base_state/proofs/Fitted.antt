@@ -1,5 +1,5 @@
 -- What a base keeps fits where a loop over it has found that each part does.
-use Rattle.std.proofs.Common.{◌≡◌, ◌≢◌, ◌≤◌, ◌<◌, ◌+◌, ◌==◌, ℕ, zero, suc, Bool, true, false, Option, Some, None, List, [], ◌∷◌, length, slice_get, get_or, refl, sym, ◌∙◌, ap, subst, eqb-true, eq-eqb, arith}
+use Rattle.std.proofs.Common.{◌≡◌, ◌≢◌, ◌≤◌, ◌<◌, ◌+◌, ◌==◌, ℕ, zero, suc, Bool, true, false, Some, List, [], ◌∷◌, length, slice_get, get_or, refl, sym, ◌∙◌, ap, subst, eqb-true, eq-eqb, arith}
 use Rattle.zbx_types.specs.Ids.{at_id}
 use Rattle.zbx_types.specs.declared.base.Base.{Base}
 use Rattle.zbx_types.specs.declared.base.BaseItem.{BaseItem}
@@ -12,7 +12,7 @@ use Rattle.value_cache.specs.Keeps.{keep_of, keeps_of}
 use Rattle.value_cache.specs.declared.keeping.Keep.{Keep}
 use Rattle.preprocess.proofs.Rows.{row_within}
 use Rattle.base_laws.specs.FitsBase.{FitTicks, FitsStep, FitsItem, FitsProblem, ComesBehind, most_counted, FitsBase}
-use Rattle.entry_step.specs.Each.{Each, EachPair}
+use Rattle.entry_step.specs.Each.{EachPair}
 use Rattle.entry_step.proofs.Members.{each_both, each_sub}
 use Rattle.base_state.specs.Fitting.{FitSteps, FitsAt, FitItems, FitsAlone, IsOfEarlier, Differ, HasTrigger, FitProblems}
 use Rattle.base_state.proofs.Histories.{put_there}

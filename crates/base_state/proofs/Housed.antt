@@ -1,10 +1,10 @@
 -- Which problems have a trigger: those that a configuration leaves that follows itself.
-use Rattle.std.proofs.Common.{◌≡◌, ℕ, Bool, true, false, cond, not, ◌&&◌, ◌==◌, suc, nat_le, eq-eqb, arith, Option, Some, None, List, [], ◌∷◌, ◌++◌, length, map, filter, flat_map, refl, sym, ◌∙◌, ap, ap₂, subst, append-nil, option_and_then}
+use Rattle.std.proofs.Common.{◌≡◌, ℕ, Bool, true, false, cond, not, ◌==◌, suc, nat_le, eq-eqb, arith, Option, Some, None, List, [], ◌∷◌, length, map, filter, refl, sym, ◌∙◌, ap, option_and_then}
 use Rattle.std.specs.Option.{unwrap_or}
 use Rattle.std.proofs.lemmas.List.{length-map}
 use Rattle.std.specs.Str.{bytes_eq}
 use Rattle.zbx_types.specs.Ids.{at_id}
-use Rattle.zbx_types.specs.Records.{event_of, tags_of, host_of, trigger_name_of}
+use Rattle.zbx_types.specs.Records.{tags_of, host_of, trigger_name_of}
 use Rattle.zbx_types.specs.declared.base.BaseProblem.{BaseProblem}
 use Rattle.zbx_types.specs.declared.conf.Conf.{Conf}
 use Rattle.zbx_types.specs.declared.entries.EventId.{EventId}
@@ -21,7 +21,6 @@ use Rattle.trigger_state.specs.declared.problems.Open.{Open}
 use Rattle.trigger_state.proofs.Sorting.{made_by_filter}
 use Rattle.base_laws.specs.FitsBase.{trigger_by_names}
 use Rattle.entry_step.specs.Each.{Each}
-use Rattle.entry_step.specs.Represents.{IsTagged}
 use Rattle.entry_step.proofs.Finding.{names_are}
 use Rattle.entry_step.proofs.Members.{and_both}
 use Rattle.base_state.specs.Fitting.{HasTrigger, opened}

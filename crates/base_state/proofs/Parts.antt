@@ -1,10 +1,10 @@
 -- What a base keeps of an item fits it where its parts do.
-use Rattle.std.proofs.Common.{◌≡◌, ◌≤◌, ◌<◌, ◌+◌, ◌==◌, ◌&&◌, ◌||◌, ◌⊎◌, inl, inr, ℕ, zero, suc, Bool, true, false, cond, not, List, [], ◌∷◌, ◌++◌, length, map, filter, reverse, take, refl, sym, ◌∙◌, ap, ap₂, subst, append-nil, append_assoc, eqb-true, eq-eqb, leb-true, le-leb, ltb-true, ltb-false, le-ltb, nat_lt, nat_le, arith, length-append, Option, Some, None, option_and_then, IsTrue, ◌↔◌, ◌^◌, ℤ, unsigned_abs}
+use Rattle.std.proofs.Common.{◌≡◌, ◌≤◌, ◌<◌, ◌+◌, ◌==◌, ◌&&◌, ◌||◌, ◌⊎◌, inl, inr, ℕ, zero, suc, Bool, true, false, cond, not, List, [], ◌∷◌, ◌++◌, length, map, filter, reverse, take, refl, sym, ◌∙◌, ap, ap₂, subst, eqb-true, eq-eqb, leb-true, ltb-false, le-ltb, nat_lt, nat_le, arith, length-append, Option, Some, None, option_and_then, IsTrue, ◌↔◌, ◌^◌, ℤ, unsigned_abs}
 use Rattle.std.specs.Cmp.Lexicographic.{bytes_decides}
 use Rattle.std.specs.List.{AllByRecursion, count_by}
 use Rattle.std.specs.Str.{bytes_eq}
 use Rattle.std.proofs.lemmas.Bool.{lt-ltb, leb-false}
-use Rattle.std.proofs.lemmas.List.{map-append, reverse-append, length-reverse, length-take, take_all}
+use Rattle.std.proofs.lemmas.List.{reverse-append, length-take, take_all}
 use Rattle.std.proofs.lemmas.List.Sums.{length-filter}
 use Rattle.zbx_types.specs.Moments.{seconds_after}
 use Rattle.zbx_types.specs.Numerals.{Numeral, numeral_of, magnitude, signed, value_of, read_number}
@@ -20,7 +20,7 @@ use Rattle.value_cache.specs.Cells.{is_young, trim}
 use Rattle.value_cache.specs.Histories.{is_later, IsOrdered}
 use Rattle.value_cache.specs.declared.keeping.Keep.{Keep}
 use Rattle.value_cache.proofs.Orders.{time_up_to}
-use Rattle.base_laws.specs.Bases.{read_value, read_history}
+use Rattle.base_laws.specs.Bases.{read_value}
 use Rattle.base_laws.specs.FitsBase.{IsWritten, IsTextOf, FitsItem}
 use Rattle.entry_step.specs.Each.{Each, EachPair}
 use Rattle.entry_step.proofs.Members.{each_both, each_sub}

@@ -1,8 +1,6 @@
 -- The base of what a run keeps is that of the log that it stands for.
-use Rattle.std.proofs.Common.{◌≡◌, ◌≤◌, ◌+◌, ℕ, zero, suc, List, [], ◌∷◌, ◌++◌, length, map, slice_get, Option, Some, None, option_map, refl, sym, ◌∙◌, ap, ap₂, subst, append-nil, le_refl, arith}
+use Rattle.std.proofs.Common.{◌≡◌, ◌+◌, ℕ, suc, List, [], ◌∷◌, length, map, slice_get, Some, refl, sym, ◌∙◌, ap, ap₂, subst, append-nil, le_refl, arith}
 use Rattle.std.specs.Prelude.{flat_map}
-use Rattle.std.specs.Option.{unwrap_or}
-use Rattle.std.proofs.lemmas.List.{length-map}
 use mathlib.Core.Path.{fun_ext}
 use Rattle.zbx_types.specs.Ids.{at_id, ids_from}
 use Rattle.zbx_types.specs.Records.{event_of}
@@ -13,24 +11,23 @@ use Rattle.zbx_types.proofs.RowLemmas.{at_suc}
 use Rattle.prep_steps.specs.declared.memory.StepMemory.{StepMemory}
 use Rattle.value_cache.specs.Cells.{CellView, trim}
 use Rattle.value_cache.specs.Histories.{oldest_first}
-use Rattle.value_cache.specs.Keeps.{keep_of}
 use Rattle.preprocess.specs.Chains.{listed}
 use Rattle.trigger_state.specs.Problems.{open_of}
 use Rattle.trigger_state.specs.Stages.{Stage}
 use Rattle.trigger_state.specs.declared.problems.Open.{Open}
-use Rattle.base_laws.specs.Bases.{Beside, told_value, told_step, told_problem, told_item, told_problems, beside_with, base_at}
+use Rattle.base_laws.specs.Bases.{told_value, told_step, told_problem, told_item, told_problems, beside_with, base_at}
 use Rattle.base_state.specs.Telling.{cell_item, cell_items, row_problems, IsBaseOf, WholeBases}
 use Rattle.base_state.specs.declared.place.Place.{Place}
 use Rattle.conf_index.specs.Order.{order}
+use Rattle.entry_laws.specs.InForce.{left_by}
 use Rattle.entry_laws.proofs.InForce.{holds_behind_all}
 use Rattle.entry_step.specs.Cells.{Cells, ItemKey, TriggerKey, look, AreCellsOf}
 use Rattle.entry_step.specs.Due.{by_making}
 use Rattle.entry_step.specs.History.{marks_of}
-use Rattle.entry_step.specs.InForce.{left_by}
 use Rattle.entry_step.specs.Kept.{Keeps, roomless}
 use Rattle.entry_step.specs.Order.{by_event}
 use Rattle.entry_step.specs.Represents.{CellsView, problems_at, Holds}
-use Rattle.entry_step.specs.Start.{Start, nothing}
+use Rattle.entry_step.specs.Start.{Start}
 use Rattle.entry_step.specs.Whole.{point, whole_replay}
 use Rattle.entry_step.proofs.Members.{flat_maps}
 use Rattle.entry_step.proofs.Sorting.{by_event_map}
@@ -119,5 +116,5 @@ base_is stage held at cells memories items problems text base cells_are memories
 
 pub whole_bases : WholeBases
 unfolding IsBaseOf
-whole_bases stage held at base is flat beside log fits holds same ends =
-    is (beside_with beside log (whole_replay flat nothing log)) (left_by (point flat nothing log)) same (holds_behind_all flat log held fits holds) ends
+whole_bases stage held at base is flat beside start log ground fits holds same ends =
+    is (beside_with beside log (whole_replay flat start log)) (left_by (point flat start log)) same (holds_behind_all flat start log held ground fits holds) ends

@@ -13,10 +13,11 @@ use Rattle.trigger_state.specs.Stages.{Stage}
 use Rattle.trigger_state.specs.declared.problems.Open.{Open}
 use Rattle.base_laws.specs.Bases.{Beside, told_value, told_step, told_problem, beside_with, base_at, whole_base}
 use Rattle.base_state.specs.declared.place.Place.{Place}
+use Rattle.entry_laws.specs.InForce.{IsGround, FitsLog, left_by}
 use Rattle.entry_step.specs.Due.{by_making}
-use Rattle.entry_step.specs.InForce.{FitsLog, left_by, HoldsAt}
+use Rattle.entry_step.specs.InForce.{HoldsAt}
 use Rattle.entry_step.specs.Represents.{CellsView, problems_at, Holds}
-use Rattle.entry_step.specs.Start.{Start, nothing}
+use Rattle.entry_step.specs.Start.{Start}
 use Rattle.entry_step.specs.Whole.{point, whole_replay}
 
 -- what a cell keeps at a moment, and what the steps of its item remember
@@ -51,13 +52,13 @@ IsBaseOf stage held at base =
     (beside : Beside) (start : Start) → start.stage ≡ stage → Holds start held []
     → EndsAt beside start stage.conf.text at → base ≡ base_at beside start
 
--- and so that of each whole log over nothing that the cells stand for and that fits
+-- and so that of each whole log that the cells stand for, which fits the start that it stands on
 abbrev pub IsWholeBase : Stage → CellsView → Place → Base → Type 0
 IsWholeBase stage held at base =
-    (flat : List ℕ → Conf) (beside : Beside) (log : List Numbered) → FitsLog flat log
-    → HoldsAt (point flat nothing log) held → (point flat nothing log).start.stage ≡ stage
-    → EndsAt (beside_with beside log (whole_replay flat nothing log)) (left_by (point flat nothing log)) stage.conf.text at
-    → base ≡ whole_base flat beside nothing log
+    (flat : List ℕ → Conf) (beside : Beside) (start : Start) (log : List Numbered) → IsGround start → FitsLog flat start log
+    → HoldsAt (point flat start log) held → (point flat start log).start.stage ≡ stage
+    → EndsAt (beside_with beside log (whole_replay flat start log)) (left_by (point flat start log)) stage.conf.text at
+    → base ≡ whole_base flat beside start log
 
 -- A base that is that of each start is that of each whole log.
 abbrev pub WholeBases : Type 0

@@ -1,6 +1,6 @@
 //! Whether a base fits a configuration.
 
-ghost use Rattle.std.specs.Prelude.{◌≡◌, ◌≤◌, ◌↔◌, ℕ, IsTrue, IfOk};
+ghost use Rattle.std.specs.Prelude.{◌≡◌, ◌↔◌, IsTrue, IfOk};
 ghost use Rattle.value_cache.specs.Keeps.{keeps_of};
 ghost use Rattle.base_laws.specs.FitsBase.{FitTicks, FitsBase};
 ghost use Rattle.base_state.specs.Fitting.{FitsAt, FitItems};

@@ -1,6 +1,6 @@
 //! Whether the open problems of a base fit a configuration.
 
-ghost use Rattle.std.specs.Prelude.{◌≡◌, ◌↔◌, ◌==◌, ℕ, [], map, if◌then◌else◌, IsTrue, IfOk};
+ghost use Rattle.std.specs.Prelude.{◌≡◌, ◌↔◌, ◌==◌, [], map, if◌then◌else◌, IsTrue, IfOk};
 ghost use Rattle.entry_step.specs.Each.{Each, EachPair};
 ghost use Rattle.base_state.specs.Fitting.{RunsBefore, HasRun, FitsAlone, IsOfEarlier, event_key, Differ, opened, HasTrigger, FitProblems};
 

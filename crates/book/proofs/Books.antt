@@ -1,9 +1,10 @@
 -- Laws of what holds of a book.
-use Rattle.std.proofs.Common.{◌≡◌, ◌⊎◌, inl, inr, ℕ, zero, suc, ◌+◌, ◌-◌, ◌<◌, ◌≤◌, ◌^◌, List, [], ◌∷◌, ◌++◌, length, take, drop, get_or, refl, sym, ap, ap₂, subst, ◌∙◌, arith, append_assoc, append-nil, length-append, reverse, replicate, eq-or-lt_of_le}
+use Rattle.std.proofs.Common.{◌≡◌, ◌⊎◌, inl, inr, ℕ, zero, suc, ◌+◌, ◌-◌, ◌<◌, ◌≤◌, List, [], ◌∷◌, ◌++◌, length, take, drop, get_or, refl, sym, ap, ap₂, subst, ◌∙◌, arith, append_assoc, append-nil, length-append, reverse, replicate, eq-or-lt_of_le}
 use Rattle.std.proofs.lemmas.Bool.{cases_lt}
 use Rattle.std.specs.Prelude.{Option, Some, None, IfSome}
 use Rattle.std.proofs.lemmas.List.{take-append-drop, take-append-le, drop-append-le, reverse-append}
 use mathlib.Core.List.{IsPrefix}
+use Rattle.zbx_types.specs.declared.base.Base.{Base}
 use Rattle.zbx_types.specs.declared.conf.Conf.{Conf}
 use Rattle.zbx_types.specs.declared.entries.Numbered.{Numbered}
 use Rattle.zbx_types.specs.declared.entries.Rec.{Rec}
@@ -13,21 +14,20 @@ use Rattle.syncer_gate.specs.declared.marks.Mark.{Mark}
 use Rattle.syncer_gate.specs.declared.marks.Mark.TheVariants.{Pending, Applied}
 use Rattle.event_text.specs.Lines.{lines_of}
 use Rattle.entry_step.specs.Log.{log_of}
-use Rattle.entry_step.specs.InForce.{IsPlain, behind_all}
+use Rattle.entry_laws.specs.InForce.{IsPlain, behind_all}
 use Rattle.entry_step.specs.Records.{replay}
 use Rattle.book_opening.specs.declared.tally.Tally.{Tally}
-use Rattle.book_opening.specs.declared.errors.BookError.TheVariants as BookError
 use Rattle.book_opening.specs.Tally.{tally_of, tally_with}
-use Rattle.book_opening.specs.Outgoing.{Grew, HasFront, log_lines}
+use Rattle.base_laws.specs.Grounds.{start_of}
+use Rattle.book_opening.specs.Outgoing.{Grew, HasFront, log_lines, log_records, log_tally}
 use Rattle.book_opening.proofs.Comparing.{front_more, front_written}
 use Rattle.entry_laws.proofs.InForce.{replay_on}
-use Rattle.book.specs.Book.{IsBook, AreApplied, StayApplied, upto, lines_upto}
+use Rattle.book.specs.Book.{Begun, IsBook, AreApplied, StayApplied, upto, lines_upto}
 use Rattle.book_opening.proofs.Counting.{tally_more}
 use Rattle.book.proofs.Numbers.{plain_reverse}
-use Rattle.book_opening.proofs.Growing.{lines_of-append, lines_newer, tally_bytes}
+use Rattle.book_opening.proofs.Growing.{lines_of-append, lines_newer}
 use Rattle.entry_step.specs.Each.{Each}
-use Rattle.entry_step.specs.Start.{Start, nothing}
-use Rattle.entry_step.specs.Whole.{whole_replay}
+use Rattle.entry_step.specs.Start.{Start}
 
 -- ---- lists
 
@@ -46,21 +46,20 @@ prefix_split (x ∷ a) b (y ∷ c) d e l =
 -- ---- marks
 
 -- more of a ring was received, or marks have changed that don't say applied
-pub goes_on : (flat : List ℕ → Conf) (kept : List Numbered) (outbox : SinkTells) (received entries : List Numbered) (marks : List Mark) (frontier : ℕ) (tally : Tally) (sink : SinkTells) (unwritten : List ℕ)
-    (received' entries' : List Numbered) (marks' : List Mark) → IsBook flat kept outbox received entries marks frontier tally sink unwritten
-    → entries' ≡ received' → IsPrefix entries entries' → StayApplied marks marks'
-    → IsBook flat kept outbox received' entries' marks' frontier tally sink unwritten
-goes_on flat kept outbox received entries marks frontier tally sink unwritten received' entries' marks' b is pre keep =
+pub goes_on : (run : Begun) (received entries : List Numbered) (marks : List Mark) (frontier : ℕ) (tally : Tally) (sink : SinkTells) (unwritten : List ℕ) (received' entries' : List Numbered) (marks' : List Mark)
+    → IsBook run received entries marks frontier tally sink unwritten → entries' ≡ received' → IsPrefix entries entries' → StayApplied marks marks'
+    → IsBook run received' entries' marks' frontier tally sink unwritten
+goes_on run received entries marks frontier tally sink unwritten received' entries' marks' b is pre keep =
     let long : length entries + length pre.0 ≡ length entries' = sym (length-append entries pre.0) ∙ ap (λ (l : List Numbered). length l) pre.1 in
-    let same : upto kept entries' frontier ≡ upto kept entries frontier = ap (λ es. kept ++ es) (ap (take frontier) (sym pre.1) ∙ take-append-le frontier entries pre.0 b.within) in record {
+    let same : upto run.kept entries' frontier ≡ upto run.kept entries frontier = ap (λ es. run.kept ++ es) (ap (take frontier) (sym pre.1) ∙ take-append-le frontier entries pre.0 b.within) in record {
       received_is = is;
       within = omega (arith, b.within, long);
       applied = λ i l. keep i (b.applied i l);
-      tally_is = subst (λ es. tally ≡ tally_of (whole_replay flat nothing (log_of es))) (sym same) b.tally_is;
+      tally_is = subst (λ es. tally ≡ log_tally run.flat run.base (log_of es)) (sym same) b.tally_is;
       enough = b.enough;
       lawful = b.lawful;
-      front = subst (λ es. HasFront outbox sink (log_lines flat (log_of es))) (sym same) b.front;
-      left = b.left ∙ ap (λ es. drop sink.held (log_lines flat (log_of es))) (sym same);
+      front = subst (λ es. HasFront run.base.lines run.outbox sink (log_lines run.flat run.base (log_of es))) (sym same) b.front;
+      left = b.left ∙ ap (λ es. drop (sink.held - run.base.lines) (log_lines run.flat run.base (log_of es))) (sym same);
       later = b.later;
     }
 
@@ -74,53 +73,70 @@ each_taken (suc n) [] plain = tt
 each_taken (suc n) (e ∷ entries) plain = (plain.0, each_taken n entries plain.1)
 
 -- what is replayed with entries behind those with which a run began
-replay_upto : (flat : List ℕ → Conf) (kept entries : List Numbered) (start : Start) (n : ℕ) → start ≡ behind_all flat (log_of kept) → Each IsPlain entries
-    → whole_replay flat nothing (log_of (upto kept entries n)) ≡ whole_replay flat nothing (log_of kept) ++ replay start (log_of (take n entries))
-replay_upto flat kept entries start n is plain =
-    ap (whole_replay flat nothing) (reverse-append kept (take n entries))
-    ∙ replay_on flat (log_of (take n entries)) (log_of kept) (plain_reverse (take n entries) (each_taken n entries plain))
-    ∙ ap (λ (s : Start). whole_replay flat nothing (log_of kept) ++ replay s (log_of (take n entries))) (sym is)
+replay_upto : (flat : List ℕ → Conf) (base : Base) (kept entries : List Numbered) (start : Start) (n : ℕ) → start ≡ behind_all flat (start_of flat base) (log_of kept) → Each IsPlain entries
+    → log_records flat base (log_of (upto kept entries n)) ≡ log_records flat base (log_of kept) ++ replay start (log_of (take n entries))
+replay_upto flat base kept entries start n is plain =
+    ap (log_records flat base) (reverse-append kept (take n entries))
+    ∙ replay_on flat (start_of flat base) (log_of (take n entries)) (log_of kept) (plain_reverse (take n entries) (each_taken n entries plain))
+    ∙ ap (λ (s : Start). log_records flat base (log_of kept) ++ replay s (log_of (take n entries))) (sym is)
 
 -- the lines of kept entries are no more than those with more behind them
-kept_few : (flat : List ℕ → Conf) (kept entries : List Numbered) (n : ℕ) → length (log_lines flat (log_of kept)) ≤ length (lines_upto flat kept entries n)
-kept_few flat kept entries n =
-    let more = lines_newer flat (log_of (take n entries)) (log_of kept) in
-    let is : lines_upto flat kept entries n ≡ log_lines flat (log_of kept) ++ more.0 = ap (log_lines flat) (reverse-append kept (take n entries)) ∙ more.1 in
+kept_few : (flat : List ℕ → Conf) (base : Base) (kept entries : List Numbered) (n : ℕ) → length (log_lines flat base (log_of kept)) ≤ length (lines_upto flat base kept entries n)
+kept_few flat base kept entries n =
+    let more = lines_newer flat base (log_of (take n entries)) (log_of kept) in
+    let is : lines_upto flat base kept entries n ≡ log_lines flat base (log_of kept) ++ more.0 = ap (log_lines flat base) (reverse-append kept (take n entries)) ∙ more.1 in
     let long = ap (λ (l : List ℕ). length l) is in
-    omega (arith, long, length-append (log_lines flat (log_of kept)) more.0)
+    omega (arith, long, length-append (log_lines flat base (log_of kept)) more.0)
 
 -- an outbox held no more than lines
-held_few : (outbox : SinkTells) (count size : ℕ) → IfSome outbox.bytes (λ b. outbox.held ≡ length b) → outbox.held ≤ count → count ≤ size → IfSome outbox.bytes (λ b. length b ≤ size)
-held_few outbox count size lawful enough few = go outbox.bytes lawful
+held_few : (before : ℕ) (outbox : SinkTells) (count size : ℕ) → IfSome outbox.bytes (λ b. outbox.held ≡ length b) → outbox.held ≤ before + count → count ≤ size → IfSome outbox.bytes (λ b. length b ≤ before + size)
+held_few before outbox count size lawful enough few = go outbox.bytes lawful
   where
-    go : (o : Option (List ℕ)) → IfSome o (λ b. outbox.held ≡ length b) → IfSome o (λ b. length b ≤ size)
+    go : (o : Option (List ℕ)) → IfSome o (λ b. outbox.held ≡ length b) → IfSome o (λ b. length b ≤ before + size)
     go None law = tt
     go (Some b) law = omega arith
 
+-- and no less than so many bytes
+pub told_least : (before : ℕ) (outbox : SinkTells) → IfSome outbox.bytes (λ b. outbox.held ≡ length b) → before ≤ outbox.held → IfSome outbox.bytes (λ b. before ≤ length b)
+told_least before outbox lawful least = go outbox.bytes lawful
+  where
+    go : (o : Option (List ℕ)) → IfSome o (λ b. outbox.held ≡ length b) → IfSome o (λ b. before ≤ length b)
+    go None law = tt
+    go (Some b) law = omega arith
+
+-- so did that of a run
+outbox_few : (run : Begun) (entries : List Numbered) (n : ℕ) → IfSome run.outbox.bytes (λ b. run.outbox.held ≡ length b) → run.outbox.held ≤ run.base.lines + length (log_lines run.flat run.base (log_of run.kept))
+    → IfSome run.outbox.bytes (λ b. length b ≤ run.base.lines + length (lines_upto run.flat run.base run.kept entries n))
+outbox_few run entries n lawful enough =
+    held_few run.base.lines run.outbox (length (log_lines run.flat run.base (log_of run.kept))) (length (lines_upto run.flat run.base run.kept entries n)) lawful enough (kept_few run.flat run.base run.kept entries n)
+
 -- the entry at the frontier is passed, which is applied
-pub passed : (flat : List ℕ → Conf) (kept : List Numbered) (outbox : SinkTells) (received entries : List Numbered) (marks : List Mark) (frontier : ℕ) (tally : Tally) (sink : SinkTells) (unwritten : List ℕ)
-    (start : Start) (records : List Rec) (tally' : Tally) (unwritten' : List ℕ) → IsBook flat kept outbox received entries marks frontier tally sink unwritten
-    → start ≡ behind_all flat (log_of kept) → Each IsPlain entries
+pub passed : (run : Begun) (received entries : List Numbered) (marks : List Mark) (frontier : ℕ) (tally : Tally) (sink : SinkTells) (unwritten : List ℕ)
+    (start : Start) (records : List Rec) (tally' : Tally) (unwritten' : List ℕ) → IsBook run received entries marks frontier tally sink unwritten
+    → start ≡ behind_all run.flat (start_of run.flat run.base) (log_of run.kept) → Each IsPlain entries
     → frontier < length entries → get_or marks frontier Pending ≡ Applied
     → replay start (log_of (take (frontier + 1) entries)) ≡ replay start (log_of (take frontier entries)) ++ records
     → tally' ≡ tally_with tally records → unwritten' ≡ unwritten ++ lines_of records
-    → IsBook flat kept outbox received entries marks (frontier + 1) tally' sink unwritten'
-passed flat kept outbox received entries marks frontier tally sink unwritten start records tally' unwritten' b is plain within here next counts adds =
-    let before = whole_replay flat nothing (log_of (upto kept entries frontier)) in
-    let more : whole_replay flat nothing (log_of (upto kept entries (frontier + 1))) ≡ before ++ records =
-    replay_upto flat kept entries start (frontier + 1) is plain ∙ ap (λ rs. whole_replay flat nothing (log_of kept) ++ rs) next
-    ∙ sym (append_assoc (whole_replay flat nothing (log_of kept)) (replay start (log_of (take frontier entries))) records)
-    ∙ ap (λ rs. rs ++ records) (sym (replay_upto flat kept entries start frontier is plain)) in
-    let lines : lines_upto flat kept entries (frontier + 1) ≡ lines_upto flat kept entries frontier ++ lines_of records = ap lines_of more ∙ lines_of-append before records in record {
+    → IsBook run received entries marks (frontier + 1) tally' sink unwritten'
+passed run received entries marks frontier tally sink unwritten start records tally' unwritten' b is plain within here next counts adds =
+    let flat = run.flat in
+    let base = run.base in
+    let kept = run.kept in
+    let before = log_records flat base (log_of (upto kept entries frontier)) in
+    let more : log_records flat base (log_of (upto kept entries (frontier + 1))) ≡ before ++ records =
+    replay_upto flat base kept entries start (frontier + 1) is plain ∙ ap (λ rs. log_records flat base (log_of kept) ++ rs) next
+    ∙ sym (append_assoc (log_records flat base (log_of kept)) (replay start (log_of (take frontier entries))) records)
+    ∙ ap (λ rs. rs ++ records) (sym (replay_upto flat base kept entries start frontier is plain)) in
+    let lines : lines_upto flat base kept entries (frontier + 1) ≡ lines_upto flat base kept entries frontier ++ lines_of records = ap lines_of more ∙ lines_of-append before records in
+    let short : sink.held - base.lines ≤ length (lines_upto flat base kept entries frontier) = let l = b.front.least in let s = b.front.size in omega arith in record {
       received_is = b.received_is;
       within = omega (arith, within);
       applied = λ i l. reach i (eq-or-lt_of_le (below i l));
-      tally_is = counts ∙ ap (λ t. tally_with t records) b.tally_is ∙ tally_more before records ∙ ap tally_of (sym more);
+      tally_is = counts ∙ ap (λ t. tally_with t records) b.tally_is ∙ tally_more base.lines before records ∙ ap (tally_of base.lines) (sym more);
       enough = b.enough;
       lawful = b.lawful;
-      front = subst (HasFront outbox sink) (sym lines) (front_more outbox sink (lines_upto flat kept entries frontier) (lines_of records)
-          (held_few outbox (length (log_lines flat (log_of kept))) (length (lines_upto flat kept entries frontier)) b.lawful b.enough (kept_few flat kept entries frontier)) b.front);
-      left = adds ∙ ap (λ l. l ++ lines_of records) b.left ∙ sym (drop-append-le sink.held (lines_upto flat kept entries frontier) (lines_of records) b.front.size) ∙ ap (drop sink.held) (sym lines);
+      front = subst (HasFront base.lines run.outbox sink) (sym lines) (front_more base.lines run.outbox sink (lines_upto flat base kept entries frontier) (lines_of records) (outbox_few run entries frontier b.lawful b.enough) b.front);
+      left = adds ∙ ap (λ l. l ++ lines_of records) b.left ∙ sym (drop-append-le (sink.held - base.lines) (lines_upto flat base kept entries frontier) (lines_of records) short) ∙ ap (drop (sink.held - base.lines)) (sym lines);
       later = b.later;
     }
   where
@@ -134,12 +150,12 @@ passed flat kept outbox received entries marks frontier tally sink unwritten sta
 -- ---- the outbox
 
 -- some of the lines were written
-pub written : (flat : List ℕ → Conf) (kept : List Numbered) (outbox : SinkTells) (received entries : List Numbered) (marks : List Mark) (frontier : ℕ) (tally : Tally) (sink : SinkTells) (unwritten : List ℕ)
-    (sink' : SinkTells) (unwritten' : List ℕ) → IsBook flat kept outbox received entries marks frontier tally sink unwritten
+pub written : (run : Begun) (received entries : List Numbered) (marks : List Mark) (frontier : ℕ) (tally : Tally) (sink : SinkTells) (unwritten : List ℕ) (sink' : SinkTells) (unwritten' : List ℕ)
+    → IsBook run received entries marks frontier tally sink unwritten
     → (front : List ℕ) × Grew sink sink' front × (unwritten ≡ front ++ unwritten') → sink.faults ≤ sink'.faults
-    → IsBook flat kept outbox received entries marks frontier tally sink' unwritten'
-written flat kept outbox received entries marks frontier tally sink unwritten sink' unwritten' b more rose =
-    let w = front_written outbox sink sink' (lines_upto flat kept entries frontier) more.0 unwritten' b.front more.1 (sym b.left ∙ more.2) in record {
+    → IsBook run received entries marks frontier tally sink' unwritten'
+written run received entries marks frontier tally sink unwritten sink' unwritten' b more rose =
+    let w = front_written run.base.lines run.outbox sink sink' (lines_upto run.flat run.base run.kept entries frontier) more.0 unwritten' b.front more.1 (sym b.left ∙ more.2) in record {
       received_is = b.received_is;
       within = b.within;
       applied = b.applied;
@@ -152,34 +168,37 @@ written flat kept outbox received entries marks frontier tally sink unwritten si
     }
 
 -- an outbox that has a front of the lines up to the frontier has one of those of all entries, and of more
-pub front_of_all : (flat : List ℕ → Conf) (kept entries all : List Numbered) (frontier : ℕ) (outbox sink : SinkTells) → IsPrefix entries all → IfSome outbox.bytes (λ b. outbox.held ≡ length b) → outbox.held ≤ length (log_lines flat (log_of kept))
-    → HasFront outbox sink (lines_upto flat kept entries frontier) → HasFront outbox sink (log_lines flat (log_of (kept ++ all)))
-front_of_all flat kept entries all frontier outbox sink pre lawful enough front =
+pub front_of_all : (run : Begun) (entries all : List Numbered) (frontier : ℕ) (sink : SinkTells) → IsPrefix entries all → IfSome run.outbox.bytes (λ b. run.outbox.held ≡ length b)
+    → run.outbox.held ≤ run.base.lines + length (log_lines run.flat run.base (log_of run.kept)) → HasFront run.base.lines run.outbox sink (lines_upto run.flat run.base run.kept entries frontier)
+    → HasFront run.base.lines run.outbox sink (log_lines run.flat run.base (log_of (run.kept ++ all)))
+front_of_all run entries all frontier sink pre lawful enough front =
+    let kept = run.kept in
     let rest = drop frontier entries ++ pre.0 in
     let whole : take frontier entries ++ rest ≡ all = sym (append_assoc (take frontier entries) (drop frontier entries) pre.0) ∙ ap (λ l. l ++ pre.0) (take-append-drop frontier entries) ∙ pre.1 in
-    let more = lines_newer flat (reverse rest) (log_of (upto kept entries frontier)) in
-    let lines : lines_upto flat kept entries frontier ++ more.0 ≡ log_lines flat (log_of (kept ++ all)) =
-    sym more.1 ∙ ap (log_lines flat) (sym (reverse-append (upto kept entries frontier) rest) ∙ ap log_of (append_assoc kept (take frontier entries) rest ∙ ap (λ es. kept ++ es) whole)) in
-    subst (HasFront outbox sink) lines (front_more outbox sink (lines_upto flat kept entries frontier) more.0
-    (held_few outbox (length (log_lines flat (log_of kept))) (length (lines_upto flat kept entries frontier)) lawful enough (kept_few flat kept entries frontier)) front)
+    let more = lines_newer run.flat run.base (reverse rest) (log_of (upto kept entries frontier)) in
+    let lines : lines_upto run.flat run.base kept entries frontier ++ more.0 ≡ log_lines run.flat run.base (log_of (kept ++ all)) =
+    sym more.1 ∙ ap (log_lines run.flat run.base) (sym (reverse-append (upto kept entries frontier) rest) ∙ ap log_of (append_assoc kept (take frontier entries) rest ∙ ap (λ es. kept ++ es) whole)) in
+    subst (HasFront run.base.lines run.outbox sink) lines
+    (front_more run.base.lines run.outbox sink (lines_upto run.flat run.base kept entries frontier) more.0 (outbox_few run entries frontier lawful enough) front)
 
 -- ---- the opening
 
 -- nothing came out of the ring yet
-pub opened : (flat : List ℕ → Conf) (kept : List Numbered) (outbox : SinkTells) (received entries : List Numbered) (marks : List Mark) (frontier : ℕ) (tally : Tally) (sink : SinkTells) (unwritten : List ℕ)
-    → entries ≡ [] → received ≡ [] → frontier ≡ 0 → tally ≡ tally_of (whole_replay flat nothing (log_of kept)) → outbox.held ≤ length (log_lines flat (log_of kept)) → IfSome outbox.bytes (λ b. outbox.held ≡ length b)
-    → HasFront outbox sink (log_lines flat (log_of kept)) → unwritten ≡ drop sink.held (log_lines flat (log_of kept)) → outbox.faults ≤ sink.faults
-    → IsBook flat kept outbox received entries marks frontier tally sink unwritten
-opened flat kept outbox received entries marks frontier tally sink unwritten is none at counts enough lawful front lacks later =
-    let same : upto kept entries frontier ≡ kept = ap₂ (λ es n. kept ++ take n es) is at ∙ append-nil kept in record {
+pub opened : (run : Begun) (received entries : List Numbered) (marks : List Mark) (frontier : ℕ) (tally : Tally) (sink : SinkTells) (unwritten : List ℕ)
+    → entries ≡ [] → received ≡ [] → frontier ≡ 0 → tally ≡ log_tally run.flat run.base (log_of run.kept) → run.outbox.held ≤ run.base.lines + length (log_lines run.flat run.base (log_of run.kept))
+    → IfSome run.outbox.bytes (λ b. run.outbox.held ≡ length b) → HasFront run.base.lines run.outbox sink (log_lines run.flat run.base (log_of run.kept))
+    → unwritten ≡ drop (sink.held - run.base.lines) (log_lines run.flat run.base (log_of run.kept)) → run.outbox.faults ≤ sink.faults
+    → IsBook run received entries marks frontier tally sink unwritten
+opened run received entries marks frontier tally sink unwritten is none at counts enough lawful front lacks later =
+    let same : upto run.kept entries frontier ≡ run.kept = ap₂ (λ es n. run.kept ++ take n es) is at ∙ append-nil run.kept in record {
       received_is = is ∙ sym none;
       within = let l = ap (λ (es : List Numbered). length es) is in omega (arith, at);
       applied = λ i l. absurd (omega (arith, l, at));
-      tally_is = counts ∙ ap (λ es. tally_of (whole_replay flat nothing (log_of es))) (sym same);
+      tally_is = counts ∙ ap (λ es. log_tally run.flat run.base (log_of es)) (sym same);
       enough = enough;
       lawful = lawful;
-      front = subst (λ es. HasFront outbox sink (log_lines flat (log_of es))) (sym same) front;
-      left = lacks ∙ ap (λ es. drop sink.held (log_lines flat (log_of es))) (sym same);
+      front = subst (λ es. HasFront run.base.lines run.outbox sink (log_lines run.flat run.base (log_of es))) (sym same) front;
+      left = lacks ∙ ap (λ es. drop (sink.held - run.base.lines) (log_lines run.flat run.base (log_of es))) (sym same);
       later = later;
     }
 
@@ -241,13 +260,3 @@ frontier_at_end marks n size applied within next = by (eq-or-lt_of_le within)
     by : (n ≡ size) ⊎ (n < size) → n ≡ size
     by (inl same) = same
     by (inr below) = absurd (next below (applied n below))
-
--- ---- an outbox at the opening
-
--- so many bytes are no more than the lines
-pub outbox_enough : (flat : List ℕ → Conf) (log : List Numbered) (tally : Tally) (held : ℕ) → tally ≡ tally_of (whole_replay flat nothing log) → held ≤ tally.bytes → held ≤ length (log_lines flat log)
-outbox_enough flat log tally held counts enough = let bytes = tally_bytes flat log tally counts in omega (arith, enough, bytes)
-
--- or more: how many bytes the lines have
-pub outbox_ahead : (flat : List ℕ → Conf) (log : List Numbered) (tally : Tally) (held count : ℕ) → tally ≡ tally_of (whole_replay flat nothing log) → count ≡ tally.bytes → count < held → held < 2 ^ 64 → count ≡ length (log_lines flat log)
-outbox_ahead flat log tally held count counts is less small = let bytes = tally_bytes flat log tally counts in omega (arith, bytes, is, less, small)

@@ -1,13 +1,13 @@
 -- Numbers of the entries of a whole log.
-use Rattle.std.proofs.Common.{◌≡◌, ◌<◌, ◌+◌, ℕ, suc, List, [], ◌∷◌, ◌++◌, length, map, reverse, refl, sym, ap, subst, ◌∙◌, arith, length-append}
+use Rattle.std.proofs.Common.{◌≡◌, ◌+◌, ℕ, suc, List, [], ◌∷◌, ◌++◌, length, map, reverse, refl, sym, ap, subst, ◌∙◌, arith, length-append}
 use Rattle.std.proofs.lemmas.List.{reverse-append, reverse-reverse, length-reverse}
 use mathlib.Core.List.{reverse-cons}
 use Rattle.zbx_types.specs.Ids.{ids_from}
 use Rattle.zbx_types.specs.declared.conf.Conf.{Conf}
 use Rattle.zbx_types.specs.declared.entries.Numbered.{Numbered}
 use Rattle.entry_step.specs.Each.{Each}
-use Rattle.entry_step.specs.InForce.{IsPlain, FitsLog, behind_all}
-use Rattle.entry_step.specs.Log.{log_of, IsFull, Suits}
+use Rattle.entry_laws.specs.InForce.{IsPlain, FitsLog, HasBegun, IsFull, behind_all}
+use Rattle.entry_step.specs.Log.{log_of, Suits}
 use Rattle.entry_step.specs.Start.{Start}
 use Rattle.entry_laws.proofs.InForce.{plain_fits}
 use Rattle.entry_step.proofs.Members.{each_append}
@@ -51,38 +51,35 @@ from_behind k (y ∷ xs) x off at =
     let r = from_behind (k + 1) xs x t (omega arith) in
     rw (a, r) refl
 
-full_from : (log : List Numbered) → IsFull log → From 1 (reverse log)
-full_from [] full = refl
-full_from (e ∷ log) full =
-    subst (From 1) (sym (reverse-cons e log))
-    (from_behind 1 (reverse log) e (full_from log full.0) (let s = length-reverse log in let n = full.1 in omega arith))
+full_from : (from : Start) (log : List Numbered) → IsFull from log → From (from.number + 1) (reverse log)
+full_from from [] full = refl
+full_from from (e ∷ log) full =
+    subst (From (from.number + 1)) (sym (reverse-cons e log))
+    (from_behind (from.number + 1) (reverse log) e (full_from from log full.0) (let s = length-reverse log in let n = full.1 in omega arith))
 
 -- plain ones in the order of their numbers
 pub plain_reverse : (entries : List Numbered) → Each IsPlain entries → Each IsPlain (reverse entries)
 plain_reverse [] plain = tt
 plain_reverse (e ∷ entries) plain = subst (Each IsPlain) (sym (reverse-cons e entries)) (each_append IsPlain (reverse entries) (e ∷ []) (plain_reverse entries plain.1) (plain.0, tt))
 
--- Values and Ticks behind the entries that a journal kept, with which they are a full log that fits, are a whole log
--- behind what these leave
-pub whole_of : (flat : List ℕ → Conf) (kept entries : List Numbered) (start : Start) → start ≡ behind_all flat (log_of kept) → 0 < length kept → Each IsPlain entries
-    → IsFull (log_of (kept ++ entries)) → FitsLog flat (log_of (kept ++ entries)) → IsWholeLog start entries
-whole_of flat kept entries start is some plain full fits = record { numbers = numbers; suits = subst (λ s. Suits s (log_of entries)) (sym is) (suiting (log_of kept) refl); plain = plain }
+-- Values and Ticks behind the entries that a journal kept, with which they are a full log that fits what stood before, are a
+-- whole log behind what these leave
+pub whole_of : (flat : List ℕ → Conf) (from : Start) (kept entries : List Numbered) (start : Start) → start ≡ behind_all flat from (log_of kept) → HasBegun from (log_of kept) → Each IsPlain entries
+    → IsFull from (log_of (kept ++ entries)) → FitsLog flat from (log_of (kept ++ entries)) → IsWholeLog start entries
+whole_of flat from kept entries start is begun plain full fits = record { numbers = numbers; suits = subst (λ s. Suits s (log_of entries)) (sym is) suiting; plain = plain }
   where
     parts : log_of (kept ++ entries) ≡ log_of entries ++ log_of kept
     parts = reverse-append kept entries
 
-    number : start.number ≡ length kept
-    number = number_left flat kept start is (full_behind (log_of entries) (log_of kept) (subst IsFull parts full))
+    number : start.number ≡ from.number + length kept
+    number = number_left flat from kept start is (full_behind from (log_of entries) (log_of kept) (subst (IsFull from) parts full))
 
     numbers : From (start.number + 1) entries
     numbers =
-        let all : From 1 (kept ++ entries) = subst (From 1) (reverse-reverse (kept ++ entries)) (full_from (log_of (kept ++ entries)) full) in
+        let all : From (from.number + 1) (kept ++ entries) = subst (From (from.number + 1)) (reverse-reverse (kept ++ entries)) (full_from from (log_of (kept ++ entries)) full) in
         let n = number in
-        let z : 1 + length kept ≡ start.number + 1 = omega arith in
-        subst (λ k. From k entries) z (behind_from 1 kept entries all)
+        let z : (from.number + 1) + length kept ≡ start.number + 1 = omega arith in
+        subst (λ k. From k entries) z (behind_from (from.number + 1) kept entries all)
 
-    suiting : (log : List Numbered) → log_of kept ≡ log → Suits (behind_all flat (log_of kept)) (log_of entries)
-    suiting [] none = let long = ap (λ (es : List Numbered). length es) none in let count = length-reverse kept in absurd (omega arith)
-    suiting (last ∷ older) split =
-        subst (λ log. Suits (behind_all flat log) (log_of entries)) (sym split)
-        ((plain_fits flat (log_of entries) last older (plain_reverse entries plain)).0 (subst (FitsLog flat) (parts ∙ ap (λ log. log_of entries ++ log) split) fits)).1
+    suiting : Suits (behind_all flat from (log_of kept)) (log_of entries)
+    suiting = ((plain_fits flat from (log_of entries) (log_of kept) begun (plain_reverse entries plain)).0 (subst (FitsLog flat from) parts fits)).1

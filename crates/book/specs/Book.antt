@@ -1,19 +1,17 @@
 -- The book: the work on the entries of a ring, and the lines that go out of it.
-use Rattle.std.specs.Prelude.{◌≡◌, ◌≢◌, ◌≤◌, ◌<◌, ℕ, List, ◌++◌, length, take, drop, get_or, IfSome}
+use Rattle.std.specs.Prelude.{◌≡◌, ◌≢◌, ◌≤◌, ◌<◌, ◌+◌, ◌-◌, ℕ, List, ◌++◌, length, take, drop, get_or, IfSome}
+use Rattle.zbx_types.specs.declared.base.Base.{Base}
 use Rattle.zbx_types.specs.declared.conf.Conf.{Conf}
 use Rattle.zbx_types.specs.declared.entries.Numbered.{Numbered}
 use Rattle.zbx_types.specs.declared.entries.Rec.{Rec}
 use Rattle.outside.specs.Tells.{SinkTells}
 use Rattle.entry_step.specs.Log.{log_of}
 use Rattle.entry_step.specs.Represents.{CellsView}
-use Rattle.entry_step.specs.Start.{nothing}
-use Rattle.entry_step.specs.Whole.{whole_replay}
 use Rattle.syncer_gate.specs.Gate.{Gate}
 use Rattle.syncer_gate.specs.declared.marks.Mark.{Mark}
 use Rattle.syncer_gate.specs.declared.marks.Mark.TheVariants.{Pending, Applied}
 use Rattle.book_opening.specs.declared.tally.Tally.{Tally}
-use Rattle.book_opening.specs.Tally.{tally_of}
-use Rattle.book_opening.specs.Outgoing.{HasFront, log_lines}
+use Rattle.book_opening.specs.Outgoing.{HasFront, log_lines, log_tally}
 use Rattle.book.specs.Progress.{ProgressView}
 
 -- The entries that came out of the ring, in the order of their numbers, where each stands, the cells, and the records
@@ -50,21 +48,29 @@ IsFrontier marks entries n =
 abbrev pub upto : List Numbered → List Numbered → ℕ → List Numbered
 upto kept entries n = kept ++ take n entries
 
--- the lines of these entries
-abbrev pub lines_upto : (List ℕ → Conf) → List Numbered → List Numbered → ℕ → List ℕ
-lines_upto flat kept entries n = log_lines flat (log_of (upto kept entries n))
+-- the lines of these entries, behind a base
+abbrev pub lines_upto : (List ℕ → Conf) → Base → List Numbered → List Numbered → ℕ → List ℕ
+lines_upto flat base kept entries n = log_lines flat base (log_of (upto kept entries n))
+
+-- with what a run begins: the configuration that each text stands for, the base of its journal, the entries that this kept
+-- behind it, and what its outbox told
+pub record Begun : Type 0 where
+  pub flat : List ℕ → Conf
+  pub base : Base
+  pub kept : List Numbered
+  pub outbox : SinkTells
 
 -- What holds of a book at all times. Its entries are those that came out of the ring. Its lines and counts are those
--- of the entries with which the run began and of its own before its frontier, which are applied. The outbox has a front
--- of these lines, and the others aren't written yet.
-pub record IsBook (flat : List ℕ → Conf) (kept : List Numbered) (outbox : SinkTells) (received entries : List Numbered)
-    (marks : List Mark) (frontier : ℕ) (tally : Tally) (sink : SinkTells) (unwritten : List ℕ) : Type 0 where
+-- of the entries with which the run began and of its own before its frontier, which are applied. Behind the base's lines the
+-- outbox has a front of these lines, and the others aren't written yet.
+pub record IsBook (run : Begun) (received entries : List Numbered) (marks : List Mark) (frontier : ℕ) (tally : Tally)
+    (sink : SinkTells) (unwritten : List ℕ) : Type 0 where
   pub received_is : entries ≡ received
   pub within : frontier ≤ length entries
   pub applied : AreApplied marks frontier
-  pub tally_is : tally ≡ tally_of (whole_replay flat nothing (log_of (upto kept entries frontier)))
-  pub enough : outbox.held ≤ length (log_lines flat (log_of kept))
-  pub lawful : IfSome outbox.bytes (λ b. outbox.held ≡ length b)
-  pub front : HasFront outbox sink (lines_upto flat kept entries frontier)
-  pub left : unwritten ≡ drop sink.held (lines_upto flat kept entries frontier)
-  pub later : outbox.faults ≤ sink.faults
+  pub tally_is : tally ≡ log_tally run.flat run.base (log_of (upto run.kept entries frontier))
+  pub enough : run.outbox.held ≤ run.base.lines + length (log_lines run.flat run.base (log_of run.kept))
+  pub lawful : IfSome run.outbox.bytes (λ b. run.outbox.held ≡ length b)
+  pub front : HasFront run.base.lines run.outbox sink (lines_upto run.flat run.base run.kept entries frontier)
+  pub left : unwritten ≡ drop (sink.held - run.base.lines) (lines_upto run.flat run.base run.kept entries frontier)
+  pub later : run.outbox.faults ≤ sink.faults

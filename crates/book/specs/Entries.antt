@@ -3,7 +3,7 @@ use Rattle.std.specs.Prelude.{◌≡◌, ◌+◌, ℕ, List, map}
 use Rattle.zbx_types.specs.Ids.{ids_from}
 use Rattle.zbx_types.specs.declared.entries.Numbered.{Numbered}
 use Rattle.entry_step.specs.Each.{Each}
-use Rattle.entry_step.specs.InForce.{IsPlain}
+use Rattle.entry_laws.specs.InForce.{IsPlain}
 use Rattle.entry_step.specs.Log.{log_of, Suits}
 use Rattle.entry_step.specs.Start.{Start}
 

@@ -7,20 +7,18 @@ ghost use mathlib.Core.List.{IsPrefix};
 ghost use Rattle.outside.specs.Causes.{Rose};
 ghost use Rattle.footprint.specs.Feet.{feet_of};
 ghost use Rattle.trigger_state.specs.Stages.{first_stage};
-ghost use Rattle.entry_step.specs.InForce.{FitsLog, config_texts};
-ghost use Rattle.entry_step.specs.Log.{log_of, IsFull};
+ghost use Rattle.entry_laws.specs.InForce.{FitsLog, HasBegun, IsFull, texts_on};
+ghost use Rattle.entry_step.specs.Log.{log_of};
 ghost use Rattle.entry_step.specs.Named.{AreDistinct};
-ghost use Rattle.entry_step.specs.Start.{nothing};
-ghost use Rattle.entry_step.specs.Whole.{whole_replay};
 ghost use Rattle.syncer_gate.specs.Gate.{IsOpenBatch, batch_of, claimed, with_ended};
 ghost use Rattle.syncer_gate.specs.Chosen.{chosen};
 ghost use Rattle.syncer_gate.specs.Marks.{is_open, is_pending};
 ghost use Rattle.std.specs.List.{list_any};
 ghost use Rattle.syncer_gate.specs.declared.marks.Mark.{Mark};
 ghost use Rattle.syncer_gate.specs.declared.marks.Mark.TheVariants as Mark;
-ghost use Rattle.book_opening.specs.Tally.{tally_of};
 ghost use Rattle.outside.specs.Others.{first_other};
-ghost use Rattle.book_opening.specs.Outgoing.{HasFront, HasAll, IsLeft, IsMendable, log_lines};
+ghost use Rattle.base_laws.specs.Grounds.{IsBase, start_of};
+ghost use Rattle.book_opening.specs.Outgoing.{HasFront, HasAll, IsLeft, IsMendable, log_lines, log_tally};
 ghost use Rattle.book.specs.Progress.{HasInputs, IsOneMore};
 ghost use Rattle.book.specs.Book.{work_of, AreApplied, IsFrontier, lines_upto};
 
@@ -40,13 +38,13 @@ use std::alloc::Global;
 use std::marker::Model;
 use std::mem::forget;
 use std::sync::ledger::Ledger;
-use zbx_types::{Bytes, Numbered, OutOfMemory};
+use zbx_types::{Base, Bytes, Numbered, OutOfMemory};
 
 /// The entries that came out of a ring behind those with which a run began, and how far the work on them is; and the
 /// lines of those that are worked out with all before them, on their way to the outbox.
 ///
-/// It keeps one promise whatever is called: the outbox has a front of the lines of one thread that replays the entries,
-/// whatever it held before, where it tells that.
+/// It keeps one promise whatever is called: behind its first bytes, which are the base's lines and stay as they were, the
+/// outbox has a front of the lines of one thread that replays the entries, whatever it held before, where it tells that.
 #[derive(Drop)]
 pub struct Book<S: StartName, N: RunName, O: Sink> {
     progress: Progress<S>,
@@ -66,10 +64,11 @@ impl<S: StartName, N: RunName, O: Sink> Model for Book<S, N, O> {
 
     ghost view = { λ b. record { entries = b.progress.entries; gate = b.progress.gate; cells = b.progress.cells; made = b.progress.made; frontier = b.frontier; tally = b.tally; sink = O.tells b.outbox; unwritten = b.unwritten } };
 
-    ghost invariant = { λ b. IsBook S.flat S.kept S.outbox b.ring.received b.progress.entries b.progress.gate.marks b.frontier b.tally (O.tells b.outbox) b.unwritten };
+    ghost invariant = { λ b. IsBook (record { flat = S.flat; base = S.base; kept = S.kept; outbox = S.outbox }) b.ring.received b.progress.entries b.progress.gate.marks b.frontier b.tally (O.tells b.outbox) b.unwritten };
 }
 
-/// A book at its end: its outbox, and what the records of all entries count, those with which the run began among them.
+/// A book at its end: its outbox, and what the records of all entries behind the base count, those with which the run began
+/// among them.
 #[derive(Drop)]
 pub struct Closed<O> {
     /// The outbox, which has all lines.
@@ -80,52 +79,75 @@ pub struct Closed<O> {
     pub recoveries: u64,
     /// How many Message records.
     pub messages: u64,
-    /// How many bytes their lines have.
+    /// How many bytes their lines have, and the base's.
     pub bytes: u64,
 }
 
+/// The number of the last of so many entries behind a base.
+fn last_number(base: &Base, count: usize) -> u64
+    requires few { base.now.number ≤ 9000000000000000000 }
+    requires within { count ≤ 4294967295 }
+    ensures { result ≡ base.entry.now.number + count }
+{
+    base.number + count as u64
+}
+
 impl<S: StartName, N: RunName, O: Sink> Book<S, N, O> {
-    /// A book behind the entries with which a run begins, over the end of its ring. These are replayed from nothing on,
-    /// and the outbox is compared with their lines: where its first other byte is a 0, as a power cut may leave it, the
-    /// outbox is cut there. No entry came out of the ring, and nothing is written yet.
+    /// A book behind the entries with which a run begins, over the end of its ring. These are replayed, behind the base of
+    /// the journal, or, where that is empty, from nothing on, and the outbox is compared with their lines, which stand behind
+    /// as many bytes as the base's lines have: where its first other byte is a 0, as a power cut may leave it, the outbox is
+    /// cut there. No entry came out of the ring, and nothing is written yet.
     ///
-    /// The first of the entries is a Config of moment 0, their numbers are 1, 2, 3 and so on, no moment falls, and each
-    /// value fits the configuration in force where it stands. `epochs` are the configurations of the Configs among them,
-    /// in the same order, each made ready. At each Config but the first the run goes over to the next of them: what goes
-    /// on under it is carried over, open problems that are gone are recovered, and the configuration before it is
-    /// dropped. The last one comes back, with where the problems come from that are open still: it is in force behind
-    /// these entries, and all other calls take it.
+    /// A base that isn't empty fits the configuration of its text. Behind an empty one the first of the entries is a Config of
+    /// moment 0. The numbers go on by one from the base's, no moment falls from its moment on, and each value fits the
+    /// configuration in force where it stands. `epochs` are the configurations, each made ready: that of the base's text,
+    /// where the base isn't empty, and behind it those of the Configs among the entries, in the same order. At each Config but
+    /// the first of all configurations the run goes over to the next of them: what goes on under it is carried over, open
+    /// problems that are gone are recovered, and the configuration before it is dropped. The last one comes back, with where
+    /// the problems come from that are open still: it is in force behind these entries, and all other calls take it.
     ///
     /// # Errors
     ///
-    /// `OutboxAhead` comes exactly where the outbox holds more bytes than the lines of these entries have,
-    /// `OutboxDiffers` where its first other byte isn't a 0, `OutboxFault` where it failed. `OutOfMemory` may come too. The
-    /// outbox comes back with the bytes that it held.
+    /// `OutboxBehind` comes exactly where the outbox holds fewer bytes than the base's lines have, `OutboxAhead` exactly where
+    /// it holds more than these and the lines of the entries have, `OutboxDiffers` where its first other byte isn't a 0,
+    /// `OutboxFault` where it failed. `OutOfMemory` may come too. The outbox comes back with the bytes that it held.
     pub fn new(
         alloc: Global,
+        base: &Base,
         epochs: Vec<Ready>,
         kept: &[Numbered],
         ring: RingEnd<S, N>,
         outbox: O,
     ) -> Result<(Book<S, N, O>, Ready), (O, BookError)>
         requires distinct { (text : List ℕ) → AreDistinct (S.flat text) }
+        requires base { base.now ≡ S.base }
+        requires fits { IsBase S.flat S.base }
         requires kept { kept.now ≡ S.kept }
-        requires some { 0 < length S.kept }
-        requires whole { IsFull (log_of S.kept) × FitsLog S.flat (log_of S.kept) }
-        requires epochs { epochs.items ≡ map (λ text. first_stage (S.flat text)) (config_texts S.kept) }
+        requires begun { HasBegun (start_of S.flat S.base) (log_of S.kept) }
+        requires whole { IsFull (start_of S.flat S.base) (log_of S.kept)
+            × FitsLog S.flat (start_of S.flat S.base) (log_of S.kept) }
+        requires epochs { epochs.items ≡ map (λ text. first_stage (S.flat text)) (texts_on S.base.text S.kept) }
         requires received { ring.received ≡ [] }
         requires outbox { O.tells outbox ≡ S.outbox }
         ensures ready { IfOk result (λ made. made.1 ≡ S.start.stage) }
         ensures entries { IfOk result (λ made. (made.0.entries ≡ []) × (made.0.frontier ≡ 0)) }
-        ensures front { IfOk result (λ made. HasFront S.outbox made.0.sink (log_lines S.flat (log_of S.kept))) }
-        ensures unwritten { IfOk result (λ made. made.0.unwritten ≡ drop made.0.sink.held (log_lines S.flat (log_of S.kept))) }
-        ensures mendable { IfOk result (λ _. IsMendable S.outbox (log_lines S.flat (log_of S.kept))) }
+        ensures front { IfOk result (λ made. HasFront S.base.lines S.outbox made.0.sink
+            (log_lines S.flat S.base (log_of S.kept))) }
+        ensures unwritten { IfOk result (λ made. made.0.unwritten
+            ≡ drop (made.0.sink.held - S.base.lines) (log_lines S.flat S.base (log_of S.kept))) }
+        ensures mendable { IfOk result (λ _. IsMendable S.base.lines S.outbox (log_lines S.flat S.base (log_of S.kept))) }
         ensures back { IfErr result (λ refused. IsLeft S.outbox (O.tells refused.0)) }
+        ensures behind { IfErr result (λ refused. (held : ℕ) (count : ℕ) → refused.1 ≡ BookError.OutboxBehind held count
+            → (held ≡ S.outbox.held) × (count ≡ S.base.lines) × (held < count)) }
         ensures ahead { IfErr result (λ refused. (held : ℕ) (lines : ℕ) → refused.1 ≡ BookError.OutboxAhead held lines
-            → (held ≡ S.outbox.held) × (lines ≡ length (log_lines S.flat (log_of S.kept))) × (lines < held)) }
+            → (held ≡ S.outbox.held) × (lines ≡ S.base.lines + length (log_lines S.flat S.base (log_of S.kept)))
+            × (lines < held)) }
         ensures differs { IfErr result (λ refused. (at : ℕ) → refused.1 ≡ BookError.OutboxDiffers at
-            → (S.outbox.held ≤ length (log_lines S.flat (log_of S.kept))) × (at < S.outbox.held)
-            × IfSome S.outbox.bytes (λ b. (first_other 0 (log_lines S.flat (log_of S.kept)) b ≡ Some at)
+            → (S.base.lines ≤ S.outbox.held)
+            × (S.outbox.held ≤ S.base.lines + length (log_lines S.flat S.base (log_of S.kept)))
+            × (S.base.lines ≤ at) × (at < S.outbox.held)
+            × IfSome S.outbox.bytes (λ b.
+            (first_other S.base.lines (log_lines S.flat S.base (log_of S.kept)) (drop S.base.lines b) ≡ Some at)
             × (get_or b at 0 ≢ 0))) }
         ensures cause { IfErr result (λ refused. refused.1 ≡ BookError.OutboxFault
             → Rose S.outbox.faults (O.tells refused.0).faults) }
@@ -134,8 +156,9 @@ impl<S: StartName, N: RunName, O: Sink> Book<S, N, O> {
         if count > u32::MAX as usize {
             return Err((outbox, BookError::OutOfMemory));
         }
+        let before = last_number(base, count);
         let mut outbox = outbox;
-        let replayed = match begin::<S, O>(alloc, epochs, kept, &mut outbox) {
+        let replayed = match begin::<S, O>(alloc, base, epochs, kept, &mut outbox) {
             Ok(replayed) => replayed,
             Err(error) => return Err((outbox, error)),
         };
@@ -145,11 +168,11 @@ impl<S: StartName, N: RunName, O: Sink> Book<S, N, O> {
             other,
             missing,
         } = replayed;
-        if let Err(error) = mend(&mut outbox, tally.bytes, other) {
+        if let Err(error) = mend(&mut outbox, base.lines, tally.bytes, other) {
             return Err((outbox, error));
         }
         let book = Book {
-            progress: Progress::new(alloc, count as u64, cells),
+            progress: Progress::new(alloc, before, cells),
             ring,
             frontier: 0,
             tally,
@@ -362,7 +385,8 @@ impl<S: StartName, N: RunName, O: Sink> Book<S, N, O> {
     /// What the outbox has, once all lines are written.
     fn told(&self)
         requires { self.now.unwritten ≡ [] }
-        ensures { HasAll S.outbox self.now.sink (lines_upto S.flat S.kept self.now.entries self.now.frontier) }
+        ensures { HasAll S.base.lines S.outbox self.now.sink
+            (lines_upto S.flat S.base S.kept self.now.entries self.now.frontier) }
     {
         let _ = &self.unwritten;
     }
@@ -378,8 +402,8 @@ impl<S: StartName, N: RunName, O: Sink> Book<S, N, O> {
         ensures work { work_of self.new ≡ work_of self.old }
         ensures frontier { OnOk result (IsFrontier self.new.gate.marks self.new.entries self.new.frontier) }
         ensures all { OnOk result (self.new.unwritten ≡ []) }
-        ensures lines { OnOk result (HasAll S.outbox self.new.sink
-            (lines_upto S.flat S.kept self.new.entries self.new.frontier)) }
+        ensures lines { OnOk result (HasAll S.base.lines S.outbox self.new.sink
+            (lines_upto S.flat S.base S.kept self.new.entries self.new.frontier)) }
         ensures later { self.old.sink.faults ≤ self.new.sink.faults }
         ensures cause { IsErrOf result FlushError.OutboxFault → Rose self.old.sink.faults self.new.sink.faults }
         ensures unwritten { IsErrOf result FlushError.OutOfMemory → self.new.sink ≡ self.old.sink }
@@ -425,7 +449,7 @@ impl<S: StartName, N: RunName, O: Sink> Book<S, N, O> {
     /// The outbox, which has some of the lines from the front.
     fn into_outbox(self) -> O
         ensures front { (all : List Numbered) → IsPrefix self.entries all
-            → HasFront S.outbox (O.tells result) (log_lines S.flat (log_of (S.kept ++ all))) }
+            → HasFront S.base.lines S.outbox (O.tells result) (log_lines S.flat S.base (log_of (S.kept ++ all))) }
         ensures sink { O.tells result ≡ self.sink }
     {
         let Book {
@@ -443,9 +467,10 @@ impl<S: StartName, N: RunName, O: Sink> Book<S, N, O> {
     fn close(self) -> Closed<O>
         requires frontier { self.frontier ≡ length self.entries }
         requires unwritten { self.unwritten ≡ [] }
-        ensures lines { HasAll S.outbox (O.tells result.outbox) (log_lines S.flat (log_of (S.kept ++ self.entries))) }
+        ensures lines { HasAll S.base.lines S.outbox (O.tells result.outbox)
+            (log_lines S.flat S.base (log_of (S.kept ++ self.entries))) }
         ensures sink { O.tells result.outbox ≡ self.sink }
-        ensures counts { tally_of (whole_replay S.flat nothing (log_of (S.kept ++ self.entries))) ≡ record
+        ensures counts { log_tally S.flat S.base (log_of (S.kept ++ self.entries)) ≡ record
             { problems = result.problems; recoveries = result.recoveries; messages = result.messages; bytes = result.bytes } }
     {
         let Book {
@@ -480,12 +505,12 @@ impl<S: StartName, N: RunName, O: Sink> Book<S, N, O> {
         head: RingHead<S, N>,
     ) -> Result<Closed<O>, (O, FlushError)>
         requires conf { ready.now ≡ S.start.stage }
-        ensures lines { IfOk result (λ closed. HasAll S.outbox (O.tells closed.outbox)
-            (log_lines S.flat (log_of (S.kept ++ head.sent)))) }
-        ensures counts { IfOk result (λ closed. tally_of (whole_replay S.flat nothing (log_of (S.kept ++ head.sent))) ≡ record
+        ensures lines { IfOk result (λ closed. HasAll S.base.lines S.outbox (O.tells closed.outbox)
+            (log_lines S.flat S.base (log_of (S.kept ++ head.sent)))) }
+        ensures counts { IfOk result (λ closed. log_tally S.flat S.base (log_of (S.kept ++ head.sent)) ≡ record
             { problems = closed.problems; recoveries = closed.recoveries; messages = closed.messages; bytes = closed.bytes }) }
-        ensures front { IfErr result (λ refused. HasFront S.outbox (O.tells refused.0)
-            (log_lines S.flat (log_of (S.kept ++ head.sent)))) }
+        ensures front { IfErr result (λ refused. HasFront S.base.lines S.outbox (O.tells refused.0)
+            (log_lines S.flat S.base (log_of (S.kept ++ head.sent)))) }
         ensures later { IfOk result (λ closed. self.sink.faults ≤ (O.tells closed.outbox).faults) }
         ensures later_err { IfErr result (λ refused. self.sink.faults ≤ (O.tells refused.0).faults) }
         ensures cause { IfErr result (λ refused. refused.1 ≡ FlushError.OutboxFault

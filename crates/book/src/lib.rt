@@ -11,26 +11,28 @@
 //! opening is a front of the lines that one thread makes which takes the entries in the order of their numbers, but
 //! for as many of their first bytes as the outbox held; none is missing and none comes twice. Once the book is
 //! finished ([`Book::finish`]) they are all out, of the entries with which the run began and of all that went into
-//! the ring.
+//! the ring. Where the journal begins with a base, a state in place of its first entries, this is said of the entries behind
+//! it: the outbox's first bytes, as many as the base's lines have, stay as they were, and these lines stand behind them.
 //!
-//! A book goes through these states. It is made behind the entries that the journal kept, which it replays and doesn't
-//! keep ([`Book::new`]); an outbox that holds more than their lines is refused. These may hold several Configs: each but
-//! the first carries over what goes on under it. Through the ring no Config goes: one configuration, that of the last
+//! A book goes through these states. It is made behind the base of the journal and the entries that this kept, which it
+//! replays and doesn't keep ([`Book::new`]); an outbox that holds more than their lines, or fewer bytes than the base's, is
+//! refused. These may hold several Configs: each but the first of a journal without a base carries over what goes on under
+//! it. Through the ring no Config goes: one configuration, that of the last
 //! Config, is in force from then on. Then any calls may come, from one thread
 //! at a time. Where the outbox fails, some lines from the front are out, and the next flush goes on behind them.
 //! Where memory is refused nothing is lost. At the end all open batches are given back, and one thread works out what
 //! is left.
 //!
-//! A run has two names, which stand for contracts alone. `StartName`, of `book_opening`, is with what it begins: the configuration that
-//! each text stands for, the entries that its journal kept, which don't go through the ring, what they leave for those
-//! that follow, and what its outbox told. [`RunName`] is which ring is its own. Two ends with the same names are of one
+//! A run has two names, which stand for contracts alone. `StartName`, of `book_opening`, is with what it begins: the
+//! configuration that each text stands for, the base of its journal and the entries that this kept behind it, which don't go
+//! through the ring, what they leave for those that follow, and what its outbox told. [`RunName`] is which ring is its own. Two ends with the same names are of one
 //! ring, so a call that takes both asks for nothing more, also where one of them comes out of a lock.
 //!
 //! ```text
 //! let ring = Ring::<S>::new(alloc, 4096)?;                    // no entry was sent
 //! let (mut head, end) = ring.named::<N>();                    // N is picked for this ring
-//! // `epochs` are the configurations of the kept Configs, `ready` is that of the last one
-//! let (mut book, ready) = Book::<S, N, O>::new(alloc, epochs, kept, end, outbox)?;
+//! // `epochs` are the configurations of the base and of the kept Configs, `ready` is the last one
+//! let (mut book, ready) = Book::<S, N, O>::new(alloc, &base, epochs, kept, end, outbox)?;
 //! if let Err(entry) = head.push(entry) {                      // no slot was free: the entry is here again
 //!     ..
 //! }

@@ -56,7 +56,7 @@ impl<S: StartName> Model for Progress<S> {
 
     ghost view = { λ p. record { entries = p.entries.items; gate = p.claims; cells = p.cells; made = p.made.items } };
 
-    ghost invariant = { λ p. IsGoing S.start (record { entries = p.entries.items; gate = p.claims; cells = p.cells; made = p.made.items }) × All (IsBlank S.start.stage) p.spare.items × (p.before ≡ S.start.number) × (p.before ≤ 4294967295) };
+    ghost invariant = { λ p. IsGoing S.start (record { entries = p.entries.items; gate = p.claims; cells = p.cells; made = p.made.items }) × All (IsBlank S.start.stage) p.spare.items × (p.before ≡ S.start.number) × (p.before ≤ 9000000004294967295) };
 }
 
 /// The records at a place, none where there is no such place.
@@ -103,7 +103,7 @@ impl<S: StartName> Progress<S> {
     /// The work behind what stood before a run, of which these cells hold what is left: no entry came yet.
     pub(crate) fn new(alloc: Global, before: u64, cells: Cells) -> Progress<S>
         requires before { before ≡ S.start.number }
-        requires few { before ≤ 4294967295 }
+        requires few { before ≤ 9000000004294967295 }
         requires good { IsGood S.start }
         requires cells { Holds S.start cells [] }
         ensures entries { result.entries ≡ [] }

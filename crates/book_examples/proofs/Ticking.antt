@@ -6,7 +6,7 @@ use Rattle.zbx_types.specs.Ids.{ids_from}
 use Rattle.zbx_types.specs.declared.conf.Conf.{Conf}
 use Rattle.zbx_types.specs.declared.entries.Numbered.{Numbered}
 use Rattle.zbx_types.specs.declared.entries.Entry.TheVariants.{Config, Tick}
-use Rattle.entry_step.specs.InForce.{IsPlain, behind_all}
+use Rattle.entry_laws.specs.InForce.{IsPlain, behind_all}
 use Rattle.entry_step.specs.Log.{log_of, last_moment, IsFitting, Suits}
 use Rattle.entry_step.specs.Start.{Start}
 use Rattle.entry_step.proofs.Members.{each_append}
@@ -43,9 +43,9 @@ more_ticks start sent next e is has =
     next_log = reverse-append sent (e ∷ [])
 
 -- nothing went in yet, behind a configuration
-pub no_ticks : (flat : List ℕ → Conf) (start : Start) (kept sent : List Numbered) → start ≡ behind_all flat (log_of kept) → kept ≡ record { number = 1; entry = Config 0 [] } ∷ [] → sent ≡ [] → HasTicks start sent 2
-no_ticks flat start kept sent first are none =
-    let is : start ≡ behind_all flat (record { number = 1; entry = Config 0 [] } ∷ []) = first ∙ ap (λ (k : List Numbered). behind_all flat (log_of k)) are in
+pub no_ticks : (flat : List ℕ → Conf) (from start : Start) (kept sent : List Numbered) → start ≡ behind_all flat from (log_of kept) → kept ≡ record { number = 1; entry = Config 0 [] } ∷ [] → sent ≡ [] → HasTicks start sent 2
+no_ticks flat from start kept sent first are none =
+    let is : start ≡ behind_all flat from (record { number = 1; entry = Config 0 [] } ∷ []) = first ∙ ap (λ (k : List Numbered). behind_all flat from (log_of k)) are in
     let number : start.number ≡ 1 = ap (λ (s : Start). s.number) is in
     let moment : start.moment ≡ 0 = ap (λ (s : Start). s.moment) is in
     subst (λ s. HasTicks start s 2) (sym none) (record { whole = record { numbers = refl; suits = tt; plain = tt }; next_is = omega arith; moment = moment })

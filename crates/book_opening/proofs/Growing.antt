@@ -1,22 +1,23 @@
 -- Laws of the lines of a log, and of sinks that grow by them.
-use Rattle.std.proofs.Common.{◌≡◌, ℕ, zero, suc, ◌+◌, ◌-◌, ◌<◌, ◌≤◌, ◌^◌, min, List, [], ◌∷◌, ◌++◌, length, take, drop, refl, sym, ap, ◌∙◌, subst, append_assoc, append-nil, length-append, arith}
+use Rattle.std.proofs.Common.{◌≡◌, ℕ, zero, suc, ◌+◌, ◌-◌, ◌≤◌, min, List, [], ◌∷◌, ◌++◌, length, take, drop, refl, sym, ap, ◌∙◌, subst, append_assoc, append-nil, length-append, arith}
 use Rattle.std.specs.Io.KnownBytes.{Keeps}
 use Rattle.std.proofs.KnownBytes.{Appends-nil, Appends-trans, Appends-kept}
 use Rattle.std.proofs.Math.Seq.{take-append_seam, take-append-add}
 use Rattle.std.specs.Prelude.{Result, Ok, Err, OnOk}
-use Rattle.std.proofs.lemmas.List.{drop-append-le, drop_all, length-take, take-append-drop}
+use Rattle.std.proofs.lemmas.List.{drop_all, length-take, take-append-drop}
 use Rattle.std.proofs.lemmas.Grind.{flat_map-append}
+use Rattle.zbx_types.specs.declared.base.Base.{Base}
 use Rattle.zbx_types.specs.declared.conf.Conf.{Conf}
 use Rattle.zbx_types.specs.declared.entries.Numbered.{Numbered}
 use Rattle.zbx_types.specs.declared.entries.Rec.{Rec}
 use Rattle.outside.specs.Tells.{SinkTells}
 use Rattle.outside.specs.declared.event.Failed.{Failed}
 use Rattle.event_text.specs.Lines.{lines_of, line_of}
-use Rattle.entry_step.specs.Start.{nothing}
-use Rattle.entry_step.specs.Whole.{out_at, point, whole_replay}
+use Rattle.entry_step.specs.Whole.{out_at, point}
+use Rattle.base_laws.specs.Grounds.{start_of}
 use Rattle.book_opening.specs.declared.tally.Tally.{Tally}
 use Rattle.book_opening.specs.Tally.{tally_of}
-use Rattle.book_opening.specs.Outgoing.{Grew, GrewByFront, Writes, log_lines}
+use Rattle.book_opening.specs.Outgoing.{Grew, GrewByFront, Writes, log_lines, log_records}
 
 -- ---- the lines of a log
 
@@ -24,20 +25,16 @@ pub lines_of-append : (a b : List Rec) → lines_of (a ++ b) ≡ lines_of a ++ l
 lines_of-append a b = flat_map-append line_of a b
 
 -- the lines of a log with one more entry
-pub lines_next : (flat : List ℕ → Conf) (log : List Numbered) (e : Numbered) → log_lines flat (e ∷ log) ≡ log_lines flat log ++ lines_of (out_at flat (point flat nothing log) e e.entry)
-lines_next flat log e = lines_of-append (whole_replay flat nothing log) (out_at flat (point flat nothing log) e e.entry)
+pub lines_next : (flat : List ℕ → Conf) (base : Base) (log : List Numbered) (e : Numbered) → log_lines flat base (e ∷ log) ≡ log_lines flat base log ++ lines_of (out_at flat (point flat (start_of flat base) log) e e.entry)
+lines_next flat base log e = lines_of-append (log_records flat base log) (out_at flat (point flat (start_of flat base) log) e e.entry)
 
 -- newer entries add lines behind those of the log before them
-pub lines_newer : (flat : List ℕ → Conf) (newer log : List Numbered) → (more : List ℕ) × (log_lines flat (newer ++ log) ≡ log_lines flat log ++ more)
-lines_newer flat [] log = ([], sym (append-nil (log_lines flat log)))
-lines_newer flat (e ∷ newer) log =
-    let before = lines_newer flat newer log in
-    let here = lines_of (out_at flat (point flat nothing (newer ++ log)) e e.entry) in
-    (before.0 ++ here, lines_next flat (newer ++ log) e ∙ ap (λ l. l ++ here) before.1 ∙ append_assoc (log_lines flat log) before.0 here)
-
--- what is lacking of lines, with more lines
-pub lacking : (held : ℕ) (before more all : List ℕ) → held ≤ length before → before ++ more ≡ all → drop held before ++ more ≡ drop held all
-lacking held before more all enough is = sym (drop-append-le held before more enough) ∙ ap (drop held) is
+pub lines_newer : (flat : List ℕ → Conf) (base : Base) (newer log : List Numbered) → (more : List ℕ) × (log_lines flat base (newer ++ log) ≡ log_lines flat base log ++ more)
+lines_newer flat base [] log = ([], sym (append-nil (log_lines flat base log)))
+lines_newer flat base (e ∷ newer) log =
+    let before = lines_newer flat base newer log in
+    let here = lines_of (out_at flat (point flat (start_of flat base) (newer ++ log)) e e.entry) in
+    (before.0 ++ here, lines_next flat base (newer ++ log) e ∙ ap (λ l. l ++ here) before.1 ∙ append_assoc (log_lines flat base log) before.0 here)
 
 pub drop_append : (n : ℕ) (xs ys : List ℕ) → drop n (xs ++ ys) ≡ drop n xs ++ drop (n - length xs) ys
 drop_append zero [] ys = refl
@@ -45,20 +42,10 @@ drop_append (suc n) [] ys = let same : suc n ≡ suc n - 0 = omega arith in ap (
 drop_append zero (x ∷ xs) ys = let none : 0 ≡ 0 - length (x ∷ xs) = omega arith in ap (λ k. (x ∷ xs) ++ drop k ys) none
 drop_append (suc n) (x ∷ xs) ys = let less : n - length xs ≡ suc n - length (x ∷ xs) = omega arith in drop_append n xs ys ∙ ap (λ k. drop n xs ++ drop k ys) less
 
--- what is lacking of lines with one more entry's, where so many bytes were counted before
-pub lacking_more : (held seen : ℕ) (before more all : List ℕ) → held < 2 ^ 64 → seen ≡ min (length before) 18446744073709551615 → all ≡ before ++ more
-    → drop held all ≡ drop held before ++ drop (held - seen) more
-lacking_more held seen before more all small counted is =
-    let left : held - length before ≡ held - seen = omega (arith, small, counted) in
-    ap (drop held) is ∙ drop_append held before more ∙ ap (λ n. drop held before ++ drop n more) left
-
--- the bytes that are counted are those of the lines, up to the last value of the count
-pub tally_size : (rs : List Rec) (tally : Tally) → tally ≡ tally_of rs → tally.bytes ≡ min (length (lines_of rs)) 18446744073709551615
+-- the bytes that are counted are those before the lines and those of the lines, up to the last value of the count
+pub tally_size : (before : ℕ) (rs : List Rec) (tally : Tally) → tally ≡ tally_of before rs → tally.bytes ≡ min (before + length (lines_of rs)) 18446744073709551615
 unfolding tally_of
-tally_size rs tally is = ap (λ (t : Tally). t.bytes) is
-
-pub tally_bytes : (flat : List ℕ → Conf) (log : List Numbered) (tally : Tally) → tally ≡ tally_of (whole_replay flat nothing log) → tally.bytes ≡ min (length (log_lines flat log)) 18446744073709551615
-tally_bytes flat log tally is = tally_size (whole_replay flat nothing log) tally is
+tally_size before rs tally is = ap (λ (t : Tally). t.bytes) is
 
 -- what is said of an Ok
 pub on_ok : {T E : Type 0} (r : Result T E) (P Q : Type 0) → (P → Q) → OnOk r P → OnOk r Q

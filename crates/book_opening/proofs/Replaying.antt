@@ -1,10 +1,11 @@
 -- Entries are replayed one after another.
-use Rattle.std.proofs.Common.{◌≡◌, ◌<◌, ◌≤◌, ◌+◌, ℕ, zero, suc, true, false, List, [], ◌∷◌, ◌++◌, length, get_or, take, drop, refl, sym, ◌∙◌, ◌⊎◌, inl, inr, ap, ap₂, subst, arith, append_assoc}
+use Rattle.std.proofs.Common.{◌≡◌, ◌≢◌, ◌<◌, ◌≤◌, ◌+◌, ℕ, zero, suc, true, false, List, [], ◌∷◌, ◌++◌, length, get_or, take, drop, refl, sym, ◌∙◌, ◌⊎◌, inl, inr, ap, ap₂, subst, arith, append_assoc}
 use Rattle.std.specs.Prelude.{Result, Ok, Err, IfOk, OnOk}
 use Rattle.std.proofs.lemmas.List.{reverse-append}
 use Rattle.std.proofs.Math.Seq.{drop-cons, take-suc}
 use mathlib.Core.List.{reverse-cons}
 use Rattle.zbx_types.specs.Entries.{moment_of}
+use Rattle.zbx_types.specs.declared.base.Base.{Base}
 use Rattle.zbx_types.specs.declared.conf.Conf.{Conf}
 use Rattle.zbx_types.specs.declared.entries.Entry.{Entry}
 use Rattle.zbx_types.specs.declared.entries.Entry.TheVariants.{Config, Value, Tick}
@@ -13,22 +14,27 @@ use Rattle.zbx_types.specs.declared.entries.Rec.{Rec}
 use Rattle.trigger_state.specs.Stages.{Stage, OwnsEvents, first_stage}
 use Rattle.entry_step.specs.Cells.{Cells, look, records}
 use Rattle.entry_step.specs.Due.{by_making}
-use Rattle.entry_step.specs.InForce.{conf_behind, FitsBehind, FitsLog, behind_all, HoldsAt, CarriesOver}
+use Rattle.entry_step.specs.InForce.{SuitsWhole, HoldsAt, CarriesOver}
 use Rattle.entry_step.specs.Laws.{IsGood}
-use Rattle.entry_step.specs.Log.{log_of, is_config, last_moment, IsFitting}
+use Rattle.entry_step.specs.Log.{log_of, is_config, last_moment}
 use Rattle.conf_index.specs.Order.{order}
 use Rattle.entry_step.specs.Records.{out_of}
 use Rattle.entry_step.specs.Represents.{Represents, Holds, ComesAfter, StepsTo}
 use Rattle.entry_step.specs.Start.{Start, first_start, nothing}
 use Rattle.entry_step.specs.Whole.{Point, out_at, point_with, point, whole_replay, cells_at, FitsWhole}
+use Rattle.base_laws.specs.Bases.{base_stage, told_start}
+use Rattle.entry_laws.specs.InForce.{FitsLog, IsFull, IsGround, behind_all}
 use Rattle.entry_laws.proofs.Behind.{seen_upto}
-use Rattle.entry_laws.proofs.InForce.{conf_is_behind, moment_behind_all, number_behind_all, suits_since, fits_suits, full_rises, rising_fits, good_behind, holds_behind_all, first_held}
+use Rattle.entry_laws.proofs.InForce.{moment_behind_all, number_behind_all, suits_since, fits_suits, full_rises, rising_fits, good_behind, holds_behind_all, first_held, ground_held}
 use Rattle.entry_step.proofs.Owning.{entries_own}
 use Rattle.entry_step.proofs.Represented.{records_are, after_is}
 use Rattle.book_opening.specs.declared.present.Present.{Present}
+use Rattle.base_laws.specs.Grounds.{start_of}
 use Rattle.book_opening.specs.Opening.{epochs_of, IsSound, IsPresent}
+use Rattle.book_opening.specs.Outgoing.{log_records}
+use Rattle.base_laws.proofs.Grounds.{start_is_ground, start_none, start_some}
 use Rattle.book_opening.proofs.Growing.{of_any}
-use Rattle.book_opening.proofs.Numbers.{full_behind, last_of_full}
+use Rattle.book_opening.proofs.Numbers.{full_behind}
 
 -- ---- lists
 
@@ -61,20 +67,25 @@ log_split kept i = ap log_of (sym (parts kept i)) ∙ reverse-append (take i kep
 
 -- ---- logs that can be replayed
 
-fits_front : (flat : List ℕ → Conf) (newer log : List Numbered) → FitsLog flat (newer ++ log) → FitsLog flat log
-fits_front flat [] log fits = fits
-fits_front flat (e ∷ newer) log fits = fits_front flat newer log fits.0
+fits_front : (flat : List ℕ → Conf) (start : Start) (newer log : List Numbered) → FitsLog flat start (newer ++ log) → FitsLog flat start log
+fits_front flat start [] log fits = fits
+fits_front flat start (e ∷ newer) log fits = fits_front flat start newer log fits.0
 
 -- a part of one from its front
-pub sound_front : (flat : List ℕ → Conf) (newer log : List Numbered) → IsSound flat (newer ++ log) → IsSound flat log
-sound_front flat newer log sound = record { distinct = sound.distinct; full = full_behind newer log sound.full; fits = fits_front flat newer log sound.fits }
+pub sound_front : (flat : List ℕ → Conf) (base : Base) (newer log : List Numbered) → IsSound flat base (newer ++ log) → IsSound flat base log
+sound_front flat base newer log sound = record {
+  distinct = sound.distinct;
+  base_is = sound.base_is;
+  full = full_behind (start_of flat base) newer log sound.full;
+  fits = fits_front flat (start_of flat base) newer log sound.fits;
+}
 
 -- the part up to the next entry, behind another log
-pub next_sound : (flat : List ℕ → Conf) (kept log : List Numbered) (i : ℕ) (d : Numbered) → i < length kept → IsSound flat (log_of kept ++ log) → IsSound flat (get_or kept i d ∷ (log_of (take i kept) ++ log))
-next_sound flat kept log i d l sound =
-    subst (λ es. IsSound flat (es ++ log)) (next_log kept i d l)
-    (sound_front flat (log_of (drop (i + 1) kept)) (log_of (take (i + 1) kept) ++ log)
-    (subst (IsSound flat) (ap (λ es. es ++ log) (log_split kept (i + 1)) ∙ append_assoc (log_of (drop (i + 1) kept)) (log_of (take (i + 1) kept)) log) sound))
+pub next_sound : (flat : List ℕ → Conf) (base : Base) (kept log : List Numbered) (i : ℕ) (d : Numbered) → i < length kept → IsSound flat base (log_of kept ++ log) → IsSound flat base (get_or kept i d ∷ (log_of (take i kept) ++ log))
+next_sound flat base kept log i d l sound =
+    subst (λ es. IsSound flat base (es ++ log)) (next_log kept i d l)
+    (sound_front flat base (log_of (drop (i + 1) kept)) (log_of (take (i + 1) kept) ++ log)
+    (subst (IsSound flat base) (ap (λ es. es ++ log) (log_split kept (i + 1)) ∙ append_assoc (log_of (drop (i + 1) kept)) (log_of (take (i + 1) kept)) log) sound))
 
 -- ---- configurations that are still to come
 
@@ -102,11 +113,29 @@ epochs_some flat e later is = go e.entry refl is
     go (Value now item time value) same h = absurd (cc)
     go (Tick now) same h = absurd (cc)
 
--- ---- the first entry
+-- ---- what stands there at first
 
--- it is a Config of moment 0
-pub first_fits : (flat : List ℕ → Conf) (e : Numbered) → IsSound flat (e ∷ []) → (e.number ≡ 1) × (text : List ℕ) × (e.entry ≡ Config 0 text)
-first_fits flat e sound = let found = config e.entry refl sound.fits.1.0 sound.fits.1.1 in (sound.full.1, found.0, found.1)
+-- what is in force behind a whole log on a start, and the cells
+abbrev IsThere : (List ℕ → Conf) → Start → List Numbered → Present → Type 0
+IsThere flat start log now = (now.ready ≡ (point flat start log).start.stage) × HoldsAt (point flat start log) now.cells
+
+-- a base that isn't empty
+pub base_present : (flat : List ℕ → Conf) (base : Base) (first : Stage) (now : Present) → base.text ≢ [] → first ≡ first_stage (flat base.text) → now.ready ≡ base_stage first.conf base
+    → Holds (told_start first.conf base) now.cells [] → IsPresent flat base [] now
+base_present flat base first now some is ready holds =
+    let conf : first.conf ≡ flat base.text = ap (λ (s : Stage). s.conf) is in
+    let held : Holds (told_start (flat base.text) base) now.cells [] = subst (λ (c : Conf). Holds (told_start c base) now.cells []) conf holds in
+    let there : IsThere flat (told_start (flat base.text) base) [] now = (ready ∙ ap (λ (c : Conf). base_stage c base) conf, ground_held flat (told_start (flat base.text) base) now.cells held) in
+    let done = subst (λ (s : Start). IsThere flat s [] now) (sym (start_some flat base some)) there in
+    record { stage = done.0; cells = done.1 }
+
+-- the first entry, behind an empty base: it is a Config of moment 0
+pub first_fits : (flat : List ℕ → Conf) (base : Base) (e : Numbered) → base.text ≡ [] → IsSound flat base (e ∷ []) → (e.number ≡ 1) × (text : List ℕ) × (e.entry ≡ Config 0 text)
+first_fits flat base e none sound =
+    let fits = subst (λ (s : Start). FitsLog flat s (e ∷ [])) (start_none flat base none) sound.fits in
+    let full = subst (λ (s : Start). IsFull s (e ∷ [])) (start_none flat base none) sound.full in
+    let number : e.number ≡ 1 = full.1 in
+    let found = config e.entry refl fits.1.0 fits.1.1 in (number, found.0, found.1)
   where
     config : (entry : Entry) → e.entry ≡ entry → is_config entry ≡ true → moment_of entry ≡ 0 → (text : List ℕ) × (e.entry ≡ Config 0 text)
     config (Config now text) same h none = (text, same ∙ ap (λ m. Config m text) none)
@@ -125,17 +154,20 @@ first_makes : (flat : List ℕ → Conf) (text : List ℕ) → whole_replay flat
 unfolding by_making order
 first_makes flat text = refl
 
-parts : (x y : Stage) (xs ys : List Stage) → x ∷ xs ≡ y ∷ ys → (x ≡ y) × (xs ≡ ys)
+-- the parts of one list of configurations
+pub parts : (x y : Stage) (xs ys : List Stage) → x ∷ xs ≡ y ∷ ys → (x ≡ y) × (xs ≡ ys)
 parts x y xs ys e = (cc, cc)
 
 -- what is in force behind it, and that it makes no records
-pub first_present : (flat : List ℕ → Conf) (e : Numbered) (ready : Stage) (now : Present) (later : List Numbered) (epochs rest : List Stage) → IsSound flat (e ∷ []) → epochs ≡ epochs_of flat (e ∷ later) → epochs ≡ ready ∷ rest
-    → now.ready ≡ ready → Holds (first_start ready.conf) now.cells [] → IsPresent flat (e ∷ []) now × (whole_replay flat nothing (e ∷ []) ≡ []) × (rest ≡ epochs_of flat later)
-first_present flat e ready now later epochs rest sound are split same holds =
-    subst (λ (x : Numbered). IsPresent flat (x ∷ []) now × (whole_replay flat nothing (x ∷ []) ≡ []) × (rest ≡ epochs_of flat later)) (sym config) (present, first_makes flat text, both.1)
+pub first_present : (flat : List ℕ → Conf) (base : Base) (e : Numbered) (ready : Stage) (now : Present) (later : List Numbered) (epochs rest : List Stage) → base.text ≡ [] → IsSound flat base (e ∷ []) → epochs ≡ epochs_of flat (e ∷ later)
+    → epochs ≡ ready ∷ rest → now.ready ≡ ready → Holds (first_start ready.conf) now.cells [] → IsPresent flat base (e ∷ []) now × (log_records flat base (e ∷ []) ≡ [])
+first_present flat base e ready now later epochs rest none sound are split same holds =
+    let done = subst (λ (s : Start). IsThere flat s (e ∷ []) now × (whole_replay flat s (e ∷ []) ≡ [])) (sym (start_none flat base none))
+    (subst (λ (x : Numbered). IsThere flat nothing (x ∷ []) now × (whole_replay flat nothing (x ∷ []) ≡ [])) (sym config) (there, first_makes flat text)) in
+    (record { stage = done.0.0; cells = done.0.1 }, done.1)
   where
     fits : (e.number ≡ 1) × (text : List ℕ) × (e.entry ≡ Config 0 text)
-    fits = first_fits flat e sound
+    fits = first_fits flat base e none sound
 
     text : List ℕ
     text = fits.1
@@ -149,11 +181,11 @@ first_present flat e ready now later epochs rest sound are split same holds =
     both : (ready ≡ first_stage (flat text)) × (rest ≡ epochs_of flat later)
     both = parts ready (first_stage (flat text)) rest (epochs_of flat later) (sym split ∙ are ∙ epochs_config flat e 0 text later fits.2)
 
-    present : IsPresent flat (record { number = 1; entry = Config 0 text } ∷ []) now
-    present = record {
-      stage = same ∙ both.0 ∙ sym (first_stands flat text);
-      cells = first_held flat text (flat text) now.cells refl (subst (λ (s : Stage). Holds (first_start s.conf) now.cells []) both.0 holds);
-    }
+    there : IsThere flat nothing (record { number = 1; entry = Config 0 text } ∷ []) now
+    there = (
+      same ∙ both.0 ∙ sym (first_stands flat text),
+      first_held flat text (flat text) now.cells refl (subst (λ (s : Stage). Holds (first_start s.conf) now.cells []) both.0 holds),
+    )
 
 -- ---- the next entry
 
@@ -169,86 +201,80 @@ plain_point flat p e (Config now text) is = absurd (cc)
 plain_point flat p e (Value now item time value) is = refl
 plain_point flat p e (Tick now) is = refl
 
-module _ (flat : List ℕ → Conf) (log : List Numbered) (some : 0 < length log) (e : Numbered) (sound : IsSound flat (e ∷ log)) where
+module _ (flat : List ℕ → Conf) (base : Base) (log : List Numbered) (e : Numbered) (sound : IsSound flat base (e ∷ log)) where
+  abbrev from : Start
+  from = start_of flat base
+
+  stands : IsGround from
+  stands = start_is_ground flat base sound.distinct sound.base_is
+
   abbrev at : Point
-  at = point flat nothing log
+  at = point flat from log
 
-  whole : FitsWhole flat nothing (e ∷ log)
-  whole = rising_fits flat (e ∷ log) sound.distinct (full_rises (e ∷ log) sound.full)
+  whole : FitsWhole flat from (e ∷ log)
+  whole = rising_fits flat from (e ∷ log) sound.distinct stands (full_rises from (e ∷ log) sound.full)
 
-  -- no moment falls
-  not_before : last_moment nothing log ≤ moment_of e.entry
-  not_before = go log some sound.fits.1
-    where
-      go : (es : List Numbered) → 0 < length es → FitsBehind (conf_behind flat log) es e.entry → last_moment nothing es ≤ moment_of e.entry
-      go [] l fits = absurd (omega arith)
-      go (a ∷ es) l fits = fits.0
-
-  fitting : IsFitting at.start.stage.conf e.entry
-  fitting = subst (λ (conf : Conf). IsFitting conf e.entry) (sym (conf_is_behind flat log)) (go log some sound.fits.1)
-    where
-      go : (es : List Numbered) → 0 < length es → FitsBehind (conf_behind flat log) es e.entry → IsFitting (conf_behind flat log) e.entry
-      go [] l fits = absurd (omega arith)
-      go (a ∷ es) l fits = fits.1
+  suits : SuitsWhole flat from (e ∷ log)
+  suits = fits_suits flat from (e ∷ log) stands sound.fits
 
   comes : ComesAfter at.start.stage.conf (cells_at at) e
   unfolding look
   comes id t =
-      let seen = seen_upto at.start at.since id (suits_since flat nothing log (fits_suits flat log sound.fits.0)) in
-      let last = moment_behind_all flat log in
-      let m = not_before in
+      let seen = seen_upto at.start at.since id (suits_since flat from log suits.0) in
+      let last = moment_behind_all flat from log in
+      let m = suits.1 in
       omega arith
 
   owns : OwnsEvents at.start.stage e.number
   owns =
-      let number = number_behind_all flat log in
-      let count = last_of_full log sound.full.0 in
-      let next = sound.full.1 in
-      entries_own (behind_all flat log) e (good_behind flat log sound.distinct (full_rises log sound.full.0)) (omega arith)
+      let number = number_behind_all flat from log in
+      let next = whole.1 in
+      entries_own (behind_all flat from log) e (good_behind flat from log sound.distinct stands (full_rises from log sound.full.0)) (omega arith)
 
   -- a Value or a Tick is stepped
-  pub plain_taken : (now next : Present) (made : List Rec) → is_config e.entry ≡ false → IsPresent flat log now → next.ready ≡ now.ready → StepsTo now.ready now.cells e made next.cells
-      → (made ≡ out_at flat at e e.entry) × IsPresent flat (e ∷ log) next
+  pub plain_taken : (now next : Present) (made : List Rec) → is_config e.entry ≡ false → IsPresent flat base log now → next.ready ≡ now.ready → StepsTo now.ready now.cells e made next.cells
+      → (made ≡ out_at flat at e e.entry) × IsPresent flat base (e ∷ log) next
   plain_taken now next made plain present same steps =
-      let done = (subst (λ (s : Stage). StepsTo s now.cells e made next.cells) present.stage steps) (cells_at at) owns present.cells comes fitting in
+      let done = (subst (λ (s : Stage). StepsTo s now.cells e made next.cells) present.stage steps) (cells_at at) owns present.cells comes suits.2 in
       let cells : Represents at.start.stage next.cells (look at.start (e ∷ at.since) (at.records ++ out_of at.start at.since e e.entry at.records)) =
       subst (λ (c : Cells). Represents at.start.stage next.cells c) (after_is at.start at.since at.records e) done.1 in
       let there = subst (λ (p : Point). (next.ready ≡ p.start.stage) × HoldsAt p next.cells) (sym (plain_point flat at e e.entry plain)) (same ∙ present.stage, cells) in
       (done.0 ∙ records_are at.start at.since at.records e ∙ sym (plain_out flat at e e.entry plain), record { stage = there.0; cells = there.1 })
 
   -- a Config behind others carries over
-  pub config_taken : (now next : Present) (made : List Rec) (at_moment : ℕ) (text : List ℕ) (ready : Stage) → e.entry ≡ Config at_moment text → IsPresent flat log now → ready ≡ first_stage (flat text)
-      → CarriesOver now.ready ready.conf e.number at_moment now.cells made next.ready next.cells → (made ≡ out_at flat at e e.entry) × IsPresent flat (e ∷ log) next
+  pub config_taken : (now next : Present) (made : List Rec) (at_moment : ℕ) (text : List ℕ) (ready : Stage) → e.entry ≡ Config at_moment text → IsPresent flat base log now → ready ≡ first_stage (flat text)
+      → CarriesOver now.ready ready.conf e.number at_moment now.cells made next.ready next.cells → (made ≡ out_at flat at e e.entry) × IsPresent flat base (e ∷ log) next
   unfolding CarriesOver
   config_taken now next made at_moment text ready is present first carries =
-      let m : last_moment nothing log ≤ at_moment = subst (λ (x : Entry). last_moment nothing log ≤ moment_of x) is not_before in
+      let m : last_moment from log ≤ at_moment = subst (λ (x : Entry). last_moment from log ≤ moment_of x) is suits.1 in
       let config : e ≡ record { number = e.number; entry = Config at_moment text } = ap (λ (x : Entry). record { number = e.number; entry = x }) is in
       let done =
-      carries flat nothing log text (subst (λ (x : Numbered). FitsWhole flat nothing (x ∷ log)) config whole) (fits_suits flat log sound.fits.0) m (sym (ap (λ (s : Stage). s.conf) first))
+      carries flat from log text (subst (λ (x : Numbered). FitsWhole flat from (x ∷ log)) config whole) suits.0 m (sym (ap (λ (s : Stage). s.conf) first))
       (sym present.stage) present.cells in
-      subst (λ (x : Numbered). (made ≡ out_at flat at x x.entry) × IsPresent flat (x ∷ log) next) (sym config) (done.0, record { stage = done.1; cells = done.2 })
+      subst (λ (x : Numbered). (made ≡ out_at flat at x x.entry) × IsPresent flat base (x ∷ log) next) (sym config) (done.0, record { stage = done.1; cells = done.2 })
 
 -- each of these is no Config
 pub plain_entry : (entry : Entry) → ((now : ℕ) × (item : ℕ) × (time : ℕ) × (value : List ℕ) × (entry ≡ Value now item time value)) ⊎ ((now : ℕ) × (entry ≡ Tick now)) → is_config entry ≡ false
 plain_entry entry (inl is) = ap is_config is.4
 plain_entry entry (inr is) = ap is_config is.1
 
--- what either makes, where it isn't refused
-pub config_step : {E : Type 0} (flat : List ℕ → Conf) (e : Numbered) (at_moment : ℕ) (text : List ℕ) (now next : Present) (ready : Stage) (epochs rest : List Stage) (r : Result (List Rec) E) → e.entry ≡ Config at_moment text → epochs ≡ ready ∷ rest
-    → IfOk r (λ made. CarriesOver now.ready ready.conf e.number at_moment now.cells made next.ready next.cells)
-    → IfOk r (λ made. (log later : List Numbered) → 0 < length log → IsSound flat (e ∷ log) → epochs ≡ epochs_of flat (e ∷ later) → IsPresent flat log now
-    → (made ≡ out_at flat (point flat nothing log) e e.entry) × IsPresent flat (e ∷ log) next)
-config_step flat e at_moment text now next ready epochs rest (Ok made) is split carries = λ log later some sound are present.
-    let both = parts ready (first_stage (flat text)) rest (epochs_of flat later) (sym split ∙ are ∙ epochs_config flat e at_moment text later is) in
-    config_taken flat log some e sound now next made at_moment text ready is present both.0 carries
-config_step flat e at_moment text now next ready epochs rest (Err x) is split carries = tt
+-- what an entry makes and leaves behind any log behind a base, where its configuration, if it brings one, is the next of these
+abbrev pub Makes : (List ℕ → Conf) → Base → Numbered → List Stage → Present → Present → List Rec → Type 0
+Makes flat base e epochs now next made = (log later : List Numbered) → IsSound flat base (e ∷ log) → epochs ≡ epochs_of flat (e ∷ later) → IsPresent flat base log now
+    → (made ≡ out_at flat (point flat (start_of flat base) log) e e.entry) × IsPresent flat base (e ∷ log) next
 
-pub plain_step : {E : Type 0} (flat : List ℕ → Conf) (e : Numbered) (now next : Present) (epochs : List Stage) (r : Result (List Rec) E) → is_config e.entry ≡ false → next.ready ≡ now.ready
-    → IfOk r (λ made. StepsTo now.ready now.cells e made next.cells)
-    → IfOk r (λ made. (log later : List Numbered) → 0 < length log → IsSound flat (e ∷ log) → epochs ≡ epochs_of flat (e ∷ later) → IsPresent flat log now
-    → (made ≡ out_at flat (point flat nothing log) e e.entry) × IsPresent flat (e ∷ log) next)
-plain_step flat e now next epochs (Ok made) plain same steps = λ log later some sound are present. plain_taken flat log some e sound now next made plain present same steps
-plain_step flat e now next epochs (Err x) plain same steps = tt
+-- what either makes, where it isn't refused
+pub config_step : {E : Type 0} (flat : List ℕ → Conf) (base : Base) (e : Numbered) (at_moment : ℕ) (text : List ℕ) (now next : Present) (ready : Stage) (epochs rest : List Stage) (r : Result (List Rec) E) → e.entry ≡ Config at_moment text → epochs ≡ ready ∷ rest
+    → IfOk r (λ made. CarriesOver now.ready ready.conf e.number at_moment now.cells made next.ready next.cells) → IfOk r (Makes flat base e epochs now next)
+config_step flat base e at_moment text now next ready epochs rest (Ok made) is split carries = λ log later sound are present.
+    let both = parts ready (first_stage (flat text)) rest (epochs_of flat later) (sym split ∙ are ∙ epochs_config flat e at_moment text later is) in
+    config_taken flat base log e sound now next made at_moment text ready is present both.0 carries
+config_step flat base e at_moment text now next ready epochs rest (Err x) is split carries = tt
+
+pub plain_step : {E : Type 0} (flat : List ℕ → Conf) (base : Base) (e : Numbered) (now next : Present) (epochs : List Stage) (r : Result (List Rec) E) → is_config e.entry ≡ false → next.ready ≡ now.ready
+    → IfOk r (λ made. StepsTo now.ready now.cells e made next.cells) → IfOk r (Makes flat base e epochs now next)
+plain_step flat base e now next epochs (Ok made) plain same steps = λ log later sound are present. plain_taken flat base log e sound now next made plain present same steps
+plain_step flat base e now next epochs (Err x) plain same steps = tt
 
 -- the configurations that are still to come behind either
 pub config_later : {E : Type 0} (flat : List ℕ → Conf) (e : Numbered) (at_moment : ℕ) (text : List ℕ) (ready : Stage) (epochs rest : List Stage) (r : Result (List Rec) E) → e.entry ≡ Config at_moment text → epochs ≡ ready ∷ rest
@@ -267,11 +293,11 @@ config_counted ready epochs rest old new r split less = of_any r (old ≡ length
 
 -- ---- what stands behind the entries with which a run begins
 
-pub start_good : (flat : List ℕ → Conf) (kept : List Numbered) (start : Start) → start ≡ behind_all flat (log_of kept) → IsSound flat (log_of kept) → IsGood start
-start_good flat kept start is sound = subst IsGood (sym is) (good_behind flat (log_of kept) sound.distinct (full_rises (log_of kept) sound.full))
+pub start_good : (flat : List ℕ → Conf) (base : Base) (kept : List Numbered) (start : Start) → start ≡ behind_all flat (start_of flat base) (log_of kept) → IsSound flat base (log_of kept) → IsGood start
+start_good flat base kept start is sound = subst IsGood (sym is) (good_behind flat (start_of flat base) (log_of kept) sound.distinct (start_is_ground flat base sound.distinct sound.base_is) (full_rises (start_of flat base) (log_of kept) sound.full))
 
-pub start_holds : (flat : List ℕ → Conf) (kept : List Numbered) (start : Start) (now : Present) → start ≡ behind_all flat (log_of kept) → IsSound flat (log_of kept) → IsPresent flat (log_of kept) now → Holds start now.cells []
-start_holds flat kept start now is sound present = subst (λ (s : Start). Holds s now.cells []) (sym is) (holds_behind_all flat (log_of kept) now.cells sound.fits present.cells)
+pub start_holds : (flat : List ℕ → Conf) (base : Base) (kept : List Numbered) (start : Start) (now : Present) → start ≡ behind_all flat (start_of flat base) (log_of kept) → IsSound flat base (log_of kept) → IsPresent flat base (log_of kept) now → Holds start now.cells []
+start_holds flat base kept start now is sound present = subst (λ (s : Start). Holds s now.cells []) (sym is) (holds_behind_all flat (start_of flat base) (log_of kept) now.cells (start_is_ground flat base sound.distinct sound.base_is) sound.fits present.cells)
 
-pub start_stage : (flat : List ℕ → Conf) (kept : List Numbered) (start : Start) (now : Present) → start ≡ behind_all flat (log_of kept) → IsPresent flat (log_of kept) now → now.ready ≡ start.stage
-start_stage flat kept start now is present = present.stage ∙ ap (λ (s : Start). s.stage) (sym is)
+pub start_stage : (flat : List ℕ → Conf) (base : Base) (kept : List Numbered) (start : Start) (now : Present) → start ≡ behind_all flat (start_of flat base) (log_of kept) → IsPresent flat base (log_of kept) now → now.ready ≡ start.stage
+start_stage flat base kept start now is present = present.stage ∙ ap (λ (s : Start). s.stage) (sym is)

@@ -1,18 +1,30 @@
--- The lines of a log, and how they go to a sink.
-use Rattle.std.specs.Prelude.{◌≡◌, ◌≤◌, ◌+◌, ℕ, List, length, take, get_or, Some, None, IfSome, unwrap_or, Result, MatchResult}
+-- The lines of a log behind a base, and how they go to a sink. `flat` tells the configuration that a text stands for.
+use Rattle.std.specs.Prelude.{◌≡◌, ◌≤◌, ◌+◌, ◌-◌, ℕ, List, ◌++◌, length, take, drop, get_or, Some, None, IfSome, unwrap_or, Result, MatchResult}
 use Rattle.std.specs.Io.KnownBytes.{Appends}
 use Rattle.outside.specs.Others.{first_other}
 use Rattle.outside.specs.Tells.{SinkTells}
 use Rattle.outside.specs.declared.event.Failed.{Failed}
+use Rattle.zbx_types.specs.declared.base.Base.{Base}
 use Rattle.zbx_types.specs.declared.conf.Conf.{Conf}
 use Rattle.zbx_types.specs.declared.entries.Numbered.{Numbered}
+use Rattle.zbx_types.specs.declared.entries.Rec.{Rec}
 use Rattle.event_text.specs.Lines.{lines_of}
-use Rattle.entry_step.specs.Start.{nothing}
 use Rattle.entry_step.specs.Whole.{whole_replay}
+use Rattle.base_laws.specs.Grounds.{start_of}
+use Rattle.book_opening.specs.Tally.{tally_of}
+use Rattle.book_opening.specs.declared.tally.Tally.{Tally}
 
--- the lines of a whole log, where this tells the configuration that a text stands for
-abbrev pub log_lines : (List ℕ → Conf) → List Numbered → List ℕ
-log_lines flat log = lines_of (whole_replay flat nothing log)
+-- the records that the entries of a whole log make behind a base
+abbrev pub log_records : (List ℕ → Conf) → Base → List Numbered → List Rec
+log_records flat base log = whole_replay flat (start_of flat base) log
+
+-- their lines
+abbrev pub log_lines : (List ℕ → Conf) → Base → List Numbered → List ℕ
+log_lines flat base log = lines_of (log_records flat base log)
+
+-- and what they count, the bytes of the base's lines among those of all lines
+abbrev pub log_tally : (List ℕ → Conf) → Base → List Numbered → Tally
+log_tally flat base log = tally_of base.lines (log_records flat base log)
 
 -- a sink has these bytes more: in what it tells of them, and in their number
 pub record Grew (sink sink' : SinkTells) (more : List ℕ) : Type 0 where
@@ -27,26 +39,34 @@ GrewByFront sink sink' more = (n : ℕ) × Grew sink sink' (take n more)
 abbrev pub Writes : SinkTells → SinkTells → List ℕ → Result (Unit {0}) Failed → Type 0
 Writes sink sink' more result = MatchResult result (λ _. Grew sink sink' more) (λ _. GrewByFront sink sink' more)
 
--- how many of an outbox's first bytes are those of lines: up to the first place at which it holds another one
-abbrev pub stays : List ℕ → List ℕ → ℕ
-stays bytes lines = unwrap_or (first_other 0 lines bytes) (length bytes)
+-- how many of an outbox's first bytes stay: those up to the first place at which it holds another byte than lines that
+-- stand behind so many of them
+abbrev pub stays : ℕ → List ℕ → List ℕ → ℕ
+stays before bytes lines = unwrap_or (first_other before lines (drop before bytes)) (length bytes)
 
--- An outbox has a front of some lines, whatever it held before, where it told that: at least as much as what it held of
--- them.
-pub record HasFront (outbox sink : SinkTells) (lines : List ℕ) : Type 0 where
-  pub size : sink.held ≤ length lines
-  pub bytes : IfSome outbox.bytes (λ b. (sink.bytes ≡ Some (take sink.held lines)) × (stays b lines ≤ sink.held))
+-- so many first bytes, as they stand, and behind them lines up to a size
+abbrev pub with_lines : ℕ → List ℕ → List ℕ → ℕ → List ℕ
+with_lines before bytes lines size = take before bytes ++ take (size - before) lines
+
+-- An outbox has, behind so many bytes, a front of some lines, whatever it held before, where it told that: those bytes are
+-- as they were, and of the lines it has at least as much as what it held of them.
+pub record HasFront (before : ℕ) (outbox sink : SinkTells) (lines : List ℕ) : Type 0 where
+  pub least : before ≤ sink.held
+  pub size : sink.held ≤ before + length lines
+  pub bytes : IfSome outbox.bytes (λ b. (sink.bytes ≡ Some (with_lines before b lines sink.held)) × (stays before b lines ≤ sink.held))
 
 -- and it has all of them
-pub record HasAll (outbox sink : SinkTells) (lines : List ℕ) : Type 0 where
-  pub size : sink.held ≡ length lines
-  pub bytes : IfSome outbox.bytes (λ b. (sink.bytes ≡ Some lines) × (stays b lines ≤ sink.held))
+pub record HasAll (before : ℕ) (outbox sink : SinkTells) (lines : List ℕ) : Type 0 where
+  pub size : sink.held ≡ before + length lines
+  pub bytes : IfSome outbox.bytes (λ b. (sink.bytes ≡ Some (take before b ++ lines)) × (stays before b lines ≤ sink.held))
 
--- An outbox that may be completed to lines: it holds no more bytes than they have, and the first one that isn't theirs,
--- if there is one, is a 0, as a power cut may leave it, where it tells its bytes.
-pub record IsMendable (outbox : SinkTells) (lines : List ℕ) : Type 0 where
-  pub enough : outbox.held ≤ length lines
-  pub zeros : IfSome outbox.bytes (λ b. IfSome (first_other 0 lines b) (λ place. get_or b place 0 ≡ 0))
+-- An outbox that may be completed to lines behind so many bytes: it holds those, and no more bytes than they and the lines
+-- have, and the first one that isn't the lines', if there is one, is a 0, as a power cut may leave it, where it tells its
+-- bytes.
+pub record IsMendable (before : ℕ) (outbox : SinkTells) (lines : List ℕ) : Type 0 where
+  pub least : before ≤ outbox.held
+  pub enough : outbox.held ≤ before + length lines
+  pub zeros : IfSome outbox.bytes (λ b. IfSome (first_other before lines (drop before b)) (λ place. get_or b place 0 ≡ 0))
 
 -- a sink holds what it did, and its count of faults didn't fall
 pub record IsLeft (sink sink' : SinkTells) : Type 0 where

@@ -34,13 +34,13 @@ is_counted kind (Message event action step recipient subject body) = is_messages
 is_counted kind (Failure number host key why) = false
 is_counted kind (Step event action step now) = false
 
--- what a list of records counts
-unfoldable pub tally_of : List Rec → Tally
-tally_of rs = record {
+-- what a list of records counts, whose lines stand behind so many bytes
+unfoldable pub tally_of : ℕ → List Rec → Tally
+tally_of before rs = record {
   problems = capped (count_by (is_counted kinds.Problems) rs);
   recoveries = capped (count_by (is_counted kinds.Recoveries) rs);
   messages = capped (count_by (is_counted kinds.Messages) rs);
-  bytes = capped (length (lines_of rs));
+  bytes = capped (before + length (lines_of rs));
 }
 
 -- a tally with more records

@@ -7,12 +7,20 @@ use zbx_types::OutOfMemory;
 /// Why no book was made.
 #[derive(Clone, Copy, Debug, PartialEq, Eq, Error)]
 pub enum BookError {
-    /// The outbox holds more bytes than the lines of the kept entries have.
+    /// The outbox holds fewer bytes than the lines have that stand before those of the kept entries.
+    #[error("the outbox is behind the base")]
+    OutboxBehind {
+        /// How many bytes the outbox holds.
+        held: u64,
+        /// How many bytes the base's lines have.
+        base: u64,
+    },
+    /// The outbox holds more bytes than the base's lines and those of the kept entries have.
     #[error("the outbox is ahead")]
     OutboxAhead {
         /// How many bytes the outbox holds.
         held: u64,
-        /// How many bytes the lines have.
+        /// How many bytes all these lines have.
         lines: u64,
     },
     /// The outbox holds another byte than the lines of the kept entries, and it isn't 0.

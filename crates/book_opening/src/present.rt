@@ -1,23 +1,27 @@
 //! What is in force behind the entries that were replayed, and the cells.
 
-ghost use Rattle.std.specs.Prelude.{◌≡◌, ◌<◌, ◌+◌, [], ◌∷◌, List, true, length, IfOk, OnOk};
+ghost use Rattle.std.specs.Prelude.{◌≡◌, ◌≢◌, ◌<◌, ◌+◌, ◌==◌, [], ◌∷◌, List, true, length, IfOk, OnOk};
 ghost use Rattle.std.specs.VecDeque.{deque_len};
 ghost use Rattle.zbx_types.specs.declared.entries.Numbered.{Numbered};
 ghost use Rattle.entry_step.specs.InForce.{CarriesOver};
 ghost use Rattle.entry_step.specs.Log.{is_config};
 ghost use Rattle.entry_step.specs.Represents.{Holds};
-ghost use Rattle.entry_step.specs.Start.{first_start, nothing};
+ghost use Rattle.entry_step.specs.Start.{first_start};
 ghost use Rattle.entry_step.specs.Whole.{point, out_at};
-ghost use Rattle.book_opening.specs.Opening.{IsSound, IsPresent, epochs_of};
+ghost use Rattle.base_laws.specs.Bases.{base_stage, told_start};
+ghost use Rattle.base_laws.specs.FitsBase.{FitsBase};
+ghost use Rattle.base_laws.specs.Grounds.{start_of};
+ghost use Rattle.book_opening.specs.Opening.{IsFirst, IsSound, IsPresent, epochs_of};
 
 use crate::names::StartName;
+use base_state::restore;
 use conf_index::Ready;
 use entry_step::{Cells, Steps, carry, step};
 use std::alloc::Global;
 use std::collections::VecDeque;
 use std::mem::replace;
 use std::sync::ledger::Ledger;
-use zbx_types::{Entry, Many, Moment, Numbered, OutOfMemory, Rec};
+use zbx_types::{Base, Entry, Many, Moment, Numbered, OutOfMemory, Rec};
 
 /// What is in force behind the entries so far, and the cells (this project's own).
 #[derive(Drop)]
@@ -26,6 +30,13 @@ pub struct Present {
     pub ready: Ready,
     /// The cells, as the entries leave them.
     pub cells: Cells,
+}
+
+/// Whether a base stands in place of no entries.
+pub(crate) fn is_empty(base: &Base) -> bool
+    ensures { result ≡ (length base.entry.now.text == 0) }
+{
+    base.text.len() == 0
 }
 
 /// The first of the configurations that are still to come.
@@ -85,11 +96,37 @@ fn exchanged(
 
 impl Present {
     /// Behind the first entry, which brings this configuration.
-    pub(crate) fn first(alloc: Global, ready: Ready) -> Result<Present, OutOfMemory>
+    fn first(alloc: Global, ready: Ready) -> Result<Present, OutOfMemory>
         ensures { IfOk result (λ made. (made.ready ≡ ready) × Holds (first_start ready.conf) made.cells []) }
     {
         let cells = Cells::new(alloc, ready.conf())?;
         Ok(Present { ready, cells })
+    }
+
+    /// Behind a base, which fits this configuration.
+    fn restored(alloc: Global, ready: Ready, base: &Base) -> Result<Present, OutOfMemory>
+        requires fits { FitsBase ready.conf base.now }
+        requires first { ready.origins ≡ [] }
+        ensures ready { IfOk result (λ made. made.ready ≡ base_stage ready.conf base.entry.now) }
+        ensures cells { IfOk result (λ made. Holds (told_start ready.conf base.entry.now) made.cells []) }
+    {
+        let mut ready = ready;
+        match restore(alloc, &mut ready, base) {
+            Ok(cells) => Ok(Present { ready, cells }),
+            Err(OutOfMemory) => Err(OutOfMemory),
+        }
+    }
+
+    /// Behind a base, whose configuration this is, or, where the base is empty, behind the first entry, which brings it.
+    pub(crate) fn begin(alloc: Global, ready: Ready, base: &Base) -> Result<Present, OutOfMemory>
+        requires fits { base.now.text ≢ [] → FitsBase ready.conf base.now }
+        requires first { ready.origins ≡ [] }
+        ensures { IfOk result (IsFirst base.entry.now.text base.entry.now ready) }
+    {
+        if is_empty(base) {
+            return Present::first(alloc, ready);
+        }
+        Present::restored(alloc, ready, base)
     }
 
     /// Goes over to the next configuration, at the entry with this number and moment, and drops the one before.
@@ -116,10 +153,10 @@ impl Present {
         steps: &mut Steps<L>,
     ) -> Result<Many<Rec>, OutOfMemory>
         requires some { is_config entry.now.entry ≡ true → 0 < deque_len epochs.old }
-        ensures made { IfOk result (λ made. (log later : List Numbered) → 0 < length log → IsSound S.flat (entry.now ∷ log)
-            → epochs.old.items ≡ epochs_of S.flat (entry.now ∷ later) → IsPresent S.flat log self.old
-            → (made ≡ out_at S.flat (point S.flat nothing log) entry.now entry.now.entry)
-            × IsPresent S.flat (entry.now ∷ log) self.new) }
+        ensures made { IfOk result (λ made. (log later : List Numbered) → IsSound S.flat S.base (entry.now ∷ log)
+            → epochs.old.items ≡ epochs_of S.flat (entry.now ∷ later) → IsPresent S.flat S.base log self.old
+            → (made ≡ out_at S.flat (point S.flat (start_of S.flat S.base) log) entry.now entry.now.entry)
+            × IsPresent S.flat S.base (entry.now ∷ log) self.new) }
         ensures epochs { OnOk result ((later : List Numbered) → epochs.old.items ≡ epochs_of S.flat (entry.now ∷ later)
             → epochs.new.items ≡ epochs_of S.flat later) }
         ensures len { OnOk result (deque_len epochs.old ≡ length epochs.old.items

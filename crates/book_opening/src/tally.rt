@@ -15,7 +15,7 @@ pub struct Tally {
     pub recoveries: u64,
     /// Message records.
     pub messages: u64,
-    /// The bytes of the lines of all records.
+    /// The bytes of the lines of all records, and those before them.
     pub bytes: u64,
 }
 
@@ -52,16 +52,16 @@ fn count(kind: Counted, records: &[Rec]) -> u64
 }
 
 impl Tally {
-    /// No records.
-    #[tactic(auto, unfolding(crate::specs::Tally::tally_of))]
-    pub fn new() -> Tally
-        ensures { result ≡ tally_of [] }
+    /// No records yet, whose lines will stand behind so many bytes.
+    #[tactic(auto, using(crate::proofs::Counting::tally_none))]
+    pub fn behind(bytes: u64) -> Tally
+        ensures { result ≡ tally_of bytes [] }
     {
         Tally {
             problems: 0,
             recoveries: 0,
             messages: 0,
-            bytes: 0,
+            bytes,
         }
     }
 

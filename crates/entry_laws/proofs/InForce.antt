@@ -1,5 +1,5 @@
--- The configuration in force along a whole log, and what a whole log leaves for the entries that follow it.
-use Rattle.std.proofs.Common.{◌≡◌, ◌≤◌, ◌<◌, ◌==◌, ◌&&◌, ℕ, not, Bool, true, false, cond, Option, Some, None, List, [], ◌∷◌, ◌++◌, length, refl, sym, ◌∙◌, ap, ap₂, subst, eqb-true, append-nil, append_assoc, arith}
+-- The configuration in force along a whole log, and what a whole log leaves for the entries that follow it. A log stands on a start.
+use Rattle.std.proofs.Common.{◌≡◌, ◌≤◌, ◌<◌, ◌+◌, ◌==◌, ◌&&◌, ℕ, not, Bool, true, false, cond, Option, Some, None, List, [], ◌∷◌, ◌++◌, length, refl, sym, ◌∙◌, ap, ap₂, subst, eqb-true, append-nil, append_assoc, arith}
 use mathlib.Core.Path.{fun_ext}
 use Rattle.std.specs.Prelude.{option_and_then}
 use Rattle.std.specs.List.{list_any}
@@ -29,14 +29,14 @@ use Rattle.entry_step.specs.Cells.{Key, ItemKey, TriggerKey, TickKey, Cells, loo
 use Rattle.entry_step.specs.Due.{by_making}
 use Rattle.entry_step.specs.Each.{Each}
 use Rattle.entry_step.specs.History.{stored_of, with_stored, marks_of, memory_of, history_of}
-use Rattle.entry_step.specs.Log.{is_config, last_moment, last_number, IsFitting, IsFull, Suits}
+use Rattle.entry_step.specs.Log.{is_config, last_moment, last_number, IsFitting, IsRising, Suits}
 use Rattle.entry_step.specs.Named.{AreDistinct}
 use Rattle.conf_index.specs.Order.{order}
 use Rattle.entry_step.specs.Records.{out_of, replay}
 use Rattle.entry_step.specs.Represents.{CellsView, AllAtHome, IsTagged, AllTagged, Represents, Holds}
 use Rattle.entry_step.specs.Start.{Start, first_start, no_conf, nothing}
 use Rattle.entry_step.specs.Whole.{Point, out_at, point_with, point, cells_at, whole_replay, IsTold, AreTold, FitsWhole, HasDistinct}
-use Rattle.entry_step.specs.InForce.{conf_with, conf_behind, FitsBehind, FitsLog, IsPlain, left_by, behind_all, ConfIsBehind, ReplayOn, texts_of, config_texts, ConfigTextsAppend, RecordsBehindAll, NumberBehindAll, MomentBehindAll, FitsSuits, SuitsSince, FullRises, RisingFits, OwnBehind, GoodBehind, HoldsBehindAll, PlainFits, FirstHeld}
+use Rattle.entry_laws.specs.InForce.{IsGround, conf_with, conf_behind, FitsLater, FitsOn, FitsBehind, FitsLog, IsFull, IsPlain, left_by, behind_all, NothingIsGround, ConfIsBehind, ReplayOn, texts_of, config_texts, ConfigTextsAppend, RecordsBehindAll, NumberBehindAll, MomentBehindAll, FitsSuits, SuitsSince, FullRises, RisingFits, GoodBehind, HoldsBehindAll, HasBegun, PlainFits, FirstHeld, GroundHeld}
 use Rattle.entry_laws.proofs.Behind.{replay_behind, holds_behind}
 use Rattle.entry_step.proofs.Members.{each_sub}
 use Rattle.entry_step.proofs.Moving.{origins_next}
@@ -50,19 +50,19 @@ config_texts_append (e ∷ xs) ys = ap (λ ts. texts_of e.entry ++ ts) (config_t
 
 -- The configuration in force
 pub conf_is_behind : ConfIsBehind
-conf_is_behind flat [] = refl
-conf_is_behind flat (e ∷ log) = go e.entry (conf_is_behind flat log)
+conf_is_behind flat start [] = refl
+conf_is_behind flat start (e ∷ log) = go e.entry (conf_is_behind flat start log)
   where
-    go : (entry : Entry) → (point flat nothing log).start.stage.conf ≡ conf_behind flat log → (point_with flat (point flat nothing log) e entry).start.stage.conf ≡ conf_with flat (conf_behind flat log) entry
+    go : (entry : Entry) → (point flat start log).start.stage.conf ≡ conf_behind flat start log → (point_with flat (point flat start log) e entry).start.stage.conf ≡ conf_with flat (conf_behind flat start log) entry
     go (Config now text) q = refl
     go (Value now item time value) q = q
     go (Tick now) q = q
 
-conf_on : (flat : List ℕ → Conf) (newer older : List Numbered) → Each IsPlain newer → conf_behind flat (newer ++ older) ≡ conf_behind flat older
-conf_on flat [] older plain = refl
-conf_on flat (e ∷ newer) older plain = go e.entry plain.0 (conf_on flat newer older plain.1)
+conf_on : (flat : List ℕ → Conf) (start : Start) (newer older : List Numbered) → Each IsPlain newer → conf_behind flat start (newer ++ older) ≡ conf_behind flat start older
+conf_on flat start [] older plain = refl
+conf_on flat start (e ∷ newer) older plain = go e.entry plain.0 (conf_on flat start newer older plain.1)
   where
-    go : (entry : Entry) → is_config entry ≡ false → conf_behind flat (newer ++ older) ≡ conf_behind flat older → conf_with flat (conf_behind flat (newer ++ older)) entry ≡ conf_behind flat older
+    go : (entry : Entry) → is_config entry ≡ false → conf_behind flat start (newer ++ older) ≡ conf_behind flat start older → conf_with flat (conf_behind flat start (newer ++ older)) entry ≡ conf_behind flat start older
     go (Config now text) q ih = absurd (cc)
     go (Value now item time value) q ih = ih
     go (Tick now) q ih = ih
@@ -123,27 +123,33 @@ moment_at flat start (e ∷ log) = go e.entry refl
     go (Tick now) q = refl
 
 -- What a whole log leaves
-whole_at : (flat : List ℕ → Conf) (log : List Numbered) → (point flat nothing log).records ≡ whole_replay flat nothing log
-whole_at flat log = all_told flat nothing log
-
 pub records_behind_all : RecordsBehindAll
-records_behind_all flat log = sym (records_at flat nothing log) ∙ whole_at flat log
+records_behind_all flat start log = sym (records_at flat start log) ∙ all_told flat start log
 
 pub number_behind_all : NumberBehindAll
-number_behind_all flat log = number_at flat nothing log
+number_behind_all flat start log = number_at flat start log
 
 pub moment_behind_all : MomentBehindAll
-moment_behind_all flat log = moment_at flat nothing log
+moment_behind_all flat start log = moment_at flat start log
+
+cancel : (xs ys zs : List Rec) → xs ++ ys ≡ xs ++ zs → ys ≡ zs
+cancel [] ys zs q = q
+cancel (x ∷ xs) ys zs q = cancel xs ys zs (tail (xs ++ ys) (xs ++ zs) q)
+  where
+    tail : (left right : List Rec) → x ∷ left ≡ x ∷ right → left ≡ right
+    tail left right q = cc
 
 pub replay_on : ReplayOn
-replay_on flat newer older plain =
-    let p : Point = point flat nothing older in
-    sym (whole_at flat (newer ++ older))
-    ∙ records_at flat nothing (newer ++ older)
-    ∙ ap₂ (λ (s : Start) (es : List Numbered). s.records ++ replay s es) (start_on flat nothing newer older plain) (since_on flat nothing newer older plain)
+replay_on flat start newer older plain =
+    let p : Point = point flat start older in
+    cancel start.records (whole_replay flat start (newer ++ older)) (whole_replay flat start older ++ replay (left_by p) newer)
+    (sym (all_told flat start (newer ++ older))
+    ∙ records_at flat start (newer ++ older)
+    ∙ ap₂ (λ (s : Start) (es : List Numbered). s.records ++ replay s es) (start_on flat start newer older plain) (since_on flat start newer older plain)
     ∙ ap (λ rs. p.start.records ++ rs) (replay_behind p.start newer p.since)
     ∙ sym (append_assoc p.start.records (replay p.start p.since) (replay (left_by p) newer))
-    ∙ ap (λ rs. rs ++ replay (left_by p) newer) (records_behind_all flat older)
+    ∙ ap (λ rs. rs ++ replay (left_by p) newer) (records_behind_all flat start older)
+    ∙ append_assoc start.records (whole_replay flat start older) (replay (left_by p) newer))
 
 -- A log that fits suits
 pub suits_since : SuitsSince
@@ -161,25 +167,29 @@ suits_since flat start (e ∷ log) suits = go e.entry (suits_since flat start lo
     go (Value now item time value) ih = plain ih
     go (Tick now) ih = plain ih
 
-fits_with : (flat : List ℕ → Conf) (log : List Numbered) (entry : Entry) → FitsBehind (conf_behind flat log) log entry
-    → (last_moment nothing log ≤ moment_of entry) × IsFitting (point flat nothing log).start.stage.conf entry
-fits_with flat [] (Config now text) fits = (omega arith, tt)
-fits_with flat [] (Value now item time value) fits = let q = fits.0 in absurd (cc)
-fits_with flat [] (Tick now) fits = let q = fits.0 in absurd (cc)
-fits_with flat (a ∷ log) entry fits = (fits.0, subst (λ (conf : Conf). IsFitting conf entry) (sym (conf_is_behind flat (a ∷ log))) fits.1)
+fits_on : (text : List ℕ) (conf : Conf) (moment : ℕ) (entry : Entry) → (text ≡ [] → moment ≡ 0) → FitsOn text conf moment entry → FitsLater conf moment entry
+fits_on [] conf moment (Config now text) none fits = let z : moment ≡ 0 = none refl in (omega arith, tt)
+fits_on [] conf moment (Value now item time value) none fits = let q = fits.0 in absurd (cc)
+fits_on [] conf moment (Tick now) none fits = let q = fits.0 in absurd (cc)
+fits_on (byte ∷ text) conf moment entry none fits = fits
+
+fits_with : (flat : List ℕ → Conf) (start : Start) (log : List Numbered) (entry : Entry) → IsGround start → FitsBehind (conf_behind flat start log) start log entry
+    → (last_moment start log ≤ moment_of entry) × IsFitting (point flat start log).start.stage.conf entry
+fits_with flat start [] entry ground fits = fits_on start.stage.conf.text start.stage.conf start.moment entry ground.moment fits
+fits_with flat start (a ∷ log) entry ground fits = (fits.0, subst (λ (conf : Conf). IsFitting conf entry) (sym (conf_is_behind flat start (a ∷ log))) fits.1)
 
 pub fits_suits : FitsSuits
-fits_suits flat [] fits = tt
-fits_suits flat (e ∷ log) fits = let own = fits_with flat log e.entry fits.1 in (fits_suits flat log fits.0, own.0, own.1)
+fits_suits flat start [] ground fits = tt
+fits_suits flat start (e ∷ log) ground fits = let own = fits_with flat start log e.entry ground fits.1 in (fits_suits flat start log ground fits.0, own.0, own.1)
 
 -- Numbers that rise
-number_full : (log : List Numbered) → IsFull log → last_number nothing log ≡ length log
-number_full [] full = refl
-number_full (e ∷ log) full = let n = full.1 in omega arith
+number_full : (start : Start) (log : List Numbered) → IsFull start log → last_number start log ≡ start.number + length log
+number_full start [] full = omega arith
+number_full start (e ∷ log) full = let n = full.1 in omega arith
 
 pub full_rises : FullRises
-full_rises [] full = tt
-full_rises (e ∷ log) full = (let n = full.1 in let before = number_full log full.0 in omega arith, full_rises log full.0)
+full_rises start [] full = tt
+full_rises start (e ∷ log) full = (let n = full.1 in let before = number_full start log full.0 in omega arith, full_rises start log full.0)
 
 none_at : {A : Type 0} (id : ℕ) → at_id {A = A} [] id ≡ None
 unfolding at_id
@@ -192,9 +202,12 @@ none_at {A} id = go (id == 0)
 no_conf_distinct : AreDistinct no_conf
 no_conf_distinct i j a b at other hosts names = let none : None ≡ Some a = sym (none_at i) ∙ at in absurd (cc)
 
+pub nothing_is_ground : NothingIsGround
+nothing_is_ground = record { fits = fresh_fits no_conf no_conf_distinct; absent = λ id none. refl; moment = λ q. refl }
+
 pub rising_fits : RisingFits
-rising_fits flat [] distinct rising = fresh_fits no_conf no_conf_distinct
-rising_fits flat (e ∷ log) distinct rising = (rising_fits flat log distinct rising.1, rising.0, has e.entry)
+rising_fits flat start [] distinct ground rising = ground.fits
+rising_fits flat start (e ∷ log) distinct ground rising = (rising_fits flat start log distinct ground rising.1, rising.0, has e.entry)
   where
     has : (entry : Entry) → HasDistinct flat entry
     has (Config now text) = distinct text
@@ -226,10 +239,6 @@ origins_at flat start (e ∷ log) fits = go e.entry fits.2 (later fits.1 (origin
     go (Value now item time value) distinct ih = ih
     go (Tick now) distinct ih = ih
 
-pub own_behind : OwnBehind
-own_behind flat log distinct rising =
-    subst (λ n. Each (λ (o : Origin). o.event.number ≤ n) (behind_all flat log).stage.origins) (sym (number_at flat nothing log)) (origins_at flat nothing log (rising_fits flat log distinct rising))
-
 -- What is tidy at a point
 homes_of : (stage : Stage) (rs : List Rec) (id : ℕ) → AllAtHome stage id (open_of stage rs id)
 homes_of stage [] id = tt
@@ -251,13 +260,13 @@ homes_of stage (r ∷ rs) id = go r (homes_of stage rs id)
 tagged_of : (stage : Stage) (number : ℕ) (rs : List Rec) → AreTold stage number rs → (id : ℕ) → AllTagged stage.conf id (open_of stage rs id)
 tagged_of stage number rs told id = each_sub (λ (o : Open). IsTold stage.conf number id o.problem) (λ (o : Open). IsTagged stage.conf id o.problem) (open_of stage rs id) (λ o t. (t.trigger, t.there, t.tags)) (told id)
 
-no_history : (flat : List ℕ → Conf) (log : List Numbered) (id : ℕ) → at_id (point flat nothing log).start.stage.conf.items id ≡ None → history_of (point flat nothing log).start (point flat nothing log).since id ≡ []
+no_history : (flat : List ℕ → Conf) (start : Start) (log : List Numbered) (id : ℕ) → IsGround start → at_id (point flat start log).start.stage.conf.items id ≡ None → history_of (point flat start log).start (point flat start log).since id ≡ []
 unfolding stored_of
-no_history flat [] id none = refl
-no_history flat (e ∷ log) id none = go e.entry none (no_history flat log id)
+no_history flat start [] id ground none = ground.absent id none
+no_history flat start (e ∷ log) id ground none = go e.entry none (no_history flat start log id ground)
   where
     p : Point
-    p = point flat nothing log
+    p = point flat start log
 
     plain : at_id p.start.stage.conf.items id ≡ None → (at_id p.start.stage.conf.items id ≡ None → history_of p.start p.since id ≡ []) → history_of p.start (e ∷ p.since) id ≡ []
     plain q ih = ap (λ o. with_stored (stored_by o) (history_of p.start p.since id)) (absent p.start.stage.conf (memory_of p.start p.since) e.number e.entry id q) ∙ ih q
@@ -271,56 +280,72 @@ no_history flat (e ∷ log) id none = go e.entry none (no_history flat log id)
 
 pub good_behind : GoodBehind
 unfolding look
-good_behind flat log distinct rising = record {
-  tidy = record { homes = λ id. homes_of p.start.stage (left_by p).records id; tagged = tagged; absent = no_history flat log };
-  origins = own_behind flat log distinct rising;
+good_behind flat start log distinct ground rising = record {
+  tidy = record { homes = λ id. homes_of p.start.stage (left_by p).records id; tagged = tagged; absent = λ id. no_history flat start log id ground };
+  origins = subst (λ n. Each (λ (o : Origin). o.event.number ≤ n) p.start.stage.origins) (sym (number_at flat start log)) (origins_at flat start log fits);
 }
   where
     p : Point
-    p = point flat nothing log
+    p = point flat start log
 
-    told : AreTold p.start.stage (last_number nothing log) (left_by p).records
-    told = subst (AreTold p.start.stage (last_number nothing log)) (records_at flat nothing log) (stays_told flat nothing log (rising_fits flat log distinct rising))
+    fits : FitsWhole flat start log
+    fits = rising_fits flat start log distinct ground rising
+
+    told : AreTold p.start.stage (last_number start log) (left_by p).records
+    told = subst (AreTold p.start.stage (last_number start log)) (records_at flat start log) (stays_told flat start log fits)
 
     tagged : (id : ℕ) → AllTagged p.start.stage.conf id (open_of p.start.stage (left_by p).records id)
-    tagged = tagged_of p.start.stage (last_number nothing log) (left_by p).records told
+    tagged = tagged_of p.start.stage (last_number start log) (left_by p).records told
 
 -- What holds a whole log
 pub holds_behind_all : HoldsBehindAll
 unfolding AreCellsOf
-holds_behind_all flat log held fits at =
-    let p : Point = point flat nothing log in
-    holds_behind p.start held p.since (suits_since flat nothing log (fits_suits flat log fits)) (record { cells = cells_at p; stand = ap (look p.start p.since) (records_at flat nothing log); represented = at })
+holds_behind_all flat start log held ground fits at =
+    let p : Point = point flat start log in
+    holds_behind p.start held p.since (suits_since flat start log (fits_suits flat start log ground fits)) (record { cells = cells_at p; stand = ap (look p.start p.since) (records_at flat start log); represented = at })
 
 -- Values and Ticks that fit
-module _ (flat : List ℕ → Conf) (last : Numbered) (older : List Numbered) where
+module _ (flat : List ℕ → Conf) (start : Start) (older : List Numbered) (begun : HasBegun start older) where
   abbrev left : Start
-  left = behind_all flat (last ∷ older)
+  left = behind_all flat start older
+
+  -- behind at least one entry
+  later : (es : List Numbered) (conf : Conf) (entry : Entry) → HasBegun start es → FitsBehind conf start es entry ≡ FitsLater conf (last_moment start es) entry
+  later [] conf entry some = on start.stage.conf.text some
+    where
+      on : (text : List ℕ) → 1 ≤ length text + 0 → FitsOn text conf start.moment entry ≡ FitsLater conf start.moment entry
+      on [] l = absurd (omega arith)
+      on (byte ∷ text) l = refl
+  later (a ∷ es) conf entry some = refl
+
+  more : (newer : List Numbered) → HasBegun start (newer ++ older)
+  more [] = begun
+  more (e ∷ newer) = omega arith
 
   -- an entry fits behind some Values and Ticks exactly where it suits them
   one_fits : (newer : List Numbered) (entry : Entry) → Each IsPlain newer
-      → FitsBehind (conf_behind flat (newer ++ last ∷ older)) (newer ++ last ∷ older) entry ≡ ((last_moment left newer ≤ moment_of entry) × IsFitting left.stage.conf entry)
+      → FitsBehind (conf_behind flat start (newer ++ older)) start (newer ++ older) entry ≡ FitsLater left.stage.conf (last_moment left newer) entry
   one_fits newer entry plain =
-      moments newer (conf_behind flat (newer ++ last ∷ older))
-      ∙ ap (λ (conf : Conf). (last_moment left newer ≤ moment_of entry) × IsFitting conf entry) (conf_on flat newer (last ∷ older) plain ∙ sym (conf_is_behind flat (last ∷ older)))
+      later (newer ++ older) (conf_behind flat start (newer ++ older)) entry (more newer)
+      ∙ ap₂ (λ (conf : Conf) m. FitsLater conf m entry) (conf_on flat start newer older plain ∙ sym (conf_is_behind flat start older)) (moments newer)
     where
-      moments : (newer : List Numbered) (conf : Conf) → FitsBehind conf (newer ++ last ∷ older) entry ≡ ((last_moment left newer ≤ moment_of entry) × IsFitting conf entry)
-      moments [] conf = ap (λ m. (m ≤ moment_of entry) × IsFitting conf entry) (sym (moment_at flat nothing (last ∷ older)))
-      moments (e ∷ newer) conf = refl
+      moments : (newer : List Numbered) → last_moment start (newer ++ older) ≡ last_moment left newer
+      moments [] = sym (moment_at flat start older)
+      moments (e ∷ newer) = refl
 
-  fits_suiting : (newer : List Numbered) → Each IsPlain newer → FitsLog flat (newer ++ last ∷ older) → FitsLog flat (last ∷ older) × Suits left newer
+  fits_suiting : (newer : List Numbered) → Each IsPlain newer → FitsLog flat start (newer ++ older) → FitsLog flat start older × Suits left newer
   fits_suiting [] plain fits = (fits, tt)
   fits_suiting (e ∷ newer) plain fits =
       let before = fits_suiting newer plain.1 fits.0 in
-      let own : (last_moment left newer ≤ moment_of e.entry) × IsFitting left.stage.conf e.entry = subst (λ T. T) (one_fits newer e.entry plain.1) fits.1 in
+      let own : FitsLater left.stage.conf (last_moment left newer) e.entry = subst (λ T. T) (one_fits newer e.entry plain.1) fits.1 in
       (before.0, (before.1, own.0, own.1))
 
-  suiting_fits : (newer : List Numbered) → Each IsPlain newer → FitsLog flat (last ∷ older) → Suits left newer → FitsLog flat (newer ++ last ∷ older)
+  suiting_fits : (newer : List Numbered) → Each IsPlain newer → FitsLog flat start older → Suits left newer → FitsLog flat start (newer ++ older)
   suiting_fits [] plain fits suits = fits
   suiting_fits (e ∷ newer) plain fits suits = (suiting_fits newer plain.1 fits suits.0, subst (λ T. T) (sym (one_fits newer e.entry plain.1)) (suits.1, suits.2))
 
 pub plain_fits : PlainFits
-plain_fits flat newer last older plain = (fits_suiting flat last older newer plain, suiting_fits flat last older newer plain)
+plain_fits flat start newer older begun plain = (fits_suiting flat start older begun newer plain, suiting_fits flat start older begun newer plain)
 
 -- The first Config of all
 abbrev begun : Conf → ℕ → ℕ → Start
@@ -360,3 +385,8 @@ pub first_held : FirstHeld
 first_held flat text conf held same holds =
     subst (λ (s : Start). Represents s.stage held (look s [] s.records)) (sym (over_nothing (flat text) 1 0))
     (first_is (flat text) held (subst (λ (c : Conf). Holds (first_start c) held []) (sym same) holds))
+
+pub ground_held : GroundHeld
+unfolding AreCellsOf
+ground_held flat start held holds =
+    subst (λ (c : Cells). Represents start.stage held c) (holds.stand ∙ ap (look start []) (append-nil start.records)) holds.represented

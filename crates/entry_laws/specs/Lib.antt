@@ -1,3 +1,4 @@
+pub mod InForce
 pub mod Rising
 pub mod Previous
 pub mod Remembered

@@ -3,7 +3,7 @@
 
 ghost use Rattle.entry_step.specs.Following.{KeepsOn};
 ghost use Rattle.entry_laws.specs.FirstConfig.{FirstConfig};
-ghost use Rattle.entry_step.specs.InForce.{ConfIsBehind, ReplayOn, GoodBehind, HoldsBehindAll, PlainFits, FirstHeld};
+ghost use Rattle.entry_laws.specs.InForce.{ConfIsBehind, ReplayOn, GoodBehind, HoldsBehindAll, NothingIsGround, PlainFits, FirstHeld, GroundHeld};
 ghost use Rattle.entry_laws.specs.Remembered.{PreviousInWhole};
 ghost use Rattle.entry_step.specs.Whole.{AnyEntry, StaysTold, AllTold, FreshFits, GoneByNames};
 
@@ -84,4 +84,14 @@ pub fn plain_fits()
 /// What holds a fresh start stands for the log of one Config of moment 0.
 pub fn first_held()
     ensures { FirstHeld }
+{}
+
+/// Nothing is a start on which a whole log can stand.
+pub fn nothing_is_ground()
+    ensures { NothingIsGround }
+{}
+
+/// What holds a start stands for a log of no entries on it.
+pub fn ground_held()
+    ensures { GroundHeld }
 {}

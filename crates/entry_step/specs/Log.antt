@@ -1,5 +1,5 @@
 -- Logs of numbered entries. A log has the newest entry first.
-use Rattle.std.specs.Prelude.{◌≡◌, ◌≤◌, ◌<◌, ℕ, ◌+◌, ◌==◌, Bool, true, false, List, [], ◌∷◌, length, reverse, Option, Some, None}
+use Rattle.std.specs.Prelude.{◌≡◌, ◌≤◌, ◌<◌, ℕ, ◌==◌, Bool, true, false, List, [], ◌∷◌, length, reverse, Option, Some, None}
 use Rattle.std.specs.Option.{option_or}
 use Rattle.zbx_types.specs.Entries.{moment_of}
 use Rattle.zbx_types.specs.Ids.{at_id}
@@ -65,11 +65,6 @@ last_number start (e ∷ log) = e.number
 abbrev pub IsRising : Start → List Numbered → Type 0
 IsRising start [] = Unit {0}
 IsRising start (e ∷ log) = (last_number start log < e.number) × IsRising start log
-
--- a log is full: its numbers are 1, 2, 3 and so on
-abbrev pub IsFull : List Numbered → Type 0
-IsFull [] = Unit {0}
-IsFull (e ∷ log) = IsFull log × (e.number ≡ length log + 1)
 
 -- the first entry of a log is a Config, and no other is
 abbrev pub HasOneConfig : List Numbered → Type 0

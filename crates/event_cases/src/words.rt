@@ -1,7 +1,9 @@
 //! The words of the command line, and the statuses of a run.
 
-use crate::parts::{Came, Piece, pieces, told};
-use server_words::{Counts, Mode, Plan, PlanError, Status, plan, printed};
+use crate::parts::{Came, Piece, pieces, split, told};
+use server_words::{
+    Counts, Mode, Plan, PlanError, Status, checkpoint_plan, plan, printed, printed_copy,
+};
 use std::alloc::Global;
 use std::convert::AsStr;
 use zbx_types::{Cause, OutOfMemory, Text};
@@ -17,10 +19,21 @@ impl Piece for WordReader {
     }
 }
 
-/// What a line of words with blanks between asks for: mode, paths, outbox and numbers.
+/// What a line of words with blanks between asks of the server's run.
 fn asked(alloc: Global, line: &str) -> Result<String, OutOfMemory> {
     let words = pieces::<WordReader>(alloc, line, ' ')?;
-    match plan(alloc, words.as_slice()) {
+    planned(alloc, plan(alloc, words.as_slice()))
+}
+
+/// What it asks of a copy of a journal.
+fn copy_asked(alloc: Global, line: &str) -> Result<String, OutOfMemory> {
+    let words = pieces::<WordReader>(alloc, line, ' ')?;
+    planned(alloc, checkpoint_plan(alloc, words.as_slice()))
+}
+
+/// What a plan says, or that there is none.
+fn planned(alloc: Global, came: Result<Plan, PlanError>) -> Result<String, OutOfMemory> {
+    match came {
         Ok(plan) => {
             let made = plan_line(alloc, &plan);
             drop(plan);
@@ -37,6 +50,7 @@ fn mode_of(plan: &Plan) -> &'static str {
         Mode::Serve => "serve",
         Mode::Workload => "workload",
         Mode::Alerts => "alerts",
+        Mode::Checkpoint => "checkpoint",
     }
 }
 
@@ -47,7 +61,11 @@ fn shown(text: &Option<Text>) -> &str {
     }
 }
 
+/// The mode of a plan, and what it may name: of a copy two paths, of a run paths, outbox and numbers.
 fn plan_line(alloc: Global, plan: &Plan) -> Result<String, OutOfMemory> {
+    if plan.mode == Mode::Checkpoint {
+        return copy_line(alloc, plan);
+    }
     Ok(format!(in alloc;
         "{} config {} script {} listen {} journal {} outbox {} {} {} {} {} {}",
         mode_of(plan),
@@ -61,6 +79,15 @@ fn plan_line(alloc: Global, plan: &Plan) -> Result<String, OutOfMemory> {
         plan.max_entries,
         plan.number,
         plan.values
+    )?)
+}
+
+fn copy_line(alloc: Global, plan: &Plan) -> Result<String, OutOfMemory> {
+    Ok(format!(in alloc;
+        "{} journal {} into {}",
+        mode_of(plan),
+        shown(&plan.journal),
+        shown(&plan.into)
     )?)
 }
 
@@ -96,6 +123,10 @@ fn status_of(alloc: Global, number: u32) -> Result<Status, OutOfMemory> {
         },
         15 => Status::TurnLimit,
         16 => Status::OutOfMemory,
+        18 => Status::OutboxBehind { held: 33, base: 34 },
+        19 => Status::Unfinished,
+        20 => Status::NotEmpty { bytes: 1 },
+        21 => Status::NoEntries,
         22 => Status::BadLine { at: 34 },
         23 => Status::MarksAhead {
             marks: 2,
@@ -113,6 +144,14 @@ fn status_of(alloc: Global, number: u32) -> Result<Status, OutOfMemory> {
     })
 }
 
+/// A line without its line feed, and `$` where it has one.
+fn marked(line: &Text) -> (&str, &str) {
+    match line.as_str().strip_suffix('\n') {
+        Some(front) => (front, "$"),
+        None => (line.as_str(), ""),
+    }
+}
+
 /// The exit number of a status and its printed line, over some counts, its line feed as `$`.
 fn said(alloc: Global, number: u32) -> Result<String, OutOfMemory> {
     let status = status_of(alloc, number)?;
@@ -127,16 +166,28 @@ fn said(alloc: Global, number: u32) -> Result<String, OutOfMemory> {
     let line = printed(alloc, &status, &counts);
     drop(status);
     let line = line?;
-    match line.as_str().strip_suffix('\n') {
-        Some(front) => Ok(format!(in alloc; "{exit} {front}$")?),
-        None => Ok(format!(in alloc; "{exit} {}", line.as_str())?),
-    }
+    let (front, end) = marked(&line);
+    Ok(format!(in alloc; "{exit} {front}{end}")?)
 }
 
-/// What a case of words or of statuses comes to.
+/// The printed line of a journal that was copied: the number of its last entry, and how many bytes its lines have.
+fn copied(alloc: Global, input: &str) -> Result<String, OutOfMemory> {
+    let (number, lines) = split(input, ' ');
+    let line = printed_copy(
+        alloc,
+        number.parse().unwrap_or(0),
+        lines.parse().unwrap_or(0),
+    )?;
+    let (front, end) = marked(&line);
+    Ok(format!(in alloc; "{front}{end}")?)
+}
+
+/// What a case of words, of statuses or of copies comes to.
 pub(crate) fn answer(alloc: Global, kind: &str, input: &str) -> Option<Came> {
     match kind {
         "words" => Some(asked(alloc, input)),
+        "words of a copy" => Some(copy_asked(alloc, input)),
+        "copied" => Some(copied(alloc, input)),
         "status" => Some(said(alloc, input.parse().unwrap_or(103))),
         _ => None,
     }

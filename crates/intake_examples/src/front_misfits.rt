@@ -6,7 +6,8 @@ use intake_journal::Group;
 use std::alloc::Global;
 use std::test::Fail;
 use zbx_types::{
-    Conf, Entry, Host, Item, ItemKind, Maintenance, Many, Moment, OutOfMemory, Text, ValueType,
+    Base, Conf, Entry, Host, Item, ItemKind, Maintenance, Many, Moment, OutOfMemory, Text,
+    ValueType,
 };
 
 /// The host `h`.
@@ -156,7 +157,7 @@ fn confs(alloc: Global, letters: &[u8]) -> Result<Many<Conf>, OutOfMemory> {
 fn misfit(alloc: Global, letters: &str) -> Result<Option<u64>, OutOfMemory> {
     let kept = groups(alloc, letters)?;
     let confs = confs(alloc, letters.as_bytes())?;
-    let place = first_misfit(confs.as_slice(), kept.as_slice());
+    let place = first_misfit(&Base::empty(alloc), confs.as_slice(), kept.as_slice());
     drop(confs);
     Ok(place)
 }

@@ -115,7 +115,7 @@ fn front_over(
         drop((journal, kept));
         return Err(FrontError::OutOfMemory);
     }
-    if journal.entries() != kept.as_slice().len() as u64 {
+    if journal.entries() != kept.as_slice().len() as u64 || journal.base().number != 0 {
         drop((journal, kept));
         return Err(FrontError::OutOfMemory);
     }

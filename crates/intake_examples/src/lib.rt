@@ -12,6 +12,8 @@ mod front_taking;
 #[cfg(test)]
 mod journal_appends;
 #[cfg(test)]
+mod journal_bases;
+#[cfg(test)]
 mod journal_files;
 #[cfg(test)]
 mod rows;

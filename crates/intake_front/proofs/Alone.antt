@@ -44,18 +44,18 @@ module _ {D : Type 0} (tells : D → DiskTells)
   before : take c.mark.kept m.entries ≡ i.entries
   before = ap (λ (k : Mark). take k.kept m.entries) t.mark ∙ ap (λ (k : Intake). take b.mark.kept k.entries) t.after ∙ front ∙ all_kept
 
-  written : IsWritten (tells old.disk) (tells new.disk) (take c.mark.kept m.entries) m.entries → IsWritten (tells old.disk) (tells new.disk) i.entries (says 0).intake.entries
+  written : IsWritten (tells old.disk) (tells new.disk) old.base (take c.mark.kept m.entries) m.entries → IsWritten (tells old.disk) (tells new.disk) old.base i.entries (says 0).intake.entries
   written w =
-      subst (λ (es : List Numbered). IsWritten (tells old.disk) (tells new.disk) i.entries es) (ap (λ (k : Intake). k.entries) t.after)
-      (subst (λ (es : List Numbered). IsWritten (tells old.disk) (tells new.disk) es m.entries) before w)
+      subst (λ (es : List Numbered). IsWritten (tells old.disk) (tells new.disk) old.base i.entries es) (ap (λ (k : Intake). k.entries) t.after)
+      (subst (λ (es : List Numbered). IsWritten (tells old.disk) (tells new.disk) old.base es m.entries) before w)
 
   answers_are : b.answers.items ≡ [] → c.answers.items ≡ (says 0).answer ∷ []
   answers_are empty = t.answers ∙ ap (λ (l : List Answer). l ++ (says 0).answer ∷ []) empty
 
   -- its groups were kept
-  pub alone_kept : (rest : List Answer) (a : Answer) → b.answers.items ≡ [] → rest ++ a ∷ [] ≡ c.answers.items → j ≡ m → IsReady old new → IsWritten (tells old.disk) (tells new.disk) (take c.mark.kept m.entries) m.entries
-      → IsOffered tells old new i j says (Ok a)
-  alone_kept rest a empty is same ready w =
+  pub alone_kept : (rest : List Answer) (a : Answer) → b.answers.items ≡ [] → rest ++ a ∷ [] ≡ c.answers.items → j ≡ m → IsReady old new → new.base ≡ old.base
+      → IsWritten (tells old.disk) (tells new.disk) old.base (take c.mark.kept m.entries) m.entries → IsOffered tells old new i j says (Ok a)
+  alone_kept rest a empty is same ready same_base w =
       let answered : a ≡ (says 0).answer = last_of rest a (says 0).answer (is ∙ answers_are empty) in
       let plain : a.stop ≢ Some stop.DiskFault = λ stops. t.no_fault (ap (λ (x : Answer). x.stop) (sym answered) ∙ stops) in
       let number : refused_group i a.stop ≡ 0 = number_of i a.stop plain in
@@ -65,6 +65,7 @@ module _ {D : Type 0} (tells : D → DiskTells)
         err = tt;
         fault = λ stops. absurd (plain stops);
         ready = λ _. ready;
+        base = same_base;
         written = written w;
       }
 
@@ -74,8 +75,8 @@ module _ {D : Type 0} (tells : D → DiskTells)
 
   -- the disk refused them
   pub alone_failed : (rest : List Answer) (a : Answer) → b.answers.items ≡ [] → rest ++ a ∷ [] ≡ failing_of c.answers.items c.first → j ≡ back_to m c.mark → 0 < length c.block → Rose (tells old.disk).faults (tells new.disk).faults → new.state ≡ Broken
-      → IsWritten (tells old.disk) (tells new.disk) (take c.mark.kept m.entries) m.entries → IsOffered tells old new i j says (Ok a)
-  alone_failed rest a empty is back some rose broken w =
+      → new.base ≡ old.base → IsWritten (tells old.disk) (tells new.disk) old.base (take c.mark.kept m.entries) m.entries → IsOffered tells old new i j says (Ok a)
+  alone_failed rest a empty is back some rose broken same_base w =
       let there = first_none b.first batch.first_is in
       by_first c.first refl t.batch.first_is (subst (λ (o : Option First). FirstBy i b.answers.items says o c.first) there.0 t.first) there
     where
@@ -90,13 +91,14 @@ module _ {D : Type 0} (tells : D → DiskTells)
           let number : refused_group i a.stop ≡ i.groups + 1 = ap (refused_group i) stops in
           let size : b.mark.bytes ≡ i.bytes = omega (arith, batch.size_is, ap (λ (bl : List (List Entry)). length (opened_bytes bl)) none) in
           let left : back_to m c.mark ≡ record i { now = (says 0).intake.now; peers = (says 0).intake.peers } =
-          same_intake (back_to m c.mark) _ (ap (λ (k : Intake). k.now) t.after) (ap (λ (k : Mark). k.tick) t.mark ∙ there.1) (ap (λ (k : Intake). k.peers) t.after) (t.batch.from_one ∙ sym batch.from_one) before (ap (λ (k : Mark). k.bytes) t.mark ∙ size) (ap (λ (k : Mark). k.groups) t.mark ∙ there.2) in
+          same_intake (back_to m c.mark) _ (ap (λ (k : Intake). k.now) t.after) (ap (λ (k : Mark). k.tick) t.mark ∙ there.1) (ap (λ (k : Intake). k.peers) t.after) t.number before (ap (λ (k : Mark). k.bytes) t.mark ∙ size) (ap (λ (k : Mark). k.groups) t.mark ∙ there.2) in
           record {
             answer = answered ∙ ap (λ (h : Handled). h.answer) (sym by.1) ∙ ap (λ (n : ℕ). (says n).answer) (sym number);
             after = back ∙ left ∙ ap (λ (h : Handled). h.intake) (sym by.1) ∙ ap (λ (n : ℕ). (says n).intake) (sym number);
             err = tt;
             fault = λ _. (broken, rose);
             ready = λ plain. absurd (plain stops);
+            base = same_base;
             written = written w;
           }
 
@@ -121,16 +123,18 @@ module _ {D : Type 0} (tells : D → DiskTells) where
         err = (left.entries, refl);
         fault = tt;
         ready = tt;
+        base = refl;
         written = record { later = omega arith; told = refl; any_moment = leaves_same tells lawful old i.entries (says 0).intake.entries b.mark.bytes has };
       }
 
 -- what waits after an event that was taken, or for which no memory was to be had
-pub taken_waiting : {D : Type 0} (tells : D → DiskTells) (journal : Journaled D) (i m : Intake) (b c : Batch) → IsWaiting tells journal i b → IsBatch m c → HasRoom journal c.block → c.mark ≡ b.mark
+pub taken_waiting : {D : Type 0} (tells : D → DiskTells) (journal : Journaled D) (i m : Intake) (b c : Batch) → IsWaiting tells journal i b → IsBatch m c → m.before ≡ i.before → HasRoom journal c.block → c.mark ≡ b.mark
     → take b.mark.kept m.entries ≡ take b.mark.kept i.entries → IsWaiting tells journal m c
-taken_waiting tells journal i m b c is batch room mark front =
+taken_waiting tells journal i m b c is batch number room mark front =
     let kept : take c.mark.kept m.entries ≡ take b.mark.kept i.entries = ap (λ (k : Mark). take k.kept m.entries) mark ∙ front in
     record {
       batch = batch;
+      number = number ∙ is.number;
       room = room;
       journaled = λ ready. subst (λ (es : List Numbered). HasJournaled tells journal es c.mark.bytes) (sym kept)
           (subst (λ (k : Mark). HasJournaled tells journal (take b.mark.kept i.entries) k.bytes) (sym mark) (is.journaled ready));

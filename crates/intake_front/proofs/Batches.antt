@@ -7,6 +7,7 @@ use Rattle.std.proofs.lemmas.Grind.{flat_map-append}
 use Rattle.zbx_types.specs.declared.entries.Entry.{Entry}
 use Rattle.zbx_types.specs.declared.entries.Numbered.{Numbered}
 use Rattle.wire_core.specs.Peers.{Peers}
+use Rattle.intake_journal.specs.Based.{most_counted}
 use Rattle.intake_journal.specs.Block.{opened_bytes}
 use Rattle.intake_journal.specs.Settled.{Journaled}
 use Rattle.intake_journal.proofs.Staged.{more_long}
@@ -178,13 +179,14 @@ taken_by journal i j b c ticks group says now fault stands batch staged s entere
     let waits = waits_more journal b.block c.block i j ticks group stands staged entered b.mark.kept batch.within batch.entries_are in
     record {
       after = sym (ap (λ (h : Handled). h.intake) handled);
+      number = entered.before;
       answers = answers ∙ ap (λ (h : Handled). b.answers.items ++ h.answer ∷ []) (sym handled);
       stops = ap (λ (h : Handled). h.answer.stop) (sym handled);
       no_fault = λ stops. s.goes_on (ap (λ (h : Handled). h.answer.stop) (sym handled) ∙ stops);
       first = subst (FirstBy i b.answers.items says b.first) (sym first) (first_by i b.answers.items ticks group says now fault b.first s);
       mark = mark;
       batch = record {
-        from_one = entered.before ∙ batch.from_one;
+        counted = subst (λ (n : ℕ). n ≤ most_counted) (sym entered.before) batch.counted;
         entries_are = subst (λ (n : ℕ). j.entries ≡ with_group j.before (take n j.entries) (all_of c.block)) (sym kept) waits;
         size_is = omega (arith, entered.bytes, batch.size_is, stands.size_is, ap (λ (m : Mark). m.bytes) mark);
         few = subst (λ (m : Mark). m.groups ≤ m.kept) (sym mark) batch.few;

@@ -2,9 +2,11 @@
 use Rattle.std.proofs.Common.{◌≡◌, ℕ, ◌+◌, ◌≤◌, false, List, [], length, take, None, IfSome, sym, ◌∙◌, ap, subst, arith, append-nil, length-append}
 use Rattle.std.specs.Prelude.{is_some}
 use Rattle.std.proofs.lemmas.List.{take_all, length-take-le}
+use Rattle.zbx_types.specs.declared.base.Base.{Base}
 use Rattle.zbx_types.specs.declared.entries.Entry.{Entry}
 use Rattle.zbx_types.specs.declared.entries.Numbered.{Numbered}
 use Rattle.outside.specs.Disk.{DiskTells, LeavesOnly}
+use Rattle.intake_journal.specs.Based.{most_counted}
 use Rattle.intake_journal.specs.Block.{opened_bytes}
 use Rattle.intake_journal.specs.Settled.{Journaled}
 use Rattle.intake_journal.specs.declared.state.State.TheVariants.{Ready, Broken}
@@ -17,19 +19,19 @@ use Rattle.intake_front.specs.declared.batch.Mark.{Mark}
 use Rattle.intake_front.proofs.Journals.{count_of}
 use Rattle.intake_front.proofs.Numbers.{length_numbered}
 
--- what an intake and what waits behind its mark has, numbered from 1
-entries_from_one : (i : Intake) (b : Batch) → IsBatch i b → i.entries ≡ with_group 0 (take b.mark.kept i.entries) (all_of b.block)
-entries_from_one i b is = is.entries_are ∙ ap (λ (n : ℕ). with_group n (take b.mark.kept i.entries) (all_of b.block)) is.from_one
+-- what an intake and what waits behind its mark has, numbered behind a base
+entries_on : (number : ℕ) (i : Intake) (b : Batch) → i.before ≡ number → IsBatch i b → i.entries ≡ with_group number (take b.mark.kept i.entries) (all_of b.block)
+entries_on number i b before is = is.entries_are ∙ ap (λ (n : ℕ). with_group n (take b.mark.kept i.entries) (all_of b.block)) before
 
 -- nothing waits behind an intake's own mark
-pub idle_batch : (i : Intake) (b : Batch) → i.before ≡ 0 → b.block ≡ [] → b.first ≡ None → b.is_ticked ≡ false → b.mark ≡ mark_of i → i.groups ≤ length i.entries → IsBatch i b
-idle_batch i b one block first ticked mark few =
+pub idle_batch : (i : Intake) (b : Batch) → i.before ≤ most_counted → b.block ≡ [] → b.first ≡ None → b.is_ticked ≡ false → b.mark ≡ mark_of i → i.groups ≤ length i.entries → IsBatch i b
+idle_batch i b counted block first ticked mark few =
     let kept : b.mark.kept ≡ length i.entries = ap (λ (m : Mark). m.kept) mark in
     let bytes : b.mark.bytes ≡ i.bytes = ap (λ (m : Mark). m.bytes) mark in
     let groups : b.mark.groups ≡ i.groups = ap (λ (m : Mark). m.groups) mark in
     let all : take b.mark.kept i.entries ≡ i.entries = take_all b.mark.kept i.entries (omega (arith, kept)) in
     record {
-      from_one = one;
+      counted = counted;
       entries_are = sym (ap (λ (bl : List (List Entry)). with_group i.before (take b.mark.kept i.entries) (all_of bl)) block ∙ append-nil (take b.mark.kept i.entries) ∙ all);
       size_is = omega (arith, bytes, ap (λ (bl : List (List Entry)). length (opened_bytes bl)) block);
       few = omega (arith, kept, groups, few);
@@ -43,13 +45,14 @@ none_room journal block none some = absurd (omega (arith, ap length none))
 
 module _ {D : Type 0} (tells : D → DiskTells) where
   -- a journal with all of an intake's entries, behind which nothing waits
-  pub idle_waiting : (journal : Journaled D) (i : Intake) (b : Batch) → IsBatch i b → b.block ≡ [] → b.mark ≡ mark_of i → (journal.state ≡ Ready → HasJournaled tells journal i.entries i.bytes) → IsWaiting tells journal i b
-  idle_waiting journal i b batch block mark has =
+  pub idle_waiting : (journal : Journaled D) (i : Intake) (b : Batch) → IsBatch i b → i.before ≡ journal.base.number → b.block ≡ [] → b.mark ≡ mark_of i → (journal.state ≡ Ready → HasJournaled tells journal i.entries i.bytes) → IsWaiting tells journal i b
+  idle_waiting journal i b batch number block mark has =
       let kept : b.mark.kept ≡ length i.entries = ap (λ (m : Mark). m.kept) mark in
       let all : take b.mark.kept i.entries ≡ i.entries = take_all b.mark.kept i.entries (omega (arith, kept)) in
       let size : b.mark.bytes ≡ i.bytes = ap (λ (m : Mark). m.bytes) mark in
       record {
         batch = batch;
+        number = number;
         room = none_room journal b.block block;
         journaled = λ ready. subst (λ (es : List Numbered). HasJournaled tells journal es b.mark.bytes) (sym all) (subst (λ (n : ℕ). HasJournaled tells journal i.entries n) (sym size) (has ready));
       }
@@ -65,31 +68,32 @@ module _ {D : Type 0} (tells : D → DiskTells) where
       }
 
   -- once all that waited was appended
-  pub kept_waiting : (journal : Journaled D) (i : Intake) (b c : Batch) → IsBatch i b → HasJournaled tells journal (with_group 0 (take b.mark.kept i.entries) (all_of b.block)) (b.mark.bytes + length (opened_bytes b.block))
+  pub kept_waiting : (journal : Journaled D) (i : Intake) (b c : Batch) → IsBatch i b → i.before ≡ journal.base.number
+      → HasJournaled tells journal (with_group journal.base.number (take b.mark.kept i.entries) (all_of b.block)) (b.mark.bytes + length (opened_bytes b.block))
       → c.block ≡ [] → c.first ≡ None → c.is_ticked ≡ false → c.mark ≡ mark_of i → i.groups ≤ length i.entries → IsWaiting tells journal i c
-  kept_waiting journal i b c batch has block first ticked mark few =
-      let all = subst (λ (es : List Numbered). HasJournaled tells journal es (b.mark.bytes + length (opened_bytes b.block))) (sym (entries_from_one i b batch)) has in
+  kept_waiting journal i b c batch number has block first ticked mark few =
+      let all = subst (λ (es : List Numbered). HasJournaled tells journal es (b.mark.bytes + length (opened_bytes b.block))) (sym (entries_on journal.base.number i b number batch)) has in
       let now = subst (λ (n : ℕ). HasJournaled tells journal i.entries n) (sym batch.size_is) all in
-      idle_waiting journal i c (idle_batch i c batch.from_one block first ticked mark few) block mark (λ _. now)
+      idle_waiting journal i c (idle_batch i c batch.counted block first ticked mark few) number block mark (λ _. now)
 
   -- once the disk refused it
-  pub back_waiting : (journal : Journaled D) (i : Intake) (b c : Batch) → IsBatch i b → journal.state ≡ Broken → c.block ≡ [] → c.first ≡ None → c.is_ticked ≡ false → c.mark ≡ b.mark
+  pub back_waiting : (journal : Journaled D) (i : Intake) (b c : Batch) → IsBatch i b → i.before ≡ journal.base.number → journal.state ≡ Broken → c.block ≡ [] → c.first ≡ None → c.is_ticked ≡ false → c.mark ≡ b.mark
       → IsWaiting tells journal (back_to i b.mark) c
-  back_waiting journal i b c batch broken block first ticked mark =
+  back_waiting journal i b c batch number broken block first ticked mark =
       let back = back_to i b.mark in
       let long : length back.entries ≡ b.mark.kept = length-take-le b.mark.kept i.entries batch.within in
       let same : c.mark ≡ mark_of back = mark ∙ sym (ap (λ (n : ℕ). (let m : Mark = record { kept = n; tick = b.mark.tick; bytes = b.mark.bytes; groups = b.mark.groups } in m)) long) in
-      idle_waiting journal back c (idle_batch back c batch.from_one block first ticked same (omega (arith, long, batch.few))) block same (λ ready. absurd (not_both ready))
+      idle_waiting journal back c (idle_batch back c batch.counted block first ticked same (omega (arith, long, batch.few))) number block same (λ ready. absurd (not_both ready))
     where
       not_both : journal.state ≡ Ready → ⊥
       not_both ready = let both = sym ready ∙ broken in absurd (cc)
 
 -- what was written of what waited
-pub commit_written : (old new : DiskTells) (i : Intake) (b : Batch) → IsBatch i b → old.faults ≤ new.faults
-    → is_some new.bytes ≡ is_some old.bytes → IfSome old.bytes (λ _. LeavesOnly old new (KeepsEither (take b.mark.kept i.entries) (with_group 0 (take b.mark.kept i.entries) (all_of b.block))))
-    → IsWritten old new (take b.mark.kept i.entries) i.entries
-commit_written old new i b batch later told left = record {
+pub commit_written : (old new : DiskTells) (base : Base) (i : Intake) (b : Batch) → IsBatch i b → i.before ≡ base.number → old.faults ≤ new.faults
+    → is_some new.bytes ≡ is_some old.bytes → IfSome old.bytes (λ _. LeavesOnly old new (KeepsEither base (take b.mark.kept i.entries) (with_group base.number (take b.mark.kept i.entries) (all_of b.block))))
+    → IsWritten old new base (take b.mark.kept i.entries) i.entries
+commit_written old new base i b batch number later told left = record {
   later = later;
   told = told;
-  any_moment = subst (λ (es : List Numbered). IfSome old.bytes (λ _. LeavesOnly old new (KeepsEither (take b.mark.kept i.entries) es))) (sym (entries_from_one i b batch)) left;
+  any_moment = subst (λ (es : List Numbered). IfSome old.bytes (λ _. LeavesOnly old new (KeepsEither base (take b.mark.kept i.entries) es))) (sym (entries_on base.number i b number batch)) left;
 }

@@ -5,6 +5,7 @@ use Rattle.outside.specs.Disk.{DiskTells}
 use Rattle.zbx_types.specs.declared.conf.Conf.{Conf}
 use Rattle.zbx_types.specs.declared.memory.OutOfMemory.{OutOfMemory}
 use Rattle.outside.specs.declared.event.WireEvent.{WireEvent}
+use Rattle.entry_step.specs.Start.{Start}
 use Rattle.intake_journal.specs.Settled.{Journaled}
 use Rattle.intake_front.specs.Intake.{Intake, handled, IsSound}
 use Rattle.intake_front.specs.Fronted.{HasRoom, limits_of}
@@ -37,8 +38,8 @@ module _ {D : Type 0} (journal : Journaled D) (conf : Conf) (i j : Intake) (b c 
   did_take (Ok s) batch did = λ begun events at going has. more_taken journal conf begun events e i j b c s batch did at going has
   did_take (Err refused) batch did = tt
 
-  pub did_keep : (result : Result (Option Stop) OutOfMemory) → DidThis result → OnOk result ((flat : List ℕ → Conf) → IsSound flat conf i → IsSound flat conf j)
-  did_keep (Ok s) did = λ flat sound. kept (limits_of journal 0) flat conf i j e did.after sound
+  pub did_keep : (result : Result (Option Stop) OutOfMemory) → DidThis result → OnOk result ((flat : List ℕ → Conf) (ground : Start) → IsSound flat ground conf i → IsSound flat ground conf j)
+  did_keep (Ok s) did = λ flat ground sound. kept (limits_of journal 0) flat ground conf i j e did.after sound
   did_keep (Err refused) did = tt
 
   pub did_front : (result : Result (Option Stop) OutOfMemory) → IsBatch i b → DidThis result → take b.mark.kept j.entries ≡ take b.mark.kept i.entries
@@ -48,6 +49,10 @@ module _ {D : Type 0} (journal : Journaled D) (conf : Conf) (i j : Intake) (b c 
   did_mark : (result : Result (Option Stop) OutOfMemory) → DidThis result → c.mark ≡ b.mark
   did_mark (Ok s) did = did.mark
   did_mark (Err refused) did = did.mark
+
+  did_number : (result : Result (Option Stop) OutOfMemory) → DidThis result → j.before ≡ i.before
+  did_number (Ok s) did = did.number
+  did_number (Err refused) did = did.number
 
   did_batch : (result : Result (Option Stop) OutOfMemory) → DidThis result → IsBatch j c
   did_batch (Ok s) did = did.batch
@@ -65,4 +70,4 @@ module _ {D : Type 0} (journal : Journaled D) (conf : Conf) (i j : Intake) (b c 
 
   pub did_waiting : (tells : D → DiskTells) (result : Result (Option Stop) OutOfMemory) → IsWaiting tells journal i b → (HasRoom journal b.block → HasRoom journal c.block) → DidThis result
       → IsWaiting tells journal j c
-  did_waiting tells result is room did = taken_waiting tells journal i j b c is (did_batch result did) (room is.room) (did_mark result did) (did_front result is.batch did)
+  did_waiting tells result is room did = taken_waiting tells journal i j b c is (did_batch result did) (did_number result did) (room is.room) (did_mark result did) (did_front result is.batch did)

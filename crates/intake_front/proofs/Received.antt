@@ -10,6 +10,7 @@ use Rattle.outside.specs.declared.event.WireEvent.{WireEvent}
 use Rattle.outside.specs.declared.event.WireEvent.TheVariants.{Opened, Piece, Ended, Broke, Quiet, Closed}
 use Rattle.wire_core.specs.Peers.{Peers, turn_of, after_event}
 use Rattle.wire_core.specs.declared.turn.Turn.{Turn}
+use Rattle.intake_journal.specs.Based.{most_counted}
 use Rattle.intake_journal.specs.Settled.{Journaled}
 use Rattle.intake_front.specs.Intake.{Intake, Handled, ticks_at, turned, stop_of, come_to, offered, handled, with_group}
 use Rattle.intake_front.specs.Fronted.{limits_of, all_of}
@@ -49,7 +50,7 @@ first_as i j mark block answers (Some first) as_i has = has
 
 pub batch_as : (i j : Intake) (b : Batch) → IsAs i j → IsBatch i b → IsBatch j b
 batch_as i j b as_i is = record {
-  from_one = as_i.before ∙ is.from_one;
+  counted = subst (λ (n : ℕ). n ≤ most_counted) (sym as_i.before) is.counted;
   entries_are = subst (λ (n : ℕ). j.entries ≡ with_group n (take b.mark.kept j.entries) (all_of b.block)) (sym as_i.before)
       (subst (λ (es : List Numbered). es ≡ with_group i.before (take b.mark.kept es) (all_of b.block)) (sym as_i.entries) is.entries_are);
   size_is = as_i.bytes ∙ is.size_is;
@@ -61,7 +62,7 @@ batch_as i j b as_i is = record {
 
 -- an event for which no memory was to be had changed none of these
 pub left_as : (i j : Intake) (b : Batch) → IsAs i j → IsBatch i b → IsLeft i j b b
-left_as i j b as_i is = record { entries = as_i.entries; block = refl; answers = refl; first = refl; mark = refl; batch = batch_as i j b as_i is }
+left_as i j b as_i is = record { entries = as_i.entries; number = as_i.before; block = refl; answers = refl; first = refl; mark = refl; batch = batch_as i j b as_i is }
 
 -- an intake to which an event came, by its parts
 come_is : (n : ℕ) (t : Option ℕ) (p : Peers) (before : ℕ) (es : List Numbered) (b g : ℕ) (e : WireEvent) (now : ℕ) (peers : Peers) → now ≡ max n (moment_at e) → peers ≡ after_event p now e
@@ -83,6 +84,7 @@ Did i j b c says result = MatchResult result (IsTaken i j b c says) (λ _. IsLef
 come_did : (i j : Intake) (b c : Batch) (e : WireEvent) (says : ℕ → Handled) (result : Result (Option Stop) OutOfMemory) → Did (come_to i e) j b c says result → Did i j b c says result
 come_did i j b c e says (Ok s) did = record {
   after = did.after;
+  number = did.number;
   answers = did.answers;
   stops = did.stops;
   no_fault = did.no_fault;
@@ -90,7 +92,7 @@ come_did i j b c e says (Ok s) did = record {
   mark = did.mark;
   batch = did.batch;
 }
-come_did i j b c e says (Err refused) did = record { entries = did.entries; block = did.block; answers = did.answers; first = did.first; mark = did.mark; batch = did.batch }
+come_did i j b c e says (Err refused) did = record { entries = did.entries; number = did.number; block = did.block; answers = did.answers; first = did.first; mark = did.mark; batch = did.batch }
 
 module _ {D : Type 0} (journal : Journaled D) (conf : Conf) where
   -- an event that has come and whose groups were offered was handled

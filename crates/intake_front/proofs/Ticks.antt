@@ -11,7 +11,7 @@ later None p = refl
 later (Some x) p = refl
 
 -- one more entry
-pub last_more : (entries : List Numbered) (e : Numbered) → option_map half_minute (last_tick (log_of (entries ++ e ∷ []))) ≡ half_with (option_map half_minute (last_tick (log_of entries))) e.entry
-last_more entries e =
-    ap (λ (l : List Numbered). option_map half_minute (last_tick l)) (reverse-append entries (e ∷ []))
-    ∙ later (tick_of e.entry) (last_tick (log_of entries))
+pub last_more : (before : Option ℕ) (entries : List Numbered) (e : Numbered) → option_map half_minute (last_tick before (log_of (entries ++ e ∷ []))) ≡ half_with (option_map half_minute (last_tick before (log_of entries))) e.entry
+last_more before entries e =
+    ap (λ (l : List Numbered). option_map half_minute (last_tick before l)) (reverse-append entries (e ∷ []))
+    ∙ later (tick_of e.entry) (last_tick before (log_of entries))

@@ -2,10 +2,11 @@
 use Rattle.std.specs.Prelude.{◌≡◌, ◌⊎◌, ℕ, ◌+◌, ◌<◌, false, List, [], ◌∷◌, ◌++◌, length, Option, Some, None, IfSome, Result, Ok, Err}
 use Rattle.std.specs.List.{flat_map}
 use Rattle.std.specs.Option.{option_map}
+use Rattle.zbx_types.specs.declared.base.Base.{Base}
 use Rattle.zbx_types.specs.declared.entries.Entry.{Entry}
 use Rattle.zbx_types.specs.declared.entries.Numbered.{Numbered}
 use Rattle.outside.specs.Disk.{DiskTells, Only}
-use Rattle.intake_journal.specs.Kept.{kept, groups_of}
+use Rattle.intake_journal.specs.Kept.{kept, base_in, groups_of}
 use Rattle.intake_journal.specs.Block.{passes_with_all}
 use Rattle.intake_journal.specs.Settled.{Journaled}
 use Rattle.intake_journal.specs.declared.format.Group.{Group}
@@ -27,33 +28,34 @@ pub record Fronted (D : Type 0) : Type 0 where
   pub answers : List Answer
   pub failing : List Answer
 
--- the entries of groups, numbered from 1
-abbrev pub numbered_of : List Group → List Numbered
-numbered_of groups = numbered_from 1 (flat_map (λ g. g.entries) groups)
+-- the entries of groups, numbered behind this number
+abbrev pub numbered_of : ℕ → List Group → List Numbered
+numbered_of before groups = numbered_from (before + 1) (flat_map (λ g. g.entries) groups)
 
--- the entries that a file keeps, numbered from 1, where it is a journal without damage
+-- the entries that a file keeps, numbered behind its base, where it is a journal without damage
 abbrev pub kept_entries : List ℕ → Option (List Numbered)
-kept_entries file = option_map numbered_of (groups_of (kept file))
+kept_entries file = option_map (numbered_of (base_in file).number) (groups_of (kept file))
 
--- the bytes keep these entries
-abbrev pub Keeps : List Numbered → List ℕ → Type 0
-Keeps entries file = kept_entries file ≡ Some entries
+-- the bytes keep this base and these entries behind it
+abbrev pub Keeps : Base → List Numbered → List ℕ → Type 0
+Keeps base entries file = (base_in file ≡ base) × (kept_entries file ≡ Some entries)
 
--- the bytes keep these entries, or those
-abbrev pub KeepsEither : List Numbered → List Numbered → List ℕ → Type 0
-KeepsEither before after file = Keeps before file ⊎ Keeps after file
+-- the bytes keep this base, and these entries behind it, or those
+abbrev pub KeepsEither : Base → List Numbered → List Numbered → List ℕ → Type 0
+KeepsEither base before after file = Keeps base before file ⊎ Keeps base after file
 
--- a journal has these entries and so many bytes, and its disk keeps them through any crash, where it tells
+-- a journal has these entries and so many bytes, and its disk keeps them behind its base through any crash, where it tells
 pub record HasJournaled {D : Type 0} (tells : D → DiskTells) (journal : Journaled D) (entries : List Numbered)
     (size : ℕ) : Type 0 where
   pub count : journal.entries ≡ length entries
   pub size_is : journal.at + 1 ≡ size
-  pub keeps : IfSome (tells journal.disk).bytes (Keeps entries)
+  pub keeps : IfSome (tells journal.disk).bytes (Keeps journal.base entries)
   pub durable : IfSome (tells journal.disk).bytes (λ b. Only b (tells journal.disk))
 
--- each crash leaves bytes that keep these entries, where the disk tells
-abbrev pub IsKept : DiskTells → List Numbered → Type 0
-IsKept disk entries = IfSome disk.bytes (λ b. Keeps entries b × ((c : List ℕ) → disk.images c → Keeps entries c))
+-- each crash leaves bytes that keep this base and these entries, where the disk tells
+abbrev pub IsKept : DiskTells → Base → List Numbered → Type 0
+IsKept disk base entries =
+    IfSome disk.bytes (λ b. Keeps base entries b × ((c : List ℕ) → disk.images c → Keeps base entries c))
 
 -- the limits of a journal whose disk refuses the group with this number
 abbrev pub limits_of : {D : Type 0} → Journaled D → ℕ → Limits

@@ -1,8 +1,9 @@
 -- What a wire event does: the entries that it numbers and journals, and the reply to its sender.
-use Rattle.std.specs.Prelude.{◌≡◌, ◌≤◌, ◌<◌, ℕ, ◌+◌, ◌-◌, ◌/◌, ◌^◌, min, max, nat_lt, ◌==◌, ◌||◌, Bool, true, false, List, [], ◌∷◌, ◌++◌, length, Option, Some, None, if◌then◌else◌}
+use Rattle.std.specs.Prelude.{◌≡◌, ◌≤◌, ℕ, ◌+◌, ◌-◌, ◌/◌, ◌^◌, min, max, nat_lt, ◌==◌, ◌||◌, Bool, true, false, List, [], ◌∷◌, ◌++◌, length, Option, Some, None, if◌then◌else◌}
 use Rattle.std.specs.Option.{option_or, option_map}
 use Rattle.std.specs.Str.{bytes_eq}
 use Rattle.zbx_types.specs.Frames.{frame}
+use Rattle.zbx_types.specs.declared.base.Base.{Base}
 use Rattle.zbx_types.specs.declared.conf.Conf.{Conf}
 use Rattle.zbx_types.specs.declared.entries.Entry.{Entry}
 use Rattle.zbx_types.specs.declared.entries.Entry.TheVariants.{Config, Value, Tick}
@@ -17,8 +18,9 @@ use Rattle.wire_core.specs.declared.turn.Turn.TheVariants as turn
 use Rattle.sender_json.specs.Replies.{reply_text, refusal_text}
 use Rattle.sender_json.specs.declared.asked.Asked.{Asked}
 use Rattle.agent_json.specs.declared.request.AgentAsked.{AgentAsked}
-use Rattle.entry_step.specs.InForce.{conf_behind, FitsLog}
-use Rattle.entry_step.specs.Log.{log_of, moment_from, tick_of, IsFull}
+use Rattle.entry_laws.specs.InForce.{conf_behind, FitsLog, HasBegun, IsFull, text_in}
+use Rattle.entry_step.specs.Log.{last_moment, log_of, moment_from, tick_of}
+use Rattle.entry_step.specs.Start.{Start}
 use Rattle.intake_front.specs.Asking.{ask_of, taken_ask}
 use Rattle.intake_front.specs.Telling.{told}
 use Rattle.intake_front.specs.declared.asking.Ask.{Ask}
@@ -210,22 +212,22 @@ handled limits conf i e =
     let now = max i.now (moment_at e) in
     offered limits (come_to i e) (ticks_at i.tick now) (turned conf now (turn_of i.peers now e)) (stop_of e)
 
--- the moment of a log's last Tick
-abbrev pub last_tick : List Numbered → Option ℕ
-last_tick [] = None
-last_tick (e ∷ log) = option_or (tick_of e.entry) (last_tick log)
+-- the moment of a log's last Tick, where this is that of the last one before it
+abbrev pub last_tick : Option ℕ → List Numbered → Option ℕ
+last_tick before [] = before
+last_tick before (e ∷ log) = option_or (tick_of e.entry) (last_tick before log)
 
 -- the half minute of the last Tick, with one more entry
 abbrev pub half_with : Option ℕ → Entry → Option ℕ
 half_with last entry = option_or (option_map half_minute (tick_of entry)) last
 
--- the intake of a run that goes on behind these entries, the first of which has number 1: no connection is there
-abbrev pub resumed : List Numbered → ℕ → Intake
-resumed entries bytes = record {
-  now = moment_from 0 (log_of entries);
-  tick = option_map half_minute (last_tick (log_of entries));
+-- the intake of a run that goes on behind these entries, which stand on a base: no connection is there
+abbrev pub resumed : Base → List Numbered → ℕ → Intake
+resumed base entries bytes = record {
+  now = moment_from base.now (log_of entries);
+  tick = option_map half_minute (last_tick base.last_tick (log_of entries));
   peers = no_peers;
-  before = 0;
+  before = base.number;
   entries = entries;
   bytes = bytes;
   groups = 0;
@@ -241,46 +243,49 @@ config_text (Config now text) = Some text
 config_text (Value now item time value) = None
 config_text (Tick now) = None
 
--- the text of a log's last Config
-abbrev pub last_text : List Numbered → Option (List ℕ)
-last_text [] = None
-last_text (e ∷ log) = option_or (config_text e.entry) (last_text log)
+-- the text of the last configuration of a log on a base of this text: that of the last Config, or that of the base
+abbrev pub last_text : List ℕ → List Numbered → Option (List ℕ)
+last_text before [] = text_in before
+last_text before (e ∷ log) = option_or (config_text e.entry) (last_text before log)
 
 -- there is a text, and it is this one
 abbrev pub is_text : List ℕ → Option (List ℕ) → Bool
 is_text text None = false
 is_text text (Some found) = bytes_eq found text
 
--- the last Config has this text, with one more entry
+-- the last configuration has this text, with one more entry
 abbrev pub is_text_with : Bool → List ℕ → Entry → Bool
 is_text_with before text (Config now found) = bytes_eq found text
 is_text_with before text (Value now item time value) = before
 is_text_with before text (Tick now) = before
 
--- a configuration as a group behind entries, at the moment that they have reached: moment 0 where there are none
-abbrev pub config_behind : List ℕ → List Numbered → List Entry
-config_behind text kept = config_group (moment_from 0 (log_of kept)) text
+-- a configuration as a group behind entries, at the moment that they have reached: this one where there are none
+abbrev pub config_behind : ℕ → List ℕ → List Numbered → List Entry
+config_behind before text kept = config_group (moment_from before (log_of kept)) text
 
--- the group with which a run goes on behind kept entries: the configuration, unless the last Config has this very text
-abbrev pub opening_group : List ℕ → List Numbered → List Entry
-opening_group text kept = if is_text text (last_text (log_of kept)) then [] else config_behind text kept
+-- the group with which a run goes on behind entries that were kept on a base: the configuration, unless the last one has
+-- this very text
+abbrev pub opening_group : Base → List ℕ → List Numbered → List Entry
+opening_group base text kept =
+    if is_text text (last_text base.text (log_of kept)) then [] else config_behind base.now text kept
 
 -- the intake of a run that goes on behind kept entries with such a group, which is journaled where it has entries
-abbrev pub resumed_with : List Numbered → ℕ → List Entry → Intake
-resumed_with kept bytes [] = resumed kept bytes
-resumed_with kept bytes (e ∷ es) = resumed (with_group 0 kept (e ∷ es)) (bytes_with bytes (e ∷ es))
+abbrev pub resumed_with : Base → List Numbered → ℕ → List Entry → Intake
+resumed_with base kept bytes [] = resumed base kept bytes
+resumed_with base kept bytes (e ∷ es) =
+    resumed base (with_group base.number kept (e ∷ es)) (bytes_with bytes (e ∷ es))
 
--- the intake of a run with a configuration of this text, whose journal kept these entries and has so many bytes: where
--- the last Config has another text, or there is none, the configuration is journaled
-abbrev pub start : List ℕ → List Numbered → ℕ → Intake
-start text kept bytes = resumed_with kept bytes (opening_group text kept)
+-- the intake of a run with a configuration of this text, whose journal kept these entries on a base and has so many
+-- bytes: where the last configuration has another text, or there is none, this one is journaled
+abbrev pub start : Base → List ℕ → List Numbered → ℕ → Intake
+start base text kept bytes = resumed_with base kept bytes (opening_group base text kept)
 
--- The entries are a full log that fits, from number 1 on, begun, a configuration is in force behind them, and none is
--- later than the moment that the events have reached. `flat` tells the configuration that a text stands for.
-pub record IsSound (flat : List ℕ → Conf) (conf : Conf) (i : Intake) : Type 0 where
-  pub from_one : i.before ≡ 0
-  pub full : IsFull (log_of i.entries)
-  pub fits : FitsLog flat (log_of i.entries)
-  pub in_force : conf_behind flat (log_of i.entries) ≡ conf
-  pub moments : moment_from 0 (log_of i.entries) ≤ i.now
-  pub begun : 0 < length i.entries
+-- The entries are a full log that fits its start, which has begun; this configuration is in force behind them, and none
+-- is later than the moment that the events have reached. `flat` tells the configuration that a text stands for.
+pub record IsSound (flat : List ℕ → Conf) (ground : Start) (conf : Conf) (i : Intake) : Type 0 where
+  pub number : i.before ≡ ground.number
+  pub full : IsFull ground (log_of i.entries)
+  pub fits : FitsLog flat ground (log_of i.entries)
+  pub in_force : conf_behind flat ground (log_of i.entries) ≡ conf
+  pub moments : last_moment ground (log_of i.entries) ≤ i.now
+  pub begun : HasBegun ground (log_of i.entries)

@@ -1,5 +1,6 @@
 pub mod Taking
 pub mod Collected
+pub mod Standing
 pub mod Intake
 pub mod Served
 pub mod Fronted

@@ -1,5 +1,6 @@
 -- An event's groups, while they are staged behind those that wait, and while they are journaled.
 use Rattle.std.specs.Prelude.{◌≡◌, ◌≢◌, ◌≤◌, ℕ, ◌+◌, List, [], ◌∷◌, ◌++◌, length, take, Option, Some, None, is_some, IfSome, Result, IfOk, OnErr, if◌then◌else◌}
+use Rattle.zbx_types.specs.declared.base.Base.{Base}
 use Rattle.zbx_types.specs.declared.entries.Entry.{Entry}
 use Rattle.zbx_types.specs.declared.entries.Numbered.{Numbered}
 use Rattle.zbx_types.specs.declared.memory.OutOfMemory.{OutOfMemory}
@@ -73,11 +74,11 @@ settled (OnlyTick full) ticks made last added = record {
 }
 settled (Neither full) ticks made last added = record { ticks = []; group = []; now = stopping full; fault = None }
 
--- what was written, or not, changes what a crash leaves only from these entries to those, at each moment
-pub record IsWritten (old new : DiskTells) (before after : List Numbered) : Type 0 where
+-- what was written, or not, changes what a crash leaves behind a base only from these entries to those, at each moment
+pub record IsWritten (old new : DiskTells) (base : Base) (before after : List Numbered) : Type 0 where
   pub later : old.faults ≤ new.faults
   pub told : is_some new.bytes ≡ is_some old.bytes
-  pub any_moment : IfSome old.bytes (λ _. LeavesOnly old new (KeepsEither before after))
+  pub any_moment : IfSome old.bytes (λ _. LeavesOnly old new (KeepsEither base before after))
 
 -- an event was answered, and left what this says where the disk refuses the group with a number, or none
 pub record IsOffered {D : Type 0} (tells : D → DiskTells) (old new : Journaled D) (i j : Intake)
@@ -88,4 +89,5 @@ pub record IsOffered {D : Type 0} (tells : D → DiskTells) (old new : Journaled
   pub fault : IfOk result (λ a. a.stop ≡ Some stop.DiskFault → (new.state ≡ Broken)
       × Rose (tells old.disk).faults (tells new.disk).faults)
   pub ready : IfOk result (λ a. a.stop ≢ Some stop.DiskFault → IsReady old new)
-  pub written : IsWritten (tells old.disk) (tells new.disk) i.entries (says 0).intake.entries
+  pub base : new.base ≡ old.base
+  pub written : IsWritten (tells old.disk) (tells new.disk) old.base i.entries (says 0).intake.entries

@@ -4,6 +4,7 @@ use Rattle.std.specs.List.{list_any}
 use Rattle.zbx_types.specs.declared.entries.Entry.{Entry}
 use Rattle.entry_step.specs.Log.{tick_of}
 use Rattle.outside.specs.Disk.{DiskTells}
+use Rattle.intake_journal.specs.Based.{most_counted}
 use Rattle.intake_journal.specs.Block.{opened_bytes}
 use Rattle.intake_journal.specs.Settled.{Journaled}
 use Rattle.intake_journal.specs.declared.state.State.TheVariants.{Ready}
@@ -39,9 +40,9 @@ abbrev pub HasFirst : Intake → Mark → List (List Entry) → List Answer → 
 HasFirst i mark block answers None = (block ≡ []) × (mark.tick ≡ i.tick) × (mark.groups ≡ i.groups)
 HasFirst i mark block answers (Some first) = (0 < length block) × (first.at < length answers)
 
--- what waits behind an intake's mark; its entries are numbered from 1
+-- what waits behind an intake's mark
 pub record IsBatch (i : Intake) (b : Batch) : Type 0 where
-  pub from_one : i.before ≡ 0
+  pub counted : i.before ≤ most_counted
   pub entries_are : i.entries ≡ with_group i.before (take b.mark.kept i.entries) (all_of b.block)
   pub size_is : i.bytes ≡ b.mark.bytes + length (opened_bytes b.block)
   pub few : b.mark.groups ≤ b.mark.kept
@@ -49,9 +50,11 @@ pub record IsBatch (i : Intake) (b : Batch) : Type 0 where
   pub first_is : HasFirst i b.mark b.block b.answers.items b.first
   pub ticked : b.is_ticked ≡ has_tick (all_of b.block)
 
--- the groups that wait fit into the journal, and unless its disk failed it keeps what stands before them
+-- the entries are numbered behind the journal's base, the groups that wait fit into the journal, and unless its disk
+-- failed it keeps what stands before them
 pub record IsWaiting {D : Type 0} (tells : D → DiskTells) (journal : Journaled D) (i : Intake) (b : Batch) : Type 0 where
   pub batch : IsBatch i b
+  pub number : i.before ≡ journal.base.number
   pub room : HasRoom journal b.block
   pub journaled : journal.state ≡ Ready → HasJournaled tells journal (take b.mark.kept i.entries) b.mark.bytes
 
@@ -85,6 +88,7 @@ FirstBy i answers says None (Some first) =
 -- an event was taken
 pub record IsTaken (i j : Intake) (b c : Batch) (says : ℕ → Handled) (s : Option Stop) : Type 0 where
   pub after : j ≡ (says 0).intake
+  pub number : j.before ≡ i.before
   pub answers : c.answers.items ≡ b.answers.items ++ (says 0).answer ∷ []
   pub stops : s ≡ (says 0).answer.stop
   pub no_fault : (says 0).answer.stop ≢ Some stop.DiskFault
@@ -95,6 +99,7 @@ pub record IsTaken (i j : Intake) (b c : Batch) (says : ℕ → Handled) (s : Op
 -- no memory was to be had for an event
 pub record IsLeft (i j : Intake) (b c : Batch) : Type 0 where
   pub entries : j.entries ≡ i.entries
+  pub number : j.before ≡ i.before
   pub block : c.block ≡ b.block
   pub answers : c.answers.items ≡ b.answers.items
   pub first : c.first ≡ b.first

@@ -2,6 +2,7 @@
 
 ghost use Rattle.std.specs.Prelude.{◌≡◌, ◌⊎◌, ◌≤◌, ◌<◌, ◌++◌, ◌+◌, ◌-◌, [], ◌∷◌, length, take, reverse, slice_set, Option, None, false};
 ghost use Rattle.outside.specs.Causes.{Rose};
+ghost use Rattle.intake_journal.specs.Based.{most_counted};
 ghost use Rattle.intake_journal.specs.declared.state.State.TheVariants as state;
 ghost use Rattle.intake_front.specs.Fronted.{IsReady, all_of};
 ghost use Rattle.intake_front.specs.Batch.{has_list, begins_with_list, goes_on};
@@ -63,7 +64,7 @@ impl Mark {
     pub(crate) fn of(held: &Held) -> Mark
         ensures value { result ≡ mark_of held.entry.now }
         ensures few { held.entry.now.groups ≤ length held.entry.now.entries }
-        ensures from_one { held.entry.now.before ≡ 0 }
+        ensures counted { held.entry.now.before ≤ most_counted }
     {
         Mark {
             kept: held.entries.len(),
@@ -200,7 +201,8 @@ pub(crate) fn commit<D: Disk>(
     ensures failed { journal.new.state ≡ state.Broken → (result ≡ failing_of batch.old.answers.items batch.old.first)
         × (held.new ≡ back_to held.old batch.old.mark)
         × (0 < length batch.old.block) × Rose (D.tells journal.old.disk).faults (D.tells journal.new.disk).faults }
-    ensures written { IsWritten (D.tells journal.old.disk) (D.tells journal.new.disk)
+    ensures base { journal.new.base ≡ journal.old.base }
+    ensures written { IsWritten (D.tells journal.old.disk) (D.tells journal.new.disk) journal.old.base
         (take batch.old.mark.kept held.old.entries) held.old.entries }
     ensures waiting { IsWaiting D.tells journal.new held.new batch.new }
     ensures block { batch.new.block ≡ [] }

@@ -1,30 +1,51 @@
 //! Whether the entries that a journal kept fit the configurations in force.
 
 ghost use Rattle.std.specs.Prelude.{◌≡◌, ◌≤◌, ◌+◌, ◌++◌, [], length, map, IsTrue, ◌↔◌, MatchBool, List, ℕ, Some};
-ghost use Rattle.entry_step.specs.InForce.{FitsLog, config_texts, texts_of};
+ghost use Rattle.entry_laws.specs.InForce.{FitsLog, texts_of, texts_on};
 ghost use Rattle.entry_step.specs.Log.{log_of, IsFitting, is_config, is_taking};
+ghost use Rattle.entry_step.specs.Start.{Start};
 ghost use Rattle.zbx_types.specs.Entries.{moment_of};
 ghost use Rattle.zbx_types.specs.Ids.{at_id};
 ghost use Rattle.zbx_types.specs.declared.conf.Conf.{Conf};
 ghost use Rattle.zbx_types.specs.declared.entries.Numbered.{Numbered};
 ghost use Rattle.intake_front.specs.Fronted.{numbered_of};
 ghost use Rattle.intake_front.specs.Misfit.{IsFirstMisfit, FitsAfter, HasReached, in_force, log_with};
+ghost use Rattle.intake_front.specs.Standing.{StandsFor};
 
 use intake_journal::Group;
 use std::marker::Model;
-use zbx_types::{Conf, Entry, Moment, by_id};
+use zbx_types::{Base, Conf, Entry, Moment, by_id};
 
 /// How much of a journal's entries was judged.
 #[derive(Clone, Copy)]
 struct Judged {
-    /// The moment of the last of them, or None where there is none.
+    /// The moment that they have reached, or None where nothing stands before the first of them.
     last: Option<Moment>,
-    /// How many of them are Configs.
+    /// How many configurations there were: that of the base, where it has one, and those of their Configs.
     configs: usize,
 }
 
-/// What judges the groups of a journal one after the other. Contracts see how much was judged: the moment that the
-/// groups before have reached, or None in front of the first group, and how many Configs they have.
+/// That of no entries on a base.
+#[tactic(auto, using(crate::proofs::Misfits::none_reached, crate::proofs::Misfits::base_reached))]
+fn judged_on(base: &Base) -> Judged
+    ensures { (flat : List ℕ → Conf) (start : Start) → StandsFor flat base.entry.now start
+        → HasReached flat start [] result }
+{
+    if base.text.as_bytes().is_empty() {
+        return Judged {
+            last: None,
+            configs: 0,
+        };
+    }
+    Judged {
+        last: Some(base.now),
+        configs: 1,
+    }
+}
+
+/// What judges the groups of a journal one after the other. Contracts see how much was judged: the moment that was
+/// reached before the next group, or None where neither a base nor an entry stands before it, and how many
+/// configurations there were.
 #[derive(Drop)]
 pub struct Judge {
     judged: Judged,
@@ -39,43 +60,42 @@ impl Model for Judge {
 }
 
 impl Judge {
-    /// The judge of a journal's first group.
-    pub fn new() -> Judge
-        ensures { (flat : List ℕ → Conf) → HasReached flat [] result }
+    /// The judge of a journal's first group, which stands on this base.
+    pub fn on(base: &Base) -> Judge
+        ensures { (flat : List ℕ → Conf) (start : Start) → StandsFor flat base.entry.now start
+            → HasReached flat start [] result }
     {
         Judge {
-            judged: Judged {
-                last: None,
-                configs: 0,
-            },
+            judged: judged_on(base),
         }
     }
 
-    /// Whether the entries of a group fit behind those of the groups before, all of which fit. `confs` has the
-    /// configurations of all Configs up to and with this group's, in their order: a value is judged beside the
-    /// configuration in force where it stands. Where the entries fit, the judge goes on behind them. Takes no memory.
+    /// Whether the entries of a group fit behind those of the groups before, all of which fit. `confs` has that of the
+    /// base, where it has one, and the configurations of all Configs up to and with this group's, in their order: a value
+    /// is judged beside the configuration in force where it stands. Where the entries fit, the judge goes on behind them.
+    /// Takes no memory.
     pub fn judge(&mut self, confs: &[Conf], group: &Group) -> bool
-        ensures { (flat : List ℕ → Conf) (before : ℕ) (log : List Numbered) → HasReached flat log self.old
-            → confs.now ≡ map flat (config_texts (log_of (log_with before log group.now.entries)))
-            → MatchBool result (HasReached flat (log_with before log group.now.entries) self.new)
-            (¬ (FitsLog flat (log_with before log group.now.entries))) }
+        ensures { (flat : List ℕ → Conf) (start : Start) (before : ℕ) (log : List Numbered)
+            → HasReached flat start log self.old
+            → confs.now ≡ map flat (texts_on start.stage.conf.text (log_of (log_with before log group.now.entries)))
+            → MatchBool result (HasReached flat start (log_with before log group.now.entries) self.new)
+            (¬ (FitsLog flat start (log_with before log group.now.entries))) }
     {
         group_fits(confs, &mut self.judged, group)
     }
 }
 
-/// The place of the first group whose entries don't fit, or None where all fit: the first entry is a Config of moment 0,
-/// no moment falls, and each value is of an enabled trapper item of the configuration in force, and no later than its
-/// moment. Whether the item's host is enabled doesn't matter. `confs` has the configurations of all Configs, in their
-/// order. The place is that of the group's gate, in bytes from the file's beginning. Takes no memory.
-pub fn first_misfit(confs: &[Conf], kept: &[Group]) -> Option<u64>
-    ensures { (flat : List ℕ → Conf) → confs.now ≡ map flat (config_texts (numbered_of kept.now))
-        → IsFirstMisfit flat kept.now result }
+/// The place of the first group of a journal on this base whose entries don't fit, or None where all fit: no moment falls,
+/// from the base's on, and each value is of an enabled trapper item of the configuration in force, and no later than its
+/// moment; on an empty base the first entry is a Config of moment 0. Whether the item's host is enabled doesn't matter.
+/// `confs` has that of the base, where it has one, and the configurations of all Configs, in their order. The place is
+/// that of the group's gate, in bytes from the file's beginning. Takes no memory.
+pub fn first_misfit(base: &Base, confs: &[Conf], kept: &[Group]) -> Option<u64>
+    ensures { (flat : List ℕ → Conf) (start : Start) → StandsFor flat base.entry.now start
+        → confs.now ≡ map flat (texts_on start.stage.conf.text (numbered_of start.number kept.now))
+        → IsFirstMisfit flat start kept.now result }
 {
-    let mut judged = Judged {
-        last: None,
-        configs: 0,
-    };
+    let mut judged = judged_on(base);
     for group in kept {
         if !group_fits(confs, &mut judged, group) {
             return Some(group.at);
@@ -86,11 +106,11 @@ pub fn first_misfit(confs: &[Conf], kept: &[Group]) -> Option<u64>
 
 /// Whether the entries of a group fit behind those that were judged, with which they are judged then.
 fn group_fits(confs: &[Conf], judged: &mut Judged, group: &Group) -> bool
-    ensures { (flat : List ℕ → Conf) (before : ℕ) (log : List Numbered) (rest : List Conf)
-        → HasReached flat log judged.old
-        → confs.now ≡ map flat (config_texts (log_of (log_with before log group.now.entries))) ++ rest
-        → MatchBool result (HasReached flat (log_with before log group.now.entries) judged.new)
-        (¬ (FitsLog flat (log_with before log group.now.entries))) }
+    ensures { (flat : List ℕ → Conf) (start : Start) (before : ℕ) (log : List Numbered) (rest : List Conf)
+        → HasReached flat start log judged.old
+        → confs.now ≡ map flat (texts_on start.stage.conf.text (log_of (log_with before log group.now.entries))) ++ rest
+        → MatchBool result (HasReached flat start (log_with before log group.now.entries) judged.new)
+        (¬ (FitsLog flat start (log_with before log group.now.entries))) }
 {
     entries_fit(confs, judged, group.entries.as_slice())
 }
@@ -98,11 +118,11 @@ fn group_fits(confs: &[Conf], judged: &mut Judged, group: &Group) -> bool
 /// Whether entries fit behind those that were judged, with which they are judged then. The configurations of their
 /// Configs stand behind those of the Configs before, and more may follow.
 fn entries_fit(confs: &[Conf], judged: &mut Judged, entries: &[Entry]) -> bool
-    ensures { (flat : List ℕ → Conf) (before : ℕ) (log : List Numbered) (rest : List Conf)
-        → HasReached flat log judged.old
-        → confs.now ≡ map flat (config_texts (log_of (log_with before log entries.now))) ++ rest
-        → MatchBool result (HasReached flat (log_with before log entries.now) judged.new)
-        (¬ (FitsLog flat (log_with before log entries.now))) }
+    ensures { (flat : List ℕ → Conf) (start : Start) (before : ℕ) (log : List Numbered) (rest : List Conf)
+        → HasReached flat start log judged.old
+        → confs.now ≡ map flat (texts_on start.stage.conf.text (log_of (log_with before log entries.now))) ++ rest
+        → MatchBool result (HasReached flat start (log_with before log entries.now) judged.new)
+        (¬ (FitsLog flat start (log_with before log entries.now))) }
 {
     for entry in entries {
         if !entry_fits(confs, judged, entry) {

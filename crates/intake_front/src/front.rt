@@ -6,12 +6,15 @@ ghost use Rattle.intake_front.specs.Intake.{Intake};
 ghost use Rattle.std.specs.Prelude.{List, ◌⊎◌, ◌≡◌, ◌≢◌, ◌≤◌, ◌<◌, ℕ, ◌++◌, ◌+◌, [], ◌∷◌, length, Some, None, Err, is_some, IsTrue, IfSome, IfOk, IfErr, OnOk, OnErr};
 ghost use Rattle.outside.specs.Causes.{Rose};
 ghost use Rattle.outside.specs.Disk.{LeavesOnly};
-ghost use Rattle.entry_step.specs.InForce.{FitsLog};
-ghost use Rattle.entry_step.specs.Log.{log_of, IsFull};
+ghost use Rattle.entry_laws.specs.InForce.{FitsLog, IsFull};
+ghost use Rattle.entry_step.specs.Log.{log_of};
+ghost use Rattle.entry_step.specs.Start.{Start};
+ghost use Rattle.intake_journal.specs.Based.{most_counted};
 ghost use Rattle.intake_journal.specs.Block.{entries_with_all, bytes_with_all, passes_with_all};
 ghost use Rattle.intake_journal.specs.declared.state.State.TheVariants as state;
 ghost use Rattle.intake_front.specs.Intake.{start, handled, opening_group, IsSound};
 ghost use Rattle.intake_front.specs.Fronted.{HasJournaled, KeepsEither, IsKept, IsReady, limits_of, refused_group, disk_of};
+ghost use Rattle.intake_front.specs.Standing.{StandsFor};
 ghost use Rattle.intake_front.specs.Batch.{answered, IsIdle, HasTaken, goes_on};
 ghost use Rattle.intake_front.specs.declared.answer.Stop.TheVariants as stop;
 ghost use Rattle.intake_front.specs.declared.answer.FrontError.TheVariants as error;
@@ -27,11 +30,11 @@ use intake_journal::{Block, Journal};
 use outside::{Disk, WireEvent};
 use std::alloc::Global;
 use std::marker::Model;
-use zbx_types::{Many, Numbered, OutOfMemory};
+use zbx_types::{Base, Many, Numbered, OutOfMemory};
 
 /// The intake of a run over its journal. Contracts see the journal, and the intake behind all events that were taken:
-/// its moment in nanoseconds, the half minute of the last Tick, the connections that are there, the entries in the
-/// order of their numbers, the journal's bytes up to and with the gate behind its last group, and how many groups
+/// its moment in nanoseconds, the half minute of the last Tick, the connections that are there, the number of its
+/// journal's base, the entries in the order of their numbers, the journal's bytes up to and with the gate behind its last group, and how many groups
 /// this run added. Of events that wait for a commit they see which entries the journal keeps, the groups that wait,
 /// and what the events are answered with: where these groups are kept, and where the disk refuses them.
 #[derive(Drop)]
@@ -59,10 +62,11 @@ impl<D: Disk> Model for Front<D> {
 }
 
 impl<D: Disk> Front<D> {
-    /// The intake of a run over a journal of which all groups were read, and whose kept entries these are. The
-    /// configuration of `ready` is the one in force from here on: unless the last Config of the kept entries has its
-    /// very text, this is journaled behind them, a group of its own, at the moment of the last entry, or as entry 1 at
-    /// moment 0 where there is none. No connection is there. All memory is taken before the write.
+    /// The intake of a run over a journal of which all groups were read, and whose kept entries these are; they stand on
+    /// its base. The configuration of `ready` is the one in force from here on: unless the last configuration, that of
+    /// the last Config of the kept entries or of the base, has its very text, this is journaled behind them, a group of
+    /// its own, at the moment of the last entry, or of the base where there is none, which is moment 0 for the empty one.
+    /// No connection is there. All memory is taken before the write.
     ///
     /// # Errors
     ///
@@ -75,25 +79,29 @@ impl<D: Disk> Front<D> {
         kept: Many<Numbered>,
     ) -> Result<Front<D>, Unmade<D>>
         requires read { journal.state ≡ state.Ready }
+        requires counted { journal.base.number ≤ most_counted }
         requires journaled { HasJournaled D.tells journal kept (journal.at + 1) }
 
-        ensures made { IfOk result (λ f. f.intake ≡ start ready.now.conf.text kept (journal.at + 1)) }
-        ensures sound { IfOk result (λ f. (flat : List ℕ → Conf) → flat ready.now.conf.text ≡ ready.now.conf
-            → IsFull (log_of kept) → FitsLog flat (log_of kept) → IsSound flat ready.now.conf f.intake) }
-        ensures durable { IfOk result (λ f. IsKept (D.tells f.journal.disk) f.intake.entries) }
+        ensures made { IfOk result (λ f. f.intake ≡ start journal.base ready.now.conf.text kept (journal.at + 1)) }
+        ensures sound { IfOk result (λ f. (flat : List ℕ → Conf) (before : Start)
+            → flat ready.now.conf.text ≡ ready.now.conf → StandsFor flat journal.base before
+            → IsFull before (log_of kept) → FitsLog flat before (log_of kept)
+            → IsSound flat before ready.now.conf f.intake) }
+        ensures durable { IfOk result (λ f. IsKept (D.tells f.journal.disk) journal.base f.intake.entries) }
         ensures state { IfOk result (λ f. IsReady journal f.journal) }
+        ensures base { IfOk result (λ f. f.journal.base ≡ journal.base) }
         ensures idle { IfOk result (λ f. IsIdle f) }
 
         ensures back { IfErr result (λ u. u.kept ≡ kept) }
-        ensures full { opening_group ready.now.conf.text kept ≢ []
-            → IsTrue (passes_with_all journal (opening_group ready.now.conf.text kept ∷ []))
+        ensures full { opening_group journal.base ready.now.conf.text kept ≢ []
+            → IsTrue (passes_with_all journal (opening_group journal.base ready.now.conf.text kept ∷ []))
             → IfOk result (λ _. ⊥) × IfErr result (λ u. u.error ≢ error.DiskFault) }
         ensures only_full { IfErr result (λ u. (entries bytes : ℕ) → u.error ≡ error.Full entries bytes
-            → (opening_group ready.now.conf.text kept ≢ [])
-            × IsTrue (passes_with_all journal (opening_group ready.now.conf.text kept ∷ []))
-            × (entries ≡ entries_with_all journal (opening_group ready.now.conf.text kept ∷ []))
-            × (bytes ≡ bytes_with_all journal (opening_group ready.now.conf.text kept ∷ []))) }
-        ensures fault { IfErr result (λ u. u.error ≡ error.DiskFault → (opening_group ready.now.conf.text kept ≢ [])
+            → (opening_group journal.base ready.now.conf.text kept ≢ [])
+            × IsTrue (passes_with_all journal (opening_group journal.base ready.now.conf.text kept ∷ []))
+            × (entries ≡ entries_with_all journal (opening_group journal.base ready.now.conf.text kept ∷ []))
+            × (bytes ≡ bytes_with_all journal (opening_group journal.base ready.now.conf.text kept ∷ []))) }
+        ensures fault { IfErr result (λ u. u.error ≡ error.DiskFault → (opening_group journal.base ready.now.conf.text kept ≢ [])
             × Rose (D.tells journal.disk).faults (D.tells u.disk).faults) }
         ensures same { IfErr result (λ u. u.error ≢ error.DiskFault → u.disk ≡ journal.disk) }
         ensures later { (D.tells journal.disk).faults ≤ (D.tells (disk_of result)).faults }
@@ -103,7 +111,7 @@ impl<D: Disk> Front<D> {
         // them.
         ensures any_moment { IfSome (D.tells journal.disk).bytes
             (λ _. LeavesOnly (D.tells journal.disk) (D.tells (disk_of result))
-            (KeepsEither kept (start ready.now.conf.text kept (journal.at + 1)).entries)) }
+            (KeepsEither journal.base kept (start journal.base ready.now.conf.text kept (journal.at + 1)).entries)) }
     {
         let mut journal = journal;
         let block = match Block::new(alloc) {
@@ -135,7 +143,14 @@ impl<D: Disk> Front<D> {
         }
     }
 
-    /// All entries that were numbered, in the order of their numbers, which count from 1.
+    /// The base on which the entries of the journal stand, which is the empty one where it has none.
+    pub fn base(&self) -> &Base
+        ensures { result.now ≡ self.entry.now.journal.base }
+    {
+        self.inside.journal.base()
+    }
+
+    /// All entries that were numbered, in the order of their numbers, which count on from that of the base.
     pub fn entries(&self) -> &[Numbered]
         ensures { result.now ≡ self.entry.now.intake.entries }
     {
@@ -182,20 +197,21 @@ impl<D: Disk> Front<D> {
         ensures after { IfOk result (λ a. self.new.intake ≡ (handled
             (limits_of self.old.journal (refused_group self.old.intake a.stop)) ready.now.conf self.old.intake
             event.now).intake) }
-        ensures keeps { OnOk result ((flat : List ℕ → Conf) → IsSound flat ready.now.conf self.old.intake
-            → IsSound flat ready.now.conf self.new.intake) }
+        ensures keeps { OnOk result ((flat : List ℕ → Conf) (before : Start)
+            → IsSound flat before ready.now.conf self.old.intake
+            → IsSound flat before ready.now.conf self.new.intake) }
         ensures err { OnErr result ((self.new.intake.entries ≡ self.old.intake.entries)
             × (self.new.journal ≡ self.old.journal)) }
 
         // An answer is given once each crash leaves all entries, unless the disk failed: a reply counts no value as
         // processed then.
         ensures durable { IfOk result (λ a. a.stop ≢ Some stop.DiskFault
-            → IsKept (D.tells self.new.journal.disk) self.new.intake.entries) }
+            → IsKept (D.tells self.new.journal.disk) self.old.journal.base self.new.intake.entries) }
 
         // A crash at any moment of the call leaves the entries from before it, or these with all that the event adds.
         ensures any_moment { IfSome (D.tells self.old.journal.disk).bytes
             (λ _. LeavesOnly (D.tells self.old.journal.disk) (D.tells self.new.journal.disk)
-            (KeepsEither self.old.intake.entries (handled (limits_of self.old.journal 0) ready.now.conf self.old.intake
+            (KeepsEither self.old.journal.base self.old.intake.entries (handled (limits_of self.old.journal 0) ready.now.conf self.old.intake
             event.now).intake.entries)) }
 
         ensures fault { IfOk result (λ a. a.stop ≡ Some stop.DiskFault
@@ -204,6 +220,7 @@ impl<D: Disk> Front<D> {
         ensures told { is_some (D.tells self.new.journal.disk).bytes ≡ is_some (D.tells self.old.journal.disk).bytes }
         ensures state { IfOk result (λ a. a.stop ≢ Some stop.DiskFault → IsReady self.old.journal self.new.journal) }
         ensures broken { IfOk result (λ a. a.stop ≡ Some stop.DiskFault → self.new.journal.state ≡ state.Broken) }
+        ensures base { self.new.journal.base ≡ self.old.journal.base }
         ensures idle { IsIdle self.new }
     {
         let inside = &mut self.inside;
@@ -242,8 +259,9 @@ impl<D: Disk> Front<D> {
             → (answered (limits_of self.old.journal 0) collection.old begun events).stop ≡ None
             → HasTaken collection.old begun events self.old
             → HasTaken collection.old begun (events ++ event.now ∷ []) self.new) }
-        ensures keeps { OnOk result ((flat : List ℕ → Conf) → IsSound flat collection.old self.old.intake
-            → IsSound flat collection.old self.new.intake) }
+        ensures keeps { OnOk result ((flat : List ℕ → Conf) (before : Start)
+            → IsSound flat before collection.old self.old.intake
+            → IsSound flat before collection.old self.new.intake) }
         ensures same { collection.new ≡ collection.old }
         ensures journal { self.new.journal ≡ self.old.journal }
         ensures kept { self.new.kept ≡ self.old.kept }
@@ -285,15 +303,16 @@ impl<D: Disk> Front<D> {
             × (self.new.intake.entries ≡ self.old.kept) × (0 < length self.old.block)
             × Rose (D.tells self.old.journal.disk).faults (D.tells self.new.journal.disk).faults }
         ensures idle { IsIdle self.new }
+        ensures base { self.new.journal.base ≡ self.old.journal.base }
 
         // Answers are given once each crash leaves all entries, unless the disk failed.
         ensures durable { self.new.journal.state ≡ state.Ready
-            → IsKept (D.tells self.new.journal.disk) self.new.intake.entries }
+            → IsKept (D.tells self.new.journal.disk) self.old.journal.base self.new.intake.entries }
 
         // A crash at any moment of the call leaves the entries that were kept before it, or these with all that waited.
         ensures any_moment { IfSome (D.tells self.old.journal.disk).bytes
             (λ _. LeavesOnly (D.tells self.old.journal.disk) (D.tells self.new.journal.disk)
-            (KeepsEither self.old.kept self.old.intake.entries)) }
+            (KeepsEither self.old.journal.base self.old.kept self.old.intake.entries)) }
 
         ensures later { (D.tells self.old.journal.disk).faults ≤ (D.tells self.new.journal.disk).faults }
         ensures told { is_some (D.tells self.new.journal.disk).bytes ≡ is_some (D.tells self.old.journal.disk).bytes }

@@ -5,9 +5,10 @@
 //! intake that the definition `handled` says and is answered as it says, once each crash leaves the entries that it
 //! added; and entries that fit, each the configuration in force where it stands, stay so.
 //!
-//! The configuration in force is that of the last Config. Entry 1 is one. A run that goes on with a configuration of
-//! another text than that of the last Config journals it, at the moment that the entries have reached. `Judge` judges
-//! the groups that a journal kept beside the configurations of their Configs.
+//! The configuration in force is that of the last Config, or that of the journal's base where no entry is one. On an
+//! empty base entry 1 is one. A run that goes on with a configuration of another text than that of the last one journals
+//! it, at the moment that the entries have reached. `Judge` judges the groups that a journal kept beside the
+//! configurations of the base and of their Configs.
 //!
 //! An event sets the moment, which never goes back, and offers a Tick to the journal where none was numbered in this
 //! half minute. Then it does what it means for its connection. A whole frame is read as a request of the sender

@@ -56,8 +56,8 @@ fn offer<D: Disk>(
 {
     let first = held.before + held.entries.as_slice().len() as u64 + 1;
     let count = ticks.as_slice().len() + draft.group.as_slice().len();
-    let added = numbered_both(alloc, first, ticks.as_slice(), draft.group.as_slice())?;
     held.entries.reserve(count)?;
+    let added = numbered_both(alloc, first, ticks.as_slice(), draft.group.as_slice())?;
     batch.answers.reserve(1)?;
     let staged = stage_both(
         alloc,

@@ -3,6 +3,7 @@
 ghost use Rattle.std.specs.Prelude.{◌≡◌, ◌≤◌, ◌<◌, ◌++◌, ◌+◌, ◌^◌, ◌||◌, [], length, is_some, Option, OnOk, IfOk};
 ghost use Rattle.std.specs.Vec.{vec_len, vec_capacity};
 ghost use Rattle.entry_step.specs.Log.{tick_of};
+ghost use Rattle.intake_journal.specs.Based.{most_counted};
 ghost use Rattle.intake_front.specs.Intake.{numbered_from, with_group};
 ghost use Rattle.intake_front.specs.Staging.{groups_in, fault_at, settled};
 ghost use Rattle.intake_front.specs.Waiting.{has_tick};
@@ -72,7 +73,7 @@ fn number(
     first: u64,
     group: &[Entry],
 ) -> Result<(), OutOfMemory>
-    requires { first ≤ 2 ^ 63 }
+    requires { first + length made.old + length group.now < 2 ^ 64 }
     ensures { OnOk result (made.new ≡ made.old ++ numbered_from (first + length made.old) group.now) }
 {
     for entry in group {
@@ -92,7 +93,7 @@ pub(crate) fn numbered_both(
     ticks: &[Entry],
     group: &[Entry],
 ) -> Result<Many<Numbered>, OutOfMemory>
-    requires { first ≤ 2 ^ 63 }
+    requires { first + length ticks.now + length group.now < 2 ^ 64 }
     ensures { IfOk result (λ made. made ≡ numbered_from first (ticks.now ++ group.now)) }
 {
     let mut made = Many::new(alloc);
@@ -104,7 +105,7 @@ pub(crate) fn numbered_both(
 /// Moves a group behind entries, before all of which an entry with this number stands, with the numbers behind theirs.
 /// There is room for it. Takes no memory.
 pub(crate) fn enter(before: u64, entries: &mut Vec<Numbered>, group: Many<Entry>)
-    requires few { before ≤ 2 ^ 62 }
+    requires few { before ≤ most_counted }
     requires room { vec_len entries.old + length group ≤ vec_capacity entries.old }
     ensures items { entries.new.items ≡ with_group before entries.old.items group }
     ensures len { vec_len entries.new ≡ vec_len entries.old + length group }

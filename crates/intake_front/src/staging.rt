@@ -101,12 +101,13 @@ pub(crate) fn write<D: Disk>(journal: &mut Journal<D>, block: &Block) -> bool
     requires room { HasRoom journal.old block.now }
     ensures kept { IsTrue result → (entries : List Numbered) (size : ℕ)
         → HasJournaled D.tells journal.old entries size
-        → HasJournaled D.tells journal.new (with_group 0 entries (all_of block.now))
+        → HasJournaled D.tells journal.new (with_group journal.old.base.number entries (all_of block.now))
         (size + length (opened_bytes block.now)) }
     ensures any_moment { (entries : List Numbered) (size : ℕ) → HasJournaled D.tells journal.old entries size
         → IfSome (D.tells journal.old.disk).bytes (λ _. LeavesOnly (D.tells journal.old.disk)
-        (D.tells journal.new.disk) (KeepsEither entries (with_group 0 entries (all_of block.now)))) }
+        (D.tells journal.new.disk) (KeepsEither journal.old.base entries (with_group journal.old.base.number entries (all_of block.now)))) }
     ensures ready { IsTrue result → IsReady journal.old journal.new }
+    ensures base { journal.new.base ≡ journal.old.base }
     ensures broken { result ≡ false → journal.new.state ≡ Broken }
     ensures fault { result ≡ false → (0 < length block.now)
         × Rose (D.tells journal.old.disk).faults (D.tells journal.new.disk).faults }

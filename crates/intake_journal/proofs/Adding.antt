@@ -1,15 +1,15 @@
 -- What a file keeps while a group is added, and once it is there.
-use Rattle.std.proofs.Common.{◌≡◌, ◌≢◌, inl, inr, ℕ, ◌≤◌, true, List, [], ◌∷◌, ◌++◌, length, get_or, take, Option, Some, None, IfSome, refl, sym, ◌∙◌, ap, arith, length-append, true≢false}
+use Rattle.std.proofs.Common.{◌≡◌, ◌≢◌, inl, inr, ℕ, ◌≤◌, true, List, [], ◌∷◌, ◌++◌, length, get_or, Option, Some, None, IfSome, refl, sym, ◌∙◌, ap, arith, length-append, true≢false}
 use Rattle.std.specs.Prelude.{is_some, nat_le, unwrap_or}
 use Rattle.std.proofs.lemmas.Bool.{cases_lt, le-leb}
-use Rattle.std.proofs.lemmas.List.{drop_at, take-append-le}
+use Rattle.std.proofs.lemmas.List.{drop_at}
 use Rattle.outside.specs.Disk.{DiskTells}
-use Rattle.intake_journal.specs.Kept.{Fresh, Groups, magic, kept_behind, kept_from, kept, groups_of}
+use Rattle.intake_journal.specs.Kept.{Fresh, Groups, kept_behind, kept, groups_of, base_at, base_in}
 use Rattle.intake_journal.specs.Settled.{IsFront, IsDurable, IsSettled}
 use Rattle.intake_journal.specs.declared.format.Group.{Group}
 use Rattle.intake_journal.specs.declared.state.State.{State}
 use Rattle.intake_journal.specs.declared.state.State.TheVariants.{Reading, Ready, Broken}
-use Rattle.intake_journal.proofs.Fronts.{keeps_closed, closed, kept_long}
+use Rattle.intake_journal.proofs.Fronts.{keeps_closed, closed, kept_begun}
 
 pub fresh : (file : List ℕ) → length file ≤ 9 → kept file ≡ Fresh
 unfolding kept
@@ -30,14 +30,15 @@ groups_closed first gs front gate rest is shut = elim (cases_lt 9 (length file))
   | inr short ↦
       let none : length front ≡ first = omega (arith, is.behind, is.long, short, length-append front (gate ∷ rest)) in
       ap groups_of (fresh file short) ∙ ap Some (sym (none_short first gs front is none))
-  | inl long ↦ ap groups_of (kept_long file long ours ∙ ap (λ (n : ℕ). kept_from n file) (is.first_is (gate ∷ rest)) ∙ keeps_closed first gs front gate rest is shut)
+  | inl long ↦ ap groups_of (kept_begun file first is.base long (is.begins gate rest) ∙ keeps_closed first gs front gate rest is shut)
 ]
   where
     file : List ℕ
     file = front ++ gate ∷ rest
 
-    ours : take 8 file ≡ magic
-    ours = take-append-le 8 front (gate ∷ rest) (omega (arith, is.behind, is.long)) ∙ is.ours
+-- and the base, whatever the gate
+pub base_front : (first : ℕ) (gs : List Group) (front : List ℕ) (gate : ℕ) (rest : List ℕ) (is : IsFront first gs front) → base_in (front ++ gate ∷ rest) ≡ is.base
+base_front first gs front gate rest is = ap base_at (is.begins gate rest)
 
 -- where the old bytes are told, the new ones are
 pub told_too : {A B : Type 0} (old : Option A) (new : Option B) (P : B → Type 0) → is_some new ≡ is_some old → ((a : A) → old ≡ Some a → (b : B) → new ≡ Some b → P b) → IfSome new P

@@ -7,13 +7,14 @@ use Rattle.std.proofs.lemmas.List.{take_at, take_more, drop_more, get_or_at, len
 use Rattle.outside.specs.Disk.{DiskTells, overwritten, Only, LeavesOnly}
 use Rattle.zbx_types.specs.declared.entries.Entry.{Entry}
 use Rattle.gated_file.specs.Around.{IsAround}
-use Rattle.intake_journal.specs.Kept.{longest_journal, kept, groups_of}
+use Rattle.intake_journal.specs.Kept.{longest_journal, kept, groups_of, base_in}
 use Rattle.intake_journal.specs.Settled.{IsFront, IsDurable}
 use Rattle.intake_journal.specs.Block.{opened_bytes, placed, count_all, added_all, KeepsNoneOrAll, IsReadable}
 use Rattle.intake_journal.specs.declared.format.Group.{Group}
 use Rattle.gated_file.proofs.Torn.{behind, opened_is}
 use Rattle.gated_file.proofs.Moments.{if_some, told_of}
-use Rattle.intake_journal.proofs.Adding.{groups_closed, told_too}
+use Rattle.gated_file.proofs.Openings.{leaves_less}
+use Rattle.intake_journal.proofs.Adding.{groups_closed, base_front, told_too}
 use Rattle.intake_journal.proofs.Blocks.{front_with, count_entries-placed}
 
 module _ (disk : DiskTells) (first at entries : ℕ) (b : List ℕ) (is : IsDurable disk first at entries b) (shut : get_or b at 1 ≢ 1) (groups : List (List Entry))
@@ -36,10 +37,11 @@ module _ (disk : DiskTells) (first at entries : ℕ) (b : List ℕ) (is : IsDura
   is_front : IsFront first all longer
   is_front = subst (λ (n : ℕ). IsFront first (gs ++ placed n groups) longer) front_length (front_with first gs front groups is.front readable (omega (arith, front_length, within)))
 
+  split : b ≡ front ++ get_or b at 1 ∷ drop (at + 1) b
+  split = sym (take-append-drop at b) ∙ ap (λ (l : List ℕ). front ++ l) (drop_more b at 1 is.gate)
+
   before : groups_of (kept b) ≡ Some gs
-  before =
-      let split : b ≡ front ++ get_or b at 1 ∷ drop (at + 1) b = sym (take-append-drop at b) ∙ ap (λ (l : List ℕ). front ++ l) (drop_more b at 1 is.gate) in
-      ap (λ (l : List ℕ). groups_of (kept l)) split ∙ groups_closed first gs front (get_or b at 1) (drop (at + 1) b) is.front shut
+  before = ap (λ (l : List ℕ). groups_of (kept l)) split ∙ groups_closed first gs front (get_or b at 1) (drop (at + 1) b) is.front shut
 
   behind_block : (rest : List ℕ) → front ++ 1 ∷ (block ++ rest) ≡ longer ++ 0 ∷ rest
   behind_block rest =
@@ -64,6 +66,16 @@ module _ (disk : DiskTells) (first at entries : ℕ) (b : List ℕ) (is : IsDura
     | inr other ↦ inl (ap (λ (l : List ℕ). groups_of (kept l)) there.2 ∙ groups_closed first gs front there.0 (block ++ there.1) is.front other ∙ sym before)
   ]
 
+  same_base : (gate : ℕ) (rest : List ℕ) → base_in (front ++ gate ∷ rest) ≡ base_in b
+  same_base gate rest = base_front first gs front gate rest is.front ∙ sym (ap (λ (l : List ℕ). base_in l) split ∙ base_front first gs front (get_or b at 1) (drop (at + 1) b) is.front)
+
+  -- and the base from before
+  pub around_base : (c : List ℕ) → IsAround b at block c → base_in c ≡ base_in b
+  around_base c (inl same) =
+      let whole : c ≡ front ++ get_or b at 1 ∷ same.0 = same.1 ∙ ap (λ (l : List ℕ). l ++ same.0) (take_more b at 1 is.gate) ∙ append_assoc front (get_or b at 1 ∷ []) same.0 in
+      ap (λ (l : List ℕ). base_in l) whole ∙ same_base (get_or b at 1) same.0
+  around_base c (inr there) = ap (λ (l : List ℕ). base_in l) there.2 ∙ same_base there.0 (block ++ there.1)
+
   -- at each moment
   pub moments_keep : (old new : DiskTells) → LeavesOnly old new (IsAround b at block) → LeavesOnly old new (KeepsNoneOrAll (groups_of (kept b)) at groups)
   moments_keep old new around = record {
@@ -81,6 +93,10 @@ module _ (disk : DiskTells) (first at entries : ℕ) (b : List ℕ) (is : IsDura
   -- the file with the groups
   pub finished_keeps : groups_of (kept finished) ≡ added_all at groups (groups_of (kept b))
   finished_keeps = ap (λ (l : List ℕ). groups_of (kept l)) finished_is ∙ counts (behind b at block is.gate)
+
+  -- and with the base from before
+  pub finished_base : base_in finished ≡ base_in b
+  finished_base = ap (λ (l : List ℕ). base_in l) finished_is ∙ same_base 1 (block ++ behind b at block is.gate)
 
   -- the journal goes on behind the groups
   pub finished_settled : (new : DiskTells) → Only finished new → IsDurable new first (at + length (opened_bytes groups)) (entries + count_all groups) finished × (get_or finished (at + length (opened_bytes groups)) 1 ≢ 1)
@@ -119,6 +135,12 @@ module _ (old new : DiskTells) (first at entries : ℕ) (groups : List (List Ent
       let k = known b is in
       subst (λ (o : Option (List ℕ)). IfSome o (λ c. groups_of (kept c) ≡ added_all at groups (groups_of (kept b)))) (sym (written writes b is)) (finished_keeps old first at entries b k.0 k.1 groups readable within block shape))
 
+  -- the base before
+  pub base_after_all : Writes → IfSome old.bytes (λ b. IfSome new.bytes (λ c. base_in c ≡ base_in b))
+  base_after_all writes = if_some old.bytes _ (λ b is.
+      let k = known b is in
+      subst (λ (o : Option (List ℕ)). IfSome o (λ c. base_in c ≡ base_in b)) (sym (written writes b is)) (finished_base old first at entries b k.0 k.1 groups readable within block shape))
+
   -- the journal goes on behind the groups
   pub ready_after_all : Writes → is_some new.bytes ≡ is_some old.bytes → IfSome new.bytes (λ b. Only b new)
       → IfSome new.bytes (λ b. IsDurable new first (at + length (opened_bytes groups)) (entries + count_all groups) b × (get_or b (at + length (opened_bytes groups)) 1 ≢ 1))
@@ -136,3 +158,10 @@ module _ (old new : DiskTells) (first at entries : ℕ) (groups : List (List Ent
       let k = known b is in
       let told = told_of old.bytes b (λ f. at < length f → Only f old → LeavesOnly old new (IsAround f at block)) is around k.0.gate k.0.durable in
       moments_keep old first at entries b k.0 k.1 groups readable within block shape old new told)
+
+  pub base_moments_all : IfSome old.bytes (λ b. at < length b → Only b old → LeavesOnly old new (IsAround b at block))
+      → IfSome old.bytes (λ b. LeavesOnly old new (λ c. base_in c ≡ base_in b))
+  base_moments_all around = if_some old.bytes _ (λ b is.
+      let k = known b is in
+      let told = told_of old.bytes b (λ f. at < length f → Only f old → LeavesOnly old new (IsAround f at block)) is around k.0.gate k.0.durable in
+      leaves_less old new (IsAround b at block) (λ c. base_in c ≡ base_in b) (around_base old first at entries b k.0 k.1 groups readable within block shape) told)

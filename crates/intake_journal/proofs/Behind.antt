@@ -95,7 +95,7 @@ group_parts at bytes size entries e = elim (cases_lt (length bytes) 8) [
 pub drop_same : (n m k : ℕ) (xs ys : List ℕ) → k ≡ n + m → take k xs ≡ take k ys → take m (drop n xs) ≡ take m (drop n ys)
 drop_same n m k xs ys e same = sym (drop-take n m xs) ∙ ap (λ (j : ℕ). drop n (take j xs)) (sym e) ∙ ap (λ (zs : List ℕ). drop n zs) same ∙ ap (λ (j : ℕ). drop n (take j ys)) e ∙ drop-take n m ys
 
-number_same : (m : ℕ) (xs ys : List ℕ) → 4 ≤ m → take m xs ≡ take m ys → little_number 4 xs ≡ little_number 4 ys
+pub number_same : (m : ℕ) (xs ys : List ℕ) → 4 ≤ m → take m xs ≡ take m ys → little_number 4 xs ≡ little_number 4 ys
 number_same m xs ys le same = sym (little_from-take 0 4 m xs (omega arith)) ∙ ap (λ (zs : List ℕ). little_from 0 4 zs) same ∙ little_from-take 0 4 m ys (omega arith)
 
 pub group_same : (at : ℕ) (bytes other : List ℕ) (size : ℕ) (entries : List Entry) → HasGroup at bytes size entries → take (size + 8) other ≡ take (size + 8) bytes → size + 8 < length other → HasGroup at other size entries

@@ -2,13 +2,14 @@
 use Rattle.std.proofs.Common.{◌≡◌, ℕ, ◌+◌, ◌≤◌, List, [], ◌∷◌, ◌++◌, length, Some, refl, sym, ◌∙◌, ap, arith, append_assoc, length-append}
 use Rattle.std.specs.Prelude.{map, unwrap_or}
 use Rattle.std.specs.List.{All}
-use Rattle.std.proofs.lemmas.List.{append-nil, take-append-le}
+use Rattle.std.proofs.lemmas.List.{append-nil}
 use Rattle.std.proofs.lemmas.List.Elements.{All-head, All-tail}
 use Rattle.zbx_types.specs.declared.entries.Entry.{Entry}
 use Rattle.intake_journal.specs.Bytes.{entries_bytes, group_bytes}
-use Rattle.intake_journal.specs.Kept.{Kept, Groups, longest_journal, group_behind, with_group, kept_behind, kept_from, groups_of, first_of}
+use Rattle.intake_journal.specs.Kept.{Kept, Groups, longest_journal, group_behind, with_group, kept_behind, kept_from, groups_of, beginning_of}
 use Rattle.intake_journal.specs.Settled.{onto, IsFront, count_entries}
 use Rattle.intake_journal.specs.Block.{opened_bytes, placed, count_all, IsReadable, staged_in}
+use Rattle.intake_journal.specs.declared.format.Beginning.TheVariants.{Begun}
 use Rattle.intake_journal.specs.declared.format.Group.{Group}
 use Rattle.intake_journal.proofs.Fronts.{opened, closed, onto-groups}
 use Rattle.intake_journal.proofs.Written.{group_length, written_again, count_small}
@@ -57,14 +58,18 @@ keeps_any : (first : ℕ) (gs : List Group) (front : List ℕ) (groups : List (L
 keeps_any first gs front [] gate rest is = is.keeps gate rest
 keeps_any first gs front (es ∷ groups) gate rest is = is.keeps 1 ((group_bytes es ++ opened_bytes groups) ++ gate ∷ rest)
 
+begins_any : (first : ℕ) (gs : List Group) (front : List ℕ) (groups : List (List Entry)) (gate : ℕ) (rest : List ℕ) (is : IsFront first gs front) → beginning_of (front ++ (opened_bytes groups ++ gate ∷ rest)) ≡ Begun first is.base
+begins_any first gs front [] gate rest is = is.begins gate rest
+begins_any first gs front (es ∷ groups) gate rest is = is.begins 1 ((group_bytes es ++ opened_bytes groups) ++ gate ∷ rest)
+
 -- more groups at the front
 pub front_with : (first : ℕ) (gs : List Group) (front : List ℕ) (groups : List (List Entry)) → IsFront first gs front → All IsReadable groups → length front + length (opened_bytes groups) + 1 ≤ longest_journal
     → IsFront first (gs ++ placed (length front) groups) (front ++ opened_bytes groups)
 front_with first gs front groups is readable within = record {
-  ours = take-append-le 8 front (opened_bytes groups) (omega (arith, is.behind, is.long)) ∙ is.ours;
+  base = is.base;
+  begins = λ gate rest. ap beginning_of (append_assoc front (opened_bytes groups) (gate ∷ rest)) ∙ begins_any first gs front groups gate rest is;
   behind = is.behind;
   long = omega (arith, is.long, length-append front (opened_bytes groups));
-  first_is = λ rest. ap first_of (append_assoc front (opened_bytes groups) rest) ∙ is.first_is (opened_bytes groups ++ rest);
   keeps = λ gate rest. keeps gate rest;
 }
   where

@@ -1,11 +1,15 @@
 -- Groups at the front of a file, and what the file keeps.
-use Rattle.std.proofs.Common.{◌≡◌, ◌≢◌, ℕ, ◌+◌, ◌<◌, true, false, List, [], ◌∷◌, ◌++◌, length, take, drop, Option, Some, refl, sym, ◌∙◌, ap, arith, append_assoc, length-append, take-append-drop}
-use Rattle.std.specs.Prelude.{nat_le, ◌==◌}
-use Rattle.std.specs.List.{list_all, zip}
+use Rattle.std.proofs.Common.{◌≡◌, ◌≢◌, ℕ, ◌+◌, ◌<◌, ◌≤◌, true, false, List, [], ◌∷◌, ◌++◌, length, take, drop, Option, Some, refl, sym, ◌∙◌, ap, arith, append_assoc, length-append, take-append-drop}
+use Rattle.std.specs.Prelude.{Bool, nat_le, ◌||◌}
+use Rattle.std.proofs.lemmas.Bool.{le-leb}
 use Rattle.std.proofs.lemmas.Bool.Decides.{nat_tests}
-use Rattle.std.proofs.lemmas.List.{append-nil, take-append-le}
+use Rattle.std.proofs.lemmas.List.{append-nil, drop_at}
 use Rattle.zbx_types.specs.declared.entries.Entry.{Entry}
-use Rattle.intake_journal.specs.Kept.{Kept, Groups, magic, first_gate, first_of, group_behind, with_group, followed, kept_behind, kept_from, kept}
+use Rattle.gated_file.specs.Opened.{begins}
+use Rattle.zbx_types.specs.Bases.{empty_base}
+use Rattle.zbx_types.specs.declared.base.Base.{Base}
+use Rattle.intake_journal.specs.Kept.{Kept, Groups, magic, first_gate, group_behind, with_group, followed, kept_behind, kept_from, kept, beginning_of, kept_as}
+use Rattle.intake_journal.specs.declared.format.Beginning.TheVariants.{Begun}
 use Rattle.intake_journal.specs.Settled.{onto, IsFront, count_entries}
 use Rattle.intake_journal.specs.declared.format.Group.{Group}
 
@@ -44,18 +48,42 @@ pub count_entries-push : (gs : List Group) (g : Group) → count_entries (gs ++ 
 count_entries-push [] g = omega arith
 count_entries-push (h ∷ gs) g = omega (arith, count_entries-push gs g)
 
+or_true : (a : Bool) → (a || true) ≡ true
+or_true true = refl
+or_true false = refl
+
+-- a file that begins with the magic of a journal without a base
+pub beginning_plain : (file : List ℕ) → begins magic file ≡ true → beginning_of file ≡ Begun first_gate empty_base
+unfolding beginning_of
+beginning_plain file ours = rw (ours, or_true (nat_le (length file) 9)) refl
+
+-- and a short one
+pub beginning_short : (file : List ℕ) → length file ≤ 9 → beginning_of file ≡ Begun first_gate empty_base
+unfolding beginning_of
+beginning_short file short = let test : nat_le (length file) 9 ≡ true = le-leb _ _ short in rw test refl
+
+-- bytes up to a first gate, by which a journal begins whatever stands there
+pub front_bare : (first : ℕ) (base : Base) (front : List ℕ) → 8 ≤ first → length front ≡ first → ((gate : ℕ) (rest : List ℕ) → beginning_of (front ++ gate ∷ rest) ≡ Begun first base) → IsFront first [] front
+front_bare first base front behind long begins = record {
+  base = base;
+  begins = begins;
+  behind = behind;
+  long = omega (arith, long);
+  keeps = λ gate rest. ap (λ (l : List ℕ). kept_behind 0 first l) (drop_at front (gate ∷ rest) first long) ∙ ap (λ (n : ℕ). kept_behind 0 n (gate ∷ rest)) (sym long);
+}
+
 -- the magic alone
 pub front_none : IsFront first_gate [] magic
-front_none = record { ours = refl; behind = omega arith; long = omega arith; first_is = λ rest. refl; keeps = λ gate rest. refl }
+front_none = front_bare 8 empty_base magic (omega arith) refl (λ gate rest. beginning_plain (magic ++ gate ∷ rest) refl)
 
 -- one group more
 pub front_goes_on : (first : ℕ) (gs : List Group) (front : List ℕ) (at size : ℕ) (entries : List Entry) (group : List ℕ) → IsFront first gs front → at ≡ length front → length group ≡ size + 8
     → ((gate : ℕ) (rest : List ℕ) → group_behind at (group ++ gate ∷ rest) ≡ Some (size, entries)) → IsFront first (gs ++ record { at = at; entries = entries } ∷ []) (front ++ 1 ∷ group)
 front_goes_on first gs front at size entries group is at_is long behind = record {
-  ours = take-append-le 8 front (1 ∷ group) (omega (arith, is.behind, is.long)) ∙ is.ours;
+  base = is.base;
+  begins = λ gate rest. ap beginning_of (append_assoc front (1 ∷ group) (gate ∷ rest)) ∙ is.begins 1 (group ++ gate ∷ rest);
   behind = is.behind;
   long = omega (arith, is.long, length-append front (1 ∷ group));
-  first_is = λ rest. ap first_of (append_assoc front (1 ∷ group) rest) ∙ is.first_is (1 ∷ (group ++ rest));
   keeps = λ gate rest. keeps gate rest;
 }
   where
@@ -79,18 +107,22 @@ keeps_closed first gs front gate rest is shut =
     is.keeps gate rest ∙ ap (λ (k : Kept). onto gs k) (closed (length front) gate rest shut) ∙ onto-groups gs [] ∙ ap Groups (append-nil gs)
 
 -- bytes that begin with the magic pass its test
-magic_test : (rest : List ℕ) → list_all (λ p. p.0 == p.1) (zip magic (magic ++ rest)) ≡ true
+magic_test : (rest : List ℕ) → begins magic (magic ++ rest) ≡ true
 magic_test rest = refl
 
-pub is_ours : (file : List ℕ) → take 8 file ≡ magic → list_all (λ p. p.0 == p.1) (zip magic file) ≡ true
+pub is_ours : (file : List ℕ) → take 8 file ≡ magic → begins magic file ≡ true
 is_ours file ours =
     let split : file ≡ magic ++ drop 8 file = sym (take-append-drop 8 file) ∙ ap (λ (l : List ℕ). l ++ drop 8 file) ours in
-    ap (λ (l : List ℕ). list_all (λ p. p.0 == p.1) (zip magic l)) split ∙ magic_test (drop 8 file)
+    ap (λ (l : List ℕ). begins magic l) split ∙ magic_test (drop 8 file)
 
--- a file of more than 9 bytes that begins with the magic
-pub kept_long : (file : List ℕ) → 9 < length file → take 8 file ≡ magic → kept file ≡ kept_from (first_of file) file
+-- a file of more than 9 bytes keeps what stands behind its beginning
+pub kept_by : (file : List ℕ) → 9 < length file → kept file ≡ kept_as (beginning_of file) file
 unfolding kept
-kept_long file long ours =
-    let more : nat_le (length file) 9 ≡ false = grind (arith, nat_tests) in
-    let test = is_ours file ours in
-    rw (more, test) refl
+kept_by file long = let more : nat_le (length file) 9 ≡ false = grind (arith, nat_tests) in rw more refl
+
+pub kept_begun : (file : List ℕ) (first : ℕ) (base : Base) → 9 < length file → beginning_of file ≡ Begun first base → kept file ≡ kept_from first file
+kept_begun file first base long begun = kept_by file long ∙ ap (λ b. kept_as b file) begun
+
+-- one that begins with the magic of a journal without a base
+pub kept_long : (file : List ℕ) → 9 < length file → take 8 file ≡ magic → kept file ≡ kept_from first_gate file
+kept_long file long ours = kept_begun file first_gate empty_base long (beginning_plain file (is_ours file ours))

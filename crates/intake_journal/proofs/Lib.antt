@@ -15,3 +15,10 @@ pub mod Staged
 pub mod Room
 pub mod Sizes
 pub mod Reached
+pub mod Parts
+pub mod PartsRead
+pub mod BaseAgain
+pub mod BaseMade
+pub mod BaseFormed
+pub mod Beginnings
+pub mod OpenedFiles

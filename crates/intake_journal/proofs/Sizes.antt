@@ -12,7 +12,7 @@ use Rattle.intake_journal.specs.Bytes.{number_bytes, entry_bytes, entries_bytes}
 use Rattle.intake_journal.specs.Format.{◌>>=◌, number_at, moment_at, piece_at, text_of, value_at, config_at, kind_at, entry_at, entries_of}
 
 -- what was read first, where all of it was read
-of_bind : {A B : Type 0} (o : Option A) (f : A → Option B) (b : B) → (o >>= f) ≡ Some b → (a : A) × (o ≡ Some a) × (f a ≡ Some b)
+pub of_bind : {A B : Type 0} (o : Option A) (f : A → Option B) (b : B) → (o >>= f) ≡ Some b → (a : A) × (o ≡ Some a) × (f a ≡ Some b)
 of_bind None f b e = absurd cc
 of_bind (Some a) f b e = (a, refl, e)
 
@@ -20,11 +20,11 @@ of_else : {A : Type 0} (t : Bool) (o : Option A) (b : A) → (if t then None els
 of_else true o b e = absurd cc
 of_else false o b e = (refl, e)
 
-of_then : {A : Type 0} (t : Bool) (o : Option A) (b : A) → (if t then o else None) ≡ Some b → (t ≡ true) × (o ≡ Some b)
+pub of_then : {A : Type 0} (t : Bool) (o : Option A) (b : A) → (if t then o else None) ≡ Some b → (t ≡ true) × (o ≡ Some b)
 of_then true o b e = (refl, e)
 of_then false o b e = absurd cc
 
-some_is : {A : Type 0} (a b : A) → Some a ≡ Some b → a ≡ b
+pub some_is : {A : Type 0} (a b : A) → Some a ≡ Some b → a ≡ b
 some_is a b e = cc
 
 not_below : (a b : ℕ) → nat_lt a b ≡ false → b ≤ a

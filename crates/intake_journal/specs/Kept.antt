@@ -1,28 +1,38 @@
--- The groups that the bytes of a journal keep.
-use Rattle.std.specs.Prelude.{ℕ, Bool, ◌&&◌, zero, suc, ◌+◌, nat_le, nat_lt, ◌==◌, List, [], ◌∷◌, length, take, drop, Option, Some, None, if◌then◌else◌, codes}
-use Rattle.std.specs.List.{list_all, zip}
+-- The base and the groups that the bytes of a journal keep.
+use Rattle.std.specs.Prelude.{ℕ, Bool, true, false, ◌&&◌, ◌||◌, zero, suc, ◌+◌, nat_le, nat_lt, ◌==◌, List, [], ◌∷◌, length, take, drop, slice_index, Option, Some, None, if◌then◌else◌, codes}
+use Rattle.gated_file.specs.Opened.{begins}
+use Rattle.zbx_types.specs.Bases.{empty_base}
+use Rattle.zbx_types.specs.declared.base.Base.{Base}
 use Rattle.zbx_types.specs.declared.entries.Entry.{Entry}
+use Rattle.intake_journal.specs.BaseForm.{base_read}
 use Rattle.intake_journal.specs.Format.{◌>>=◌, number_at, entries_of}
+use Rattle.intake_journal.specs.declared.format.Beginning.{Beginning}
+use Rattle.intake_journal.specs.declared.format.Beginning.TheVariants as beginning
 use Rattle.intake_journal.specs.declared.format.Group.{Group}
 
--- a file of at most 9 bytes, a file that is no journal, a journal with an open gate at this place that no group follows, or the groups that a journal keeps
+-- a file of at most 9 bytes, a file that is no journal, a journal whose base isn't complete, one that is damaged at this place, where an open gate is followed by no base or no group, or the groups that a journal keeps
 pub data Kept : Type 0 where
   Fresh : Kept
   NotOurs : Kept
+  Unfinished : Kept
   Damaged : ℕ → Kept
   Groups : List Group → Kept
 
--- `ZTSJRN01`, with which each journal begins
+-- `ZTSJRN01`, with which each journal begins that has no base
 abbrev pub magic : List ℕ
 magic = codes "ZTSJRN01"
 
--- the place where groups begin: that of the first gate
+-- `ZTSJRN02`, with which each journal begins that has a base
+abbrev pub based_magic : List ℕ
+based_magic = codes "ZTSJRN02"
+
+-- the place where the groups of a journal without a base begin: that of their first gate
 abbrev pub first_gate : ℕ
 first_gate = 8
 
--- the place of a file's first gate
-abbrev pub first_of : List ℕ → ℕ
-first_of file = first_gate
+-- the place of the gate of a base
+abbrev pub base_gate : ℕ
+base_gate = 8
 
 -- the most bytes of a journal
 abbrev pub longest_journal : ℕ
@@ -60,16 +70,63 @@ kept_behind zero at (gate ∷ bytes) = if gate == 1 then followed at (λ skipped
 abbrev pub kept_from : ℕ → List ℕ → Kept
 kept_from at file = kept_behind 0 at (drop at file)
 
+-- the size and the base that these bytes begin with, which stand behind the gate of a base; the next gate lies within the bytes and the longest journal
+unfoldable pub base_behind : List ℕ → Option (ℕ × Base)
+base_behind bytes = do
+  size ← number_at bytes
+  base ← if nat_lt size.0 (length size.1) && nat_le (size.0 + 14) longest_journal then base_read (take size.0 size.1) else None
+  Some (size.0, base)
+
+-- what a journal begins with whose gate of the base is open or not, by what stands behind that gate
+abbrev pub behind_gate : Bool → Option (ℕ × Base) → Beginning
+behind_gate false read = beginning.Unfinished
+behind_gate true None = beginning.Damaged
+behind_gate true (Some read) = beginning.Begun (read.0 + 13) read.1
+
+-- what a file begins with, where one of at most 9 bytes is made anew
+unfoldable pub beginning_of : List ℕ → Beginning
+beginning_of file =
+    if nat_le (length file) 9 || begins magic file then beginning.Begun first_gate empty_base
+    else if begins based_magic file then behind_gate (slice_index file base_gate == 1) (base_behind (drop 9 file))
+    else beginning.NotOurs
+
+-- the base of a file that begins so, which is the empty one where it has none
+abbrev pub base_at : Beginning → Base
+base_at (beginning.Begun first base) = base
+base_at beginning.NotOurs = empty_base
+base_at beginning.Unfinished = empty_base
+base_at beginning.Damaged = empty_base
+
+-- the base of a file
+abbrev pub base_in : List ℕ → Base
+base_in file = base_at (beginning_of file)
+
+-- the place of the first gate of a file that begins so
+abbrev pub gate_at : Beginning → ℕ
+gate_at (beginning.Begun first base) = first
+gate_at beginning.NotOurs = first_gate
+gate_at beginning.Unfinished = first_gate
+gate_at beginning.Damaged = first_gate
+
+-- the place of the first gate of a file
+abbrev pub first_gate_in : List ℕ → ℕ
+first_gate_in file = gate_at (beginning_of file)
+
+-- what a file keeps that begins so
+abbrev pub kept_as : Beginning → List ℕ → Kept
+kept_as (beginning.Begun first base) file = kept_from first file
+kept_as beginning.NotOurs file = NotOurs
+kept_as beginning.Unfinished file = Unfinished
+kept_as beginning.Damaged file = Damaged base_gate
+
 -- what a file keeps
 unfoldable pub kept : List ℕ → Kept
-kept file =
-    if nat_le (length file) 9 then Fresh
-    else if list_all (λ p. p.0 == p.1) (zip magic file) then kept_from (first_of file) file
-    else NotOurs
+kept file = if nat_le (length file) 9 then Fresh else kept_as (beginning_of file) file
 
 -- the groups that a file keeps, where it is a journal without damage; a fresh one keeps none
 abbrev pub groups_of : Kept → Option (List Group)
 groups_of Fresh = Some []
 groups_of NotOurs = None
+groups_of Unfinished = None
 groups_of (Damaged at) = None
 groups_of (Groups gs) = Some gs

@@ -8,3 +8,8 @@ pub mod Settled
 pub mod Next
 pub mod Block
 pub mod Ahead
+pub mod BaseBytes
+pub mod BaseForm
+pub mod BaseTypes
+pub mod Based
+pub mod Begun

@@ -21,3 +21,4 @@ ReadsNext bytes old new (Err (error.Damaged at)) = IsStill old new × (at ≡ ol
 ReadsNext bytes old new (Err error.OutOfMemory) = IsStill old new
 ReadsNext bytes old new (Err error.DiskFault) = new ≡ record old { disk = new.disk; state = Broken }
 ReadsNext bytes old new (Err error.NotOurs) = ⊥
+ReadsNext bytes old new (Err error.Unfinished) = ⊥

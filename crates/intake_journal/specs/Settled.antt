@@ -1,14 +1,17 @@
 -- What is known of a journal and its disk between two calls.
 use Rattle.std.specs.Prelude.{◌≡◌, ◌≢◌, ℕ, ◌+◌, ◌*◌, ◌^◌, ◌<◌, ◌≤◌, ⊤, List, [], ◌∷◌, ◌++◌, length, take, get_or, IfSome}
 use Rattle.outside.specs.Disk.{DiskTells, Only}
-use Rattle.intake_journal.specs.Kept.{Kept, magic, first_of, longest_journal, with_group, kept_behind, kept_from, kept}
+use Rattle.zbx_types.specs.declared.base.Base.{Base}
+use Rattle.intake_journal.specs.Kept.{Kept, longest_journal, with_group, kept_behind, kept_from, kept, beginning_of, base_in}
+use Rattle.intake_journal.specs.declared.format.Beginning.TheVariants.{Begun}
 use Rattle.intake_journal.specs.declared.format.Group.{Group}
 use Rattle.intake_journal.specs.declared.state.State.{State}
 use Rattle.intake_journal.specs.declared.state.State.TheVariants.{Reading, Ready, Broken}
 
--- what contracts see of a journal: its disk, the place of its first gate and that of the gate behind what was read or written, how many entries stand before it, its limits and its state
+-- what contracts see of a journal: its disk, its base, the place of its first gate and that of the gate behind what was read or written, how many entries stand before it, its limits and its state
 pub record Journaled (D : Type 0) : Type 0 where
   pub disk : D
+  pub base : Base
   pub first : ℕ
   pub at : ℕ
   pub entries : ℕ
@@ -21,12 +24,12 @@ abbrev pub onto : List Group → Kept → Kept
 onto [] rest = rest
 onto (g ∷ gs) rest = with_group g (onto gs rest)
 
--- the magic and these groups, each behind an open gate, the first of which has this place, whatever stands behind them
+-- what a journal begins with, and these groups, each behind an open gate, the first of which has this place, whatever stands behind them
 pub record IsFront (first : ℕ) (groups : List Group) (front : List ℕ) : Type 0 where
-  pub ours : take 8 front ≡ magic
+  pub base : Base
+  pub begins : (gate : ℕ) (rest : List ℕ) → beginning_of (front ++ gate ∷ rest) ≡ Begun first base
   pub behind : 8 ≤ first
   pub long : first ≤ length front
-  pub first_is : (rest : List ℕ) → first_of (front ++ rest) ≡ first
   pub keeps : (gate : ℕ) (rest : List ℕ) → kept_from first (front ++ gate ∷ rest) ≡ onto groups (kept_behind 0 (length front) (gate ∷ rest))
 
 -- how many entries groups have
@@ -52,6 +55,6 @@ IsSettled Broken disk first at entries = ⊤
 abbrev pub IsWithin : ℕ → ℕ → ℕ → Type 0
 IsWithin at entries max_bytes = (at < longest_journal) × (entries ≤ at * 2 ^ 32) × (max_bytes ≤ longest_journal)
 
--- the bytes keep what one of the disk's images keeps
+-- the bytes keep what one of the disk's images keeps, and its base
 abbrev pub KeepsAsOneOf : DiskTells → List ℕ → Type 0
-KeepsAsOneOf disk c = (d : List ℕ) × disk.images d × (kept c ≡ kept d)
+KeepsAsOneOf disk c = (d : List ℕ) × disk.images d × (kept c ≡ kept d) × (base_in c ≡ base_in d)

@@ -29,7 +29,12 @@ fn zeros(alloc: Global, size: u32) -> Result<Vec<u8>, OutOfMemory>
 }
 
 /// Bytes of a disk from a place on, as many as asked for or as there are.
-fn read_from<D: Disk>(alloc: Global, disk: &mut D, at: u64, size: u32) -> Result<Bytes, Trouble>
+pub(crate) fn read_from<D: Disk>(
+    alloc: Global,
+    disk: &mut D,
+    at: u64,
+    size: u32,
+) -> Result<Bytes, Trouble>
     requires { at < 2 ^ 32 }
     ensures told { IfOk result (λ bytes. IfSome (D.tells disk.old).bytes (λ b. bytes ≡ take size (drop at b))) }
     ensures before { IsAsBefore (D.tells disk.old) (D.tells disk.new) }

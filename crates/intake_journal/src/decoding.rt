@@ -41,7 +41,7 @@ pub(crate) fn number_of(bytes: &[u8]) -> Result<(u32, &[u8]), Unread>
 
 /// The seconds and the nanoseconds of the moment at the front, and the bytes behind it.
 #[tactic(auto, unfolding(crate::specs::Format::moment_at))]
-fn moment_of(bytes: &[u8]) -> Result<(u32, u32, &[u8]), Unread>
+pub(crate) fn moment_of(bytes: &[u8]) -> Result<(u32, u32, &[u8]), Unread>
     ensures parts { Gives (λ x. (x.0 * 1000000000 + x.1, x.2.now)) result (moment_at bytes.now) }
     ensures below { IfOk result (λ x. x.1 < 1000000000) }
 {
@@ -55,7 +55,7 @@ fn moment_of(bytes: &[u8]) -> Result<(u32, u32, &[u8]), Unread>
 
 /// The bytes of the text at the front, and the bytes behind it.
 #[tactic(auto, unfolding(crate::specs::Format::piece_at))]
-fn piece_of(bytes: &[u8]) -> Result<(&[u8], &[u8]), Unread>
+pub(crate) fn piece_of(bytes: &[u8]) -> Result<(&[u8], &[u8]), Unread>
     ensures { Gives (λ x. (x.0.now, x.1.now)) result (piece_at bytes.now) }
 {
     let (size, rest) = number_of(bytes)?;
@@ -68,7 +68,7 @@ fn piece_of(bytes: &[u8]) -> Result<(&[u8], &[u8]), Unread>
 
 /// A copy of the bytes as a text.
 #[tactic(auto, using(crate::proofs::Texts::text_read, crate::proofs::Texts::text_refused))]
-fn text_of(alloc: Global, bytes: &[u8]) -> Result<Text, Unread>
+pub(crate) fn text_of(alloc: Global, bytes: &[u8]) -> Result<Text, Unread>
     ensures { Gives (λ x. x) result (text_of bytes.now) }
 {
     match str::from_utf8(bytes) {

@@ -50,7 +50,7 @@ fn tick(now: Moment) -> [u8; 9]
 }
 
 /// A number whose four bytes are those of a length.
-fn low(length: usize) -> u32
+pub(crate) fn low(length: usize) -> u32
     ensures { number_bytes result ≡ number_bytes length }
 {
     (length as u64 % (1 << 32)) as u32

@@ -1,6 +1,6 @@
-//! Groups of entries, and the numbers of the format.
+//! Groups of entries, and what files begin with.
 
-use zbx_types::{Entry, Many};
+use zbx_types::{Base, Entry, Many};
 
 /// A group of entries that a journal keeps.
 #[derive(Drop)]
@@ -9,4 +9,17 @@ pub struct Group {
     pub at: u64,
     /// Its entries, at least one.
     pub entries: Many<Entry>,
+}
+
+/// What a file begins with.
+#[derive(Drop)]
+pub(crate) enum Beginning {
+    /// Something else than a journal does.
+    NotOurs,
+    /// A journal whose base isn't complete.
+    Unfinished,
+    /// A journal that is said to have a base, and hasn't.
+    Damaged,
+    /// A journal with its first gate at this place, and this base, which is the empty one where it has none.
+    Begun { first: u64, base: Base },
 }

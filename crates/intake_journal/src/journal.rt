@@ -4,8 +4,9 @@ ghost use Rattle.std.specs.Prelude.{◌≡◌, ◌≢◌, ◌⊎◌, ℕ, false,
 ghost use Rattle.outside.specs.Causes.{Rose, HasCause};
 ghost use Rattle.outside.specs.Disk.{Only, LeavesOnly};
 ghost use Rattle.intake_journal.specs.Bytes.{entries_bytes, HasShortValue};
-ghost use Rattle.intake_journal.specs.Kept.{first_gate, longest_journal, kept, groups_of};
-ghost use Rattle.intake_journal.specs.Kept.Kept.{NotOurs};
+ghost use Rattle.intake_journal.specs.Kept.{first_gate, longest_journal, kept, base_in, first_gate_in, groups_of};
+ghost use Rattle.intake_journal.specs.Kept.Kept.{NotOurs, Unfinished, Damaged};
+ghost use Rattle.zbx_types.specs.Bases.{empty_base};
 ghost use Rattle.intake_journal.specs.Opened.{IsOpened, disk_of};
 ghost use Rattle.intake_journal.specs.Settled.{KeepsAsOneOf};
 ghost use Rattle.intake_journal.specs.Block.{opened_bytes, added_all, KeepsNoneOrAll, entries_with_all, bytes_with_all, passes_with_all};
@@ -16,19 +17,21 @@ ghost use Rattle.intake_journal.specs.declared.state.JournalError.TheVariants as
 use crate::ahead::Ahead;
 use crate::block::Block;
 use crate::encoding::size;
+use crate::format::Beginning;
 use crate::opening::{FIRST_GATE, prepare};
 use crate::state::{AppendError, JournalError, State};
 use gated_file::keep;
-use outside::{Disk, Failed};
+use outside::{Disk, Failed, Trouble};
 use std::alloc::Global;
 use std::marker::Model;
-use zbx_types::{Entry, OutOfMemory};
+use zbx_types::{Base, Entry, OutOfMemory};
 
-/// A journal on a disk. Contracts see its disk, the place of its first gate and that of the gate behind what was read or
+/// A journal on a disk. Contracts see its disk, its base, the place of its first gate and that of the gate behind what was read or
 /// added, how many entries stand before that one, its limits and its state.
 #[derive(Drop)]
 pub struct Journal<D: Disk> {
     pub(crate) disk: D,
+    pub(crate) base: Base,
     pub(crate) first: u64,
     pub(crate) at: u64,
     pub(crate) entries: u64,
@@ -44,18 +47,21 @@ impl<D: Disk> Model for Journal<D> {
 
     ghost Value = { Journaled D };
 
-    ghost view = { λ j. record { disk = j.disk; first = j.first; at = j.at; entries = j.entries; max_entries = j.max_entries; max_bytes = j.max_bytes; state = j.state } };
+    ghost view = { λ j. record { disk = j.disk; base = j.base; first = j.first; at = j.at; entries = j.entries; max_entries = j.max_entries; max_bytes = j.max_bytes; state = j.state } };
 
     ghost invariant = { λ j. IsWithin j.at j.entries j.max_bytes × IsSettled j.state (D.tells j.disk) j.first j.at j.entries × IsReadAhead j.state j.ahead (D.tells j.disk).bytes };
 }
 
 impl<D: Disk> Journal<D> {
     /// Opens the file on a disk, to be read by [`Journal::read_next`] up to its `None`. It begins with a sync; a file of at
-    /// most 9 bytes is made anew, as a journal of no group. Takes no memory.
+    /// most 9 bytes is made anew, as a journal of no base and no group. Takes memory for a base alone.
     ///
-    /// The journal is to have at most so many entries, and at most so many bytes up to and with the last gate, which are
-    /// 1,073,741,824 at most. `NotOurs` comes where the file has more than 9 bytes and doesn't begin as a journal,
-    /// `DiskFault` where the disk failed; no other error comes. The disk comes back with the error.
+    /// The journal is to have at most so many entries behind its base, and at most so many bytes up to and with the last
+    /// gate, which are 1,073,741,824 at most. Where the file has more than 9 bytes, `NotOurs` comes where it doesn't begin as
+    /// a journal, `Unfinished` where it begins as one with a base whose gate isn't open, and `Damaged` at 8 where that gate is
+    /// open and no base stands behind it, and a gate behind that. `DiskFault` comes where the disk failed. The disk comes
+    /// back with the error.
+    #[tactic(auto, using(crate::proofs::Openings::begun_told, crate::proofs::Openings::base_told, crate::proofs::Openings::place_told, crate::proofs::Openings::not_ours_told, crate::proofs::Openings::unfinished_told, crate::proofs::Openings::damaged_told, crate::proofs::Openings::no_base_told, crate::proofs::Openings::opened_durable))]
     pub fn recover(
         alloc: Global,
         disk: D,
@@ -65,12 +71,19 @@ impl<D: Disk> Journal<D> {
         requires { max_bytes ≤ longest_journal }
 
         // What is left to read is what the file kept, all of it durable.
-        ensures begins { IfOk result (λ j. (j.first ≡ first_gate) × (j.at ≡ j.first) × (j.entries ≡ 0) × (j.max_entries ≡ max_entries) × (j.max_bytes ≡ max_bytes) × (j.state ≡ Reading)) }
+        ensures begins { IfOk result (λ j. (j.at ≡ j.first) × (j.entries ≡ 0) × (j.max_entries ≡ max_entries) × (j.max_bytes ≡ max_bytes) × (j.state ≡ Reading)) }
         ensures opened { IfOk result (λ j. IfSome (D.tells disk).bytes (λ b. IfSome (D.tells j.disk).bytes (λ c. IsOpened (D.tells j.disk) j.first b c))) }
+        ensures base { IfOk result (λ j. IfSome (D.tells disk).bytes (λ b. j.base ≡ base_in b)) }
+        ensures place { IfOk result (λ j. IfSome (D.tells disk).bytes (λ b. j.first ≡ first_gate_in b)) }
+        ensures plain { IfOk result (λ j. j.base ≡ empty_base → j.first ≡ first_gate) }
+        ensures formed { IfOk result (λ j. j.base.text ≡ [] → j.base ≡ empty_base) }
 
-        ensures ours { IfOk result (λ _. IfSome (D.tells disk).bytes (λ b. kept b ≢ NotOurs)) }
+        ensures ours { IfOk result (λ _. IfSome (D.tells disk).bytes (λ b. (kept b ≢ NotOurs) × (kept b ≢ Unfinished))) }
         ensures not_ours { IfErr result (λ e. e.1 ≡ cause.NotOurs → IfSome (D.tells disk).bytes (λ b. kept b ≡ NotOurs)) }
-        ensures fault { IfErr result (λ e. e.1 ≢ cause.NotOurs → (e.1 ≡ cause.DiskFault) × Rose (D.tells disk).faults (D.tells e.0).faults) }
+        ensures unfinished { IfErr result (λ e. e.1 ≡ cause.Unfinished → IfSome (D.tells disk).bytes (λ b. kept b ≡ Unfinished)) }
+        ensures damaged { (at : ℕ) → IfErr result (λ e. e.1 ≡ cause.Damaged at → IfSome (D.tells disk).bytes (λ b. kept b ≡ Damaged at)) }
+        ensures no_base { (at : ℕ) → IfErr result (λ e. e.1 ≡ cause.Damaged at → IfSome (D.tells disk).bytes (λ b. base_in b ≡ empty_base)) }
+        ensures fault { IfErr result (λ e. e.1 ≡ cause.DiskFault → Rose (D.tells disk).faults (D.tells e.0).faults) }
 
         ensures told { is_some (D.tells (disk_of result)).bytes ≡ is_some (D.tells disk).bytes }
         ensures later { (D.tells disk).faults ≤ (D.tells (disk_of result)).faults }
@@ -79,20 +92,31 @@ impl<D: Disk> Journal<D> {
         ensures any_moment { IfSome (D.tells disk).bytes (λ _. LeavesOnly (D.tells disk) (D.tells (disk_of result)) (KeepsAsOneOf (D.tells disk))) }
     {
         let mut disk = disk;
-        match prepare(&mut disk) {
-            Ok(true) => Ok(Journal {
+        match prepare(alloc, &mut disk) {
+            Ok(Beginning::Begun { first, base }) => Ok(Journal {
                 disk,
-                first: FIRST_GATE,
-                at: FIRST_GATE,
+                base,
+                first,
+                at: first,
                 entries: 0,
                 max_entries,
                 max_bytes,
                 state: State::Reading,
                 ahead: Ahead::new(alloc),
             }),
-            Ok(false) => Err((disk, JournalError::NotOurs)),
-            Err(Failed) => Err((disk, JournalError::DiskFault)),
+            Ok(Beginning::NotOurs) => Err((disk, JournalError::NotOurs)),
+            Ok(Beginning::Unfinished) => Err((disk, JournalError::Unfinished)),
+            Ok(Beginning::Damaged) => Err((disk, JournalError::Damaged { at: FIRST_GATE })),
+            Err(Trouble::Failed) => Err((disk, JournalError::DiskFault)),
+            Err(Trouble::OutOfMemory) => Err((disk, JournalError::OutOfMemory)),
         }
+    }
+
+    /// The base that its entries stand on, which is the empty one where it has none.
+    pub fn base(&self) -> &Base
+        ensures { result.now ≡ self.now.base }
+    {
+        &self.base
     }
 
     /// How many entries it has.
@@ -191,14 +215,16 @@ impl<D: Disk> Journal<D> {
         requires room { passes_with_all self.old block.now ≡ false }
         ensures place { OnOk result ((self.new.at ≡ self.old.at + length (opened_bytes block.now)) × (self.new.entries ≡ entries_with_all self.old block.now)) }
         ensures kept { OnOk result (IfSome (D.tells self.old.disk).bytes (λ b. IfSome (D.tells self.new.disk).bytes (λ c. groups_of (kept c) ≡ added_all self.old.at block.now (groups_of (kept b))))) }
+        ensures same_base { OnOk result (IfSome (D.tells self.old.disk).bytes (λ b. IfSome (D.tells self.new.disk).bytes (λ c. base_in c ≡ base_in b))) }
         ensures durable { OnOk result (IfSome (D.tells self.new.disk).bytes (λ c. Only c (D.tells self.new.disk))) }
         ensures told { is_some (D.tells self.new.disk).bytes ≡ is_some (D.tells self.old.disk).bytes }
         ensures any_moment { IfSome (D.tells self.old.disk).bytes (λ b.
             LeavesOnly (D.tells self.old.disk) (D.tells self.new.disk) (KeepsNoneOrAll (groups_of (kept b)) self.old.at block.now)) }
+        ensures base_at_any_moment { IfSome (D.tells self.old.disk).bytes (λ b. LeavesOnly (D.tells self.old.disk) (D.tells self.new.disk) (λ c. base_in c ≡ base_in b)) }
         ensures cause { HasCause (D.tells self.old.disk).faults (D.tells self.new.disk).faults result }
         ensures state { OnOk result (self.new.state ≡ Ready) }
         ensures state_broken { OnErr result (self.new.state ≡ Broken) }
-        ensures first { self.new.first ≡ self.old.first }
+        ensures first { (self.new.first ≡ self.old.first) × (self.new.base ≡ self.old.base) }
         ensures limits { (self.new.max_entries ≡ self.old.max_entries) × (self.new.max_bytes ≡ self.old.max_bytes) }
     {
         match keep(&mut self.disk, self.at, block.behind_gate()) {
@@ -227,6 +253,7 @@ impl<D: Disk> Journal<D> {
 
         ensures place { OnOk result ((self.new.at ≡ self.old.at + length (opened_bytes block.now)) × (self.new.entries ≡ entries_with_all self.old block.now)) }
         ensures kept { OnOk result (IfSome (D.tells self.old.disk).bytes (λ b. IfSome (D.tells self.new.disk).bytes (λ c. groups_of (kept c) ≡ added_all self.old.at block.now (groups_of (kept b))))) }
+        ensures same_base { OnOk result (IfSome (D.tells self.old.disk).bytes (λ b. IfSome (D.tells self.new.disk).bytes (λ c. base_in c ≡ base_in b))) }
         ensures durable { OnOk result (IfSome (D.tells self.new.disk).bytes (λ c. Only c (D.tells self.new.disk))) }
 
         ensures told { is_some (D.tells self.new.disk).bytes ≡ is_some (D.tells self.old.disk).bytes }
@@ -234,6 +261,7 @@ impl<D: Disk> Journal<D> {
         // A crash at any moment of the call leaves the groups from before it, with all of the new ones or none.
         ensures any_moment { self.old.state ≡ Ready → IfSome (D.tells self.old.disk).bytes (λ b.
             LeavesOnly (D.tells self.old.disk) (D.tells self.new.disk) (KeepsNoneOrAll (groups_of (kept b)) self.old.at block.now)) }
+        ensures base_at_any_moment { self.old.state ≡ Ready → IfSome (D.tells self.old.disk).bytes (λ b. LeavesOnly (D.tells self.old.disk) (D.tells self.new.disk) (λ c. base_in c ≡ base_in b)) }
 
         ensures full { self.old.state ≡ Ready → IsTrue (passes_with_all self.old block.now) → result ≡ Err (error.Full (entries_with_all self.old block.now) (bytes_with_all self.old block.now)) }
         ensures only_full { (entries bytes : ℕ) → result ≡ Err (error.Full entries bytes) → IsTrue (passes_with_all self.old block.now) × (entries ≡ entries_with_all self.old block.now) × (bytes ≡ bytes_with_all self.old block.now) }
@@ -243,7 +271,7 @@ impl<D: Disk> Journal<D> {
         ensures broken { self.old.state ≡ Broken → (result ≡ Err error.DiskFault) × (self.new ≡ self.old) }
         ensures state { result ≢ Err error.DiskFault → self.new.state ≡ Ready }
         ensures state_broken { result ≡ Err error.DiskFault → self.new.state ≡ Broken }
-        ensures first { self.new.first ≡ self.old.first }
+        ensures first { (self.new.first ≡ self.old.first) × (self.new.base ≡ self.old.base) }
         ensures limits { (self.new.max_entries ≡ self.old.max_entries) × (self.new.max_bytes ≡ self.old.max_bytes) }
         ensures no_memory { result ≢ Err error.OutOfMemory }
     {
@@ -271,6 +299,7 @@ impl<D: Disk> Journal<D> {
 
         ensures place { OnOk result ((self.new.at ≡ self.old.at + length (entries_bytes group.now) + 9) × (self.new.entries ≡ self.old.entries + length group.now)) }
         ensures kept { OnOk result (IfSome (D.tells self.old.disk).bytes (λ b. IfSome (D.tells self.new.disk).bytes (λ c. groups_of (kept c) ≡ added_all self.old.at (group.now ∷ []) (groups_of (kept b))))) }
+        ensures same_base { OnOk result (IfSome (D.tells self.old.disk).bytes (λ b. IfSome (D.tells self.new.disk).bytes (λ c. base_in c ≡ base_in b))) }
         ensures durable { OnOk result (IfSome (D.tells self.new.disk).bytes (λ c. Only c (D.tells self.new.disk))) }
 
         ensures told { is_some (D.tells self.new.disk).bytes ≡ is_some (D.tells self.old.disk).bytes }
@@ -278,6 +307,7 @@ impl<D: Disk> Journal<D> {
         // A crash at any moment of the call leaves the groups from before it, with the new one or without.
         ensures any_moment { self.old.state ≡ Ready → IfSome (D.tells self.old.disk).bytes (λ b.
             LeavesOnly (D.tells self.old.disk) (D.tells self.new.disk) (KeepsNoneOrAll (groups_of (kept b)) self.old.at (group.now ∷ []))) }
+        ensures base_at_any_moment { self.old.state ≡ Ready → IfSome (D.tells self.old.disk).bytes (λ b. LeavesOnly (D.tells self.old.disk) (D.tells self.new.disk) (λ c. base_in c ≡ base_in b)) }
 
         ensures full { self.old.state ≡ Ready → IsTrue (passes_with_all self.old (group.now ∷ [])) → result ≡ Err (error.Full (entries_with_all self.old (group.now ∷ [])) (bytes_with_all self.old (group.now ∷ []))) }
         ensures only_full { (entries bytes : ℕ) → result ≡ Err (error.Full entries bytes) → IsTrue (passes_with_all self.old (group.now ∷ [])) × (entries ≡ entries_with_all self.old (group.now ∷ [])) × (bytes ≡ bytes_with_all self.old (group.now ∷ [])) }
@@ -287,7 +317,7 @@ impl<D: Disk> Journal<D> {
         ensures broken { self.old.state ≡ Broken → (result ≡ Err error.DiskFault) × (self.new ≡ self.old) }
         ensures state { result ≢ Err error.DiskFault → self.new.state ≡ Ready }
         ensures state_broken { result ≡ Err error.DiskFault → self.new.state ≡ Broken }
-        ensures first { self.new.first ≡ self.old.first }
+        ensures first { (self.new.first ≡ self.old.first) × (self.new.base ≡ self.old.base) }
         ensures limits { (self.new.max_entries ≡ self.old.max_entries) × (self.new.max_bytes ≡ self.old.max_bytes) }
     {
         if self.state == State::Broken {

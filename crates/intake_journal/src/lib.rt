@@ -30,20 +30,25 @@
 #![tactic(auto)]
 
 mod ahead;
+mod base_decoding;
+mod base_encoding;
 mod block;
 mod decoding;
 mod encoding;
 mod format;
 mod journal;
+mod making;
 mod opening;
 mod reading;
 mod state;
 
+pub use base_decoding::decode_base;
 pub use block::Block;
 pub use decoding::decode;
 pub use encoding::{encode, size};
 pub use format::Group;
 pub use journal::Journal;
+pub use making::{MakeError, make};
 pub use opening::FIRST_GATE;
 pub use reading::LONGEST_JOURNAL;
 pub use state::{AppendError, JournalError, State};

@@ -20,7 +20,10 @@ pub enum JournalError {
     /// The file has more than 9 bytes and doesn't begin as a journal.
     #[error("the file is no journal")]
     NotOurs,
-    /// An open gate is followed by no group.
+    /// The file begins as a journal with a base, which isn't complete: making it was cut off.
+    #[error("the journal was not made to its end")]
+    Unfinished,
+    /// An open gate is followed by no group, or that of the base by no base.
     #[error("the journal is damaged at byte {at}")]
     Damaged {
         /// The gate's place, counted in bytes from the file's beginning.

@@ -2,7 +2,11 @@ pub mod Logs
 pub mod JournalReads
 pub mod Leaving
 pub mod Texts
+pub mod Bases
 pub mod Judging
 pub mod Beginning
 pub mod KeptTexts
 pub mod MadeReady
+pub mod ReadJournals
+pub mod Distinct
+pub mod Regular

@@ -29,3 +29,10 @@ among_first conf rest = (0, omega arith, refl)
 
 pub among_rest : (first : Conf) (rest : List Conf) (conf : Conf) → Contains rest conf → Contains (first ∷ rest) conf
 among_rest first rest conf (k, within, is) = (suc k, omega (arith, within), is)
+
+-- where the earlier ones couldn't be, they couldn't
+pub earlier_unready : (text : List ℕ) (confs : List Conf) (s : Status) → AreUnready (earlier text confs) s → AreUnready confs s
+earlier_unready text confs status.OutOfMemory why = tt
+earlier_unready text confs (status.PatternRefused path) why = (why.0, earlier_among text confs why.0 why.1, why.2)
+earlier_unready text confs (status.PatternTooLarge path) why = (why.0, earlier_among text confs why.0 why.1, why.2)
+earlier_unready text confs _ none = absurd none.2

@@ -8,3 +8,4 @@ pub mod Outbox
 pub mod Reasons
 pub mod Journals
 pub mod Resumed
+pub mod Unkept

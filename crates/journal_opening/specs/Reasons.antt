@@ -5,9 +5,8 @@ use Rattle.zbx_types.specs.declared.entries.Numbered.{Numbered}
 use Rattle.outside.specs.Causes.{Rose}
 use Rattle.outside.specs.Disk.{DiskTells}
 use Rattle.outside.specs.Tells.{SinkTells}
-use Rattle.intake_journal.specs.Kept.{kept}
-use Rattle.intake_journal.specs.Kept.Kept.{NotOurs, Damaged}
-use Rattle.intake_journal.specs.declared.format.Group.{Group}
+use Rattle.intake_journal.specs.Kept.{base_in, kept}
+use Rattle.intake_journal.specs.Kept.Kept.{NotOurs, Unfinished}
 use Rattle.intake_front.specs.Fronted.{kept_entries}
 use Rattle.config_templates.specs.Flat.{flat_of}
 use Rattle.host_layout.specs.Places.{refuse}
@@ -16,13 +15,15 @@ use Rattle.server_words.specs.Words.{plan_of}
 use Rattle.server_words.specs.declared.status.Status.{Status}
 use Rattle.server_words.specs.declared.status.Status.TheVariants as status
 use Rattle.journal_opening.specs.Patterns.{HasFlawAt, HoldsBrace}
-use Rattle.journal_opening.specs.Opening.{FoundGroups, IsAccepted, IsRejected, IsFullAtOpening, OfLines, KeptText}
-use Rattle.journal_opening.specs.Outbox.{IsAhead, IsOther}
+use Rattle.journal_opening.specs.Opening.{IsAccepted, IsRejected, IsFullAtOpening, OfLines, KeptText}
+use Rattle.journal_opening.specs.Outbox.{IsBehind, IsAhead, IsOther}
+use Rattle.journal_opening.specs.Recovered.{Found, FoundGroups, IsDamaged}
+use Rattle.journal_opening.specs.Replayed.{IsGoodBase}
 
 -- a run doesn't end so before it has begun; its words have no plan; memory was refused; its source failed; the text of
 -- its configuration, or of one that its journal kept, is like this; its disk failed; the file of its journal is like
--- this, for its configuration and for so many entries at most; its outbox failed; its outbox is like this beside the
--- lines of the entries with which it goes on
+-- this, for its configuration and for so many entries at most; its outbox failed; its outbox is like this beside so many
+-- bytes of its base's lines, and those of the entries with which it goes on
 pub data Reason : Type 1 where
   no_reason : Reason
   in_words : Reason
@@ -32,18 +33,17 @@ pub data Reason : Type 1 where
   by_disk : Reason
   in_journal : (Conf → ℕ → Option (List ℕ) → Type 0) → Reason
   by_outbox : Reason
-  in_outbox : (SinkTells → List ℕ → Type 0) → Reason
+  in_outbox : (SinkTells → ℕ → List ℕ → Type 0) → Reason
 
--- a file's groups, which aren't those of a run
+-- what a file keeps isn't that of a run, though one can begin with its base
 abbrev pub Rejects : Option (List ℕ) → Status → Type 0
-Rejects file s = (groups : List Group) × FoundGroups file groups × IsRejected groups s
+Rejects file s = (found : Found) × FoundGroups file found × IsGoodBase found.base × IsRejected found s
 
--- a file's groups, which are accepted, and behind which there is no room for the configuration: a journal of at most so
--- many entries would have so many, and so many bytes
+-- what a file keeps is accepted, and behind it there is no room for the configuration: a journal of at most so many
+-- entries would have so many, and so many bytes
 abbrev pub FillsUp : Conf → ℕ → Option (List ℕ) → ℕ → ℕ → Type 0
 FillsUp conf most file entries bytes =
-    (groups : List Group) × FoundGroups file groups × IsAccepted groups
-    × IsFullAtOpening most conf groups entries bytes
+    (found : Found) × FoundGroups file found × IsAccepted found × IsFullAtOpening most conf found entries bytes
 
 -- why a run ends at its opening with a status
 abbrev pub reason_of : Status → Reason
@@ -55,12 +55,14 @@ reason_of (status.PatternRefused path) = in_text (HasFlawAt IsNoPattern path)
 reason_of (status.PatternTooLarge path) = in_text (HasFlawAt HoldsBrace path)
 reason_of status.DiskFault = by_disk
 reason_of status.NotOurs = in_journal (λ conf most file. IfSome file (λ b. kept b ≡ NotOurs))
+reason_of status.Unfinished = in_journal (λ conf most file. IfSome file (λ b. kept b ≡ Unfinished))
 reason_of (status.Damaged at) =
-    in_journal (λ conf most file. IfSome file (λ b. kept b ≡ Damaged at) ⊎ Rejects file (status.Damaged at))
+    in_journal (λ conf most file. IfSome file (λ b. IsDamaged b at) ⊎ Rejects file (status.Damaged at))
 reason_of (status.Full entries bytes) = in_journal (λ conf most file. FillsUp conf most file entries bytes)
 reason_of status.OutboxFault = by_outbox
-reason_of (status.OutboxAhead held count) = in_outbox (λ outbox lines. IsAhead outbox lines held count)
-reason_of (status.OutboxDiffers at) = in_outbox (λ outbox lines. IsOther outbox lines at)
+reason_of (status.OutboxBehind held base) = in_outbox (λ outbox before lines. IsBehind outbox before held base)
+reason_of (status.OutboxAhead held count) = in_outbox (λ outbox before lines. IsAhead outbox before lines held count)
+reason_of (status.OutboxDiffers at) = in_outbox (λ outbox before lines. IsOther outbox before lines at)
 reason_of _ = no_reason
 
 -- a status of a run that hasn't begun
@@ -132,7 +134,7 @@ unopened_for by_memory conf most old new outbox outbox' = ⊤
 unopened_for by_disk conf most old new outbox outbox' = Rose old.faults new.faults
 unopened_for (in_text Is) conf most old new outbox outbox' = KeptText old.bytes Is
 unopened_for by_outbox conf most old new outbox outbox' =
-    OfLines most conf old.bytes (λ lines. Rose outbox.faults outbox'.faults)
+    OfLines most conf old.bytes (λ before lines. Rose outbox.faults outbox'.faults)
 unopened_for (in_journal Is) conf most old new outbox outbox' = Is conf most old.bytes
 unopened_for (in_outbox Is) conf most old new outbox outbox' = OfLines most conf old.bytes (Is outbox)
 unopened_for _ conf most old new outbox outbox' = ⊥
@@ -140,22 +142,27 @@ unopened_for _ conf most old new outbox outbox' = ⊥
 abbrev pub Unopened : Conf → ℕ → DiskTells → DiskTells → SinkTells → SinkTells → Status → Type 0
 Unopened conf most old new outbox outbox' s = unopened_for (reason_of s) conf most old new outbox outbox'
 
--- Which entries a run has that ended so at its opening: what its file keeps, and none where that is no journal; those
--- with which it was to begin; where memory or its disk failed it none, or some that it found; else none.
+-- the entries that a file keeps, and none where it is no journal, or where no run can begin with its base
+abbrev pub HasKept : List ℕ → List Numbered → Type 0
+HasKept file entries =
+    (entries ≡ unwrap_or (kept_entries file) []) ⊎ ((entries ≡ []) × ¬ (IsGoodBase (base_in file)))
+
+-- Which entries a run has that ended so at its opening: what its file keeps; those with which it was to begin; where
+-- memory or its disk failed it none, or some that it found; else none.
 abbrev pub has_for : Reason → Option (List ℕ) → (List Numbered → Type 0) → (List Numbered → Type 0) → List Numbered
     → Type 0
-has_for (in_journal Is) file Begins Found entries = IfSome file (λ b. entries ≡ unwrap_or (kept_entries b) [])
-has_for (in_outbox Is) file Begins Found entries = Begins entries
-has_for by_outbox file Begins Found entries = Begins entries
-has_for by_memory file Begins Found entries = (entries ≡ []) ⊎ Found entries
-has_for by_disk file Begins Found entries = (entries ≡ []) ⊎ Found entries
-has_for _ file Begins Found entries = entries ≡ []
+has_for (in_journal Is) file Begins Finds entries = IfSome file (λ b. HasKept b entries)
+has_for (in_outbox Is) file Begins Finds entries = Begins entries
+has_for by_outbox file Begins Finds entries = Begins entries
+has_for by_memory file Begins Finds entries = (entries ≡ []) ⊎ Finds entries
+has_for by_disk file Begins Finds entries = (entries ≡ []) ⊎ Finds entries
+has_for _ file Begins Finds entries = entries ≡ []
 
 -- which entries a crash may have left by then that weren't in the journal before: some that the run found, where it
 -- came as far as to open the journal
 abbrev pub enters_for : Reason → (List Numbered → Type 0) → List Numbered → Type 0
-enters_for (in_outbox Is) Found entries = Found entries
-enters_for by_outbox Found entries = Found entries
-enters_for by_memory Found entries = Found entries
-enters_for by_disk Found entries = Found entries
-enters_for _ Found entries = ⊥
+enters_for (in_outbox Is) Finds entries = Finds entries
+enters_for by_outbox Finds entries = Finds entries
+enters_for by_memory Finds entries = Finds entries
+enters_for by_disk Finds entries = Finds entries
+enters_for _ Finds entries = ⊥

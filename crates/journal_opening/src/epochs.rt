@@ -93,20 +93,34 @@ fn earlier(text: &Text, confs: Vec<Conf>) -> Vec<Conf>
     confs
 }
 
-/// Makes the configurations that a journal kept ready, in their order, and puts that of the run behind them. It stands
-/// in the place of the last one where that has the same text. Where a pattern of one of them isn't taken, the status
-/// has the path where it is used first.
-pub(crate) fn epochs_of(alloc: Global, confs: Vec<Conf>, ready: Ready) -> Result<Vec<Ready>, Status>
-    ensures ok { IfOk result (λ epochs. epochs.items ≡ map first_stage (earlier ready.conf.text confs.items) ++ ready ∷ []) }
+/// Makes configurations ready, in their order. Where a pattern of one of them isn't taken, the status has the path where
+/// it is used first.
+pub(crate) fn ready_all(alloc: Global, confs: Vec<Conf>) -> Result<Vec<Ready>, Status>
+    ensures ok { IfOk result (λ epochs. epochs.items ≡ map first_stage confs.items) }
     ensures err { IfErr result (AreUnready confs.items) }
 {
     let mut epochs = Vec::new(alloc);
-    for conf in earlier(&ready.conf().text, confs) {
+    for conf in confs {
         match put_ready(alloc, &mut epochs, conf) {
             Ok(()) => {}
             Err(status) => return Err(status),
         }
     }
+    Ok(epochs)
+}
+
+/// Makes the configurations that a journal kept ready, in their order, and puts that of the run behind them. It stands
+/// in the place of the last one where that has the same text. Where a pattern of one of them isn't taken, the status
+/// has the path where it is used first.
+#[tactic(auto, using(crate::proofs::MadeReady::earlier_unready))]
+pub(crate) fn epochs_of(alloc: Global, confs: Vec<Conf>, ready: Ready) -> Result<Vec<Ready>, Status>
+    ensures ok { IfOk result (λ epochs. epochs.items ≡ map first_stage (earlier ready.conf.text confs.items) ++ ready ∷ []) }
+    ensures err { IfErr result (AreUnready confs.items) }
+{
+    let mut epochs = match ready_all(alloc, earlier(&ready.conf().text, confs)) {
+        Ok(epochs) => epochs,
+        Err(status) => return Err(status),
+    };
     match put(&mut epochs, ready) {
         Ok(()) => Ok(epochs),
         Err(status) => Err(status),

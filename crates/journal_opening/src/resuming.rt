@@ -1,18 +1,19 @@
 //! What a run's journal kept is gone on with.
 
-ghost use Rattle.std.specs.Prelude.{◌≡◌, ◌+◌, ◌<◌, ◌++◌, ◌∷◌, [], length, ℕ, List, Ok, None, map, IfOk, IfErr};
+ghost use Rattle.std.specs.Prelude.{◌≡◌, ◌≤◌, ◌+◌, ◌<◌, ◌++◌, ◌∷◌, [], length, ℕ, List, Ok, None, map, IfOk, IfErr};
 ghost use Rattle.outside.specs.Tells.{SinkTells};
 ghost use Rattle.zbx_types.specs.declared.conf.Conf.{Conf};
 ghost use Rattle.config_templates.specs.Flat.{flat_of};
-ghost use Rattle.entry_step.specs.InForce.{config_texts};
 ghost use Rattle.trigger_state.specs.Stages.{Stage, first_stage};
+ghost use Rattle.intake_journal.specs.Based.{most_counted};
 ghost use Rattle.intake_journal.specs.declared.state.State.TheVariants as state;
 ghost use Rattle.intake_front.specs.Fronted.{HasJournaled};
 ghost use Rattle.intake_front.specs.Intake.{start};
-ghost use Rattle.intake_journal.specs.declared.format.Group.{Group};
-ghost use Rattle.journal_opening.specs.Recovered.{IsNumbered};
-ghost use Rattle.journal_opening.specs.Replayed.{flat};
+ghost use Rattle.entry_laws.specs.InForce.{texts_on};
+ghost use Rattle.journal_opening.specs.Recovered.{Found, GoesOn, IsNumbered};
+ghost use Rattle.journal_opening.specs.Replayed.{flat, IsGoodBase};
 ghost use Rattle.journal_opening.specs.Opening.{IsJudged};
+ghost use Rattle.journal_opening.specs.Unkept.{IsUnaccepted};
 ghost use Rattle.journal_opening.specs.Resumed.{status_for, IsTakenUp, HasBegun, TurnedAway};
 
 use crate::epochs::epochs_of;
@@ -40,7 +41,8 @@ pub struct Refused<D> {
 
 /// Why the groups of a journal aren't those of a run, or None where they are.
 fn judged(numbering: &Numbering) -> Option<Status>
-    ensures judged { (groups : List Group) → IsNumbered groups numbering.now → IsJudged groups result }
+    ensures judged { (found : Found) → IsGoodBase found.base → IsNumbered found.base found.groups numbering.now
+        → IsJudged found result }
     ensures taken { result ≡ None → numbering.now.refused ≡ None }
 {
     match numbering.refused {
@@ -52,14 +54,16 @@ fn judged(numbering: &Numbering) -> Option<Status>
     }
 }
 
-/// Opens the journal on a disk, which is to have at most so many entries, and reads the entries that it kept, with the
-/// configurations that are among them, where they are those of a run.
-fn accepted<D: Disk>(
+/// Opens the journal on a disk, which is to have at most so many entries behind its base, and reads the entries that it
+/// kept, with the configurations of the base and those that are among them, where they are those of a run.
+pub(crate) fn accepted<D: Disk>(
     alloc: Global,
     disk: D,
     max_entries: u64,
 ) -> Result<(Journal<D>, Many<Numbered>, Vec<Conf>), Refused<D>>
     ensures ok { IfOk result (λ made. IsTakenUp D.tells max_entries disk made.0 made.1 made.2.items) }
+    ensures back { IfErr result (λ r. GoesOn (D.tells disk) (D.tells r.disk)) }
+    ensures why { IfErr result (λ r. IsUnaccepted (D.tells disk) (D.tells r.disk) r.status) }
     ensures err { IfErr result (λ r. (conf : Conf) (outbox outbox' : SinkTells) → TurnedAway conf max_entries
         (D.tells disk) (D.tells r.disk) outbox outbox' r.entries r.status) }
 {
@@ -94,8 +98,8 @@ fn status_of(error: FrontError) -> Status
     }
 }
 
-/// The intake of a run behind the entries that its journal kept. Its configuration is journaled where they have none,
-/// or the last one has another text.
+/// The intake of a run behind what its journal kept. Its configuration is journaled where that has none, or the last one
+/// has another text.
 fn begin<D: Disk>(
     alloc: Global,
     ready: &Ready,
@@ -103,8 +107,10 @@ fn begin<D: Disk>(
     kept: Many<Numbered>,
 ) -> Result<Front<D>, Refused<D>>
     requires read { journal.state ≡ state.Ready }
+    requires counted { journal.base.number ≤ most_counted }
     requires journaled { HasJournaled D.tells journal kept (journal.at + 1) }
-    ensures made { IfOk result (λ f. f.intake ≡ start ready.now.conf.text kept (journal.at + 1)) }
+    ensures made { IfOk result (λ f. f.intake ≡ start journal.base ready.now.conf.text kept (journal.at + 1)) }
+    ensures base { IfOk result (λ f. f.journal.base ≡ journal.base) }
     ensures ok { IfOk result (λ f. (most : ℕ) (old : D) (confs : List Conf)
         → flat_of ready.now.conf.text ≡ Ok ready.now.conf → IsTakenUp D.tells most old journal kept confs
         → HasBegun D.tells ready.now.conf most old f) }
@@ -131,13 +137,15 @@ fn last_of(epochs: &[Ready]) -> &Ready
     &epochs[epochs.len() - 1]
 }
 
-/// Goes on behind what the journal on a disk kept, which is to have at most so many entries. With the intake come the
-/// configurations of the Configs among its entries, in their order, each made ready.
+/// Goes on behind what the journal on a disk kept, which is to have at most so many entries behind its base. With the
+/// intake come the configurations of the base, where it has one, and of the Configs among its entries, in their order, each
+/// made ready.
 ///
 /// # Errors
 ///
-/// A `Refused` with one of these statuses: `NotOurs` where the disk holds no journal; `Damaged` where its bytes, a text of a
-/// configuration or an entry isn't one that a run leaves, with the place of the group; `PatternRefused` or
+/// A `Refused` with one of these statuses: `NotOurs` where the disk holds no journal, and `Unfinished` where it holds one
+/// that wasn't made to its end; `Damaged` where its bytes, its base, a text of a configuration or an entry isn't one that a
+/// run leaves, with the place of the group, or 8 where it is the base; `PatternRefused` or
 /// `PatternTooLarge` where a pattern of a kept configuration isn't taken, with its path; `Full` where the run's
 /// configuration doesn't fit behind the kept entries; `DiskFault` where the disk failed; `OutOfMemory` where memory was
 /// refused.
@@ -150,7 +158,7 @@ pub fn resume<D: Disk>(
     requires first { ready ≡ first_stage ready.conf }
     requires conf { flat_of ready.conf.text ≡ Ok ready.conf }
     ensures epochs { IfOk result (λ made. made.0.items
-        ≡ map (λ text. first_stage (flat text)) (config_texts made.1.intake.entries)) }
+        ≡ map (λ text. first_stage (flat text)) (texts_on made.1.journal.base.text made.1.intake.entries)) }
     ensures ok { IfOk result (λ made. HasBegun D.tells ready.conf max_entries disk made.1) }
     ensures err { IfErr result (λ r. (outbox outbox' : SinkTells) → TurnedAway ready.conf max_entries
         (D.tells disk) (D.tells r.disk) outbox outbox' r.entries r.status) }

@@ -12,6 +12,7 @@ use Rattle.outside.specs.declared.event.Trouble.{Trouble}
 use Rattle.outside.specs.declared.event.Trouble.TheVariants as trouble
 use Rattle.intake_journal.specs.Settled.{Journaled}
 use Rattle.intake_journal.specs.declared.state.State.TheVariants as state
+use Rattle.entry_step.specs.Start.{Start}
 use Rattle.intake_front.specs.Intake.{Limits, Intake, IsSound, Handled, handled}
 use Rattle.intake_front.specs.Served.{Served, grown, served_on, served_from, served}
 use Rattle.intake_front.specs.Fronted.{Fronted, KeepsEither, IsKept, IsReady, limits_of, refused_group}
@@ -108,7 +109,7 @@ gathered_start conf front w idle = record {
   runs_on = λ front last is. absurd (no_last front last is);
   stop_is = refl;
   intake_is = λ none. refl;
-  sound = λ flat sound. sound;
+  sound = λ flat ground sound. sound;
 }
 
 module _ {D : Type 0} (conf : Conf) (front0 front1 front2 : Fronted D) (w0 w1 w2 : WireTells) (count : ℕ) (g : Gathered conf front0 front1 w0 w1 count None None anywhere) where
@@ -126,7 +127,7 @@ module _ {D : Type 0} (conf : Conf) (front0 front1 front2 : Fronted D) (w0 w1 w2
       → s ≡ (handled l1 conf front1.intake e).answer.stop → front2.intake ≡ (handled l1 conf front1.intake e).intake
       → ((begun : Intake) (events : List WireEvent) → front1.intake ≡ (answered l1 conf begun events).intake → (answered l1 conf begun events).stop ≡ None
       → HasTaken conf begun events front1 → HasTaken conf begun (events ++ e ∷ []) front2)
-      → ((flat : List ℕ → Conf) → IsSound flat conf front1.intake → IsSound flat conf front2.intake) → Gathered conf front0 front2 w0 w2 (count + 1) s None anywhere
+      → ((flat : List ℕ → Conf) (ground : Start) → IsSound flat ground conf front1.intake → IsSound flat ground conf front2.intake) → Gathered conf front0 front2 w0 w2 (count + 1) s None anywhere
   gathered_more e s gives journal stops after takes keeps =
       let so_far = answered l0 conf front0.intake g.events in
       let here : front1.intake ≡ so_far.intake = g.intake_is refl in
@@ -143,7 +144,7 @@ module _ {D : Type 0} (conf : Conf) (front0 front1 front2 : Fronted D) (w0 w1 w2
         runs_on = λ front last is. ap (λ (es : List WireEvent). (answered l0 conf front0.intake es).stop) (sym (same_front_of g.events front e last is)) ∙ running;
         stop_is = stops ∙ ap (λ (h : Handled). h.answer.stop) at ∙ sym (ap (λ (a : Answered). a.stop) one);
         intake_is = λ none. intake;
-        sound = λ flat sound. subst (IsSound flat conf) intake (keeps flat (subst (IsSound flat conf) (sym here) (g.sound flat sound)));
+        sound = λ flat ground sound. subst (IsSound flat ground conf) intake (keeps flat ground (subst (IsSound flat ground conf) (sym here) (g.sound flat ground sound)));
       }
 
   -- no event more, since the wire gave none, or there was no memory for one
@@ -211,6 +212,13 @@ gathered_of a b old new w w' count s lost e is = subst (λ (k : Conf). Gathered 
 pub more_of : {D : Type 0} (a b : Conf) (old new : Fronted D) (w w' : WireTells) (count : ℕ) (r : Result (Option Stop) Trouble) → a ≡ b → GatheredMore a old new w w' count r → GatheredMore b old new w w' count r
 more_of a b old new w w' count r is = subst (λ (k : Conf). GatheredMore k old new w w' count r) is
 
+-- the journal has its base still, where a commit keeps that
+pub base_still : {D : Type 0} (conf : Conf) (old mid new : Fronted D) (w w' : WireTells) (count : ℕ) (gathered : Result (Unit {0}) Trouble) → GatheredBy conf old mid w w' count gathered → new.journal.base ≡ mid.journal.base
+    → new.journal.base ≡ old.journal.base
+base_still {D} conf old mid new w w' count (Ok enough) (s, g) keeps = keeps ∙ ap (λ (j : Journaled D). j.base) g.journal_stays
+base_still {D} conf old mid new w w' count (Err trouble.Failed) g keeps = keeps ∙ ap (λ (j : Journaled D). j.base) g.journal_stays
+base_still {D} conf old mid new w w' count (Err trouble.OutOfMemory) (lost, g) keeps = keeps ∙ ap (λ (j : Journaled D). j.base) g.journal_stays
+
 -- ---- and committed
 
 refused_none : (i : Intake) (s : Option Stop) → (s ≡ Some stop.DiskFault → ⊥) → refused_group i s ≡ 0
@@ -228,8 +236,8 @@ module _ {D : Type 0} (tells : D → DiskTells)
     (is_ready : (front2.journal.state ≡ state.Ready) ⊎ (front2.journal.state ≡ state.Broken))
     (done : front2.journal.state ≡ state.Ready → (answers ≡ front1.answers) × (front2.intake ≡ front1.intake) × IsReady front1.journal front2.journal)
     (failed : front2.journal.state ≡ state.Broken → (answers ≡ front1.failing) × (front2.intake.entries ≡ front1.kept) × (0 < length front1.block) × Rose (tells front1.journal.disk).faults (tells front2.journal.disk).faults)
-    (durable : front2.journal.state ≡ state.Ready → IsKept (tells front2.journal.disk) front2.intake.entries)
-    (any_moment : IfSome (tells front1.journal.disk).bytes (λ _. LeavesOnly (tells front1.journal.disk) (tells front2.journal.disk) (KeepsEither front1.kept front1.intake.entries)))
+    (durable : front2.journal.state ≡ state.Ready → IsKept (tells front2.journal.disk) front1.journal.base front2.intake.entries)
+    (any_moment : IfSome (tells front1.journal.disk).bytes (λ _. LeavesOnly (tells front1.journal.disk) (tells front2.journal.disk) (KeepsEither front1.journal.base front1.kept front1.intake.entries)))
     (later : (tells front1.journal.disk).faults ≤ (tells front2.journal.disk).faults) (told : is_some (tells front2.journal.disk).bytes ≡ is_some (tells front1.journal.disk).bytes)
     (stop_is : s ≡ (outgoing answers).stop) (shows : Shows w1 w2 (outgoing answers).replies (outgoing answers).shut) (left : w2.left ≡ w1.left) (given : w2.given ≡ w1.given) (unsent : w1.unsent ≤ w2.unsent) where
   abbrev i0 : Intake
@@ -239,14 +247,14 @@ module _ {D : Type 0} (tells : D → DiskTells)
   l = limits_of front0.journal 0
 
   abbrev did : Doing
-  did = Journals (λ c. ⊥) (tells front0.journal.disk) (tells front2.journal.disk)
+  did = Journals (λ c. ⊥) (tells front0.journal.disk) (tells front2.journal.disk) front0.journal.base
 
   -- how a commit went
   record Committed (s0 : Option Stop) (count : ℕ) (lost : Option WireEvent) (ending : Ending) : Type 0 where
     ran : Ran (refusing l (refused_group i0 s)) conf i0.entries i0 front2.intake did w0 w2 count s lost ending
     stops : (s ≡ s0) ⊎ (s ≡ Some stop.DiskFault)
     none_added : s ≡ Some stop.DiskFault → front2.intake.entries ≡ i0.entries
-    sound : (flat : List ℕ → Conf) → IsSound flat conf i0 → (i : Intake) × IsSound flat conf i × (front2.intake.entries ≡ i.entries) × (s ≡ None → lost ≡ None → front2.intake ≡ i)
+    sound : (flat : List ℕ → Conf) (ground : Start) → IsSound flat ground conf i0 → (i : Intake) × IsSound flat ground conf i × (front2.intake.entries ≡ i.entries) × (s ≡ None → lost ≡ None → front2.intake ≡ i)
     ready : (s ≡ Some stop.DiskFault → ⊥) → IsReady front0.journal front2.journal
 
   module _ (count : ℕ) (s0 : Option Stop) (lost : Option WireEvent) (ending : Ending) (g : Gathered conf front0 front1 w0 w1 count s0 lost ending) where
@@ -268,11 +276,11 @@ module _ {D : Type 0} (tells : D → DiskTells)
     reached n es (inr is) =
         inr (inr (is ∙ g.taken.entries_are ∙ ap (λ (x : Limits). (answered x conf i0 g.events).intake.entries) (limits_at 0) ∙ ap (λ (i : Intake). i.entries) (ties 0).intake))
 
-    journals : (n : ℕ) → (s ≡ Some stop.DiskFault → Rose (tells front1.journal.disk).faults (tells front2.journal.disk).faults) → ((s ≡ Some stop.DiskFault → ⊥) → IsKept (tells front2.journal.disk) front2.intake.entries)
+    journals : (n : ℕ) → (s ≡ Some stop.DiskFault → Rose (tells front1.journal.disk).faults (tells front2.journal.disk).faults) → ((s ≡ Some stop.DiskFault → ⊥) → IsKept (tells front2.journal.disk) front1.journal.base front2.intake.entries)
         → did (IsReached (refusing l n) conf i0.entries i0 g.events) s front2.intake.entries
-    journals n fault kept = subst (λ (j : Journaled D). Journals (λ c. ⊥) (tells j.disk) (tells front2.journal.disk) (IsReached (refusing l n) conf i0.entries i0 g.events) s front2.intake.entries) g.journal_stays
-        (journals_more (λ c. ⊥) (tells front1.journal.disk) (tells front2.journal.disk) (IsEither front1.kept front1.intake.entries) (IsReached (refusing l n) conf i0.entries i0 g.events) s front2.intake.entries (reached n)
-        (journals_event (tells front1.journal.disk) (tells front2.journal.disk) front1.kept front1.intake.entries front2.intake.entries s any_moment fault kept later told))
+    journals n fault kept = subst (λ (j : Journaled D). Journals (λ c. ⊥) (tells j.disk) (tells front2.journal.disk) j.base (IsReached (refusing l n) conf i0.entries i0 g.events) s front2.intake.entries) g.journal_stays
+        (journals_more (λ c. ⊥) (tells front1.journal.disk) (tells front2.journal.disk) front1.journal.base (IsEither front1.kept front1.intake.entries) (IsReached (refusing l n) conf i0.entries i0 g.events) s front2.intake.entries (reached n)
+        (journals_event (tells front1.journal.disk) (tells front2.journal.disk) front1.journal.base front1.kept front1.intake.entries front2.intake.entries s any_moment fault kept later told))
 
     -- what was answered is what the events make, where the disk refuses the group with this number
     ran_as : (n : ℕ) → answers ≡ (made n).answers → front2.intake.entries ≡ (made n).intake.entries → (s ≡ None → lost ≡ None → front2.intake ≡ (made n).intake)
@@ -309,7 +317,7 @@ module _ {D : Type 0} (tells : D → DiskTells)
               (ran_as 0 are entries (λ running kept. intake kept) (journals 0 (λ fault. absurd (other fault)) (λ well. durable ready)));
           stops = inl (stops ∙ sym (ties 0).stop_is ∙ sym g.stop_is);
           none_added = λ fault. absurd (other fault);
-          sound = λ flat sound. ((made 0).intake, g.sound flat sound, entries, λ running kept. intake kept);
+          sound = λ flat ground sound. ((made 0).intake, g.sound flat ground sound, entries, λ running kept. intake kept);
           ready = λ well. subst (λ (j : Journaled D). IsReady j front2.journal) g.journal_stays d.2;
         }
 
@@ -329,7 +337,7 @@ module _ {D : Type 0} (tells : D → DiskTells)
               (ran_as m are (stays ∙ sym refuses) (λ running kept. absurd (clash running stops)) (journals m (λ fault. f.3) (λ other. absurd (other stops))));
           stops = inr stops;
           none_added = λ fault. stays;
-          sound = λ flat sound. (i0, sound, stays, λ running kept. absurd (clash running stops));
+          sound = λ flat ground sound. (i0, sound, stays, λ running kept. absurd (clash running stops));
           ready = λ other. absurd (other stops);
         }
       where

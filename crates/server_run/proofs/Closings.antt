@@ -2,15 +2,15 @@
 use Rattle.std.proofs.Common.{◌≡◌, ◌⊎◌, ⊎_elim, ℕ, ◌+◌, ◌-◌, ◌==◌, ◌≤◌, ◌<◌, [], ◌∷◌, ◌++◌, append-nil, take, All, Contains, slice_get, if◌then◌else◌, Bool, true, false, true≢false, List, length, Option, Some, None, refl, sym, ap, ◌∙◌, subst, arith, inl, inr}
 use Rattle.std.specs.Prelude.{Ok, IfSome, IsSome, IsSomeAnd, is_some, chars}
 use Rattle.zbx_types.specs.declared.causes.Cause.{Cause}
+use Rattle.zbx_types.specs.declared.base.Base.{Base}
 use Rattle.zbx_types.specs.declared.conf.Conf.{Conf}
 use Rattle.zbx_types.specs.declared.entries.Numbered.{Numbered}
 use Rattle.outside.specs.Causes.{Rose}
 use Rattle.outside.specs.Tells.{WireTells}
 use Rattle.config_templates.specs.Flat.{flat_of}
-use Rattle.intake_journal.specs.Kept.{kept, groups_of}
-use Rattle.intake_journal.specs.declared.format.Group.{Group}
-use Rattle.entry_step.specs.InForce.{config_texts}
-use Rattle.intake_front.specs.Fronted.{Keeps, numbered_of}
+use Rattle.intake_journal.specs.Kept.{base_in}
+use Rattle.intake_front.specs.Fronted.{Keeps}
+use Rattle.entry_laws.specs.InForce.{texts_on}
 use Rattle.intake_front.specs.declared.answer.Stop.{Stop}
 use Rattle.intake_front.specs.declared.answer.Stop.TheVariants as stop
 use Rattle.server_words.specs.declared.words.Plan.{Plan}
@@ -27,6 +27,7 @@ use Rattle.zbx_types.specs.Ids.{at_id}
 use Rattle.pattern_set.specs.Patterns.{IsPattern, IsNoPattern}
 use Rattle.journal_opening.specs.Patterns.{HasFlawAt, HoldsBrace}
 use Rattle.journal_opening.specs.Opening.{IsAccepted, HasRoomAtOpening, KeptText, opening_intake, opening_lines}
+use Rattle.journal_opening.specs.Recovered.{Found, FoundGroups, found_entries}
 use Rattle.journal_opening.specs.Replayed.{flat}
 use Rattle.journal_opening.specs.Reasons.{Bars, IsSeen, NamesOutbox}
 use Rattle.book_opening.specs.Outgoing.{IsMendable}
@@ -40,7 +41,7 @@ use Rattle.outside.specs.declared.event.WireEvent.{WireEvent}
 use Rattle.intake_front.specs.Intake.{Limits, Intake}
 use Rattle.intake_front.specs.Served.{Served, served_on, served_from, served}
 use Rattle.server_run.proofs.Handling.{served_from-append}
-use Rattle.server_run.proofs.Barring.{bars_one, not_barred, outbox_only, kept_flat}
+use Rattle.server_run.proofs.Barring.{bars_one, found_one, not_barred, outbox_only, kept_flat}
 use Rattle.journal_opening.proofs.Beginning.{flat_is}
 use Rattle.server_run.proofs.Runs.{same_flaw}
 
@@ -71,12 +72,9 @@ config_same words source plan conf conf' text c is found =
 some_text : (a b : List ℕ) → Some a ≡ Some b → a ≡ b
 some_text a b e = cc
 
-found_same : (file : Option (List ℕ)) (b : List ℕ) (groups : List Group) → file ≡ Some b → IfSome file (λ f. groups_of (kept f) ≡ Some groups) → groups_of (kept b) ≡ Some groups
-found_same None b groups is found = absurd (cc)
-found_same (Some f) b groups is found = subst (λ x. groups_of (kept x) ≡ Some groups) (some_same f b is) found
-  where
-    some_same : (x y : List ℕ) → Some x ≡ Some y → x ≡ y
-    some_same x y e = cc
+-- what was found in the file of a run was found in that file
+found_same : (file : Option (List ℕ)) (b : List ℕ) (found : Found) → file ≡ Some b → FoundGroups file found → FoundGroups (Some b) found
+found_same file b found is finds = subst (λ o. FoundGroups o found) is finds
 
 -- what is said of the text that a source told is said of that text
 of_source : (source : Option (List ℕ)) (text : List ℕ) (P : List ℕ → Type 0) → source ≡ Some text → IfSome source P → P text
@@ -87,7 +85,7 @@ of_source (Some x) text P is p = subst P (some_text x text is) p
 flat_not : (text : List ℕ) (conf : Conf) (path : List ℕ) (cause : Cause) → flat_of text ≡ Ok conf → flat_of text ≡ refuse path cause → ⊥
 flat_not text conf path cause found refused = cc
 
--- so no text of a Config that a file keeps is, whose groups are accepted
+-- so no text of a base or of a Config that a file keeps is, where what it keeps is accepted
 pub kept_not_refused : (file : Option (List ℕ)) (path : List ℕ) (cause : Cause) → KeptText file (λ text. flat_of text ≡ refuse path cause) → ⊥
 kept_not_refused file path cause why = let kept = kept_flat file (λ text. flat_of text ≡ refuse path cause) why in flat_not kept.0 (flat kept.0) path cause kept.1 kept.2
 
@@ -106,10 +104,10 @@ module _ (words : List (List ℕ)) (before after : Objects) (plan : Plan) (text 
   same_bar t bars seen s barred = bars_one conf plan.max_entries before.outbox b s t seen (bar_here s barred) bars
 
   -- room for the configuration is said of this plan and this configuration
-  room_here : (plan' : Plan) (conf' : Conf) (groups : List Group) → Configured words before.source plan' conf' → HasRoomAtOpening plan'.max_entries conf' groups → HasRoomAtOpening plan.max_entries conf groups
-  room_here plan' conf' groups c room =
-      subst (λ (p : Plan). HasRoomAtOpening p.max_entries conf groups) (plan_same words plan' plan c.plan_is plan_is)
-      (subst (λ (k : Conf). HasRoomAtOpening plan'.max_entries k groups) (config_same words before.source plan' conf' conf text c source_is conf_is) room)
+  room_here : (plan' : Plan) (conf' : Conf) (found : Found) → Configured words before.source plan' conf' → HasRoomAtOpening plan'.max_entries conf' found → HasRoomAtOpening plan.max_entries conf found
+  room_here plan' conf' found c room =
+      subst (λ (p : Plan). HasRoomAtOpening p.max_entries conf found) (plan_same words plan' plan c.plan_is plan_is)
+      (subst (λ (k : Conf). HasRoomAtOpening plan'.max_entries k found) (config_same words before.source plan' conf' conf text c source_is conf_is) room)
 
   -- what bars a run that didn't begin is its status, or another fault stood before it
   pub bars_unbegun : (t : Status) → Bars conf plan.max_entries (Some b) before.outbox t → IsSeen before.outbox t → (s : Status) → Refuses words before after s → (s ≡ t) ⊎ (YieldsTo s ⊎ (NamesOutbox t × (s ≡ status.OutboxFault)))
@@ -121,10 +119,12 @@ module _ (words : List (List ℕ)) (before after : Objects) (plan : Plan) (text 
   bars_unbegun t bars seen (status.ConfigRefused path cause) (inl why) = absurd (flat_not text conf path cause conf_is (of_source before.source text (λ x. flat_of x ≡ refuse path cause) source_is why.1))
   bars_unbegun t bars seen (status.ConfigRefused path cause) (inr why) = absurd (kept_not_refused before.disk.bytes path cause why.3)
   bars_unbegun t bars seen status.DiskFault (inr why) = inr (inl (inr (inl refl)))
-  bars_unbegun t bars seen status.OutboxFault (inr (plan', conf', c, (groups, found, accepted, room, rose))) =
-      inr (inr (outbox_only conf plan.max_entries before.outbox b groups (found_same before.disk.bytes b groups file_is found) accepted (room_here plan' conf' groups c room) t bars, refl))
+  bars_unbegun t bars seen status.OutboxFault (inr (plan', conf', c, (found, finds, accepted, room, rose))) =
+      inr (inr (outbox_only conf plan.max_entries before.outbox b found (found_same before.disk.bytes b found file_is finds) accepted (room_here plan' conf' found c room) t bars, refl))
   bars_unbegun t bars seen status.NotOurs (inr why) = inl (same_bar t bars seen status.NotOurs why)
+  bars_unbegun t bars seen status.Unfinished (inr why) = inl (same_bar t bars seen status.Unfinished why)
   bars_unbegun t bars seen (status.Damaged at) (inr why) = inl (same_bar t bars seen (status.Damaged at) why)
+  bars_unbegun t bars seen (status.OutboxBehind told base) (inr why) = inl (same_bar t bars seen (status.OutboxBehind told base) why)
   bars_unbegun t bars seen (status.OutboxAhead told count) (inr why) = inl (same_bar t bars seen (status.OutboxAhead told count) why)
   bars_unbegun t bars seen (status.OutboxDiffers at) (inr why) = inl (same_bar t bars seen (status.OutboxDiffers at) why)
   bars_unbegun t bars seen (status.Full entries bytes) (inr why) = inl (same_bar t bars seen (status.Full entries bytes) why)
@@ -136,8 +136,8 @@ module _ (words : List (List ℕ)) (before after : Objects) (plan : Plan) (text 
   bars_begun t bars seen s entries IsTold f =
       let same = config_same words before.source f.plan f.conf conf text f.configured source_is conf_is in
       let bars' : Bars f.conf plan.max_entries (Some b) before.outbox t = subst (λ (c : Conf). Bars c plan.max_entries (Some b) before.outbox t) (sym same) bars in
-      let room : HasRoomAtOpening plan.max_entries f.conf f.groups = subst (λ (p : Plan). HasRoomAtOpening p.max_entries f.conf f.groups) (plan_same words f.plan plan f.configured.plan_is plan_is) f.room in
-      not_barred f.conf plan.max_entries before.outbox b f.groups (found_same before.disk.bytes b f.groups file_is f.found) f.accepted room t f.mendable (inr seen) bars'
+      let room : HasRoomAtOpening plan.max_entries f.conf f.found = subst (λ (p : Plan). HasRoomAtOpening p.max_entries f.conf f.found) (plan_same words f.plan plan f.configured.plan_is plan_is) f.room in
+      not_barred f.conf plan.max_entries before.outbox b f.found (found_same before.disk.bytes b f.found file_is f.finds) f.accepted room t f.mendable (inr seen) bars'
 
 module _ (words : List (List ℕ)) (before after : Objects) (entries : List Numbered) (IsTold : Counts → Type 0) where
   -- a run that ended by a fault of its disk
@@ -146,13 +146,17 @@ module _ (words : List (List ℕ)) (before after : Objects) (entries : List Numb
       let g : Followed words before after status.DiskFault entries IsTold = subst (λ t. Followed words before after t entries IsTold) is f in
       g.finished.journaled.fault g.finished.ends.0
 
-  -- a run whose disk didn't fail leaves its entries
-  pub keeps_at_end : (s : Status) → Followed words before after s entries IsTold → (Rose before.disk.faults after.disk.faults → ⊥) → IfSome after.disk.bytes (Keeps entries)
-  keeps_at_end s f none = first after.disk.bytes (f.finished.journaled.kept (λ is. none (f.finished.journaled.fault is)))
+  -- a run whose disk didn't fail leaves its entries, behind the base that the file had
+  pub keeps_at_end : (s : Status) → Followed words before after s entries IsTold → (Rose before.disk.faults after.disk.faults → ⊥) → IfSome before.disk.bytes (λ b. IfSome after.disk.bytes (Keeps (base_in b) entries))
+  keeps_at_end s f none = behind before.disk.bytes f.finds (first after.disk.bytes (f.finished.journaled.kept (λ is. none (f.finished.journaled.fault is))))
     where
-      first : (o : Option (List ℕ)) → IfSome o (λ b. Keeps entries b × ((c : List ℕ) → after.disk.images c → Keeps entries c)) → IfSome o (Keeps entries)
+      first : (o : Option (List ℕ)) → IfSome o (λ b. Keeps f.found.base entries b × ((c : List ℕ) → after.disk.images c → Keeps f.found.base entries c)) → IfSome o (Keeps f.found.base entries)
       first None k = tt
       first (Some b) k = k.0
+
+      behind : (o : Option (List ℕ)) → FoundGroups o f.found → IfSome after.disk.bytes (Keeps f.found.base entries) → IfSome o (λ b. IfSome after.disk.bytes (Keeps (base_in b) entries))
+      behind None finds k = tt
+      behind (Some b) finds k = subst (λ (x : Base). IfSome after.disk.bytes (Keeps x entries)) (sym finds.0) k
 
 -- ---- completeness
 
@@ -177,13 +181,14 @@ deep_or_not (Some a) depth limit within (inr above) = omega (arith, within, abov
 no_pattern : (pattern : List ℕ) → IsPattern pattern → IsNoPattern pattern → ⊥
 no_pattern pattern is flaw = deep_or_not (read default_config (chars pattern)) (λ p. p.0.depth) default_config.nest_limit is flaw
 
-module _ (words : List (List ℕ)) (before after : Objects) (plan : Plan) (text : List ℕ) (conf : Conf) (b : List ℕ) (groups : List Group)
+module _ (words : List (List ℕ)) (before after : Objects) (plan : Plan) (text : List ℕ) (conf : Conf) (b : List ℕ) (found : Found)
     (plan_is : plan_of words ≡ Some plan) (source_is : before.source ≡ Some text) (conf_is : flat_of text ≡ Ok conf) (file_is : before.disk.bytes ≡ Some b)
-    (found : groups_of (kept b) ≡ Some groups) (accepted : IsAccepted groups) (room : HasRoomAtOpening plan.max_entries conf groups)
-    (kept_patterns : All (λ kept_text. All IsPattern (flat kept_text).patterns) (config_texts (numbered_of groups))) (mendable : IsMendable before.outbox (opening_lines conf groups)) (seen : (before.outbox.held ≡ 0) ⊎ IsSome before.outbox.bytes)
+    (finds : FoundGroups (Some b) found) (accepted : IsAccepted found) (room : HasRoomAtOpening plan.max_entries conf found)
+    (kept_patterns : All (λ kept_text. All IsPattern (flat kept_text).patterns) (texts_on found.base.text (found_entries found))) (mendable : IsMendable found.base.lines before.outbox (opening_lines conf found))
+    (seen : (before.outbox.held ≡ found.base.lines) ⊎ IsSome before.outbox.bytes)
     (source_well : Rose before.source_faults after.source_faults → ⊥) (disk_well : Rose before.disk.faults after.disk.faults → ⊥) (outbox_well : Rose before.outbox.faults after.outbox.faults → ⊥)
     (patterns : All IsPattern conf.patterns) where
-  seen_at : (s : Status) → (before.outbox.held ≡ 0) ⊎ IsSeen before.outbox s
+  seen_at : (s : Status) → (before.outbox.held ≡ found.base.lines) ⊎ IsSeen before.outbox s
   seen_at s = ⊎_elim (λ none. inl none) (λ told. inr (at s told)) seen
     where
       at : (s : Status) → IsSome before.outbox.bytes → IsSeen before.outbox s
@@ -193,17 +198,15 @@ module _ (words : List (List ℕ)) (before after : Objects) (plan : Plan) (text 
   -- what is accepted isn't barred
   isnt_barred : (s : Status) → IsBarred words before s → ⊥
   isnt_barred s barred =
-      not_barred conf plan.max_entries before.outbox b groups found accepted room s mendable (seen_at s) (bar_here words before after plan text conf b plan_is source_is conf_is file_is s barred)
+      not_barred conf plan.max_entries before.outbox b found finds accepted room s mendable (seen_at s) (bar_here words before after plan text conf b plan_is source_is conf_is file_is s barred)
 
   -- nor has a pattern of a kept text a flaw
   not_flawed : (path : List ℕ) → KeptText before.disk.bytes (HasFlawAt IsNoPattern path) → ⊥
-  not_flawed path (h, found', accepted', kept_text, among, u) =
-      let same : h ≡ groups = groups_same (sym (found_same before.disk.bytes b h file_is found') ∙ found) in
-      let here : All IsPattern (flat kept_text).patterns = All-contains (λ t. All IsPattern (flat t).patterns) (config_texts (numbered_of groups)) kept_text kept_patterns (subst (λ gs. Contains (config_texts (numbered_of gs)) kept_text) same among) in
+  not_flawed path (h, finds', accepted', kept_text, among, u) =
+      let same : h ≡ found = found_one b h found (found_same before.disk.bytes b h file_is finds') finds in
+      let here : All IsPattern (flat kept_text).patterns = All-contains (λ t. All IsPattern (flat t).patterns) (texts_on found.base.text (found_entries found)) kept_text kept_patterns
+      (subst (λ (x : Found). Contains (texts_on x.base.text (found_entries x)) kept_text) same among) in
       no_pattern u.flawed.pattern (all_with_id IsPattern u.conf.patterns u.flawed.place u.flawed.pattern (subst (λ (k : Conf). All IsPattern k.patterns) (flat_is kept_text u.conf u.conf_is) here) u.flawed.pattern_is) u.flawed.flaw
-    where
-      groups_same : {x y : List Group} → Some x ≡ Some y → x ≡ y
-      groups_same e = cc
 
   -- so its run begins, unless memory is refused or a pattern is too large
   pub begins_well : (s : Status) → Refuses words before after s → (s ≡ status.OutOfMemory) ⊎ ((path : List ℕ) × (s ≡ status.PatternTooLarge path))
@@ -223,7 +226,9 @@ module _ (words : List (List ℕ)) (before after : Objects) (plan : Plan) (text 
   begins_well status.DiskFault (inr why) = absurd (disk_well why.3)
   begins_well status.OutboxFault (inr (plan', conf', c, (h, found', accepted', room', rose))) = absurd (outbox_well rose)
   begins_well status.NotOurs (inr why) = absurd (isnt_barred status.NotOurs why)
+  begins_well status.Unfinished (inr why) = absurd (isnt_barred status.Unfinished why)
   begins_well (status.Damaged at) (inr why) = absurd (isnt_barred (status.Damaged at) why)
+  begins_well (status.OutboxBehind told base) (inr why) = absurd (isnt_barred (status.OutboxBehind told base) why)
   begins_well (status.OutboxAhead told count) (inr why) = absurd (isnt_barred (status.OutboxAhead told count) why)
   begins_well (status.OutboxDiffers at) (inr why) = absurd (isnt_barred (status.OutboxDiffers at) why)
   begins_well (status.Full entries bytes) (inr why) = absurd (isnt_barred (status.Full entries bytes) why)
@@ -294,21 +299,18 @@ fault_before s ended t (own, inl same) is spent cut = sym same ∙ is
 fault_before s ended t (own, inr (inl none)) is spent cut = absurd (spent (sym is ∙ none))
 fault_before s ended t (own, inr (inr (printed, well))) is spent cut = absurd (cut (sym is ∙ printed))
 
-module _ (words : List (List ℕ)) (before after : Objects) (entries : List Numbered) (IsTold : Counts → Type 0) (plan : Plan) (text : List ℕ) (conf : Conf) (b : List ℕ) (groups : List Group) (all : List WireEvent)
-    (plan_is : plan_of words ≡ Some plan) (source_is : before.source ≡ Some text) (conf_is : flat_of text ≡ Ok conf) (file_is : before.disk.bytes ≡ Some b) (found : groups_of (kept b) ≡ Some groups) (left : before.wire.left ≡ Some all)
-    (closes : (served (limits_by plan) conf (opening_intake conf groups) (take plan.turns all)).stop ≡ Some stop.Closed) where
+module _ (words : List (List ℕ)) (before after : Objects) (entries : List Numbered) (IsTold : Counts → Type 0) (plan : Plan) (text : List ℕ) (conf : Conf) (b : List ℕ) (found : Found) (all : List WireEvent)
+    (plan_is : plan_of words ≡ Some plan) (source_is : before.source ≡ Some text) (conf_is : flat_of text ≡ Ok conf) (file_is : before.disk.bytes ≡ Some b) (finds : FoundGroups (Some b) found) (left : before.wire.left ≡ Some all)
+    (closes : (served (limits_by plan) conf (opening_intake conf found) (take plan.turns all)).stop ≡ Some stop.Closed) where
   closes_too : {s : Status} (f : Followed words before after s entries IsTold)
-      → (served (refusing (limits_by f.plan) 0) f.conf (opening_intake f.conf f.groups) (take f.plan.turns all)).stop ≡ Some stop.Closed
+      → (served (refusing (limits_by f.plan) 0) f.conf (opening_intake f.conf f.found) (take f.plan.turns all)).stop ≡ Some stop.Closed
   closes_too f =
       let plans : plan ≡ f.plan = plan_same words plan f.plan plan_is f.configured.plan_is in
       let confs : conf ≡ f.conf = sym (config_same words before.source f.plan f.conf conf text f.configured source_is conf_is) in
-      let same : groups ≡ f.groups = groups_same (sym found ∙ found_same before.disk.bytes b f.groups file_is f.found) in
-      subst (λ (p : Plan). (served (limits_by p) f.conf (opening_intake f.conf f.groups) (take p.turns all)).stop ≡ Some stop.Closed) plans
-      (subst (λ (k : Conf). (served (limits_by plan) k (opening_intake k f.groups) (take plan.turns all)).stop ≡ Some stop.Closed) confs
-      (subst (λ gs. (served (limits_by plan) conf (opening_intake conf gs) (take plan.turns all)).stop ≡ Some stop.Closed) same closes))
-    where
-      groups_same : {x y : List Group} → Some x ≡ Some y → x ≡ y
-      groups_same e = cc
+      let same : found ≡ f.found = found_one b found f.found finds (found_same before.disk.bytes b f.found file_is f.finds) in
+      subst (λ (p : Plan). (served (limits_by p) f.conf (opening_intake f.conf f.found) (take p.turns all)).stop ≡ Some stop.Closed) plans
+      (subst (λ (k : Conf). (served (limits_by plan) k (opening_intake k f.found) (take plan.turns all)).stop ≡ Some stop.Closed) confs
+      (subst (λ (x : Found). (served (limits_by plan) conf (opening_intake conf x) (take plan.turns all)).stop ≡ Some stop.Closed) same closes))
 
   -- a run whose wire is to be closed ends well, unless an object failed or memory was refused
   pub ends_well : (s : Status) → (s ≡ status.WireFault → ⊥) → (s ≡ status.DiskFault → ⊥) → (s ≡ status.OutboxFault → ⊥) → (s ≡ status.PrintFault → ⊥) → Followed words before after s entries IsTold
@@ -320,9 +322,9 @@ module _ (words : List (List ℕ)) (before after : Objects) (entries : List Numb
   ends_well status.OutboxFault no_wire no_disk no_outbox no_print f = absurd (no_outbox refl)
   ends_well status.PrintFault no_wire no_disk no_outbox no_print f = absurd (no_print refl)
   ends_well status.TurnLimit no_wire no_disk no_outbox no_print f =
-      absurd (not_at_limit (limits_by f.plan) f.conf (numbered_of f.groups) (opening_intake f.conf f.groups) entries f.plan.turns _ before.wire after.wire all left (closes_too f) f.finished)
+      absurd (not_at_limit (limits_by f.plan) f.conf (found_entries f.found) (opening_intake f.conf f.found) entries f.plan.turns _ before.wire after.wire all left (closes_too f) f.finished)
   ends_well (status.Full x y) no_wire no_disk no_outbox no_print f =
-      absurd (not_full (limits_by f.plan) f.conf (numbered_of f.groups) (opening_intake f.conf f.groups) entries f.plan.turns _ before.wire after.wire all left (closes_too f) x y f.finished)
+      absurd (not_full (limits_by f.plan) f.conf (found_entries f.found) (opening_intake f.conf f.found) entries f.plan.turns _ before.wire after.wire all left (closes_too f) x y f.finished)
   ends_well _ no_wire no_disk no_outbox no_print f = absurd f.finished.ends
 
 -- ---- refusals that hang on the words and the configuration alone

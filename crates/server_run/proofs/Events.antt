@@ -3,10 +3,11 @@ use Rattle.std.proofs.Common.{◌≡◌, ◌⊎◌, ⊎_elim, ℕ, ◌+◌, ◌�
 use Rattle.std.specs.Prelude.{Option, Some, None, IfSome, Result, Ok, Err, OnErr}
 use Rattle.std.specs.Option.{option_to_list}
 use Rattle.outside.specs.Disk.{DiskTells, IsLawful}
+use Rattle.zbx_types.specs.declared.base.Base.{Base}
 use Rattle.zbx_types.specs.declared.conf.Conf.{Conf}
 use Rattle.zbx_types.specs.declared.entries.Numbered.{Numbered}
 use Rattle.entry_step.specs.Each.{Each}
-use Rattle.entry_step.specs.InForce.{IsPlain}
+use Rattle.entry_laws.specs.InForce.{IsPlain}
 use Rattle.outside.specs.Causes.{Rose}
 use Rattle.zbx_types.specs.declared.memory.OutOfMemory.{OutOfMemory}
 use Rattle.outside.specs.Tells.{WireTells}
@@ -181,14 +182,14 @@ took_on limits conf old new did w w' most count s g t took is =
 
 -- ---- a run, some events at a time
 
--- what a run's disk did
-abbrev doing : DiskTells → DiskTells → Doing
-doing old new = Journals (λ c. ⊥) old new
+-- what a run's disk did, behind a base
+abbrev doing : Base → DiskTells → DiskTells → Doing
+doing base old new = Journals (λ c. ⊥) old new base
 
 -- at the start no event was taken
-pub ran_none : (limits : Limits) (conf : Conf) (i : Intake) (disk : DiskTells) (w : WireTells) → IsLawful disk → IsKept disk i.entries
-    → Ran (refusing limits 0) conf i.entries i i (doing disk disk) w w 0 None None anywhere
-ran_none limits conf i disk w lawful kept = record {
+pub ran_none : (base : Base) (limits : Limits) (conf : Conf) (i : Intake) (disk : DiskTells) (w : WireTells) → IsLawful disk → IsKept disk base i.entries
+    → Ran (refusing limits 0) conf i.entries i i (doing base disk disk) w w 0 None None anywhere
+ran_none base limits conf i disk w lawful kept = record {
   taken = [];
   count_is = refl;
   given = omega arith;
@@ -198,15 +199,15 @@ ran_none limits conf i disk w lawful kept = record {
   runs_on = λ front last is. absurd (no_last front last is);
   stop_is = refl;
   shows = shows_none w;
-  journaled = journals_none disk (IsReached (refusing limits 0) conf i.entries i []) i.entries lawful (inl refl) kept;
+  journaled = journals_none disk base (IsReached (refusing limits 0) conf i.entries i []) i.entries lawful (inl refl) kept;
   later = omega arith;
 }
 
-module _ (limits : Limits) (conf : Conf) (recovered : List Numbered) (start now new : Intake) (d0 d1 d2 : DiskTells) (w0 w1 w2 : WireTells) (count more : ℕ) (s : Option Stop) (lost : Option WireEvent) (ending : Ending) where
+module _ (base : Base) (limits : Limits) (conf : Conf) (recovered : List Numbered) (start now new : Intake) (d0 d1 d2 : DiskTells) (w0 w1 w2 : WireTells) (count more : ℕ) (s : Option Stop) (lost : Option WireEvent) (ending : Ending) where
   -- more events behind some that stopped nothing; the disk may have refused a group of theirs
-  pub ran_more : Ran (refusing limits 0) conf recovered start now (doing d0 d1) w0 w1 count None None anywhere
-      → Ran (refusing limits (refused_group now s)) conf now.entries now new (doing d1 d2) w1 w2 more s lost ending
-      → Ran (refusing limits (refused_group now s)) conf recovered start new (doing d0 d2) w0 w2 (count + more) s lost ending
+  pub ran_more : Ran (refusing limits 0) conf recovered start now (doing base d0 d1) w0 w1 count None None anywhere
+      → Ran (refusing limits (refused_group now s)) conf now.entries now new (doing base d1 d2) w1 w2 more s lost ending
+      → Ran (refusing limits (refused_group now s)) conf recovered start new (doing base d0 d2) w0 w2 (count + more) s lost ending
   ran_more r t =
       let n = refused_group now s in
       let l = refusing limits n in
@@ -229,7 +230,7 @@ module _ (limits : Limits) (conf : Conf) (recovered : List Numbered) (start now 
         stop_is = t.stop_is ∙ sym (ap (λ (x : Served). x.stop) all);
         shows = subst (λ (x : Served). Shows w0 w2 x.replies x.shut) (sym all)
             (shows_both w0 w1 w2 so_far.replies (served l conf now t.taken).replies so_far.shut (served l conf now t.taken).shut r.shows t.shows);
-        journaled = journals_on (λ c. ⊥) d0 d1 d2 (IsReached (refusing limits 0) conf recovered start r.taken)
+        journaled = journals_on (λ c. ⊥) d0 d1 d2 base (IsReached (refusing limits 0) conf recovered start r.taken)
             (IsReached l conf now.entries now t.taken) (IsReached l conf recovered start (r.taken ++ t.taken)) None s now.entries new.entries
             (reached_before limits conf recovered start r.taken t.taken n before (same_front limits conf start now r.taken s is))
             (reached_then limits conf recovered start r.taken t.taken n before now is running0) r.journaled t.journaled;
@@ -237,20 +238,20 @@ module _ (limits : Limits) (conf : Conf) (recovered : List Numbered) (start now 
       }
 
 -- more events that stop nothing
-pub ran_on : (limits : Limits) (conf : Conf) (recovered : List Numbered) (start now new : Intake) (d0 d1 d2 : DiskTells) (w0 w1 w2 : WireTells) (count more : ℕ)
-    → Ran (refusing limits 0) conf recovered start now (doing d0 d1) w0 w1 count None None anywhere → (l : Limits) → l ≡ limits → (k : Conf) → k ≡ conf → Ran (refusing l 0) k now.entries now new (doing d1 d2) w1 w2 more None None anywhere
-    → Ran (refusing limits 0) conf recovered start new (doing d0 d2) w0 w2 (count + more) None None anywhere
-ran_on limits conf recovered start now new d0 d1 d2 w0 w1 w2 count more r l same k is t =
-    ran_more limits conf recovered start now new d0 d1 d2 w0 w1 w2 count more None None anywhere r
-    (subst (λ (x : Limits). Ran (refusing x 0) conf now.entries now new (doing d1 d2) w1 w2 more None None anywhere) same
-    (subst (λ (x : Conf). Ran (refusing l 0) x now.entries now new (doing d1 d2) w1 w2 more None None anywhere) is t))
+pub ran_on : (base : Base) (limits : Limits) (conf : Conf) (recovered : List Numbered) (start now new : Intake) (d0 d1 d2 : DiskTells) (w0 w1 w2 : WireTells) (count more : ℕ)
+    → Ran (refusing limits 0) conf recovered start now (doing base d0 d1) w0 w1 count None None anywhere → (l : Limits) → l ≡ limits → (k : Conf) → k ≡ conf → Ran (refusing l 0) k now.entries now new (doing base d1 d2) w1 w2 more None None anywhere
+    → Ran (refusing limits 0) conf recovered start new (doing base d0 d2) w0 w2 (count + more) None None anywhere
+ran_on base limits conf recovered start now new d0 d1 d2 w0 w1 w2 count more r l same k is t =
+    ran_more base limits conf recovered start now new d0 d1 d2 w0 w1 w2 count more None None anywhere r
+    (subst (λ (x : Limits). Ran (refusing x 0) conf now.entries now new (doing base d1 d2) w1 w2 more None None anywhere) same
+    (subst (λ (x : Conf). Ran (refusing l 0) x now.entries now new (doing base d1 d2) w1 w2 more None None anywhere) is t))
 
 -- a run that took its events
-pub finish : (limits : Limits) (conf : Conf) (recovered : List Numbered) (start now : Intake) (d0 d1 : DiskTells) (w0 w1 : WireTells) (count turns n : ℕ) (s : Option Stop) (lost : Option WireEvent) (ending e : Ending)
-    → Ran (refusing limits n) conf recovered start now (doing d0 d1) w0 w1 count s lost ending → (n ≡ 0) ⊎ (s ≡ Some stop.DiskFault) → count + length (option_to_list lost) ≤ turns → EndsAs e turns count s lost
+pub finish : (base : Base) (limits : Limits) (conf : Conf) (recovered : List Numbered) (start now : Intake) (d0 d1 : DiskTells) (w0 w1 : WireTells) (count turns n : ℕ) (s : Option Stop) (lost : Option WireEvent) (ending e : Ending)
+    → Ran (refusing limits n) conf recovered start now (doing base d0 d1) w0 w1 count s lost ending → (n ≡ 0) ⊎ (s ≡ Some stop.DiskFault) → count + length (option_to_list lost) ≤ turns → EndsAs e turns count s lost
     → ((left : Option (List WireEvent)) (rest : List WireEvent) → LeftIs ending lost left rest → LeftIs e lost left rest ⊎ Rose w0.faults w1.faults)
-    → Finished limits conf recovered start now.entries turns (doing d0 d1) w0 w1 e
-finish limits conf recovered start now d0 d1 w0 w1 count turns n s lost ending e r why few ends left = record {
+    → Finished limits conf recovered start now.entries turns (doing base d0 d1) w0 w1 e
+finish base limits conf recovered start now d0 d1 w0 w1 count turns n s lost ending e r why few ends left = record {
   handled = r.taken;
   lost = lost;
   refused = n;
@@ -262,7 +263,7 @@ finish limits conf recovered start now d0 d1 w0 w1 count turns n s lost ending e
   ends = subst (λ k. EndsAs e turns k (served (refusing limits n) conf start r.taken).stop lost) r.count_is (subst (λ o. EndsAs e turns count o lost) r.stop_is ends);
   refused_is = subst (λ o. (n ≡ 0) ⊎ (o ≡ Some stop.DiskFault)) r.stop_is why;
   shows = r.shows;
-  journaled = subst (λ o. doing d0 d1 (IsReached (refusing limits n) conf recovered start r.taken) o now.entries) r.stop_is r.journaled;
+  journaled = subst (λ o. doing base d0 d1 (IsReached (refusing limits n) conf recovered start r.taken) o now.entries) r.stop_is r.journaled;
 }
   where
     told : (o : Option (List WireEvent)) → Gave o w1.left r.taken lost ending
@@ -271,20 +272,20 @@ finish limits conf recovered start now d0 d1 w0 w1 count turns n s lost ending e
     told (Some all) t = (t.0, t.1, left w1.left t.0 t.2)
 
 -- a run whose last events didn't stop it
-pub finish_on : (limits : Limits) (conf : Conf) (recovered : List Numbered) (start now : Intake) (d0 d1 : DiskTells) (w0 w1 : WireTells) (count turns : ℕ) (e : Ending)
-    → Ran (refusing limits 0) conf recovered start now (doing d0 d1) w0 w1 count None None anywhere → count ≤ turns → EndsAs e turns count None None
-    → Finished limits conf recovered start now.entries turns (doing d0 d1) w0 w1 e
-finish_on limits conf recovered start now d0 d1 w0 w1 count turns e r few ends =
-    finish limits conf recovered start now d0 d1 w0 w1 count turns 0 None None anywhere e r (inl refl) (omega (arith, few)) ends (λ left rest has. inl (left_is e None left rest has))
+pub finish_on : (base : Base) (limits : Limits) (conf : Conf) (recovered : List Numbered) (start now : Intake) (d0 d1 : DiskTells) (w0 w1 : WireTells) (count turns : ℕ) (e : Ending)
+    → Ran (refusing limits 0) conf recovered start now (doing base d0 d1) w0 w1 count None None anywhere → count ≤ turns → EndsAs e turns count None None
+    → Finished limits conf recovered start now.entries turns (doing base d0 d1) w0 w1 e
+finish_on base limits conf recovered start now d0 d1 w0 w1 count turns e r few ends =
+    finish base limits conf recovered start now d0 d1 w0 w1 count turns 0 None None anywhere e r (inl refl) (omega (arith, few)) ends (λ left rest has. inl (left_is e None left rest has))
 
 -- a run that ends behind events that were committed together
-pub finish_with : (limits : Limits) (conf : Conf) (recovered : List Numbered) (start now new : Intake) (d0 d1 d2 : DiskTells) (w0 w1 w2 : WireTells) (count most turns : ℕ) (e : Status)
-    → Ran (refusing limits 0) conf recovered start now (doing d0 d1) w0 w1 count None None anywhere → (l : Limits) → l ≡ limits → (k : Conf) → k ≡ conf → Ends l k now new (doing d1 d2) w1 w2 most e
-    → count + most ≤ turns → w0.faults ≤ w1.faults → Finished limits conf recovered start new.entries turns (doing d0 d2) w0 w2 (course_of e).ending
-finish_with limits conf recovered start now new d0 d1 d2 w0 w1 w2 count most turns e r l same k is t few later =
-    let x : Ends limits conf now new (doing d1 d2) w1 w2 most e = subst (λ (x : Limits). Ends x conf now new (doing d1 d2) w1 w2 most e) same (subst (λ (x : Conf). Ends l x now new (doing d1 d2) w1 w2 most e) is t) in
-    finish limits conf recovered start new d0 d2 w0 w2 (count + x.count) turns (refused_group now x.stop) x.stop x.lost x.ending (course_of e).ending
-    (ran_more limits conf recovered start now new d0 d1 d2 w0 w1 w2 count x.count x.stop x.lost x.ending r x.ran) (refused_is now x.stop) (omega (arith, few, x.few)) (x.ends turns (count + x.count))
+pub finish_with : (base : Base) (limits : Limits) (conf : Conf) (recovered : List Numbered) (start now new : Intake) (d0 d1 d2 : DiskTells) (w0 w1 w2 : WireTells) (count most turns : ℕ) (e : Status)
+    → Ran (refusing limits 0) conf recovered start now (doing base d0 d1) w0 w1 count None None anywhere → (l : Limits) → l ≡ limits → (k : Conf) → k ≡ conf → Ends l k now new (doing base d1 d2) w1 w2 most e
+    → count + most ≤ turns → w0.faults ≤ w1.faults → Finished limits conf recovered start new.entries turns (doing base d0 d2) w0 w2 (course_of e).ending
+finish_with base limits conf recovered start now new d0 d1 d2 w0 w1 w2 count most turns e r l same k is t few later =
+    let x : Ends limits conf now new (doing base d1 d2) w1 w2 most e = subst (λ (x : Limits). Ends x conf now new (doing base d1 d2) w1 w2 most e) same (subst (λ (x : Conf). Ends l x now new (doing base d1 d2) w1 w2 most e) is t) in
+    finish base limits conf recovered start new d0 d2 w0 w2 (count + x.count) turns (refused_group now x.stop) x.stop x.lost x.ending (course_of e).ending
+    (ran_more base limits conf recovered start now new d0 d1 d2 w0 w1 w2 count x.count x.stop x.lost x.ending r x.ran) (refused_is now x.stop) (omega (arith, few, x.few)) (x.ends turns (count + x.count))
     (λ left rest has. ⊎_elim (λ is. inl is) (λ rose. inr (omega (arith, later, rose))) (x.left left rest has))
 
 -- a journal that is ready has the limits of the one before

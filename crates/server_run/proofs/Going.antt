@@ -5,6 +5,7 @@ use Rattle.std.specs.Prelude.{◌≢◌, Option, Some, None, IfSome, Result, Ok,
 use Rattle.std.specs.Option.{option_to_list}
 use mathlib.Core.List.{IsPrefix}
 use Rattle.outside.specs.Disk.{DiskTells, IsLawful}
+use Rattle.zbx_types.specs.declared.base.Base.{Base}
 use Rattle.zbx_types.specs.declared.conf.Conf.{Conf}
 use Rattle.zbx_types.specs.declared.entries.Numbered.{Numbered}
 use Rattle.zbx_types.specs.declared.memory.OutOfMemory.{OutOfMemory}
@@ -14,12 +15,13 @@ use Rattle.outside.specs.declared.event.WireEvent.{WireEvent}
 use Rattle.outside.specs.declared.event.Trouble.{Trouble}
 use Rattle.book.specs.Ends.{HeadView}
 use Rattle.book.specs.Entries.{IsWholeLog}
+use Rattle.base_laws.specs.Grounds.{start_of}
 use Rattle.book_opening.specs.Outgoing.{IsMendable, log_lines}
 use Rattle.book_opening.specs.declared.errors.BookError.{BookError}
 use Rattle.book_opening.specs.declared.errors.BookError.TheVariants as refusal
 use Rattle.entry_step.specs.Each.{Each}
-use Rattle.entry_step.specs.InForce.{IsPlain, FitsLog, conf_behind, behind_all}
-use Rattle.entry_step.specs.Log.{log_of, IsFull}
+use Rattle.entry_laws.specs.InForce.{IsPlain, FitsLog, HasBegun, conf_behind, behind_all, IsFull}
+use Rattle.entry_step.specs.Log.{log_of}
 use Rattle.entry_step.proofs.Members.{each_append}
 use Rattle.intake_front.specs.Batch.{IsIdle}
 use Rattle.intake_front.specs.Intake.{Limits, Intake, IsSound}
@@ -33,7 +35,7 @@ use Rattle.server_run.specs.declared.serving.Taken.TheVariants as taken
 use Rattle.server_run.specs.Events.{Doing, Ran, Took, Ends, ending_of}
 use Rattle.server_run.specs.Going.{Reaches, TakesOn, IsServing, HasServed, IsEndedAt, IsSentAt, IsCause, IsJoined, IsWorse, IsOpened, IsBookless, HasGone, book_status}
 use Rattle.server_run.specs.Outbox.{LinesAre}
-use Rattle.journal_opening.specs.Outbox.{IsAhead, IsOther}
+use Rattle.journal_opening.specs.Outbox.{IsBehind, IsAhead, IsOther}
 use Rattle.journal_opening.specs.Tally.{counts_over}
 use Rattle.server_run.specs.Runs.{Finished}
 use Rattle.server_run.specs.Statuses.{at_limit, anywhere, at_refusal, course_of, ended_with, EndsAs, LeftIs, IsCourse, IsUnprinted}
@@ -71,7 +73,7 @@ pub took_as : (limits : Limits) (k conf : Conf) (old new : Intake) (did : Doing)
 took_as limits k conf old new did w w' most count s g same took = subst (λ (x : Conf). Took limits x old new did w w' most count s g) same took
 
 module _ (limits : Limits) (k conf : Conf) (same : k ≡ conf) (old new : Intake) (did : Doing) (w w' : WireTells) (most count : ℕ) (s : Option Stop) (g : Result (Unit {0}) Trouble) (took : Took limits k old new did w w' most count s g)
-    (flat : List ℕ → Conf) (sound : IsSound flat conf old) (kept sent : List Numbered) (some : 0 < length kept) (plain : Each IsPlain sent) (is : kept ++ sent ≡ old.entries) (n : ℕ) (size : n ≡ length old.entries) where
+    (flat : List ℕ → Conf) (ground : Start) (sound : IsSound flat ground conf old) (kept sent : List Numbered) (begun : HasBegun ground (log_of kept)) (plain : Each IsPlain sent) (is : kept ++ sent ≡ old.entries) (n : ℕ) (size : n ≡ length old.entries) where
   here : Took limits conf old new did w w' most count s g
   here = subst (λ (x : Conf). Took limits x old new did w w' most count s g) same took
 
@@ -87,11 +89,11 @@ module _ (limits : Limits) (k conf : Conf) (same : k ≡ conf) (old new : Intake
   batch_plain = each_append IsPlain sent (drop n new.entries) plain (subst (Each IsPlain) (sym (behind_old old.entries new.entries n grown.0 size grown.1)) grown.2)
 
   -- so they are a whole log behind what the kept entries leave
-  pub batch_whole : (start : Start) → start ≡ behind_all flat (log_of kept) → IsWholeLog start (sent ++ drop n new.entries)
+  pub batch_whole : (start : Start) → start ≡ behind_all flat ground (log_of kept) → IsWholeLog start (sent ++ drop n new.entries)
   batch_whole start first =
-      let i = here.sound flat sound in
+      let i = here.sound flat ground sound in
       let entries : kept ++ (sent ++ drop n new.entries) ≡ i.0.entries = batch_all ∙ i.2 in
-      whole_of flat kept (sent ++ drop n new.entries) start first some batch_plain (subst (λ es. IsFull (log_of es)) (sym entries) i.1.full) (subst (λ es. FitsLog flat (log_of es)) (sym entries) i.1.fits)
+      whole_of flat ground kept (sent ++ drop n new.entries) start first begun batch_plain (subst (λ es. IsFull ground (log_of es)) (sym entries) i.1.full) (subst (λ es. FitsLog flat ground (log_of es)) (sym entries) i.1.fits)
 
   module _ (t : Result (Unit {0}) OutOfMemory) (sent' : List Numbered) (all : OnOk t (sent' ≡ sent ++ drop n new.entries)) (front : IsPrefix sent' (sent ++ drop n new.entries)) where
     sent_is : (u : Unit {0}) → t ≡ Ok u → sent' ≡ sent ++ drop n new.entries
@@ -101,12 +103,12 @@ module _ (limits : Limits) (k conf : Conf) (same : k ≡ conf) (old new : Intake
     sent_ok u well = ap (λ l. kept ++ l) (sent_is u well) ∙ batch_all
 
     -- where the run goes on, and it serves
-    pub batch_on : ended_with s g t ≡ None → (kept ++ sent' ≡ new.entries) × IsSound flat conf new × Each IsPlain sent'
+    pub batch_on : ended_with s g t ≡ None → (kept ++ sent' ≡ new.entries) × IsSound flat ground conf new × Each IsPlain sent'
     batch_on on =
         let why = goes_on_is s g t on in
-        let i = here.sound flat sound in
+        let i = here.sound flat ground sound in
         let kept_is : here.lost ≡ None = lost_none g here why.1.0 why.1.1 in
-        (sent_ok why.2.0 why.2.1, subst (IsSound flat conf) (sym (i.3 why.0 kept_is)) i.1, subst (Each IsPlain) (sym (sent_is why.2.0 why.2.1)) batch_plain)
+        (sent_ok why.2.0 why.2.1, subst (IsSound flat ground conf) (sym (i.3 why.0 kept_is)) i.1, subst (Each IsPlain) (sym (sent_is why.2.0 why.2.1)) batch_plain)
       where
         lost_none : (x : Result (Unit {0}) Trouble) (h : Took limits conf old new did w w' most count s x) (u : Unit {0}) → x ≡ Ok u → h.lost ≡ None
         lost_none (Ok enough) h u same = no_trouble h.lost (Ok enough) enough refl h.lost_is
@@ -167,6 +169,10 @@ is_wire (status.BadLine at) = inr (λ e. cc)
 is_wire (status.MediaRefused path) = inr (λ e. cc)
 is_wire (status.MarksAhead marks messages) = inr (λ e. cc)
 is_wire status.LinesTooLong = inr (λ e. cc)
+is_wire (status.OutboxBehind held base) = inr (λ e. cc)
+is_wire status.Unfinished = inr (λ e. cc)
+is_wire (status.NotEmpty bytes) = inr (λ e. cc)
+is_wire status.NoEntries = inr (λ e. cc)
 
 -- a run that ended is one whose outbox failed
 finished_fault : (limits : Limits) (conf : Conf) (recovered : List Numbered) (begun : Intake) (entries : List Numbered) (turns : ℕ) (did : Doing) (w w' : WireTells) (s : Status) → (s ≡ status.OutOfMemory → ⊥)
@@ -204,58 +210,61 @@ pub course_taken : (limits : Limits) (conf : Conf) (recovered : List Numbered) (
 course_taken limits conf recovered begun entries turns did w w' s f = is_ending (course_of s).ending turns _ _ f.lost f.ends
 
 -- why a run got no book, by what its book answered
-pub bookless : (lines : List ℕ) (outbox outbox' : SinkTells) (error : BookError) → ((h l : ℕ) → error ≡ refusal.OutboxAhead h l → IsAhead outbox lines h l)
-    → ((at : ℕ) → error ≡ refusal.OutboxDiffers at → IsOther outbox lines at) → (error ≡ refusal.OutboxFault → Rose outbox.faults outbox'.faults) → IsBookless lines outbox outbox' (book_status error)
-bookless lines outbox outbox' (refusal.OutboxAhead h l) ahead differs cause = ahead h l refl
-bookless lines outbox outbox' (refusal.OutboxDiffers at) ahead differs cause = differs at refl
-bookless lines outbox outbox' refusal.OutboxFault ahead differs cause = cause refl
-bookless lines outbox outbox' refusal.OutOfMemory ahead differs cause = tt
+pub bookless : (before : ℕ) (lines : List ℕ) (outbox outbox' : SinkTells) (error : BookError) → ((h b : ℕ) → error ≡ refusal.OutboxBehind h b → IsBehind outbox before h b) → ((h l : ℕ) → error ≡ refusal.OutboxAhead h l → IsAhead outbox before lines h l)
+    → ((at : ℕ) → error ≡ refusal.OutboxDiffers at → IsOther outbox before lines at) → (error ≡ refusal.OutboxFault → Rose outbox.faults outbox'.faults) → IsBookless before lines outbox outbox' (book_status error)
+bookless before lines outbox outbox' (refusal.OutboxBehind h b) behind ahead differs cause = behind h b refl
+bookless before lines outbox outbox' (refusal.OutboxAhead h l) behind ahead differs cause = ahead h l refl
+bookless before lines outbox outbox' (refusal.OutboxDiffers at) behind ahead differs cause = differs at refl
+bookless before lines outbox outbox' refusal.OutboxFault behind ahead differs cause = cause refl
+bookless before lines outbox outbox' refusal.OutOfMemory behind ahead differs cause = tt
 
 -- ---- a run, part by part
 
-module _ {D : Type 0} (tells : D → DiskTells) where
+module _ {D : Type 0} (tells : D → DiskTells) (base : Base) where
   abbrev doing : D → D → Doing
-  doing old new = Journals (λ c. ⊥) (tells old) (tells new)
+  doing old new = Journals (λ c. ⊥) (tells old) (tells new) base
 
   abbrev At : Limits → Conf → List Numbered → Intake → Intake → D → D → WireTells → WireTells → ℕ → Type 0
-  At limits conf recovered start now d0 d w0 w count = Reaches tells limits conf recovered start now d0 d w0 w count
+  At limits conf recovered start now d0 d w0 w count = Reaches tells base limits conf recovered start now d0 d w0 w count
 
   -- at the start no event was taken
-  pub at_start : (limits : Limits) (conf : Conf) (i : Intake) (disk : D) (w : WireTells) → IsLawful (tells disk) → IsKept (tells disk) i.entries → At limits conf i.entries i i disk disk w w 0
-  at_start limits conf i disk w lawful kept = record { ran = ran_none limits conf i (tells disk) w lawful kept; later = omega arith }
+  pub at_start : (limits : Limits) (conf : Conf) (i : Intake) (disk : D) (w : WireTells) → IsLawful (tells disk) → IsKept (tells disk) base i.entries → At limits conf i.entries i i disk disk w w 0
+  at_start limits conf i disk w lawful kept = record { ran = ran_none base limits conf i (tells disk) w lawful kept; later = omega arith }
 
   module _ (limits : Limits) (conf : Conf) (recovered : List Numbered) (start now : Intake) (d0 d1 : D) (w0 w1 : WireTells) (count n : ℕ) (r : At limits conf recovered start now d0 d1 w0 w1 (count + n)) where
     -- more events, behind which the run goes on
-    pub at_more : (new : Intake) (d2 : D) (w2 : WireTells) (more : ℕ) (l : Limits) → l ≡ limits → Ran (refusing l 0) conf now.entries now new (doing d1 d2) w1 w2 more None None anywhere → w1.faults ≤ w2.faults
-        → At limits conf recovered start new d0 d2 w0 w2 (count + (n + more))
-    at_more new d2 w2 more l same t later =
-        let all = ran_on limits conf recovered start now new (tells d0) (tells d1) (tells d2) w0 w1 w2 (count + n) more r.ran l same conf refl t in
+    pub at_more : (new : Intake) (d2 : D) (w2 : WireTells) (more : ℕ) (l : Limits) → l ≡ limits → (own : Base) → own ≡ base → Ran (refusing l 0) conf now.entries now new (Journals (λ c. ⊥) (tells d1) (tells d2) own) w1 w2 more None None anywhere
+        → w1.faults ≤ w2.faults → At limits conf recovered start new d0 d2 w0 w2 (count + (n + more))
+    at_more new d2 w2 more l same own is t later =
+        let here = subst (λ (b : Base). Ran (refusing l 0) conf now.entries now new (Journals (λ c. ⊥) (tells d1) (tells d2) b) w1 w2 more None None anywhere) is t in
+        let all = ran_on base limits conf recovered start now new (tells d0) (tells d1) (tells d2) w0 w1 w2 (count + n) more r.ran l same conf refl here in
         let sum : (count + n) + more ≡ count + (n + more) = omega arith in
         record { ran = subst (λ k. Ran (refusing limits 0) conf recovered start new (doing d0 d2) w0 w2 k None None anywhere) sum all; later = omega (arith, r.later, later) }
 
     -- as many as are allowed were taken
     pub at_limit_of : (turns : ℕ) → n ≡ turns → Finished limits conf recovered start now.entries (count + turns) (doing d0 d1) w0 w1 at_limit
-    at_limit_of turns is = finish_on limits conf recovered start now (tells d0) (tells d1) w0 w1 (count + n) (count + turns) at_limit r.ran (omega (arith, is)) (omega (arith, is), refl, refl)
+    at_limit_of turns is = finish_on base limits conf recovered start now (tells d0) (tells d1) w0 w1 (count + n) (count + turns) at_limit r.ran (omega (arith, is)) (omega (arith, is), refl, refl)
 
     -- or memory was refused
     pub at_refusal_of : (turns : ℕ) → n ≤ turns → Finished limits conf recovered start now.entries (count + turns) (doing d0 d1) w0 w1 at_refusal
-    at_refusal_of turns few = finish_on limits conf recovered start now (tells d0) (tells d1) w0 w1 (count + n) (count + turns) at_refusal r.ran (omega (arith, few)) (inl refl)
+    at_refusal_of turns few = finish_on base limits conf recovered start now (tells d0) (tells d1) w0 w1 (count + n) (count + turns) at_refusal r.ran (omega (arith, few)) (inl refl)
 
     -- or the outbox failed
     pub at_fault_of : (turns : ℕ) → n ≤ turns → Finished limits conf recovered start now.entries (count + turns) (doing d0 d1) w0 w1 anywhere
-    at_fault_of turns few = finish_on limits conf recovered start now (tells d0) (tells d1) w0 w1 (count + n) (count + turns) anywhere r.ran (omega (arith, few)) refl
+    at_fault_of turns few = finish_on base limits conf recovered start now (tells d0) (tells d1) w0 w1 (count + n) (count + turns) anywhere r.ran (omega (arith, few)) refl
 
     -- or the last events ended it
-    pub at_end : (new : Intake) (d2 : D) (w2 : WireTells) (most turns : ℕ) (e : Status) (l : Limits) → l ≡ limits → Ends l conf now new (doing d1 d2) w1 w2 most e → n + most ≤ turns
+    pub at_end : (new : Intake) (d2 : D) (w2 : WireTells) (most turns : ℕ) (e : Status) (l : Limits) → l ≡ limits → (own : Base) → own ≡ base → Ends l conf now new (Journals (λ c. ⊥) (tells d1) (tells d2) own) w1 w2 most e → n + most ≤ turns
         → Finished limits conf recovered start new.entries (count + turns) (doing d0 d2) w0 w2 (course_of e).ending
-    at_end new d2 w2 most turns e l same t few =
-        finish_with limits conf recovered start now new (tells d0) (tells d1) (tells d2) w0 w1 w2 (count + n) most (count + turns) e r.ran l same conf refl t (omega (arith, few)) r.later
+    at_end new d2 w2 most turns e l same own is t few =
+        let here = subst (λ (b : Base). Ends l conf now new (Journals (λ c. ⊥) (tells d1) (tells d2) b) w1 w2 most e) is t in
+        finish_with base limits conf recovered start now new (tells d0) (tells d1) (tells d2) w0 w1 w2 (count + n) most (count + turns) e r.ran l same conf refl here (omega (arith, few)) r.later
 
   -- ---- what somebody else made of it
 
   module _ (flat : List ℕ → Conf) (conf : Conf) (kept : List Numbered) (old mid : Fronted D) (w0 w1 : WireTells) (head : HeadView) (turns : ℕ) where
     abbrev Served : Taken → Type 0
-    Served t = HasServed tells flat conf kept old mid w0 w1 head turns t
+    Served t = HasServed tells flat base conf kept old mid w0 w1 head turns t
 
     -- want of memory beside it ends the taking of events
     spent : (t : Taken) → Served t → Served (taken.Ended status.OutOfMemory)
@@ -292,7 +301,7 @@ module _ {D : Type 0} (tells : D → DiskTells) where
 
   module _ (flat : List ℕ → Conf) (conf : Conf) (kept : List Numbered) (old mid : Fronted D) (w0 w1 : WireTells) (head : HeadView) (turns : ℕ) where
     abbrev Ends_as : Status → Type 0
-    Ends_as s = TakesOn tells conf old mid w0 w1 turns (taken.Ended s)
+    Ends_as s = TakesOn tells base conf old mid w0 w1 turns (taken.Ended s)
 
     -- a fault of the outbox stands before what ended them
     pub takes_worse : (s t : Status) → IsWorse s t → (s ≡ status.WireFault → Rose w0.faults w1.faults) → Ends_as s → Ends_as t
@@ -300,16 +309,16 @@ module _ {D : Type 0} (tells : D → DiskTells) where
         finished_worse (limits_of old.journal 0) conf recovered start mid.intake.entries (count + turns) (doing d0 mid.journal.disk) w w1 s t worse (λ is. omega (arith, r.later, wire is)) (takes recovered start d0 w count r)
 
     -- or ends them
-    pub takes_fault : (n : ℕ) → HasServed tells flat conf kept old mid w0 w1 head turns (taken.Going n) → Ends_as status.OutboxFault
+    pub takes_fault : (n : ℕ) → HasServed tells flat base conf kept old mid w0 w1 head turns (taken.Going n) → Ends_as status.OutboxFault
     takes_fault n h = λ recovered start d0 w count r.
         at_fault_of (limits_of old.journal 0) conf recovered start mid.intake d0 mid.journal.disk w w1 count n (h.takes.1 recovered start d0 w count r) turns h.takes.0
 
-    pub fault_ended : IsServing flat conf kept mid head → IsEndedAt kept mid w0 w1 head status.OutboxFault
+    pub fault_ended : IsServing flat base conf kept mid head → IsEndedAt kept mid w0 w1 head status.OutboxFault
     fault_ended s = record { idle = s.idle; sent = s.sent; unprinted = tt; wire = λ e. cc }
 
     -- more are taken on one thread, behind those that the syncers had
-    module _ (new : Fronted D) (w2 : WireTells) (head' : HeadView) (n : ℕ) (h : HasServed tells flat conf kept old mid w0 w1 head turns (taken.Going n)) (s : Status) where
-      pub takes_then : TakesOn tells conf mid new w1 w2 (turns - n) (taken.Ended s) → TakesOn tells conf old new w0 w2 turns (taken.Ended s)
+    module _ (new : Fronted D) (w2 : WireTells) (head' : HeadView) (n : ℕ) (h : HasServed tells flat base conf kept old mid w0 w1 head turns (taken.Going n)) (s : Status) where
+      pub takes_then : TakesOn tells base conf mid new w1 w2 (turns - n) (taken.Ended s) → TakesOn tells base conf old new w0 w2 turns (taken.Ended s)
       takes_then then = λ recovered start d0 w count r.
           let before = h.takes.1 recovered start d0 w count r in
           let same : limits_of mid.journal 0 ≡ limits_of old.journal 0 = limits_kept old.journal mid.journal h.served.1 in
@@ -326,8 +335,8 @@ module _ {D : Type 0} (tells : D → DiskTells) where
   at_none limits conf recovered start now d0 d1 w0 w1 count r = let same : count ≡ count + 0 = omega arith in subst (λ k. At limits conf recovered start now d0 d1 w0 w1 k) same r
 
   -- where nobody takes events, none is taken
-  pub served_none : (flat : List ℕ → Conf) (conf : Conf) (kept : List Numbered) (front : Fronted D) (w : WireTells) (head : HeadView) (turns : ℕ) → IsServing flat conf kept front head
-      → HasServed tells flat conf kept front front w w head turns (taken.Going 0)
+  pub served_none : (flat : List ℕ → Conf) (conf : Conf) (kept : List Numbered) (front : Fronted D) (w : WireTells) (head : HeadView) (turns : ℕ) → IsServing flat base conf kept front head
+      → HasServed tells flat base conf kept front front w w head turns (taken.Going 0)
   served_none flat conf kept front w head turns s = record {
     later = omega arith;
     takes = (omega arith, λ recovered start d0 w0 count r. at_none (limits_of front.journal 0) conf recovered start front.intake d0 front.journal.disk w0 w count r);
@@ -343,7 +352,7 @@ module _ {D : Type 0} (tells : D → DiskTells) where
 
   module _ (flat : List ℕ → Conf) (conf : Conf) (kept : List Numbered) (old now : Fronted D) (w w1 : WireTells) (turns n : ℕ) (ran : Since conf old now w w1 n) (later : w.faults ≤ w1.faults) (ready : IsReady old.journal now.journal) (within : n ≤ turns) where
     -- by want of memory
-    pub served_refused : (head : HeadView) → IsIdle now → kept ++ head.sent ≡ now.intake.entries → HasServed tells flat conf kept old now w w1 head turns (taken.Ended status.OutOfMemory)
+    pub served_refused : (head : HeadView) → IsIdle now → kept ++ head.sent ≡ now.intake.entries → HasServed tells flat base conf kept old now w w1 head turns (taken.Ended status.OutOfMemory)
     served_refused head idle sent = record {
       later = later;
       takes = λ recovered start d0 w0 count r. at_refusal_of (limits_of old.journal 0) conf recovered start now.intake d0 now.journal.disk w0 w1 count n (ran recovered start d0 w0 count r) turns within;
@@ -351,7 +360,7 @@ module _ {D : Type 0} (tells : D → DiskTells) where
     }
 
     -- by their number
-    pub served_limit : (head : HeadView) → IsIdle now → kept ++ head.sent ≡ now.intake.entries → n ≡ turns → HasServed tells flat conf kept old now w w1 head turns (taken.Ended status.TurnLimit)
+    pub served_limit : (head : HeadView) → IsIdle now → kept ++ head.sent ≡ now.intake.entries → n ≡ turns → HasServed tells flat base conf kept old now w w1 head turns (taken.Ended status.TurnLimit)
     served_limit head idle sent all = record {
       later = later;
       takes = λ recovered start d0 w0 count r. at_limit_of (limits_of old.journal 0) conf recovered start now.intake d0 now.journal.disk w0 w1 count n (ran recovered start d0 w0 count r) turns all;
@@ -359,57 +368,58 @@ module _ {D : Type 0} (tells : D → DiskTells) where
     }
 
     -- by the last of them
-    pub served_end : (new : Fronted D) (w2 : WireTells) (head : HeadView) (most : ℕ) (e : Status) → Ends (limits_of now.journal 0) conf now.intake new.intake (doing now.journal.disk new.journal.disk) w1 w2 most e → n + most ≤ turns
+    pub served_end : (new : Fronted D) (w2 : WireTells) (head : HeadView) (most : ℕ) (e : Status) → now.journal.base ≡ base → Ends (limits_of now.journal 0) conf now.intake new.intake (Journals (λ c. ⊥) (tells now.journal.disk) (tells new.journal.disk) now.journal.base) w1 w2 most e → n + most ≤ turns
         → IsIdle new → IsSentAt kept head.sent new.intake.entries e → IsCause e → (e ≡ status.WireFault → Rose w1.faults w2.faults) → w1.faults ≤ w2.faults
-        → HasServed tells flat conf kept old new w w2 head turns (taken.Ended e)
-    served_end new w2 head most e ends few idle sent cause wire more = record {
+        → HasServed tells flat base conf kept old new w w2 head turns (taken.Ended e)
+    served_end new w2 head most e own ends few idle sent cause wire more = record {
       later = omega (arith, later, more);
       takes = λ recovered start d0 w0 count r. at_end (limits_of old.journal 0) conf recovered start now.intake d0 now.journal.disk w0 w1 count n (ran recovered start d0 w0 count r) new.intake new.journal.disk w2 most turns e
-          (limits_of now.journal 0) (limits_kept old.journal now.journal ready) ends few;
+          (limits_of now.journal 0) (limits_kept old.journal now.journal ready) now.journal.base own ends few;
       served = (record { idle = idle; sent = sent; unprinted = cause.0; wire = λ is. omega (arith, later, wire is) }, cause);
     }
 
   -- ---- a whole run
 
   -- one that begins serves
-  pub serving_first : (flat : List ℕ → Conf) (conf : Conf) (kept : List Numbered) (front : Fronted D) (head : HeadView) → IsOpened tells flat conf kept front → head.sent ≡ [] → 0 < head.capacity → IsServing flat conf kept front head
+  pub serving_first : (flat : List ℕ → Conf) (conf : Conf) (kept : List Numbered) (front : Fronted D) (head : HeadView) → IsOpened tells flat base conf kept front → head.sent ≡ [] → 0 < head.capacity → IsServing flat base conf kept front head
   serving_first flat conf kept front head o none room = record {
     going = o.going;
+    base_is = o.base_is;
     idle = o.idle;
     sound = o.sound;
-    some = subst (λ (es : List Numbered). 0 < length es) o.entries_are o.sound.begun;
+    begun = subst (λ es. HasBegun (start_of flat base) (log_of es)) o.entries_are o.sound.begun;
     plain = subst (Each IsPlain) (sym none) tt;
     sent = ap (λ l. kept ++ l) none ∙ append-nil kept ∙ sym o.entries_are;
     room = room;
   }
 
   -- what events made that were taken from the beginning on
-  pub finished_taken : (flat : List ℕ → Conf) (conf : Conf) (kept : List Numbered) (old new : Fronted D) (w w' : WireTells) (turns : ℕ) (s : Status) → IsOpened tells flat conf kept old → IsLawful (tells old.journal.disk)
-      → TakesOn tells conf old new w w' turns (taken.Ended s)
-      → Finished (limits_of old.journal 0) (conf_behind flat (log_of kept)) kept old.intake new.intake.entries turns (doing old.journal.disk new.journal.disk) w w' (course_of s).ending
+  pub finished_taken : (flat : List ℕ → Conf) (conf : Conf) (kept : List Numbered) (old new : Fronted D) (w w' : WireTells) (turns : ℕ) (s : Status) → IsOpened tells flat base conf kept old → IsLawful (tells old.journal.disk)
+      → TakesOn tells base conf old new w w' turns (taken.Ended s)
+      → Finished (limits_of old.journal 0) (conf_behind flat (start_of flat base) (log_of kept)) kept old.intake new.intake.entries turns (doing old.journal.disk new.journal.disk) w w' (course_of s).ending
   finished_taken flat conf kept old new w w' turns s o lawful takes =
       let all = takes old.intake.entries old.intake old.journal.disk w 0 (at_start (limits_of old.journal 0) conf old.intake old.journal.disk w lawful o.durable) in
       let sum : 0 + turns ≡ turns = omega arith in
-      let in_force : conf_behind flat (log_of kept) ≡ conf = ap (λ es. conf_behind flat (log_of es)) (sym o.entries_are) ∙ o.sound.in_force in
+      let in_force : conf_behind flat (start_of flat base) (log_of kept) ≡ conf = ap (λ es. conf_behind flat (start_of flat base) (log_of es)) (sym o.entries_are) ∙ o.sound.in_force in
       subst (λ (k : Conf). Finished (limits_of old.journal 0) k kept old.intake new.intake.entries turns (doing old.journal.disk new.journal.disk) w w' (course_of s).ending) (sym in_force)
       (subst (λ es. Finished (limits_of old.journal 0) conf es old.intake new.intake.entries turns (doing old.journal.disk new.journal.disk) w w' (course_of s).ending) o.entries_are
       (subst (λ n. Finished (limits_of old.journal 0) conf old.intake.entries old.intake new.intake.entries n (doing old.journal.disk new.journal.disk) w w' (course_of s).ending) sum all))
 
   module _ {O : Type 0} (shows : O → SinkTells) (flat : List ℕ → Conf) (kept : List Numbered) (outbox : SinkTells) (front : Fronted D) (turns : ℕ) (w w' : WireTells) (course : Course D O) where
     abbrev Gone : Type 0
-    Gone = HasGone tells shows flat kept outbox front turns w w' course
+    Gone = HasGone tells shows flat base kept outbox front turns w w' course
 
     abbrev s : Status
     s = course.status
 
     -- one that got no book
     pub gone_held : course.began ≡ false → course.disk ≡ front.journal.disk → course.entries ≡ front.intake.entries → (error : BookError) → s ≡ book_status error
-        → IsBookless (log_lines flat (log_of kept)) outbox (shows course.outbox) (book_status error) → Gone
+        → IsBookless base.lines (log_lines flat base (log_of kept)) outbox (shows course.outbox) (book_status error) → Gone
     gone_held isnt disk_is entries_are error is why = record {
       wire = λ e. absurd (not_wire error (sym is ∙ e));
       fault = λ e. fault_of error (sym is ∙ e) why;
       unprinted = subst IsUnprinted (sym is) (own error);
-      held_back = λ f. record { disk_is = disk_is; entries_are = entries_are; why = subst (IsBookless (log_lines flat (log_of kept)) outbox (shows course.outbox)) (sym is) why };
+      held_back = λ f. record { disk_is = disk_is; entries_are = entries_are; why = subst (IsBookless base.lines (log_lines flat base (log_of kept)) outbox (shows course.outbox)) (sym is) why };
       mendable = λ so. absurd (clash so);
       finished = λ so. absurd (clash so);
       lines = λ so. absurd (clash so);
@@ -420,24 +430,28 @@ module _ {D : Type 0} (tells : D → DiskTells) where
         clash so = true≢false (sym so ∙ isnt)
 
         not_wire : (e : BookError) → book_status e ≡ status.WireFault → ⊥
+        not_wire (refusal.OutboxBehind h b) e = cc
         not_wire (refusal.OutboxAhead h l) e = cc
         not_wire (refusal.OutboxDiffers at) e = cc
         not_wire refusal.OutboxFault e = cc
         not_wire refusal.OutOfMemory e = cc
 
-        fault_of : (e : BookError) → book_status e ≡ status.OutboxFault → IsBookless (log_lines flat (log_of kept)) outbox (shows course.outbox) (book_status e) → Rose outbox.faults (shows course.outbox).faults
+        fault_of : (e : BookError) → book_status e ≡ status.OutboxFault → IsBookless base.lines (log_lines flat base (log_of kept)) outbox (shows course.outbox) (book_status e) → Rose outbox.faults (shows course.outbox).faults
+        fault_of (refusal.OutboxBehind h b) e w = absurd cc
         fault_of (refusal.OutboxAhead h l) e w = absurd cc
         fault_of (refusal.OutboxDiffers at) e w = absurd cc
         fault_of refusal.OutboxFault e w = w
         fault_of refusal.OutOfMemory e w = absurd cc
 
         not_well : (e : BookError) → book_status e ≡ status.Ok → ⊥
+        not_well (refusal.OutboxBehind h b) e = cc
         not_well (refusal.OutboxAhead h l) e = cc
         not_well (refusal.OutboxDiffers at) e = cc
         not_well refusal.OutboxFault e = cc
         not_well refusal.OutOfMemory e = cc
 
         own : (e : BookError) → IsUnprinted (book_status e)
+        own (refusal.OutboxBehind h b) = tt
         own (refusal.OutboxAhead h l) = tt
         own (refusal.OutboxDiffers at) = tt
         own refusal.OutboxFault = tt
@@ -445,20 +459,20 @@ module _ {D : Type 0} (tells : D → DiskTells) where
 
     -- one that took events
     pub gone_course : (new : Fronted D) (t : Status) → course.began ≡ true → course.disk ≡ new.journal.disk → course.entries ≡ new.intake.entries → IsWorse t s → IsUnprinted t → (t ≡ status.WireFault → Rose w.faults w'.faults)
-        → IsMendable outbox (log_lines flat (log_of kept)) → Finished (limits_of front.journal 0) (conf_behind flat (log_of kept)) kept front.intake new.intake.entries turns (doing front.journal.disk new.journal.disk) w w' (course_of t).ending
-        → (s ≡ status.OutboxFault → Rose outbox.faults (shows course.outbox).faults) → LinesAre (course_of s).out outbox (shows course.outbox) (log_lines flat (log_of new.intake.entries))
-        → (s ≡ status.Ok → course.counts ≡ counts_over flat new.intake.entries) → Gone
+        → IsMendable base.lines outbox (log_lines flat base (log_of kept)) → Finished (limits_of front.journal 0) (conf_behind flat (start_of flat base) (log_of kept)) kept front.intake new.intake.entries turns (doing front.journal.disk new.journal.disk) w w' (course_of t).ending
+        → (s ≡ status.OutboxFault → Rose outbox.faults (shows course.outbox).faults) → LinesAre (course_of s).out base.lines outbox (shows course.outbox) (log_lines flat base (log_of new.intake.entries))
+        → (s ≡ status.Ok → course.counts ≡ counts_over flat base new.intake.entries) → Gone
     gone_course new t is_so disk_is entries_are worse own wire mendable f fault lines counts_are = record {
       wire = wire_worse worse;
       fault = fault;
       unprinted = own_worse worse;
       held_back = λ isnt. absurd (true≢false (sym is_so ∙ isnt));
       mendable = λ y. mendable;
-      finished = λ y. subst (λ d. Finished (limits_of front.journal 0) (conf_behind flat (log_of kept)) kept front.intake course.entries turns (doing front.journal.disk d) w w' (course_of s).ending) (sym disk_is)
-          (subst (λ es. Finished (limits_of front.journal 0) (conf_behind flat (log_of kept)) kept front.intake es turns (doing front.journal.disk new.journal.disk) w w' (course_of s).ending) (sym entries_are)
-          (finished_worse (limits_of front.journal 0) (conf_behind flat (log_of kept)) kept front.intake new.intake.entries turns (doing front.journal.disk new.journal.disk) w w' t s worse wire f));
-      lines = λ y. subst (λ es. LinesAre (course_of s).out outbox (shows course.outbox) (log_lines flat (log_of es))) (sym entries_are) lines;
-      counts_are = λ is. subst (λ es. course.counts ≡ counts_over flat es) (sym entries_are) (counts_are is);
+      finished = λ y. subst (λ d. Finished (limits_of front.journal 0) (conf_behind flat (start_of flat base) (log_of kept)) kept front.intake course.entries turns (doing front.journal.disk d) w w' (course_of s).ending) (sym disk_is)
+          (subst (λ es. Finished (limits_of front.journal 0) (conf_behind flat (start_of flat base) (log_of kept)) kept front.intake es turns (doing front.journal.disk new.journal.disk) w w' (course_of s).ending) (sym entries_are)
+          (finished_worse (limits_of front.journal 0) (conf_behind flat (start_of flat base) (log_of kept)) kept front.intake new.intake.entries turns (doing front.journal.disk new.journal.disk) w w' t s worse wire f));
+      lines = λ y. subst (λ es. LinesAre (course_of s).out base.lines outbox (shows course.outbox) (log_lines flat base (log_of es))) (sym entries_are) lines;
+      counts_are = λ is. subst (λ es. course.counts ≡ counts_over flat base es) (sym entries_are) (counts_are is);
     }
       where
         wire_worse : IsWorse t s → s ≡ status.WireFault → Rose w.faults w'.faults

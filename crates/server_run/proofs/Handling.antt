@@ -12,8 +12,9 @@ use Rattle.intake_front.specs.declared.answer.Stop.TheVariants as stop
 use Rattle.std.specs.List.{All}
 use Rattle.std.proofs.lemmas.List.Elements.{All-head, All-tail}
 use Rattle.entry_step.specs.Each.{Each}
-use Rattle.entry_step.specs.InForce.{IsPlain}
+use Rattle.entry_laws.specs.InForce.{IsPlain}
 use Rattle.entry_step.proofs.Members.{each_append}
+use Rattle.entry_step.specs.Start.{Start}
 use Rattle.wire_core.specs.Peers.{turn_of}
 use Rattle.outside.specs.Script.{moment_at}
 use Rattle.intake_front.proofs.Sound.{IsTakenAt, turned_fits, tick_fits, sound_handled}
@@ -201,17 +202,17 @@ served_plain limits conf i es = from_grow limits conf (record { intake = i; repl
 
 -- ---- entries stay whole and fit
 
-module _ (flat : List ℕ → Conf) where
-  on_sound : (o : Option Stop) (limits : Limits) (conf : Conf) (s : Served) (e : WireEvent) → IsSound flat conf s.intake → IsSound flat conf (served_on o limits conf s e).intake
+module _ (flat : List ℕ → Conf) (ground : Start) where
+  on_sound : (o : Option Stop) (limits : Limits) (conf : Conf) (s : Served) (e : WireEvent) → IsSound flat ground conf s.intake → IsSound flat ground conf (served_on o limits conf s e).intake
   on_sound (Some x) limits conf s e sound = sound
-  on_sound None limits conf s e sound = sound_handled limits flat conf s.intake e sound
+  on_sound None limits conf s e sound = sound_handled limits flat ground conf s.intake e sound
 
-  from_sound : (limits : Limits) (conf : Conf) (s : Served) (es : List WireEvent) → IsSound flat conf s.intake → IsSound flat conf (served_from limits conf s es).intake
+  from_sound : (limits : Limits) (conf : Conf) (s : Served) (es : List WireEvent) → IsSound flat ground conf s.intake → IsSound flat ground conf (served_from limits conf s es).intake
   from_sound limits conf s [] sound = sound
   from_sound limits conf s (e ∷ es) sound = from_sound limits conf (served_on s.stop limits conf s e) es (on_sound s.stop limits conf s e sound)
 
   -- what events make of a sound intake is one
-  pub served_sound : (limits : Limits) (conf : Conf) (i : Intake) (es : List WireEvent) → IsSound flat conf i → IsSound flat conf (served limits conf i es).intake
+  pub served_sound : (limits : Limits) (conf : Conf) (i : Intake) (es : List WireEvent) → IsSound flat ground conf i → IsSound flat ground conf (served limits conf i es).intake
   served_sound limits conf i es sound = from_sound limits conf (record { intake = i; replies = []; shut = []; stop = None }) es sound
 
 -- ---- a disk that refuses no group stops nothing

@@ -14,4 +14,3 @@ pub mod Going
 pub mod Closings
 pub mod Sharing
 pub mod Whole
-pub mod Distinct

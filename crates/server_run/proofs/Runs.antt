@@ -4,6 +4,7 @@ use Rattle.std.specs.Prelude.{Option, Some, None, Result, Ok, Err, IfSome, IsSom
 use Rattle.std.specs.Option.{option_to_list}
 use Rattle.std.specs.Io.KnownBytes.{IsAtEnd}
 use Rattle.std.proofs.KnownBytes.{Consumes-nil}
+use Rattle.zbx_types.specs.declared.base.Base.{Base}
 use Rattle.zbx_types.specs.declared.conf.Conf.{Conf}
 use Rattle.zbx_types.specs.declared.entries.Numbered.{Numbered}
 use Rattle.outside.specs.Causes.{Rose}
@@ -14,14 +15,14 @@ use Rattle.config_templates.specs.Flat.{flat_of}
 use Rattle.host_layout.specs.Places.{Flaw, refuse}
 use Rattle.host_layout.specs.Places.Flaw.{refused}
 use Rattle.zbx_types.specs.declared.causes.Cause.{Cause}
-use Rattle.entry_step.specs.InForce.{conf_behind, behind_all, FitsLog}
+use Rattle.entry_laws.specs.InForce.{conf_behind, behind_all, FitsLog, IsFull}
 use Rattle.entry_laws.proofs.InForce.{conf_is_behind}
-use Rattle.entry_step.specs.Log.{log_of, IsFull}
+use Rattle.entry_step.specs.Log.{log_of}
+use Rattle.intake_journal.specs.Kept.{base_in}
 use Rattle.intake_journal.specs.Settled.{KeepsAsOneOf}
-use Rattle.intake_journal.specs.declared.format.Group.{Group}
 use Rattle.intake_front.specs.Intake.{Limits, Intake, IsSound, last_text}
 use Rattle.intake_front.specs.Served.{served}
-use Rattle.intake_front.specs.Fronted.{Fronted, numbered_of, limits_of}
+use Rattle.intake_front.specs.Fronted.{Fronted, Keeps, limits_of}
 use Rattle.intake_front.specs.declared.answer.Stop.{Stop}
 use Rattle.server_words.specs.declared.words.Plan.{Plan}
 use Rattle.server_words.specs.declared.status.Counts.{Counts}
@@ -29,11 +30,12 @@ use Rattle.server_words.specs.declared.status.Status.{Status}
 use Rattle.server_words.specs.declared.status.Status.TheVariants as status
 use Rattle.server_words.specs.Words.{plan_of}
 use Rattle.server_words.specs.Printed.{printed_text}
+use Rattle.base_laws.specs.Grounds.{start_of}
 use Rattle.book_opening.specs.Outgoing.{Grew, GrewByFront, IsMendable}
 use Rattle.server_run.specs.Ports.{IsTextUpTo, ReadsUpTo}
 use Rattle.pattern_set.specs.Patterns.{IsNoPattern}
 use Rattle.journal_opening.specs.Patterns.{HasFlawAt, HoldsBrace}
-use Rattle.journal_opening.specs.Recovered.{journal_bytes}
+use Rattle.journal_opening.specs.Recovered.{Found, FoundGroups, found_entries, journal_bytes}
 use Rattle.journal_opening.specs.Replayed.{flat, AreFlat, run_lines, run_counts}
 use Rattle.journal_opening.specs.Opening.{FoundEntries, OfLines, opening_intake, opening_lines, opening_entries}
 use Rattle.journal_opening.specs.Reasons.{Reason, no_reason, in_words, by_memory, by_source, in_text, by_disk, in_journal, by_outbox, in_outbox, reason_of, ends_opening, IsRefusal, names_object, IsBarring, IsUntaken, unconfigured_for, Unconfigured, bars_for, unopened_for, Unopened, has_for, enters_for}
@@ -44,9 +46,10 @@ use Rattle.journal_opening.specs.Journals.{KeepsSome, IsEither, Journals}
 use Rattle.server_run.specs.Events.{Doing}
 use Rattle.server_run.specs.Going.{IsOpened, IsHeldBack, IsBookless}
 use Rattle.server_run.specs.Outbox.{LinesAre}
-use Rattle.journal_opening.specs.Outbox.{IsAhead, IsOther}
+use Rattle.journal_opening.specs.Outbox.{IsBehind, IsAhead, IsOther}
 use Rattle.server_run.specs.Runs.{Objects, IsConfigured, Refuses, IsBarred, FoundBy, BeginsBy, HasBy, EntersBy, Unbegun, Opened, Finished, Followed, Prints, limits_by}
 use Rattle.book_opening.proofs.Growing.{all_front, none_front}
+use Rattle.journal_opening.proofs.Bases.{good_ground}
 use Rattle.server_run.proofs.Handling.{served_plain, served_sound}
 use Rattle.journal_opening.proofs.KeptTexts.{opening_flat, opening_last, flat_on, last_on}
 use Rattle.server_run.proofs.Outbox.{lines_printed}
@@ -93,12 +96,12 @@ is_configured words plan source source' bytes conf is read end found =
 
 -- a disk that was left alone
 pub left_alone : (A : List Numbered → Type 0) (disk : DiskTells) → IsLawful disk
-    → IfSome disk.bytes (λ _. LeavesOnly disk disk (λ c. KeepsAsOneOf disk c ⊎ KeepsSome A c))
+    → IfSome disk.bytes (λ b. LeavesOnly disk disk (λ c. KeepsAsOneOf disk c ⊎ KeepsSome (base_in b) A c))
 left_alone A disk lawful = here disk.bytes
   where
-    here : (o : Option (List ℕ)) → IfSome o (λ _. LeavesOnly disk disk (λ c. KeepsAsOneOf disk c ⊎ KeepsSome A c))
+    here : (o : Option (List ℕ)) → IfSome o (λ b. LeavesOnly disk disk (λ c. KeepsAsOneOf disk c ⊎ KeepsSome (base_in b) A c))
     here None = tt
-    here (Some b) = record { later = omega arith; each = λ c left. inl (c, lawful.only_now c left, refl); before = λ t c le left. inl left }
+    here (Some b) = record { later = omega arith; each = λ c left. inl (c, lawful.only_now c left, refl, refl); before = λ t c le left. inl left }
 
 -- a run that wasn't configured has no entries
 none_had : (r : Reason) (words : List (List ℕ)) (source : Option (List ℕ)) (faults faults' : ℕ) (file : Option (List ℕ)) (Begins Found : List Numbered → Type 0) → unconfigured_for r words source faults faults' → has_for r file Begins Found []
@@ -152,11 +155,11 @@ enters_found by_disk F es enters = enters
 enters_found _ F es none = absurd none
 
 -- where a crash leaves some entries more
-left_more : (old new : DiskTells) (A B : List Numbered → Type 0) → ((es : List Numbered) → A es → B es) → IfSome old.bytes (λ _. LeavesOnly old new (λ c. KeepsAsOneOf old c ⊎ KeepsSome A c))
-    → IfSome old.bytes (λ _. LeavesOnly old new (λ c. KeepsAsOneOf old c ⊎ KeepsSome B c))
+left_more : (old new : DiskTells) (A B : List Numbered → Type 0) → ((es : List Numbered) → A es → B es) → IfSome old.bytes (λ b. LeavesOnly old new (λ c. KeepsAsOneOf old c ⊎ KeepsSome (base_in b) A c))
+    → IfSome old.bytes (λ b. LeavesOnly old new (λ c. KeepsAsOneOf old c ⊎ KeepsSome (base_in b) B c))
 left_more old new A B goes = more old.bytes
   where
-    more : (o : Option (List ℕ)) → IfSome o (λ _. LeavesOnly old new (λ c. KeepsAsOneOf old c ⊎ KeepsSome A c)) → IfSome o (λ _. LeavesOnly old new (λ c. KeepsAsOneOf old c ⊎ KeepsSome B c))
+    more : (o : Option (List ℕ)) → IfSome o (λ b. LeavesOnly old new (λ c. KeepsAsOneOf old c ⊎ KeepsSome (base_in b) A c)) → IfSome o (λ b. LeavesOnly old new (λ c. KeepsAsOneOf old c ⊎ KeepsSome (base_in b) B c))
     more None l = tt
     more (Some b) l = leaves_more old new _ _ (λ c. ⊎_elim (λ k. inl k) (λ k. inr (k.0, goes k.0 k.1, k.2))) l
 
@@ -195,13 +198,22 @@ module _ {D : Type 0} (tells : D → DiskTells) (words : List (List ℕ)) (sourc
     abbrev conf : Conf
     conf = o.conf
 
-    are : made.intake.entries ≡ opening_entries conf o.begun.groups
+    abbrev found : Found
+    found = o.begun.found
+
+    abbrev base : Base
+    base = o.begun.found.base
+
+    are : made.intake.entries ≡ opening_entries conf found
     are = ap (λ (i : Intake). i.entries) o.begun.intake_is
 
     -- the front with which a run begins that was opened
-    is_opened : (kept : List Numbered) → kept ≡ made.intake.entries → IsOpened tells flat o.conf kept made
+    is_opened : (kept : List Numbered) → kept ≡ made.intake.entries → IsOpened tells flat base o.conf kept made
     is_opened kept same = record {
       going = o.begun.ready;
+      base_is = o.begun.base;
+      good = o.begun.accepted.0.1;
+      stands = good_ground base o.begun.accepted.0;
       idle = o.begun.idle;
       sound = o.begun.sound;
       entries_are = sym same;
@@ -209,16 +221,20 @@ module _ {D : Type 0} (tells : D → DiskTells) (words : List (List ℕ)) (sourc
     }
 
     -- its configuration is in force behind them
-    pub in_force : (kept : List Numbered) → kept ≡ made.intake.entries → conf_behind flat (log_of kept) ≡ o.conf
-    in_force kept same = ap (λ es. conf_behind flat (log_of es)) same ∙ o.begun.sound.in_force
+    pub in_force : (own : Base) → own ≡ made.journal.base → (kept : List Numbered) → kept ≡ made.intake.entries → conf_behind flat (start_of flat own) (log_of kept) ≡ o.conf
+    in_force own is kept same =
+        ap (λ (b : Base). conf_behind flat (start_of flat b) (log_of kept)) (is ∙ o.begun.base) ∙ ap (λ es. conf_behind flat (start_of flat base) (log_of es)) same ∙ o.begun.sound.in_force
 
     -- and so it is in what they leave
-    pub opened_behind : (kept : List Numbered) → kept ≡ made.intake.entries → IsOpened tells flat (behind_all flat (log_of kept)).stage.conf kept made
-    opened_behind kept same = subst (λ (c : Conf). IsOpened tells flat c kept made) (sym (conf_is_behind flat (log_of kept) ∙ in_force kept same)) (is_opened kept same)
+    pub opened_behind : (own : Base) → own ≡ made.journal.base → (kept : List Numbered) → kept ≡ made.intake.entries
+        → IsOpened tells flat own (behind_all flat (start_of flat own) (log_of kept)).stage.conf kept made
+    opened_behind own is kept same =
+        subst (λ (c : Conf). IsOpened tells flat own c kept made) (sym (conf_is_behind flat (start_of flat own) (log_of kept) ∙ in_force own is kept same))
+        (subst (λ (b : Base). IsOpened tells flat b o.conf kept made) (sym (is ∙ o.begun.base)) (is_opened kept same))
 
-    -- the lines of its entries are those with which it goes on behind its groups
-    kept_lines : (kept : List Numbered) → kept ≡ made.intake.entries → run_lines kept ≡ opening_lines conf o.begun.groups
-    kept_lines kept same = ap run_lines (same ∙ are)
+    -- the lines of its entries are those with which it goes on behind what its file keeps
+    kept_lines : (kept : List Numbered) → kept ≡ made.intake.entries → run_lines base kept ≡ opening_lines conf found
+    kept_lines kept same = ap (run_lines base) (same ∙ are)
 
     -- what the objects tell before a run and behind it
     abbrev at_first : ℕ → WireTells → D → SinkTells → Objects
@@ -228,46 +244,51 @@ module _ {D : Type 0} (tells : D → DiskTells) (words : List (List ℕ)) (sourc
     at_last faults wire disk outbox = record { source = source'; source_faults = faults; wire = wire; disk = tells disk; outbox = outbox }
 
     -- a run that got no book didn't begin
-    pub unbegun_held : (faults faults' : ℕ) (wire wire' : WireTells) (outbox outbox' : SinkTells) (kept : List Numbered) → kept ≡ made.intake.entries → (new : D) (entries : List Numbered) (s : Status)
-        → IsHeldBack (run_lines kept) outbox outbox' made new entries s → Unbegun words (at_first faults wire old outbox) (at_last faults' wire' new outbox') entries s
-    unbegun_held faults faults' wire wire' outbox outbox' kept same new entries s h =
+    pub unbegun_held : (faults faults' : ℕ) (wire wire' : WireTells) (outbox outbox' : SinkTells) (own : Base) → own ≡ made.journal.base → (kept : List Numbered) → kept ≡ made.intake.entries → (new : D) (entries : List Numbered) (s : Status)
+        → IsHeldBack own.lines (run_lines own kept) outbox outbox' made new entries s → Unbegun words (at_first faults wire old outbox) (at_last faults' wire' new outbox') entries s
+    unbegun_held faults faults' wire wire' outbox outbox' own is kept same new entries s held =
         subst (λ d. Unbegun words (at_first faults wire old outbox) (at_last faults' wire' d outbox') entries s) (sym h.disk_is) (record {
           why = inr (o.plan, conf, o.configured, why s h.why);
           told = begun.journaled.told;
           later = begun.journaled.later;
-          found = inr found;
+          found = inr some;
           has = has s h.why;
-          left = left_more (tells old) (tells made.journal.disk) _ _ (λ es is. enter s h.why es (among es is)) begun.journaled.left;
+          left = left_of (tells old).bytes begun.finds begun.journaled.left;
         })
       where
+        h : IsHeldBack base.lines (run_lines base kept) outbox outbox' made new entries s
+        h = subst (λ (b : Base). IsHeldBack b.lines (run_lines b kept) outbox outbox' made new entries s) (is ∙ o.begun.base) held
+
         begun : HasBegun tells conf o.plan.max_entries old made
         begun = o.begun
 
-        entries_are : entries ≡ opening_entries conf o.begun.groups
+        entries_are : entries ≡ opening_entries conf found
         entries_are = h.entries_are ∙ are
 
-        found : FoundBy words source (tells old).bytes entries
-        found = (o.plan, conf, o.configured, (o.begun.groups, o.begun.found, inr entries_are))
+        some : FoundBy words source (tells old).bytes entries
+        some = (o.plan, conf, o.configured, (found, o.begun.finds, inr entries_are))
 
         Bookless : Status → Type 0
-        Bookless s = IsBookless (run_lines kept) outbox outbox' s
+        Bookless s = IsBookless base.lines (run_lines base kept) outbox outbox' s
 
-        over : (Is : List ℕ → Type 0) → Is (run_lines kept) → OfLines o.plan.max_entries conf (tells old).bytes Is
-        over Is is = (o.begun.groups, o.begun.found, o.begun.accepted, o.begun.room, subst Is (kept_lines kept same) is)
+        over : (Is : ℕ → List ℕ → Type 0) → Is base.lines (run_lines base kept) → OfLines o.plan.max_entries conf (tells old).bytes Is
+        over Is is = (found, o.begun.finds, o.begun.accepted, o.begun.room, subst (Is base.lines) (kept_lines kept same) is)
 
         why : (s : Status) → Bookless s → Unopened conf o.plan.max_entries (tells old) (tells made.journal.disk) outbox outbox' s
         why status.OutOfMemory spent = tt
-        why status.OutboxFault rose = over (λ lines. Rose outbox.faults outbox'.faults) rose
-        why (status.OutboxAhead told count) ahead = over (λ lines. IsAhead outbox lines told count) ahead
-        why (status.OutboxDiffers at) other = over (λ lines. IsOther outbox lines at) other
+        why status.OutboxFault rose = over (λ before lines. Rose outbox.faults outbox'.faults) rose
+        why (status.OutboxBehind told count) behind = over (λ before lines. IsBehind outbox before told count) behind
+        why (status.OutboxAhead told count) ahead = over (λ before lines. IsAhead outbox before lines told count) ahead
+        why (status.OutboxDiffers at) other = over (λ before lines. IsOther outbox before lines at) other
         why _ none = absurd none
 
         begins : BeginsBy words source (tells old).bytes entries
-        begins = (o.plan, conf, o.configured, (o.begun.groups, o.begun.found, entries_are))
+        begins = (o.plan, conf, o.configured, (found, o.begun.finds, entries_are))
 
         has : (s : Status) → Bookless s → HasBy words source (tells old).bytes s entries
-        has status.OutOfMemory spent = inr found
+        has status.OutOfMemory spent = inr some
         has status.OutboxFault rose = begins
+        has (status.OutboxBehind told count) behind = begins
         has (status.OutboxAhead told count) ahead = begins
         has (status.OutboxDiffers at) other = begins
         has _ none = absurd none
@@ -275,59 +296,73 @@ module _ {D : Type 0} (tells : D → DiskTells) (words : List (List ℕ)) (sourc
         enter : (s : Status) → Bookless s → (es : List Numbered) → FoundBy words source (tells old).bytes es → EntersBy words source (tells old).bytes s es
         enter status.OutOfMemory why es is = is
         enter status.OutboxFault why es is = is
+        enter (status.OutboxBehind told count) why es is = is
         enter (status.OutboxAhead told count) why es is = is
         enter (status.OutboxDiffers at) why es is = is
         enter _ none es is = absurd none
 
-        among : (es : List Numbered) → IsEither (numbered_of o.begun.groups) made.intake.entries es → FoundBy words source (tells old).bytes es
-        among es is = (o.plan, conf, o.configured, (o.begun.groups, o.begun.found, ⊎_elim (λ kept. inl kept) (λ here. inr (here ∙ are)) is))
+        among : (es : List Numbered) → IsEither (found_entries found) made.intake.entries es → FoundBy words source (tells old).bytes es
+        among es is = (o.plan, conf, o.configured, (found, o.begun.finds, ⊎_elim (λ kept. inl kept) (λ here. inr (here ∙ are)) is))
 
-    -- the texts of the Configs among its entries are accepted, and the last one is its own
-    kept_flat : AreFlat made.intake.entries
-    kept_flat = subst AreFlat (sym are) (opening_flat conf (numbered_of o.begun.groups) o.configured.conf_is o.begun.accepted.0 (journal_bytes o.begun.groups))
+        left_of : (file : Option (List ℕ)) → FoundGroups file found
+            → IfSome file (λ _. LeavesOnly (tells old) (tells made.journal.disk) (λ c. KeepsAsOneOf (tells old) c ⊎ KeepsSome base (IsEither (found_entries found) made.intake.entries) c))
+            → IfSome file (λ b. LeavesOnly (tells old) (tells made.journal.disk) (λ c. KeepsAsOneOf (tells old) c ⊎ KeepsSome (base_in b) (EntersBy words source (tells old).bytes s) c))
+        left_of None finds l = tt
+        left_of (Some b) finds l = leaves_more (tells old) (tells made.journal.disk) _ _
+            (λ c. ⊎_elim (λ k. inl k) (λ k. inr (k.0, enter s h.why k.0 (among k.0 k.1), subst (λ (x : Base). Keeps x k.0 c) (sym finds.0) k.2))) l
 
-    kept_last : last_text (log_of made.intake.entries) ≡ Some conf.text
-    kept_last = ap (λ es. last_text (log_of es)) are ∙ opening_last conf (numbered_of o.begun.groups) o.configured.conf_is o.begun.accepted.0 (journal_bytes o.begun.groups)
+    -- the texts of its base and of the Configs among its entries are accepted, and the last one is its own
+    kept_flat : AreFlat base.text made.intake.entries
+    kept_flat = subst (AreFlat base.text) (sym are) (opening_flat base conf (found_entries found) o.configured.conf_is o.begun.accepted.1 (journal_bytes found.first found.groups))
+
+    kept_last : last_text base.text (log_of made.intake.entries) ≡ Some conf.text
+    kept_last = ap (λ es. last_text base.text (log_of es)) are ∙ opening_last base conf (found_entries found) o.configured.conf_is o.begun.accepted.1 (journal_bytes found.first found.groups)
+
+    -- what is told of the disk of a run that took events, since it was opened
+    abbrev did : D → Doing
+    did new = Journals (KeepsAsOneOf (tells old)) (tells old) (tells new) base
 
     -- one that got its book took events
-    pub followed : (faults faults' : ℕ) (wire wire' : WireTells) (outbox outbox' : SinkTells) (kept : List Numbered) → kept ≡ made.intake.entries → IsMendable outbox (run_lines kept)
+    pub followed : (faults faults' : ℕ) (wire wire' : WireTells) (outbox outbox' : SinkTells) (own : Base) → own ≡ made.journal.base → (kept : List Numbered) → kept ≡ made.intake.entries → IsMendable own.lines outbox (run_lines own kept)
         → (new : D) (entries : List Numbered) (s : Status) (IsTold : Counts → Type 0)
-        → Finished (limits_of made.journal 0) conf kept made.intake entries turns (Journals (λ c. ⊥) (tells made.journal.disk) (tells new)) wire wire' (course_of s).ending
-        → LinesAre (course_of s).out outbox outbox' (run_lines entries) → IsTold (run_counts entries)
+        → Finished (limits_of made.journal 0) conf kept made.intake entries turns (Journals (λ c. ⊥) (tells made.journal.disk) (tells new) own) wire wire' (course_of s).ending
+        → LinesAre (course_of s).out own.lines outbox outbox' (run_lines own entries) → IsTold (run_counts own entries)
         → Followed words (at_first faults wire old outbox) (at_last faults' wire' new outbox') s entries IsTold
-    followed faults faults' wire wire' outbox outbox' kept same mendable new entries s IsTold f lines counts =
+    followed faults faults' wire wire' outbox outbox' own is kept same mendable new entries s IsTold f lines counts =
         let begun = o.begun in
+        let here : own ≡ base = is ∙ begun.base in
         let limits : limits_of made.journal 0 ≡ limits_by o.plan = ap₂ (λ a b. limits_at a b) begun.limits.0 begun.limits.1 in
         let limits_then : Limits = refusing (limits_of made.journal 0) f.refused in
-        let sound : IsSound flat conf (served limits_then conf made.intake f.handled).intake = served_sound flat limits_then conf made.intake f.handled begun.sound in
+        let sound : IsSound flat (start_of flat base) conf (served limits_then conf made.intake f.handled).intake = served_sound flat (start_of flat base) limits_then conf made.intake f.handled begun.sound in
         let more = served_plain limits_then conf made.intake f.handled in
         let grown : entries ≡ made.intake.entries ++ more.0 = f.entries_are ∙ more.1 in
         record {
           plan = o.plan;
           conf = conf;
           configured = o.configured;
-          groups = begun.groups;
-          found = begun.found;
+          found = found;
+          finds = begun.finds;
           accepted = begun.accepted;
           room = begun.room;
-          mendable = subst (IsMendable outbox) (kept_lines kept same) mendable;
-          whole = subst (λ es. IsFull (log_of es)) (sym f.entries_are) sound.full;
-          fits = subst (λ es. FitsLog flat (log_of es)) (sym f.entries_are) sound.fits;
-          taken = subst AreFlat (sym grown) (flat_on made.intake.entries more.0 more.2 kept_flat);
-          in_force = ap (λ es. last_text (log_of es)) grown ∙ last_on made.intake.entries more.0 more.2 ∙ kept_last;
+          mendable = subst (IsMendable base.lines outbox) (kept_lines kept same) (subst (λ (b : Base). IsMendable b.lines outbox (run_lines b kept)) here mendable);
+          whole = subst (λ es. IsFull (start_of flat base) (log_of es)) (sym f.entries_are) sound.full;
+          fits = subst (λ es. FitsLog flat (start_of flat base) (log_of es)) (sym f.entries_are) sound.fits;
+          taken = subst (AreFlat base.text) (sym grown) (flat_on base.text made.intake.entries more.0 more.2 kept_flat);
+          in_force = ap (λ es. last_text base.text (log_of es)) grown ∙ last_on base.text made.intake.entries more.0 more.2 ∙ kept_last;
           finished =
-              subst (λ (i : Intake). Finished (limits_by o.plan) conf (numbered_of begun.groups) i entries o.plan.turns (Journals (KeepsAsOneOf (tells old)) (tells old) (tells new)) wire wire' (course_of s).ending) begun.intake_is
-              (subst (λ n. Finished (limits_by o.plan) conf (numbered_of begun.groups) made.intake entries n (Journals (KeepsAsOneOf (tells old)) (tells old) (tells new)) wire wire' (course_of s).ending) o.turns_are
-              (subst (λ (l : Limits). Finished l conf (numbered_of begun.groups) made.intake entries turns (Journals (KeepsAsOneOf (tells old)) (tells old) (tells new)) wire wire' (course_of s).ending) limits
-              (over (limits_of made.journal 0) begun.groups begun.journaled (subst (λ es. Finished (limits_of made.journal 0) conf es made.intake entries turns (Journals (λ c. ⊥) (tells made.journal.disk) (tells new)) wire wire' (course_of s).ending) same f))));
-          lines = lines;
-          counts = counts;
+              subst (λ (i : Intake). Finished (limits_by o.plan) conf (found_entries found) i entries o.plan.turns (did new) wire wire' (course_of s).ending) begun.intake_is
+              (subst (λ n. Finished (limits_by o.plan) conf (found_entries found) made.intake entries n (did new) wire wire' (course_of s).ending) o.turns_are
+              (subst (λ (l : Limits). Finished l conf (found_entries found) made.intake entries turns (did new) wire wire' (course_of s).ending) limits
+              (over (limits_of made.journal 0) begun.journaled (subst (λ es. Finished (limits_of made.journal 0) conf es made.intake entries turns (Journals (λ c. ⊥) (tells made.journal.disk) (tells new) base) wire wire' (course_of s).ending) same
+              (subst (λ (b : Base). Finished (limits_of made.journal 0) conf kept made.intake entries turns (Journals (λ c. ⊥) (tells made.journal.disk) (tells new) b) wire wire' (course_of s).ending) here f)))));
+          lines = subst (λ (b : Base). LinesAre (course_of s).out b.lines outbox outbox' (run_lines b entries)) here lines;
+          counts = subst (λ (b : Base). IsTold (run_counts b entries)) here counts;
         }
       where
-        over : (l : Limits) (groups : List Group) → Journals (KeepsAsOneOf (tells old)) (tells old) (tells made.journal.disk) (IsEither (numbered_of groups) made.intake.entries) None made.intake.entries
-            → Finished l conf made.intake.entries made.intake entries turns (Journals (λ c. ⊥) (tells made.journal.disk) (tells new)) wire wire' (course_of s).ending
-            → Finished l conf (numbered_of groups) made.intake entries turns (Journals (KeepsAsOneOf (tells old)) (tells old) (tells new)) wire wire' (course_of s).ending
-        over l groups j f = record {
+        over : (l : Limits) → Journals (KeepsAsOneOf (tells old)) (tells old) (tells made.journal.disk) base (IsEither (found_entries found) made.intake.entries) None made.intake.entries
+            → Finished l conf made.intake.entries made.intake entries turns (Journals (λ c. ⊥) (tells made.journal.disk) (tells new) base) wire wire' (course_of s).ending
+            → Finished l conf (found_entries found) made.intake entries turns (did new) wire wire' (course_of s).ending
+        over l j f = record {
           handled = f.handled;
           lost = f.lost;
           refused = f.refused;
@@ -339,8 +374,8 @@ module _ {D : Type 0} (tells : D → DiskTells) (words : List (List ℕ)) (sourc
           ends = f.ends;
           refused_is = f.refused_is;
           shows = f.shows;
-          journaled = journals_on (KeepsAsOneOf (tells old)) (tells old) (tells made.journal.disk) (tells new) (IsEither (numbered_of groups) made.intake.entries)
-              (IsReached (refusing l f.refused) conf made.intake.entries made.intake f.handled) (IsReached (refusing l f.refused) conf (numbered_of groups) made.intake f.handled)
+          journaled = journals_on (KeepsAsOneOf (tells old)) (tells old) (tells made.journal.disk) (tells new) base (IsEither (found_entries found) made.intake.entries)
+              (IsReached (refusing l f.refused) conf made.intake.entries made.intake f.handled) (IsReached (refusing l f.refused) conf (found_entries found) made.intake f.handled)
               None _ made.intake.entries entries (λ es is. ⊎_elim (λ kept. inl kept) (λ here. inr (inl ([], f.handled, refl, here))) is)
               (λ es is. ⊎_elim (λ here. inr (inl ([], f.handled, refl, here))) (λ later. inr later) is) j f.journaled;
         }
@@ -448,7 +483,7 @@ module _ (words : List (List ℕ)) (before after : Objects) where
   -- one that was refused for its outbox saw it fail
   outbox_failed : Refused_at status.OutboxFault → Rose before.outbox.faults after.outbox.faults
   outbox_failed (inl none) = absurd none
-  outbox_failed (inr (plan, conf, c, (groups, found, accepted, room, rose))) = rose
+  outbox_failed (inr (plan, conf, c, (found, finds, accepted, room, rose))) = rose
 
   -- which comes before anything is printed, and isn't that of one that takes events
   pub never_begun : (s : Status) → Refused_at s → IsUnprinted s × ((s ≡ status.WireFault → ⊥) × ((s ≡ status.OutboxFault → Rose before.outbox.faults after.outbox.faults) × (s ≡ status.Ok → ⊥)))
@@ -532,15 +567,15 @@ prints_any _ c c' line line' is printed = printed
 
 module _ (words : List (List ℕ)) (before after : Objects) (entries : List Numbered) where
   -- the same run, of whose counts something else is told
-  abbrev told_as : {s t : Status} {Is Other : Counts → Type 0} → (f : Followed words before after s entries Is) → Other (run_counts entries)
-      → Finished (limits_by f.plan) f.conf (numbered_of f.groups) (opening_intake f.conf f.groups) entries f.plan.turns (Journals (KeepsAsOneOf before.disk) before.disk after.disk) before.wire after.wire (course_of t).ending
-      → LinesAre (course_of t).out before.outbox after.outbox (run_lines entries) → Followed words before after t entries Other
+  abbrev told_as : {s t : Status} {Is Other : Counts → Type 0} → (f : Followed words before after s entries Is) → Other (run_counts f.found.base entries)
+      → Finished (limits_by f.plan) f.conf (found_entries f.found) (opening_intake f.conf f.found) entries f.plan.turns (Journals (KeepsAsOneOf before.disk) before.disk after.disk f.found.base) before.wire after.wire (course_of t).ending
+      → LinesAre (course_of t).out f.found.base.lines before.outbox after.outbox (run_lines f.found.base entries) → Followed words before after t entries Other
   told_as f counts finished lines = record {
     plan = f.plan;
     conf = f.conf;
     configured = f.configured;
-    groups = f.groups;
     found = f.found;
+    finds = f.finds;
     accepted = f.accepted;
     room = f.room;
     mendable = f.mendable;
@@ -556,16 +591,16 @@ module _ (words : List (List ℕ)) (before after : Objects) (entries : List Numb
   pub followed_printed : (s ended : Status) (counts : Counts) (line line' : SinkTells) → EndsPrinted s ended → Prints ended counts line line' → Followed words before after s entries (λ c. s ≡ status.Ok → counts ≡ c)
       → Followed words before after ended entries (λ c. Prints ended c line line')
   followed_printed s ended counts line line' ends prints f =
-      told_as f (prints_counts s ended counts _ line line' ends f.counts prints) (finished ends) (lines_printed s ended before.outbox after.outbox _ ends f.lines)
+      told_as f (prints_counts s ended counts _ line line' ends f.counts prints) (finished ends) (lines_printed s ended f.found.base.lines before.outbox after.outbox _ ends f.lines)
     where
       Ends_as : Status → Type 0
-      Ends_as t = Finished (limits_by f.plan) f.conf (numbered_of f.groups) (opening_intake f.conf f.groups) entries f.plan.turns (Journals (KeepsAsOneOf before.disk) before.disk after.disk) before.wire after.wire (course_of t).ending
+      Ends_as t = Finished (limits_by f.plan) f.conf (found_entries f.found) (opening_intake f.conf f.found) entries f.plan.turns (Journals (KeepsAsOneOf before.disk) before.disk after.disk f.found.base) before.wire after.wire (course_of t).ending
 
       finished : EndsPrinted s ended → Ends_as ended
       finished (own, inl same) = subst Ends_as (sym same) f.finished
       finished (own, inr (inr (cut, well))) = let g : Ends_as status.Ok = subst Ends_as well f.finished in subst Ends_as (sym cut) g
       finished (own, inr (inl spent)) =
-          subst Ends_as (sym spent) (finished_refused (limits_by f.plan) f.conf (numbered_of f.groups) (opening_intake f.conf f.groups) entries f.plan.turns _ before.wire after.wire (course_of s).ending f.finished)
+          subst Ends_as (sym spent) (finished_refused (limits_by f.plan) f.conf (found_entries f.found) (opening_intake f.conf f.found) entries f.plan.turns _ before.wire after.wire (course_of s).ending f.finished)
 
   -- a run that took events has a status of one that has begun
   pub is_course : (s : Status) (IsTold : Counts → Type 0) → Followed words before after s entries IsTold → IsCourse s

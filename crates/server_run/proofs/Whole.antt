@@ -1,5 +1,6 @@
 -- The contract of a whole run, from what holds of it up to its printed line.
 use Rattle.std.proofs.Common.{◌≡◌, ◌⊎◌, ⊎_elim, inl, inr, ℕ, List, Bool, true, false, true≢false, Option, sym, ◌∙◌, subst}
+use Rattle.zbx_types.specs.declared.base.Base.{Base}
 use Rattle.zbx_types.specs.declared.conf.Conf.{Conf}
 use Rattle.zbx_types.specs.declared.entries.Numbered.{Numbered}
 use Rattle.outside.specs.Causes.{Rose}
@@ -44,24 +45,24 @@ refused_so_far words before after began entries counts s isnt taken u wire outbo
 
 -- a run that was opened, and went on over a book or got none
 pub gone_so_far : {D O : Type 0} (tells : D → DiskTells) (shows : O → SinkTells) (words : List (List ℕ)) (source source' : Option (List ℕ)) (faults faults' turns : ℕ) (disk : D) (made : Fronted D)
-    → Opened tells words source source' disk turns made → (kept : List Numbered) → kept ≡ made.intake.entries → (outbox : SinkTells) (w w' : WireTells) (course : Course D O)
-    → HasGone tells shows flat kept outbox made turns w w' course → ReadsUpTo 16777216 source source' → (course.began ≡ false → (w' ≡ w) × IsLeft outbox (shows course.outbox))
+    → Opened tells words source source' disk turns made → (base : Base) → base ≡ made.journal.base → (kept : List Numbered) → kept ≡ made.intake.entries → (outbox : SinkTells) (w w' : WireTells) (course : Course D O)
+    → HasGone tells shows flat base kept outbox made turns w w' course → ReadsUpTo 16777216 source source' → (course.began ≡ false → (w' ≡ w) × IsLeft outbox (shows course.outbox))
     → IsUpToLine words (record { source = source; source_faults = faults; wire = w; disk = tells disk; outbox = outbox })
     (record { source = source'; source_faults = faults'; wire = w'; disk = tells course.disk; outbox = shows course.outbox }) course.began course.entries course.counts course.status
-gone_so_far tells shows words source source' faults faults' turns disk made o kept same outbox w w' course gone taken untouched = record {
+gone_so_far tells shows words source source' faults faults' turns disk made o base is kept same outbox w w' course gone taken untouched = record {
   taken = taken;
   to_the_end = λ t. o.at_end;
   wire = gone.wire;
   outbox = gone.fault;
   unprinted = gone.unprinted;
-  unbegun = λ f. unbegun_held tells words source source' turns disk made o faults faults' w w' outbox (shows course.outbox) kept same course.disk course.entries course.status (gone.held_back f);
+  unbegun = λ f. unbegun_held tells words source source' turns disk made o faults faults' w w' outbox (shows course.outbox) base is kept same course.disk course.entries course.status (gone.held_back f);
   untouched = untouched;
-  followed = λ t. followed tells words source source' turns disk made o faults faults' w w' outbox (shows course.outbox) kept same (gone.mendable t) course.disk course.entries course.status
-      (λ c. course.status ≡ status.Ok → course.counts ≡ c) (subst Ends_with (in_force tells words source source' turns disk made o kept same) (gone.finished t)) (gone.lines t) gone.counts_are;
+  followed = λ t. followed tells words source source' turns disk made o faults faults' w w' outbox (shows course.outbox) base is kept same (gone.mendable t) course.disk course.entries course.status
+      (λ c. course.status ≡ status.Ok → course.counts ≡ c) (subst Ends_with (in_force tells words source source' turns disk made o base is kept same) (gone.finished t)) (gone.lines t) gone.counts_are;
 }
   where
     Ends_with : Conf → Type 0
-    Ends_with conf = Finished (limits_of made.journal 0) conf kept made.intake course.entries turns (Journals (λ c. ⊥) (tells made.journal.disk) (tells course.disk)) w w' (course_of course.status).ending
+    Ends_with conf = Finished (limits_of made.journal 0) conf kept made.intake course.entries turns (Journals (λ c. ⊥) (tells made.journal.disk) (tells course.disk) base) w w' (course_of course.status).ending
 
 -- ---- and behind it
 
@@ -115,11 +116,11 @@ module _ (words : List (List ℕ)) (before after : Objects) (print print' : Sink
     printed = λ n c. prints_any ended counts c print print' (is_refusal words before after ended (unbegun n).why) prints;
     keeps = λ y none. keeps_at_end words before after entries IsPrinted ended (begun y) none;
     told = either_way began (λ y. (begun y).finished.journaled.told) (λ n. (unbegun n).told);
-    complete = λ plan text conf file groups all plan_is source_is conf_is file_is found accepted room kept_patterns mendable seen left closes none patterns. either_way began
-        (λ y. ⊎_elim (λ well. inl well) (λ spent. inr (inl spent)) (ends_well words before after entries IsPrinted plan text conf file groups all plan_is source_is conf_is file_is found left closes
+    complete = λ plan text conf file found all plan_is source_is conf_is file_is finds accepted room kept_patterns mendable seen left closes none patterns. either_way began
+        (λ y. ⊎_elim (λ well. inl well) (λ spent. inr (inl spent)) (ends_well words before after entries IsPrinted plan text conf file found all plan_is source_is conf_is file_is finds left closes
         ended (λ is. none.wire (g.wire (fault_before s ended status.WireFault ends is (λ e. cc) (λ e. cc)))) (λ is. none.disk (disk_of is))
         (λ is. none.outbox (g.outbox (fault_before s ended status.OutboxFault ends is (λ e. cc) (λ e. cc)))) (λ is. none.printer (fault is)) (begun y)))
-        (λ n. inr (begins_well words before after plan text conf file groups plan_is source_is conf_is file_is found accepted room kept_patterns mendable seen none.source none.disk none.outbox patterns ended (unbegun n).why));
+        (λ n. inr (begins_well words before after plan text conf file found plan_is source_is conf_is file_is finds accepted room kept_patterns mendable seen none.source none.disk none.outbox patterns ended (unbegun n).why));
   }
     where
       disk_of : ended ≡ status.DiskFault → Rose before.disk.faults after.disk.faults

@@ -8,6 +8,7 @@ use Rattle.outside.specs.Tells.{WireTells}
 use Rattle.outside.specs.declared.event.WireEvent.{WireEvent}
 use Rattle.outside.specs.declared.event.Trouble.{Trouble}
 use Rattle.outside.specs.declared.event.Trouble.TheVariants as trouble
+use Rattle.entry_step.specs.Start.{Start}
 use Rattle.intake_front.specs.Intake.{Limits, Intake, IsSound}
 use Rattle.intake_front.specs.Served.{served}
 use Rattle.intake_front.specs.Fronted.{Fronted, limits_of, refused_group}
@@ -61,8 +62,8 @@ pub record Gathered {D : Type 0} (conf : Conf) (old new : Fronted D) (wire wire'
       → (answered (limits_of old.journal 0) conf old.intake front).stop ≡ None
   pub stop_is : stop ≡ (answered (limits_of old.journal 0) conf old.intake events).stop
   pub intake_is : lost ≡ None → new.intake ≡ (answered (limits_of old.journal 0) conf old.intake events).intake
-  pub sound : (flat : List ℕ → Conf) → IsSound flat conf old.intake
-      → IsSound flat conf (answered (limits_of old.journal 0) conf old.intake events).intake
+  pub sound : (flat : List ℕ → Conf) (ground : Start) → IsSound flat ground conf old.intake
+      → IsSound flat ground conf (answered (limits_of old.journal 0) conf old.intake events).intake
 
 -- by why no more were taken: none stopped before the wire failed or memory was refused
 abbrev pub GatheredBy : {D : Type 0} → Conf → Fronted D → Fronted D → WireTells → WireTells → ℕ
@@ -112,7 +113,7 @@ pub record Took (limits : Limits) (conf : Conf) (old new : Intake) (did : Doing)
   pub goes_on : OnErr gathered ((s ≡ None) ⊎ (s ≡ Some stop.DiskFault))
   pub lost_is : (lost ≡ None) ⊎ (gathered ≡ Err trouble.OutOfMemory)
   pub none_added : s ≡ Some stop.DiskFault → new.entries ≡ old.entries
-  pub sound : (flat : List ℕ → Conf) → IsSound flat conf old → (i : Intake) × IsSound flat conf i
+  pub sound : (flat : List ℕ → Conf) (ground : Start) → IsSound flat ground conf old → (i : Intake) × IsSound flat ground conf i
       × (new.entries ≡ i.entries) × (s ≡ None → lost ≡ None → new ≡ i)
 
 -- the last events of a run were taken, at most so many, committed together and answered, and the run ends with this

@@ -10,12 +10,11 @@ use Rattle.outside.specs.Tells.{SinkTells}
 use Rattle.outside.specs.declared.event.WireEvent.{WireEvent}
 use Rattle.config_templates.specs.Flat.{flat_of}
 use Rattle.host_layout.specs.Places.{refuse}
-use Rattle.intake_journal.specs.Kept.{kept, groups_of}
+use Rattle.intake_journal.specs.Kept.{base_in}
 use Rattle.intake_journal.specs.Settled.{KeepsAsOneOf}
-use Rattle.intake_journal.specs.declared.format.Group.{Group}
-use Rattle.entry_step.specs.InForce.{config_texts}
-use Rattle.intake_front.specs.Fronted.{Keeps, numbered_of}
+use Rattle.intake_front.specs.Fronted.{Keeps}
 use Rattle.intake_front.specs.Served.{served}
+use Rattle.entry_laws.specs.InForce.{texts_on}
 use Rattle.intake_front.specs.declared.answer.Stop.TheVariants as stop
 use Rattle.server_words.specs.Words.{plan_of}
 use Rattle.server_words.specs.declared.words.Plan.{Plan}
@@ -28,6 +27,7 @@ use Rattle.server_run.specs.Statuses.{YieldsTo, IsCourse, IsUnprinted}
 use Rattle.journal_opening.specs.Journals.{KeepsSome}
 use Rattle.book_opening.specs.Outgoing.{IsLeft, IsMendable}
 use Rattle.journal_opening.specs.Opening.{IsAccepted, HasRoomAtOpening, KeptText, opening_intake, opening_lines}
+use Rattle.journal_opening.specs.Recovered.{Found, FoundGroups, found_entries}
 use Rattle.journal_opening.specs.Replayed.{flat}
 use Rattle.journal_opening.specs.Reasons.{IsRefusal, IsBarring, NamesOutbox, IsSeen, Bars}
 use Rattle.server_run.specs.Ports.{ReadsUpTo}
@@ -71,16 +71,17 @@ pub record IsRun (words : List (List ℕ)) (before after : Objects) (line line' 
       → flat_of text ≡ refuse path cause → (s ≡ status.ConfigRefused path cause)
       ⊎ ((s ≡ status.SourceFault) ⊎ ((s ≡ status.Usage) ⊎ (s ≡ status.OutOfMemory)))
   -- PatternRefused comes only where a pattern isn't one, and PatternTooLarge where one holds a brace, of the source's
-  -- configuration, or of one that the journal kept; the path is where the first such pattern is used first
+  -- configuration, or of one that the journal kept, that of its base or of a Config; the path is where the first such
+  -- pattern is used first
   pub pattern_refused : (path : List ℕ) → s ≡ status.PatternRefused path
       → IfSome before.source (HasFlawAt IsNoPattern path)
       ⊎ KeptText before.disk.bytes (HasFlawAt IsNoPattern path)
   pub pattern_too_large : (path : List ℕ) → s ≡ status.PatternTooLarge path
       → IfSome before.source (HasFlawAt HoldsBrace path)
       ⊎ KeptText before.disk.bytes (HasFlawAt HoldsBrace path)
-  -- NotOurs, Damaged, OutboxAhead, OutboxDiffers, and Full at the opening, come exactly where the journal or the outbox
-  -- is so, with the place or the numbers; what the journal is stands before what the outbox is, and a fault of the
-  -- outbox before the two that name it
+  -- NotOurs, Unfinished, Damaged, OutboxBehind, OutboxAhead, OutboxDiffers, and Full at the opening, come exactly where the
+  -- journal or the outbox is so, with the place or the numbers; what the journal is stands before what the outbox is, and a
+  -- fault of the outbox before the three that name it
   pub barred : began ≡ false → IsBarring s → IsBarred words before s
   pub bars : (plan : Plan) (text : List ℕ) (conf : Conf) (file : List ℕ) (t : Status) → plan_of words ≡ Some plan
       → before.source ≡ Some text → flat_of text ≡ Ok conf → before.disk.bytes ≡ Some file
@@ -94,33 +95,36 @@ pub record IsRun (words : List (List ℕ)) (before after : Objects) (line line' 
   pub print : s ≡ status.PrintFault → Rose line.faults line'.faults
   -- A run that hasn't begun was refused at its opening, left the wire alone, and in the outbox what it held. It has no
   -- entries, or those that it found, by its status. A crash at any moment of it left what one before it might have, or,
-  -- where it came so far, entries that it found.
+  -- where it came so far, entries that it found, behind the journal's base.
   pub not_begun : began ≡ false → IsRefusal s × (after.wire ≡ before.wire) × IsLeft before.outbox after.outbox
   pub has_found : began ≡ false → (entries ≡ []) ⊎ FoundBy words before.source before.disk.bytes entries
   pub has : began ≡ false → HasBy words before.source before.disk.bytes s entries
-  pub stopped : began ≡ false → IfSome before.disk.bytes (λ _. LeavesOnly before.disk after.disk
-      (λ c. KeepsAsOneOf before.disk c ⊎ KeepsSome (EntersBy words before.source before.disk.bytes s) c))
+  pub stopped : began ≡ false → IfSome before.disk.bytes (λ b. LeavesOnly before.disk after.disk
+      (λ c. KeepsAsOneOf before.disk c ⊎ KeepsSome (base_in b) (EntersBy words before.source before.disk.bytes s) c))
   pub begun : began ≡ true → IsCourse s
   -- Events taken, replies, closings and entries behind those that the journal kept; reading to the end; the limits of
   -- turns, entries and bytes. A crash at any moment left what one before the run might have, or the entries behind some
-  -- of the events, those of the opening among them, or all that the events add whose groups the disk refused; and
-  -- unless it did, the disk keeps the run's entries, and each crash leaves them. The outbox has the lines of one thread
-  -- that replays the entries, whatever it held. The printed line is that of the status, over the counts of the entries;
-  -- that of a run that hasn't begun has no counts.
+  -- of the events, those of the opening among them, or all that the events add whose groups the disk refused, each time
+  -- behind the base that the journal had; and unless it did, the disk keeps that base and the run's entries, and each crash
+  -- leaves them. The outbox has the lines of one thread that replays the entries, whatever it held; behind a base they stand
+  -- behind its lines, which are as they were. The printed line is that of the status, over the counts of the entries, whose
+  -- bytes are those of all lines; that of a run that hasn't begun has no counts.
   pub followed : began ≡ true → Followed words before after s entries (λ counts. Prints s counts line line')
   pub printed : began ≡ false → (counts : Counts) → Prints s counts line line'
-  pub keeps : began ≡ true → (Rose before.disk.faults after.disk.faults → ⊥) → IfSome after.disk.bytes (Keeps entries)
+  pub keeps : began ≡ true → (Rose before.disk.faults after.disk.faults → ⊥)
+      → IfSome before.disk.bytes (λ b. IfSome after.disk.bytes (Keeps (base_in b) entries))
   pub told : is_some after.disk.bytes ≡ is_some before.disk.bytes
-  -- What is accepted and doesn't fail ends well, if memory is there. A journal is accepted where the texts and the
-  -- patterns of its Configs are, its entries fit, and there is room for the configuration, if that is to be journaled.
-  -- An outbox is accepted that holds nothing, or that tells its bytes and can be completed.
-  pub complete : (plan : Plan) (text : List ℕ) (conf : Conf) (file : List ℕ) (groups : List Group)
-      (all : List WireEvent) → plan_of words ≡ Some plan → before.source ≡ Some text
-      → flat_of text ≡ Ok conf → before.disk.bytes ≡ Some file → groups_of (kept file) ≡ Some groups
-      → IsAccepted groups → HasRoomAtOpening plan.max_entries conf groups
-      → All (λ kept_text. All IsPattern (flat kept_text).patterns) (config_texts (numbered_of groups))
-      → IsMendable before.outbox (opening_lines conf groups)
-      → (before.outbox.held ≡ 0) ⊎ IsSome before.outbox.bytes
-      → before.wire.left ≡ Some all → (served (limits_by plan) conf (opening_intake conf groups)
+  -- What is accepted and doesn't fail ends well, if memory is there. A journal is accepted where its base is empty or fits,
+  -- the texts and the patterns of its base and of its Configs are accepted, its entries fit, and there is room for the
+  -- configuration, if that is to be journaled. An outbox is accepted that holds nothing but as many bytes as the base's lines
+  -- have, or that tells its bytes and can be completed.
+  pub complete : (plan : Plan) (text : List ℕ) (conf : Conf) (file : List ℕ) (found : Found) (all : List WireEvent)
+      → plan_of words ≡ Some plan → before.source ≡ Some text → flat_of text ≡ Ok conf
+      → before.disk.bytes ≡ Some file → FoundGroups (Some file) found
+      → IsAccepted found → HasRoomAtOpening plan.max_entries conf found
+      → All (λ kept_text. All IsPattern (flat kept_text).patterns) (texts_on found.base.text (found_entries found))
+      → IsMendable found.base.lines before.outbox (opening_lines conf found)
+      → (before.outbox.held ≡ found.base.lines) ⊎ IsSome before.outbox.bytes
+      → before.wire.left ≡ Some all → (served (limits_by plan) conf (opening_intake conf found)
       (take plan.turns all)).stop ≡ Some stop.Closed → NoneRose before after line line' → All IsPattern conf.patterns
       → (s ≡ status.Ok) ⊎ ((s ≡ status.OutOfMemory) ⊎ ((path : List ℕ) × (s ≡ status.PatternTooLarge path)))

@@ -8,14 +8,13 @@ use Rattle.outside.specs.Causes.{Rose}
 use Rattle.outside.specs.Disk.{DiskTells, LeavesOnly}
 use Rattle.outside.specs.Tells.{SinkTells, WireTells}
 use Rattle.outside.specs.declared.event.WireEvent.{WireEvent}
-use Rattle.entry_step.specs.InForce.{FitsLog}
-use Rattle.entry_step.specs.Log.{log_of, IsFull}
+use Rattle.entry_laws.specs.InForce.{FitsLog, IsFull}
+use Rattle.entry_step.specs.Log.{log_of}
 use Rattle.intake_front.specs.Intake.{Limits, Intake, last_text}
 use Rattle.intake_front.specs.Served.{served}
-use Rattle.intake_front.specs.Fronted.{Fronted, numbered_of}
+use Rattle.intake_front.specs.Fronted.{Fronted}
 use Rattle.intake_front.specs.declared.answer.Stop.TheVariants as stop
-use Rattle.intake_journal.specs.Kept.{longest_journal}
-use Rattle.intake_journal.specs.declared.format.Group.{Group}
+use Rattle.intake_journal.specs.Kept.{longest_journal, base_in}
 use Rattle.intake_journal.specs.Settled.{KeepsAsOneOf}
 use Rattle.server_words.specs.declared.status.Counts.{Counts}
 use Rattle.server_words.specs.declared.status.Status.{Status}
@@ -24,14 +23,16 @@ use Rattle.server_words.specs.declared.words.Plan.{Plan}
 use Rattle.server_words.specs.Words.{plan_of}
 use Rattle.server_words.specs.Printed.{ok_text, printed_text}
 use Rattle.config_templates.specs.Flat.{flat_of}
-use Rattle.journal_opening.specs.Opening.{FoundGroups, IsAccepted, HasRoomAtOpening, BeginningEntries, FoundEntries, opening_intake, opening_lines}
+use Rattle.journal_opening.specs.Opening.{IsAccepted, HasRoomAtOpening, BeginningEntries, FoundEntries, opening_intake, opening_lines}
 use Rattle.journal_opening.specs.Reasons.{reason_of, Unconfigured, Bars, Unopened, has_for, enters_for}
+use Rattle.journal_opening.specs.Recovered.{Found, FoundGroups, found_entries}
 use Rattle.journal_opening.specs.Resumed.{HasBegun}
 use Rattle.server_run.specs.Stops.{refusing, RunsOn, IsReached}
 use Rattle.journal_opening.specs.Journals.{KeepsSome, Journals}
 use Rattle.server_run.specs.Outbox.{LinesAre}
 use Rattle.journal_opening.specs.Replayed.{flat, AreFlat, run_lines, run_counts}
 use Rattle.server_run.specs.Events.{Doing}
+use Rattle.base_laws.specs.Grounds.{start_of}
 use Rattle.book_opening.specs.Outgoing.{Grew, GrewByFront, IsMendable}
 use Rattle.server_run.specs.Sending.{Shows}
 use Rattle.server_run.specs.Statuses.{Ending, Printing, whole_line, own_line, front_of_line, front_of_ok, course_of, EndsAs, LeftIs}
@@ -120,29 +121,30 @@ pub record Finished (limits : Limits) (conf : Conf) (recovered : List Numbered) 
   pub journaled : did (IsReached (refusing limits refused) conf recovered begun handled)
       (served (refusing limits refused) conf begun handled).stop entries
 
--- A run that began: its words had a plan, its configuration is flat, its journal kept groups that are accepted, behind
--- which there was room for the configuration, its outbox could be completed to the lines with which it goes on, and it
--- took events. Its entries are numbered 1, 2, 3 and so on, and each fits the configuration in force where it stands. The
--- text of each Config among them is accepted, and that of the last one is the run's. The outbox has the lines of one
--- thread that replays them, and what is told of their counts is so.
+-- A run that began: its words had a plan, its configuration is flat, its journal kept a base, which is empty where it has
+-- none, and groups that are accepted, behind which there was room for the configuration, its outbox could be completed to
+-- the lines with which it goes on, and it took events. Its entries are numbered behind the base one by one, so 1, 2, 3 and
+-- so on where that is empty, and each fits the configuration in force where it stands. The text of the base and of each
+-- Config among the entries is accepted, and the last of these texts is the run's. Behind the base's lines, which are as they
+-- were, the outbox has the lines of one thread that replays the entries, and what is told of their counts is so.
 pub record Followed (words : List (List ℕ)) (before after : Objects) (s : Status) (entries : List Numbered)
     (IsTold : Counts → Type 0) : Type 0 where
   pub plan : Plan
   pub conf : Conf
   pub configured : Configured words before.source plan conf
-  pub groups : List Group
-  pub found : FoundGroups before.disk.bytes groups
-  pub accepted : IsAccepted groups
-  pub room : HasRoomAtOpening plan.max_entries conf groups
-  pub mendable : IsMendable before.outbox (opening_lines conf groups)
-  pub whole : IsFull (log_of entries)
-  pub fits : FitsLog flat (log_of entries)
-  pub taken : AreFlat entries
-  pub in_force : last_text (log_of entries) ≡ Some conf.text
-  pub finished : Finished (limits_by plan) conf (numbered_of groups) (opening_intake conf groups) entries plan.turns
-      (Journals (KeepsAsOneOf before.disk) before.disk after.disk) before.wire after.wire (course_of s).ending
-  pub lines : LinesAre (course_of s).out before.outbox after.outbox (run_lines entries)
-  pub counts : IsTold (run_counts entries)
+  pub found : Found
+  pub finds : FoundGroups before.disk.bytes found
+  pub accepted : IsAccepted found
+  pub room : HasRoomAtOpening plan.max_entries conf found
+  pub mendable : IsMendable found.base.lines before.outbox (opening_lines conf found)
+  pub whole : IsFull (start_of flat found.base) (log_of entries)
+  pub fits : FitsLog flat (start_of flat found.base) (log_of entries)
+  pub taken : AreFlat found.base.text entries
+  pub in_force : last_text found.base.text (log_of entries) ≡ Some conf.text
+  pub finished : Finished (limits_by plan) conf (found_entries found) (opening_intake conf found) entries plan.turns
+      (Journals (KeepsAsOneOf before.disk) before.disk after.disk found.base) before.wire after.wire (course_of s).ending
+  pub lines : LinesAre (course_of s).out found.base.lines before.outbox after.outbox (run_lines found.base entries)
+  pub counts : IsTold (run_counts found.base entries)
 
 -- What a run has begun with: the plan's turns, the configuration of the text that the source told, all of which was
 -- read, and the intake behind its journal.
@@ -156,15 +158,15 @@ pub record Opened {D : Type 0} (tells : D → DiskTells) (words : List (List ℕ
   pub begun : HasBegun tells conf plan.max_entries old front
 
 -- What became of a run that didn't begin: why, and the entries that it has. A crash meanwhile left what one before it
--- might have, or, where the run came so far, entries that it found.
+-- might have, or, where the run came so far, entries that it found, behind the file's base.
 pub record Unbegun (words : List (List ℕ)) (before after : Objects) (entries : List Numbered) (s : Status) : Type 0 where
   pub why : Refuses words before after s
   pub told : is_some after.disk.bytes ≡ is_some before.disk.bytes
   pub later : before.disk.faults ≤ after.disk.faults
   pub found : (entries ≡ []) ⊎ FoundBy words before.source before.disk.bytes entries
   pub has : HasBy words before.source before.disk.bytes s entries
-  pub left : IfSome before.disk.bytes (λ _. LeavesOnly before.disk after.disk
-      (λ c. KeepsAsOneOf before.disk c ⊎ KeepsSome (EntersBy words before.source before.disk.bytes s) c))
+  pub left : IfSome before.disk.bytes (λ b. LeavesOnly before.disk after.disk
+      (λ c. KeepsAsOneOf before.disk c ⊎ KeepsSome (base_in b) (EntersBy words before.source before.disk.bytes s) c))
 
 -- some of a text from the front was printed, since the printer failed
 abbrev pub CutShort : SinkTells → SinkTells → List ℕ → Type 0

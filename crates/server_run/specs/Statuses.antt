@@ -98,6 +98,10 @@ course_of (status.BadLine at) = refusal
 course_of (status.MediaRefused path) = refusal
 course_of (status.MarksAhead marks messages) = refusal
 course_of status.LinesTooLong = refusal
+course_of (status.OutboxBehind held base) = refusal
+course_of status.Unfinished = refusal
+course_of (status.NotEmpty bytes) = refusal
+course_of status.NoEntries = refusal
 
 -- a status that names a pattern
 abbrev pub NamesPattern : Status → Type 0

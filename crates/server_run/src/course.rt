@@ -4,13 +4,10 @@ ghost use Rattle.std.specs.Prelude.{◌≡◌, ◌⊎◌, ◌<◌, ◌++◌, Lis
 ghost use Rattle.zbx_types.specs.declared.entries.Numbered.{Numbered};
 ghost use Rattle.outside.specs.Causes.{Rose};
 ghost use Rattle.trigger_state.specs.Stages.{first_stage};
-ghost use Rattle.entry_step.specs.InForce.{config_texts};
 ghost use Rattle.entry_step.specs.Log.{log_of};
 ghost use Rattle.entry_step.specs.Named.{AreDistinct};
-ghost use Rattle.entry_step.specs.Start.{nothing};
-ghost use Rattle.entry_step.specs.Whole.{whole_replay};
-ghost use Rattle.book_opening.specs.Outgoing.{IsLeft, log_lines};
-ghost use Rattle.book_opening.specs.Tally.{tally_of};
+ghost use Rattle.entry_laws.specs.InForce.{texts_on};
+ghost use Rattle.book_opening.specs.Outgoing.{IsLeft, log_lines, log_tally};
 ghost use Rattle.intake_front.specs.Batch.{IsIdle};
 ghost use Rattle.server_run.specs.Going.{IsServing, TakesOn, IsEndedAt, IsSentAt, IsOpened, IsWorse, HasGone, book_status};
 ghost use Rattle.server_run.specs.declared.serving.Taken.TheVariants as Taken;
@@ -116,9 +113,9 @@ fn serve_alone<S: StartName, N: RunName, W: Wire, D: Disk, O: Sink>(
     head: &mut RingHead<S, N>,
     alone: &mut Alone<S, N, O>,
 ) -> Status
-    requires { IsServing S.flat S.start.stage.conf S.kept front.old head.old }
-    ensures takes { TakesOn D.tells S.start.stage.conf front.old front.new (W.tells wire.old) (W.tells wire.new) turns
-        (Taken.Ended result) }
+    requires { IsServing S.flat S.base S.start.stage.conf S.kept front.old head.old }
+    ensures takes { TakesOn D.tells S.base S.start.stage.conf front.old front.new (W.tells wire.old) (W.tells wire.new)
+        turns (Taken.Ended result) }
     ensures ended { IsEndedAt S.kept front.new (W.tells wire.old) (W.tells wire.new) head.new result }
     ensures outbox { result ≡ Status.OutboxFault → Rose S.outbox.faults alone.new.book.sink.faults }
 {
@@ -158,10 +155,10 @@ where
     O: Sink + Send,
     R: Threads + Wait + Sync,
     G: Gate + Sync,
-    requires serving { IsServing S.flat S.start.stage.conf S.kept front.old head.old }
+    requires serving { IsServing S.flat S.base S.start.stage.conf S.kept front.old head.old }
     requires before { before ≡ S.outbox.faults }
-    ensures takes { TakesOn D.tells S.start.stage.conf front.old front.new (W.tells wire.old) (W.tells wire.new) turns
-        (Taken.Ended result.1) }
+    ensures takes { TakesOn D.tells S.base S.start.stage.conf front.old front.new (W.tells wire.old) (W.tells wire.new)
+        turns (Taken.Ended result.1) }
     ensures ended { IsEndedAt S.kept front.new (W.tells wire.old) (W.tells wire.new) head.new result.1 }
     ensures outbox { result.1 ≡ Status.OutboxFault → Rose S.outbox.faults result.0.sink.faults }
 {
@@ -219,10 +216,11 @@ fn finish<S: StartName, N: RunName, O: Sink>(
     requires fault { status ≡ Status.OutboxFault → Rose S.outbox.faults book.sink.faults }
     ensures status { IsWorse status result.status }
     ensures lines { (entries : List Numbered) → IsSentAt S.kept head.sent entries status
-        → LinesAre (course_of result.status).out S.outbox (O.tells result.outbox) (log_lines S.flat (log_of entries)) }
+        → LinesAre (course_of result.status).out S.base.lines S.outbox (O.tells result.outbox)
+        (log_lines S.flat S.base (log_of entries)) }
     ensures outbox { result.status ≡ Status.OutboxFault → Rose S.outbox.faults (O.tells result.outbox).faults }
-    ensures counts { result.status ≡ Status.Ok → result.tally ≡ tally_of
-        (whole_replay S.flat nothing (log_of (S.kept ++ head.sent))) }
+    ensures counts { result.status ≡ Status.Ok → result.tally ≡ log_tally S.flat S.base
+        (log_of (S.kept ++ head.sent)) }
 {
     let _since = book.faults();
     match book.finish(alloc, prepared.ready(), head) {
@@ -238,7 +236,7 @@ fn finish<S: StartName, N: RunName, O: Sink>(
         },
         Err((outbox, error)) => Written {
             status: worse(status, error),
-            tally: Tally::new(),
+            tally: Tally::behind(0),
             outbox,
         },
     }
@@ -249,6 +247,7 @@ fn refused(error: BookError) -> Status
     ensures { result ≡ book_status error }
 {
     match error {
+        BookError::OutboxBehind { held, base } => Status::OutboxBehind { held, base },
         BookError::OutboxAhead { held, lines } => Status::OutboxAhead { held, lines },
         BookError::OutboxDiffers { at } => Status::OutboxDiffers { at },
         BookError::OutboxFault => Status::OutboxFault,
@@ -273,10 +272,10 @@ fn close<S: StartName, N: RunName, D: Disk, O: Sink>(
     ensures disk { result.disk ≡ front.journal.disk }
     ensures entries { result.entries ≡ front.intake.entries }
     ensures status { IsWorse status result.status }
-    ensures lines { LinesAre (course_of result.status).out S.outbox (O.tells result.outbox)
-        (log_lines S.flat (log_of front.intake.entries)) }
+    ensures lines { LinesAre (course_of result.status).out S.base.lines S.outbox (O.tells result.outbox)
+        (log_lines S.flat S.base (log_of front.intake.entries)) }
     ensures outbox { result.status ≡ Status.OutboxFault → Rose S.outbox.faults (O.tells result.outbox).faults }
-    ensures counts { result.status ≡ Status.Ok → result.counts ≡ counts_over S.flat front.intake.entries }
+    ensures counts { result.status ≡ Status.Ok → result.counts ≡ counts_over S.flat S.base front.intake.entries }
 {
     let Written {
         status,
@@ -298,8 +297,8 @@ fn close<S: StartName, N: RunName, D: Disk, O: Sink>(
     }
 }
 
-/// Runs on one thread over a book that is made of the kept entries and the end of a ring. The configurations are those
-/// of the Configs among these, each made ready.
+/// Runs on one thread over a book that is made of the kept entries and the end of a ring. The configurations are that of
+/// the journal's base, where it has one, and those of the Configs among these, each made ready.
 fn named<S: StartName, N: RunName, W: Wire, D: Disk, O: Sink>(
     alloc: Global,
     turns: u64,
@@ -312,15 +311,15 @@ fn named<S: StartName, N: RunName, W: Wire, D: Disk, O: Sink>(
     requires ring { ring.id ≡ N.ring }
     requires room { 0 < ring.capacity }
     requires texts { (text : List ℕ) → AreDistinct (S.flat text) }
-    requires epochs { epochs.items ≡ map (λ text. first_stage (S.flat text)) (config_texts S.kept) }
-    requires opened { IsOpened D.tells S.flat S.start.stage.conf S.kept front }
+    requires epochs { epochs.items ≡ map (λ text. first_stage (S.flat text)) (texts_on S.base.text S.kept) }
+    requires opened { IsOpened D.tells S.flat S.base S.start.stage.conf S.kept front }
     requires outbox { O.tells outbox ≡ S.outbox }
-    ensures gone { HasGone D.tells O.tells S.flat S.kept S.outbox front turns (W.tells wire.old) (W.tells wire.new)
+    ensures gone { HasGone D.tells O.tells S.flat S.base S.kept S.outbox front turns (W.tells wire.old) (W.tells wire.new)
         result }
     ensures untouched { result.began ≡ false → (wire.new ≡ wire.old) × IsLeft (O.tells outbox) (O.tells result.outbox) }
 {
     let (head, end) = ring.named::<N>();
-    let (book, ready) = match Book::new(alloc, epochs, front.entries(), end, outbox) {
+    let (book, ready) = match Book::new(alloc, front.base(), epochs, front.entries(), end, outbox) {
         Ok(made) => made,
         Err((outbox, error)) => return held_back(front, refused(error), outbox),
     };
@@ -339,8 +338,8 @@ fn named<S: StartName, N: RunName, W: Wire, D: Disk, O: Sink>(
 const RING_CAPACITY: usize = 4096;
 
 /// Runs on one thread behind what the journal kept, with which and with what the outbox tells the run begins. The
-/// configurations are those of the Configs among the kept entries, in their order, each made ready: that of the run is
-/// the last one.
+/// configurations are that of the journal's base, where it has one, and those of the Configs among the kept entries, in
+/// their order, each made ready: that of the run is the last one.
 pub(crate) fn started<S: StartName, W: Wire, D: Disk, O: Sink>(
     alloc: Global,
     turns: u64,
@@ -350,10 +349,10 @@ pub(crate) fn started<S: StartName, W: Wire, D: Disk, O: Sink>(
     outbox: O,
 ) -> Course<D, O>
     requires texts { (text : List ℕ) → AreDistinct (S.flat text) }
-    requires epochs { epochs.items ≡ map (λ text. first_stage (S.flat text)) (config_texts S.kept) }
-    requires opened { IsOpened D.tells S.flat S.start.stage.conf S.kept front }
+    requires epochs { epochs.items ≡ map (λ text. first_stage (S.flat text)) (texts_on S.base.text S.kept) }
+    requires opened { IsOpened D.tells S.flat S.base S.start.stage.conf S.kept front }
     requires outbox { O.tells outbox ≡ S.outbox }
-    ensures gone { HasGone D.tells O.tells S.flat S.kept S.outbox front turns (W.tells wire.old) (W.tells wire.new)
+    ensures gone { HasGone D.tells O.tells S.flat S.base S.kept S.outbox front turns (W.tells wire.old) (W.tells wire.new)
         result }
     ensures untouched { result.began ≡ false → (wire.new ≡ wire.old) × IsLeft (O.tells outbox) (O.tells result.outbox) }
 {
@@ -363,8 +362,8 @@ pub(crate) fn started<S: StartName, W: Wire, D: Disk, O: Sink>(
     }
 }
 
-/// Runs beside syncers over a book that is made of the kept entries and the end of a ring. The configurations are those
-/// of the Configs among these, each made ready.
+/// Runs beside syncers over a book that is made of the kept entries and the end of a ring. The configurations are that of
+/// the journal's base, where it has one, and those of the Configs among these, each made ready.
 fn named_beside<S, N, W, D, O, R, G>(
     rt: &R,
     alloc: Global,
@@ -388,16 +387,16 @@ where
     requires ring { ring.id ≡ N.ring }
     requires room { 0 < ring.capacity }
     requires texts { (text : List ℕ) → AreDistinct (S.flat text) }
-    requires epochs { epochs.items ≡ map (λ text. first_stage (S.flat text)) (config_texts S.kept) }
-    requires opened { IsOpened D.tells S.flat S.start.stage.conf S.kept front }
+    requires epochs { epochs.items ≡ map (λ text. first_stage (S.flat text)) (texts_on S.base.text S.kept) }
+    requires opened { IsOpened D.tells S.flat S.base S.start.stage.conf S.kept front }
     requires outbox { O.tells outbox ≡ S.outbox }
-    ensures gone { HasGone D.tells O.tells S.flat S.kept S.outbox front turns (W.tells wire.old) (W.tells wire.new)
+    ensures gone { HasGone D.tells O.tells S.flat S.base S.kept S.outbox front turns (W.tells wire.old) (W.tells wire.new)
         result }
     ensures untouched { result.began ≡ false → (wire.new ≡ wire.old) × IsLeft (O.tells outbox) (O.tells result.outbox) }
 {
     let before = outbox.faults();
     let (head, end) = ring.named::<N>();
-    let (book, ready) = match Book::new(alloc, epochs, front.entries(), end, outbox) {
+    let (book, ready) = match Book::new(alloc, front.base(), epochs, front.entries(), end, outbox) {
         Ok(made) => made,
         Err((outbox, error)) => return held_back(front, refused(error), outbox),
     };
@@ -411,8 +410,8 @@ where
 }
 
 /// Runs beside syncers behind what the journal kept, with which and with what the outbox tells the run begins. The
-/// configurations are those of the Configs among the kept entries, in their order, each made ready: that of the run is
-/// the last one.
+/// configurations are that of the journal's base, where it has one, and those of the Configs among the kept entries, in
+/// their order, each made ready: that of the run is the last one.
 pub(crate) fn started_beside<S, W, D, O, R, G>(
     rt: &R,
     alloc: Global,
@@ -432,10 +431,10 @@ where
     R: Threads + Wait + Sync,
     G: Gate + Sync,
     requires texts { (text : List ℕ) → AreDistinct (S.flat text) }
-    requires epochs { epochs.items ≡ map (λ text. first_stage (S.flat text)) (config_texts S.kept) }
-    requires opened { IsOpened D.tells S.flat S.start.stage.conf S.kept front }
+    requires epochs { epochs.items ≡ map (λ text. first_stage (S.flat text)) (texts_on S.base.text S.kept) }
+    requires opened { IsOpened D.tells S.flat S.base S.start.stage.conf S.kept front }
     requires outbox { O.tells outbox ≡ S.outbox }
-    ensures gone { HasGone D.tells O.tells S.flat S.kept S.outbox front turns (W.tells wire.old) (W.tells wire.new)
+    ensures gone { HasGone D.tells O.tells S.flat S.base S.kept S.outbox front turns (W.tells wire.old) (W.tells wire.new)
         result }
     ensures untouched { result.began ≡ false → (wire.new ≡ wire.old) × IsLeft (O.tells outbox) (O.tells result.outbox) }
 {

@@ -154,8 +154,8 @@ trait Taker<S: StartName, N: RunName> {
         front: &mut Front<D>,
         shared: &Shared<S, N, O>,
     ) -> Taken
-        requires { IsServing S.flat S.start.stage.conf S.kept front.old (head self.old) }
-        ensures { HasServed D.tells S.flat S.start.stage.conf S.kept front.old front.new
+        requires { IsServing S.flat S.base S.start.stage.conf S.kept front.old (head self.old) }
+        ensures { HasServed D.tells S.flat S.base S.start.stage.conf S.kept front.old front.new
             (W.tells wire.old) (W.tells wire.new) (head self.new) turns result };
 }
 
@@ -201,16 +201,16 @@ where
     R: Threads + Wait + Sync,
     G: Gate + Sync,
     T: Taker<S, N>,
-    requires { IsServing S.flat S.start.stage.conf S.kept front.old (T.head taker.old) }
-    ensures { HasServed D.tells S.flat S.start.stage.conf S.kept front.old front.new
+    requires { IsServing S.flat S.base S.start.stage.conf S.kept front.old (T.head taker.old) }
+    ensures { HasServed D.tells S.flat S.base S.start.stage.conf S.kept front.old front.new
         (W.tells wire.old) (W.tells wire.new) (T.head taker.new) turns result }
 {
     let (worked, taken) = join_mut(
         rt,
         &mut || work_all(rt, alloc, prepared, shared, gate, syncers),
         &mut || -> Taken
-            requires { IsServing S.flat S.start.stage.conf S.kept front.now (T.head taker.now) }
-            ensures { HasServed D.tells S.flat S.start.stage.conf S.kept front.entry.now
+            requires { IsServing S.flat S.base S.start.stage.conf S.kept front.now (T.head taker.now) }
+            ensures { HasServed D.tells S.flat S.base S.start.stage.conf S.kept front.entry.now
                 front.exit.now (W.tells wire.entry.now) (W.tells wire.exit.now) (T.head taker.exit.now) turns result }
         { taker.serve_shared(rt, alloc, turns, prepared, wire, front, shared) },
     );
@@ -239,8 +239,8 @@ where
     D: Disk,
     R: Threads + Wait + Sync,
     G: Gate + Sync,
-    requires { IsServing S.flat S.start.stage.conf S.kept front.old head.old }
-    ensures { HasServed D.tells S.flat S.start.stage.conf S.kept front.old front.new
+    requires { IsServing S.flat S.base S.start.stage.conf S.kept front.old head.old }
+    ensures { HasServed D.tells S.flat S.base S.start.stage.conf S.kept front.old front.new
         (W.tells wire.old) (W.tells wire.new) head.new turns result.1 }
 {
     if syncers == 0 {

@@ -3,9 +3,10 @@
 //! [`run_single`] reads the configuration, takes the events of a wire in their order, journals what it takes, answers
 //! each sender, evaluates the triggers and writes a line for each record. [`run_syncers`] does the same while threads
 //! of their own evaluate the triggers. Events that stand ready one behind another, up to 128, are journaled by one
-//! append, and answered behind it in their order. Everything outside, the configuration's source, the wire, the
-//! journal's disk, the outbox and the printer, is handed in, so the same code runs over files and sockets and over
-//! memory, and its contract speaks of whatever was handed in.
+//! append, and answered behind it in their order. Where the journal begins with a base, the state that stands in place
+//! of earlier entries, the run goes on behind it as behind these. Everything outside, the configuration's source, the
+//! wire, the journal's disk, the outbox and the printer, is handed in, so the same code runs over files and sockets and
+//! over memory, and its contract speaks of whatever was handed in.
 //!
 //! The one contract, in a sentence: the replies and entries are those that the definition of what events make gives
 //! for the events taken, behind those that the journal kept; a stop at any moment leaves the entries behind some of
@@ -15,12 +16,13 @@
 //! entries.
 //!
 //! A run goes through its opening, in which each refusal ends it (what concerns the journal is in the crate
-//! `journal_opening`, what concerns the outbox in `book_opening`): the words; reading the configuration; flattening
-//! it; its patterns; opening the journal and reading its groups; flattening the text of each configuration that is
-//! among them, which must be accepted, and judging the entries, each of which must fit the configuration in force where
-//! it stands; the patterns of these configurations; journaling that of the run where there is none, or the last one
-//! has another text; replaying the entries; and comparing the outbox. Then, begun, it writes the lines that the outbox
-//! lacks and takes the events, up to one that closes the wire. Last it prints one line.
+//! `journal_opening`, what concerns the outbox in `book_opening`): the words; reading the configuration; flattening it;
+//! its patterns; opening the journal and reading its base, if it has one, and its groups; flattening the text of each
+//! configuration that is among them, which must be accepted, and judging the base and the entries, each of which must
+//! fit the configuration in force where it stands; the patterns of these configurations; journaling that of the run
+//! where there is none, or the last one has another text; replaying the entries; and comparing the outbox. Then, begun,
+//! it writes the lines that the outbox lacks and takes the events, up to one that closes the wire. Last it prints one
+//! line.
 //!
 //! ```text
 //! let ended = run_single(alloc, words.as_slice(), &mut source, &mut wire, disk, outbox, &mut printer);

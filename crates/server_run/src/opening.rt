@@ -6,7 +6,7 @@ ghost use Rattle.std.specs.Result.{result_ok};
 ghost use Rattle.zbx_types.specs.Tree.{tree_code};
 ghost use Rattle.outside.specs.Tells.{SinkTells, WireTells};
 ghost use Rattle.config_templates.specs.Flat.{flat_of};
-ghost use Rattle.entry_step.specs.InForce.{config_texts};
+ghost use Rattle.entry_laws.specs.InForce.{texts_on};
 ghost use Rattle.server_words.specs.Words.{plan_of};
 ghost use Rattle.server_run.specs.Ports.{ReadsUpTo};
 ghost use Rattle.journal_opening.specs.Reasons.{IsUntaken, Unconfigured};
@@ -25,15 +25,15 @@ use server_words::{PlanError, Status, plan};
 use std::alloc::Global;
 use zbx_types::{Conf, LONGEST_TEXT, Many, Text};
 
-/// What a run has begun with. The configurations are those of the Configs among its entries, in their order, each made
-/// ready: that of the run is the last one.
+/// What a run has begun with. The configurations are that of its journal's base, where it has one, and those of the Configs
+/// among its entries, in their order, each made ready: that of the run is the last one.
 #[derive(Drop)]
 pub(crate) struct Begun<D: Disk> {
     pub turns: u64,
     pub syncers: u32,
     pub epochs: Vec<Ready>,
     pub front: Front<D>,
-    ghost epochs_are: { epochs.items ≡ map (λ text. first_stage (flat text)) (config_texts front.intake.entries) },
+    ghost epochs_are: { epochs.items ≡ map (λ text. first_stage (flat text)) (texts_on front.journal.base.text front.intake.entries) },
 }
 
 /// What the words and the configuration of a run ask for.

@@ -32,9 +32,9 @@ pub struct Ended<D, O> {
     pub disk: D,
     /// The outbox that was handed in.
     pub outbox: O,
-    /// All entries, in the order of their numbers. Entry 1 holds a configuration's text, and the last entry that holds
-    /// one, that of the run. Where the run didn't begin they are none, or those that its journal kept, or these with
-    /// the configuration behind them.
+    /// All entries behind the journal's base, in the order of their numbers. Where that is empty, entry 1 holds a
+    /// configuration's text. The last entry that holds one holds that of the run; where none does, the base does. Where
+    /// the run didn't begin they are none, or those that its journal kept, or these with the configuration behind them.
     pub entries: Many<Numbered>,
 }
 
@@ -181,28 +181,36 @@ fn cut_short(status: Status) -> Status
 }
 
 /// Runs the server on one thread: reads the configuration, opens the journal, takes the wire's events, journals their
-/// entries on the disk, answers their senders, writes the lines of their records to the outbox and prints one line.
-/// It reads at most 16,777,217 bytes of the configuration, takes at most as many events as the plan of the words
-/// allows, and always returns.
+/// entries on the disk, answers their senders, writes the lines of their records to the outbox and prints one line. It
+/// reads at most 16,777,217 bytes of the configuration, takes at most as many events as the plan of the words allows,
+/// and always returns.
 ///
-/// Where the journal kept entries the run goes on behind them. The bytes that the outbox holds are taken for the
-/// first of their lines, and those that it lacks are written first.
+/// Where the journal kept entries the run goes on behind them. The bytes that the outbox holds are taken for the first
+/// of their lines, and those that it lacks are written first.
 ///
-/// The configuration is journaled as entry 1, at moment 0. Where the journal kept one, and the text of the last one
-/// that it kept isn't that of the source, byte for byte, the changed configuration is journaled behind the kept
-/// entries, as an entry and a group of its own, at the moment of the last of them. It is in force from there on: items
-/// and triggers go on that are in both configurations, by their names, and problems that it leaves no trigger for are
-/// closed, as the lines of this entry tell. The entries before it stay those of the configurations before it.
+/// A journal may begin with a base, the state that stands in it in place of the entries up to its number. The run goes
+/// on behind it as if it had read these: it has the base's number, moment, last Tick and configuration, the histories
+/// and what the steps of the items remember, and the open problems. The first bytes of the outbox, as many as the lines
+/// of those entries have, stay as they are, and the lines of the entries behind the base stand behind them.
+///
+/// The configuration is journaled as entry 1, at moment 0. Where the journal kept one, in an entry or in its base, and
+/// the text of the last one that it kept isn't that of the source, byte for byte, the changed configuration is
+/// journaled behind the kept entries, as an entry and a group of its own, at the moment of the last of them, or of the
+/// base. It is in force from there on: items and triggers go on that are in both configurations, by their names, and
+/// problems that it leaves no trigger for are closed, as the lines of this entry tell. The entries before it stay those
+/// of the configurations before it.
 ///
 /// # Statuses
 ///
-/// `Usage`, `SourceFault`, `ConfigRefused`, `PatternRefused` and `PatternTooLarge`, and then `NotOurs`, `Damaged`,
-/// `PatternRefused` and `PatternTooLarge` of a configuration that the journal kept, `OutboxAhead` and `OutboxDiffers`,
-/// end the opening: no event was taken, and wire and outbox are as they were. `Damaged` comes too where the text of a
-/// kept configuration is refused, or a kept entry doesn't fit the configuration in force where it stands. `Ok` comes
-/// where the wire was read to its end. `TurnLimit` comes where as many events as the plan allows were taken and none
-/// closed the wire. `Full` comes where the next group would have made the journal larger than the plan allows, or than
-/// 1,073,741,824 bytes, that of a changed configuration too, which ends the opening. `DiskFault`, `WireFault`,
+/// `Usage`, `SourceFault`, `ConfigRefused`, `PatternRefused` and `PatternTooLarge`, and then `NotOurs`, `Unfinished`,
+/// `Damaged`, `PatternRefused` and `PatternTooLarge` of a configuration that the journal kept, `OutboxBehind`,
+/// `OutboxAhead` and `OutboxDiffers`, end the opening: no event was taken, and wire and outbox are as they were.
+/// `Unfinished` comes where the journal is a copy that wasn't made to its end. `Damaged` comes too where the text of a
+/// kept configuration is refused, or a kept entry doesn't fit the configuration in force where it stands, and at 8
+/// where no run can begin with the base. `OutboxBehind` comes where the outbox holds fewer bytes than the base's lines.
+/// `Ok` comes where the wire was read to its end. `TurnLimit` comes where as many events as the plan allows were taken
+/// and none closed the wire. `Full` comes where the next group would have made the journal larger than the plan allows,
+/// or than 1,073,741,824 bytes, that of a changed configuration too, which ends the opening. `DiskFault`, `WireFault`,
 /// `OutboxFault` and `PrintFault` come where that object failed. `OutOfMemory` may come wherever memory is taken.
 pub fn run_single<S: Source, W: Wire, D: Disk, O: Sink, P: Sink>(
     alloc: Global,

@@ -80,15 +80,15 @@ fn serve_batch<S: StartName, N: RunName, W: Wire, D: Disk, K: Worker<S, N>>(
     worker: &mut K,
 ) -> Result<u64, Status>
     requires conf { collection.old ≡ S.start.stage.conf }
-    requires serving { IsServing S.flat S.start.stage.conf S.kept front.old head.old }
+    requires serving { IsServing S.flat S.base S.start.stage.conf S.kept front.old head.old }
     ensures wire_later { (W.tells wire.old).faults ≤ (W.tells wire.new).faults }
     ensures wire { IsErrOf result Status.WireFault → Rose (W.tells wire.old).faults (W.tells wire.new).faults }
     ensures cause { IfErr result IsCause }
     ensures took { TookOrEnded (limits_of front.old.journal 0) S.start.stage.conf front.old.intake front.new.intake
-        (Journals (λ c. ⊥) (D.tells front.old.journal.disk) (D.tells front.new.journal.disk))
+        (Journals (λ c. ⊥) (D.tells front.old.journal.disk) (D.tells front.new.journal.disk) front.old.journal.base)
         (W.tells wire.old) (W.tells wire.new) most result }
     ensures sent { IsSentBy S.kept head.new.sent front.new.intake.entries result }
-    ensures serving { OnOk result (IsServing S.flat S.start.stage.conf S.kept front.new head.new) }
+    ensures serving { OnOk result (IsServing S.flat S.base S.start.stage.conf S.kept front.new head.new) }
     ensures ready { OnOk result (IsReady front.old.journal front.new.journal) }
     ensures same { collection.new ≡ collection.old }
     ensures idle { IsIdle front.new }
@@ -120,8 +120,8 @@ pub(crate) fn serve<S: StartName, N: RunName, W: Wire, D: Disk, K: Worker<S, N>>
     head: &mut RingHead<S, N>,
     worker: &mut K,
 ) -> Taken
-    requires { IsServing S.flat S.start.stage.conf S.kept front.old head.old }
-    ensures served { HasServed D.tells S.flat S.start.stage.conf S.kept front.old front.new
+    requires { IsServing S.flat S.base S.start.stage.conf S.kept front.old head.old }
+    ensures served { HasServed D.tells S.flat S.base S.start.stage.conf S.kept front.old front.new
         (W.tells wire.old) (W.tells wire.new) head.new turns result }
     ensures stops { IsGoing result → K.stops worker.new }
 {

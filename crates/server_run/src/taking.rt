@@ -99,8 +99,9 @@ pub(crate) fn take_batch<W: Wire, D: Disk>(
     ensures cause { HasNextCause (W.tells wire.old).faults (W.tells wire.new).faults result.gathered }
     ensures same { collection.new ≡ collection.old }
     ensures took { Took (limits_of front.old.journal 0) collection.old front.old.intake front.new.intake
-        (Journals (λ c. ⊥) (D.tells front.old.journal.disk) (D.tells front.new.journal.disk))
+        (Journals (λ c. ⊥) (D.tells front.old.journal.disk) (D.tells front.new.journal.disk) front.old.journal.base)
         (W.tells wire.old) (W.tells wire.new) most result.count result.stop result.gathered }
+    ensures base { front.new.journal.base ≡ front.old.journal.base }
     ensures idle { IsIdle front.new }
     ensures state { result.stop ≢ Some stop.DiskFault → IsReady front.old.journal front.new.journal }
 {

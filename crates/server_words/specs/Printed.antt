@@ -24,6 +24,10 @@ exit_of status.WireFault = 13
 exit_of (status.Full entries bytes) = 14
 exit_of status.TurnLimit = 15
 exit_of status.OutOfMemory = 16
+exit_of (status.OutboxBehind held base) = 18
+exit_of status.Unfinished = 19
+exit_of (status.NotEmpty bytes) = 20
+exit_of status.NoEntries = 21
 exit_of (status.BadLine at) = 22
 exit_of (status.MarksAhead marks messages) = 23
 exit_of status.LinesTooLong = 24
@@ -83,8 +87,10 @@ printed_text (status.PatternRefused path) c = path_text (codes "status: PatternR
 printed_text (status.PatternTooLarge path) c = path_text (codes "status: PatternTooLarge; path: ") path
 printed_text status.SourceFault c = codes "status: SourceFault\n"
 printed_text status.NotOurs c = codes "status: NotOurs\n"
+printed_text status.Unfinished c = codes "status: Unfinished\n"
 printed_text (status.Damaged at) c = count_text (codes "status: Damaged; at: ") at ++ codes "\n"
 printed_text (status.OutboxAhead held lines) c = count_text (codes "status: OutboxAhead; held: ") held ++ count_text (codes "; lines: ") lines ++ codes "\n"
+printed_text (status.OutboxBehind held base) c = count_text (codes "status: OutboxBehind; held: ") held ++ count_text (codes "; base: ") base ++ codes "\n"
 printed_text (status.OutboxDiffers at) c = count_text (codes "status: OutboxDiffers; at: ") at ++ codes "\n"
 printed_text status.DiskFault c = codes "status: DiskFault\n"
 printed_text (status.Full entries bytes) c = count_text (codes "status: Full; entries: ") entries ++ count_text (codes "; bytes: ") bytes ++ codes "\n"
@@ -98,6 +104,13 @@ printed_text (status.BadLine at) c = count_text (codes "status: BadLine; at: ") 
 printed_text (status.MarksAhead marks messages) c = count_text (codes "status: MarksAhead; marks: ") marks ++ count_text (codes "; messages: ") messages ++ codes "\n"
 printed_text status.LinesTooLong c = codes "status: LinesTooLong\n"
 printed_text (status.MediaRefused path) c = path_text (codes "status: MediaRefused; path: ") path
+printed_text (status.NotEmpty bytes) c = count_text (codes "status: NotEmpty; bytes: ") bytes ++ codes "\n"
+printed_text status.NoEntries c = codes "status: NoEntries\n"
+
+-- the line of a journal that was copied: the number of its last entry, and how many bytes all its lines have
+abbrev pub copy_text : ℕ → ℕ → List ℕ
+copy_text number lines =
+    count_text (codes "status: Ok; number: ") number ++ count_text (codes "; lines: ") lines ++ codes "\n"
 
 -- the line of alerts that ended well: how many messages there are, how many of them were sent, and how many failed
 abbrev pub alerts_text : ℕ → ℕ → ℕ → List ℕ

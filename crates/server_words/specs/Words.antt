@@ -9,9 +9,9 @@ use Rattle.clap.specs.declared.builder.value_parser.ValueParser.TheVariants as v
 use Rattle.server_words.specs.declared.words.Plan.{Plan}
 use Rattle.server_words.specs.declared.planning.Numbers.{Numbers}
 use Rattle.server_words.specs.declared.words.Mode.{Mode}
-use Rattle.server_words.specs.declared.words.Mode.TheVariants.{Feed, Serve, Workload, Alerts}
+use Rattle.server_words.specs.declared.words.Mode.TheVariants.{Feed, Serve, Workload, Alerts, Checkpoint}
 use Rattle.server_words.specs.declared.words.Call.{Call}
-use Rattle.server_words.specs.declared.words.Call.TheVariants.{Run, Alerting}
+use Rattle.server_words.specs.declared.words.Call.TheVariants.{Run, Alerting, Copying}
 
 -- the most syncers, turns, entries, tries of a message, alert sessions and values of a workload that a plan may ask for
 abbrev pub most_syncers : ℕ
@@ -54,10 +54,11 @@ bare_app = let app = new_app (codes "zabbix_server") in record app { top = recor
 
 -- the command with its texts
 abbrev pub text_app : App
-text_app = with_rule (with_rule (with_rule (with_rule (with_rule (with_rule (with_rule (with_rule (with_rule bare_app
+text_app = with_rule (with_rule (with_rule (with_rule (with_rule (with_rule (with_rule (with_rule (with_rule (with_rule bare_app
     (needed (codes "mode"))) (option (codes "config"))) (option (codes "listen")))
     (option (codes "script"))) (option (codes "journal"))) (option (codes "progress")))
-    (option (codes "command"))) (option (codes "media"))) (with_default (codes "outbox") (codes "-"))
+    (option (codes "command"))) (option (codes "media"))) (option (codes "into")))
+    (with_default (codes "outbox") (codes "-"))
 
 -- the command: its texts and its numbers
 abbrev pub server_app : App
@@ -72,7 +73,8 @@ abbrev pub mode_of : List ℕ → Option Mode
 mode_of name = if bytes_eq name (codes "feed") then Some Feed
     else if bytes_eq name (codes "serve") then Some Serve
     else if bytes_eq name (codes "workload") then Some Workload
-    else if bytes_eq name (codes "alerts") then Some Alerts else None
+    else if bytes_eq name (codes "alerts") then Some Alerts
+    else if bytes_eq name (codes "checkpoint") then Some Checkpoint else None
 
 -- a mode is one of a call's
 abbrev pub is_mode_of : Call → Mode → Bool
@@ -80,10 +82,17 @@ is_mode_of Run Feed = true
 is_mode_of Run Serve = true
 is_mode_of Run Workload = true
 is_mode_of Run Alerts = false
+is_mode_of Run Checkpoint = false
 is_mode_of Alerting Feed = false
 is_mode_of Alerting Serve = false
 is_mode_of Alerting Workload = false
 is_mode_of Alerting Alerts = true
+is_mode_of Alerting Checkpoint = false
+is_mode_of Copying Feed = false
+is_mode_of Copying Serve = false
+is_mode_of Copying Workload = false
+is_mode_of Copying Alerts = false
+is_mode_of Copying Checkpoint = true
 
 -- the number that a text writes, where an unsigned type of so many bits holds it
 abbrev pub number_of : ℕ → List ℕ → Option ℕ
@@ -107,6 +116,7 @@ has_needed Serve rows = is_some (first_of (codes "config") rows) && is_some (fir
 has_needed Workload rows = true
 has_needed Alerts rows = is_some (first_of (codes "progress") rows) && is_some (first_of (codes "command") rows)
     && not (bytes_eq (unwrap_or (first_of (codes "outbox") rows) (codes "-")) (codes "-"))
+has_needed Checkpoint rows = is_some (first_of (codes "journal") rows) && is_some (first_of (codes "into") rows)
 
 -- the numbers of the options
 abbrev pub numbers_in : List Row → Option Numbers
@@ -144,6 +154,7 @@ plan_with rows mode numbers = record {
   command = first_of (codes "command") rows;
   attempts = numbers.attempts;
   media = first_of (codes "media") rows;
+  into = first_of (codes "into") rows;
   sessions = numbers.sessions;
 }
 
@@ -168,6 +179,10 @@ plan_of words = plan_for Run words
 -- the plan of a list of words for alerts
 abbrev pub alerts_plan_of : List (List ℕ) → Option Plan
 alerts_plan_of words = plan_for Alerting words
+
+-- the plan of a list of words for a copy of a journal
+abbrev pub checkpoint_plan_of : List (List ℕ) → Option Plan
+checkpoint_plan_of words = plan_for Copying words
 
 -- the numbers of a plan are those that may be asked for
 pub record IsWithin (plan : Plan) : Type 0 where

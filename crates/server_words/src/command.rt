@@ -75,6 +75,7 @@ fn text_command<'a>(alloc: Global) -> Result<Command<'a>, AllocError>
         .arg(option(alloc, "progress"))?
         .arg(option(alloc, "command"))?
         .arg(option(alloc, "media"))?
+        .arg(option(alloc, "into"))?
         .arg(with_default(alloc, "outbox", "-"))
 }
 

@@ -20,7 +20,7 @@ mod printing;
 mod status;
 mod words;
 
-pub use planning::{alerts_plan, plan};
-pub use printing::{printed, printed_alerts};
+pub use planning::{alerts_plan, checkpoint_plan, plan};
+pub use printing::{printed, printed_alerts, printed_copy};
 pub use status::{Counts, Status};
 pub use words::{Mode, Plan, PlanError};

@@ -2,7 +2,7 @@
 
 ghost use Rattle.std.specs.Prelude.{◌≡◌, [], IfOk, IsErrOf, Some, None, option_and_then, unwrap_or, codes};
 ghost use Rattle.clap.specs.Words.{found_of, first_of, one_of, rows_of};
-ghost use Rattle.server_words.specs.Words.{IsWithin, plan_of, alerts_plan_of, plan_for, plan_in, plan_with, mode_of, is_mode_of, number_of, within, number_in, numbers_in, has_needed};
+ghost use Rattle.server_words.specs.Words.{IsWithin, plan_of, alerts_plan_of, checkpoint_plan_of, plan_for, plan_in, plan_with, mode_of, is_mode_of, number_of, within, number_in, numbers_in, has_needed};
 
 use crate::command::{
     MOST_ATTEMPTS, MOST_ENTRIES, MOST_SESSIONS, MOST_SYNCERS, MOST_TURNS, MOST_VALUES, command,
@@ -19,7 +19,7 @@ use zbx_types::{OutOfMemory, Text};
 /// `workload`. The first two need `--config`, a path; feed needs `--script`, a path, and serve needs `--listen`, an
 /// address and port. `--journal` is a path, `--outbox` a path or `-`, `--syncers` is 0 to 16, `--turns` 1 to
 /// 1,000,000,000, `--max-entries` 1 to 4,000,000, `--number` 0 to 2^64 - 1, and `--values` 1 to 1,000,000. What a mode
-/// doesn't need it may have, and so may it have what [`alerts_plan`] needs.
+/// doesn't need it may have, and so may it have what [`alerts_plan`] and [`checkpoint_plan`] need.
 ///
 /// [`PlanError::Usage`] comes exactly where `clap` doesn't take the words as this command's, or the mode is another one
 /// or lacks what it needs. [`PlanError::OutOfMemory`] where there is no room for the command or for the plan.
@@ -42,6 +42,18 @@ pub fn alerts_plan(alloc: Global, words: &[Text]) -> Result<Plan, PlanError>
     ensures usage { IsErrOf result PlanError.Usage → alerts_plan_of words.now ≡ None }
 {
     plan_for(Call::Alerting, alloc, words)
+}
+
+/// The plan of a list of words for a copy of a journal.
+///
+/// `--mode` is `checkpoint`. It needs `--journal`, the path of the journal, and `--into`, that of the new file. Usage and
+/// OutOfMemory come as with [`plan`].
+pub fn checkpoint_plan(alloc: Global, words: &[Text]) -> Result<Plan, PlanError>
+    ensures ok { IfOk result (λ plan. checkpoint_plan_of words.now ≡ Some plan) }
+    ensures within { IfOk result IsWithin }
+    ensures usage { IsErrOf result PlanError.Usage → checkpoint_plan_of words.now ≡ None }
+{
+    plan_for(Call::Copying, alloc, words)
 }
 
 /// The plan of a list of words for a call.
@@ -91,6 +103,7 @@ fn mode_of(name: &str) -> Option<Mode>
         "serve" => Some(Mode::Serve),
         "workload" => Some(Mode::Workload),
         "alerts" => Some(Mode::Alerts),
+        "checkpoint" => Some(Mode::Checkpoint),
         _ => None,
     }
 }
@@ -101,9 +114,11 @@ fn is_mode_of(call: Call, mode: Mode) -> bool
 {
     match (call, mode) {
         (Call::Run, Mode::Feed | Mode::Serve | Mode::Workload) => true,
-        (Call::Run, Mode::Alerts) => false,
-        (Call::Alerting, Mode::Feed | Mode::Serve | Mode::Workload) => false,
+        (Call::Run, Mode::Alerts | Mode::Checkpoint) => false,
         (Call::Alerting, Mode::Alerts) => true,
+        (Call::Alerting, Mode::Feed | Mode::Serve | Mode::Workload | Mode::Checkpoint) => false,
+        (Call::Copying, Mode::Checkpoint) => true,
+        (Call::Copying, Mode::Feed | Mode::Serve | Mode::Workload | Mode::Alerts) => false,
     }
 }
 
@@ -128,6 +143,9 @@ fn has_needed(mode: Mode, matches: &ArgMatches) -> bool
             matches.get_str("progress").is_some()
                 && matches.get_str("command").is_some()
                 && matches.get_str("outbox").unwrap_or("-") != "-"
+        }
+        Mode::Checkpoint => {
+            matches.get_str("journal").is_some() && matches.get_str("into").is_some()
         }
     }
 }
@@ -249,7 +267,7 @@ fn plan_with(
     let (config, script) = texts_in(alloc, matches, "config", "script")?;
     let (listen, journal) = texts_in(alloc, matches, "listen", "journal")?;
     let (progress, command) = texts_in(alloc, matches, "progress", "command")?;
-    let media = text_in(alloc, matches, "media")?;
+    let (media, into) = texts_in(alloc, matches, "media", "into")?;
     Ok(Plan {
         mode,
         config,
@@ -266,6 +284,7 @@ fn plan_with(
         command,
         attempts: numbers.attempts,
         media,
+        into,
         sessions: numbers.sessions,
     })
 }

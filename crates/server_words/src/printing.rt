@@ -1,7 +1,7 @@
 //! The line that a run prints.
 
 ghost use Rattle.std.specs.Prelude.{◌≡◌, ◌++◌, OnOk, IfOk, codes};
-ghost use Rattle.server_words.specs.Printed.{printed_text, alerts_text, ok_text, refused_text, reason_text, cause_text, count_text, path_text, first_counts, last_counts};
+ghost use Rattle.server_words.specs.Printed.{printed_text, alerts_text, copy_text, ok_text, refused_text, reason_text, cause_text, count_text, path_text, first_counts, last_counts};
 
 use crate::status::{Counts, Status};
 use std::alloc::Global;
@@ -139,6 +139,7 @@ pub fn printed(alloc: Global, status: &Status, counts: &Counts) -> Result<Text, 
         ),
         Status::SourceFault => Text::of(alloc, "status: SourceFault\n"),
         Status::NotOurs => Text::of(alloc, "status: NotOurs\n"),
+        Status::Unfinished => Text::of(alloc, "status: Unfinished\n"),
         Status::Damaged { at } => count_line(alloc, "status: Damaged; at: ", *at),
         Status::OutboxAhead { held, lines } => two_counts_line(
             alloc,
@@ -146,6 +147,13 @@ pub fn printed(alloc: Global, status: &Status, counts: &Counts) -> Result<Text, 
             *held,
             "; lines: ",
             *lines,
+        ),
+        Status::OutboxBehind { held, base } => two_counts_line(
+            alloc,
+            "status: OutboxBehind; held: ",
+            *held,
+            "; base: ",
+            *base,
         ),
         Status::OutboxDiffers { at } => count_line(alloc, "status: OutboxDiffers; at: ", *at),
         Status::DiskFault => Text::of(alloc, "status: DiskFault\n"),
@@ -171,7 +179,17 @@ pub fn printed(alloc: Global, status: &Status, counts: &Counts) -> Result<Text, 
         ),
         Status::LinesTooLong => Text::of(alloc, "status: LinesTooLong\n"),
         Status::MediaRefused { path } => path_line(alloc, "status: MediaRefused; path: ", path),
+        Status::NotEmpty { bytes } => count_line(alloc, "status: NotEmpty; bytes: ", *bytes),
+        Status::NoEntries => Text::of(alloc, "status: NoEntries\n"),
     }
+}
+
+/// The line of a journal that was copied: the number of its last entry, and how many bytes all its lines have. Any other
+/// status of a copy has the line that [`printed`] gives.
+pub fn printed_copy(alloc: Global, number: u64, lines: u64) -> Result<Text, OutOfMemory>
+    ensures { IfOk result (λ line. line ≡ copy_text number lines) }
+{
+    two_counts_line(alloc, "status: Ok; number: ", number, "; lines: ", lines)
 }
 
 fn put_marks(line: &mut Text, messages: u64, done: u64, failed: u64) -> Result<(), OutOfMemory>

@@ -33,6 +33,8 @@ pub enum Status {
     },
     /// The journal's file is no journal.
     NotOurs,
+    /// The journal's file is a copy that was never finished.
+    Unfinished,
     /// The journal is damaged, or its entries don't fit the configurations that it holds.
     Damaged {
         /// The place in the journal's bytes, counted from 0.
@@ -45,12 +47,19 @@ pub enum Status {
         /// How many bytes the lines have.
         lines: u64,
     },
+    /// The outbox holds fewer bytes than stood in it when the state was copied with which the journal begins.
+    OutboxBehind {
+        /// How many bytes the outbox holds.
+        held: u64,
+        /// How many bytes of lines belong to that state.
+        base: u64,
+    },
     /// The outbox holds a byte that differs from the lines of the kept entries.
     OutboxDiffers {
         /// The place of the first one, counted from 0.
         at: u64,
     },
-    /// The journal's disk failed.
+    /// The journal's disk failed, or that of its copy.
     DiskFault,
     /// The wire failed.
     WireFault,
@@ -58,9 +67,9 @@ pub enum Status {
     OutboxFault,
     /// The line about a run that ended well couldn't be printed.
     PrintFault,
-    /// The next entries would have made the journal larger than is allowed.
+    /// The next entries would have made the journal larger than is allowed, or a copy of it would have been.
     Full {
-        /// How many entries it would have had.
+        /// How many entries it would have had; a copy has none.
         entries: u64,
         /// How many bytes it would have had.
         bytes: u64,
@@ -86,6 +95,13 @@ pub enum Status {
         /// A JSON pointer (RFC 6901) to the first member at fault; empty where the document isn't JSON or is too long.
         path: Text,
     },
+    /// The file that a journal was to be copied into holds something.
+    NotEmpty {
+        /// How many bytes it holds.
+        bytes: u64,
+    },
+    /// The journal that was to be copied holds no entry, and no state.
+    NoEntries,
     /// No memory was to be had.
     OutOfMemory,
 }
@@ -111,6 +127,10 @@ impl Status {
             Status::Full { .. } => 14,
             Status::TurnLimit => 15,
             Status::OutOfMemory => 16,
+            Status::OutboxBehind { .. } => 18,
+            Status::Unfinished => 19,
+            Status::NotEmpty { .. } => 20,
+            Status::NoEntries => 21,
             Status::BadLine { .. } => 22,
             Status::MarksAhead { .. } => 23,
             Status::LinesTooLong => 24,

@@ -14,15 +14,19 @@ pub enum Mode {
     Workload,
     /// It runs a script for each message of an outbox.
     Alerts,
+    /// It copies a journal into a new file, as a state without entries.
+    Checkpoint,
 }
 
-/// Which call takes the words: the server's run, or that of alerts. Each has modes of its own.
+/// Which call takes the words: the server's run, that of alerts, or that of a copy. Each has modes of its own.
 #[derive(Clone, Copy, Debug, PartialEq, Eq)]
 pub enum Call {
     /// The server's run: Feed, Serve and Workload.
     Run,
     /// That of alerts: Alerts.
     Alerting,
+    /// That of a copy: Checkpoint.
+    Copying,
 }
 
 /// What the words of the command line ask for. Where an option isn't named it has its default.
@@ -36,7 +40,8 @@ pub struct Plan {
     pub script: Option<Text>,
     /// The address and port to listen at. Serve has one.
     pub listen: Option<Text>,
-    /// The path of the journal. Without one the journal is in memory, and is gone with the run.
+    /// The path of the journal. Without one the journal is in memory, and is gone with the run. Checkpoint has one, which
+    /// it copies.
     pub journal: Option<Text>,
     /// The path of the outbox, or `-` for standard output, which is its default.
     pub outbox: Text,
@@ -58,6 +63,8 @@ pub struct Plan {
     pub attempts: u32,
     /// The path of the document of media, which says how the messages of each recipient are tried.
     pub media: Option<Text>,
+    /// The path of the file that a journal is copied into. Checkpoint has one.
+    pub into: Option<Text>,
     /// How many alert sessions work at once: 1 to 16; 1 is the default.
     pub sessions: u32,
 }
@@ -66,7 +73,7 @@ pub struct Plan {
 #[derive(Clone, Copy, Debug, PartialEq, Eq, Error)]
 pub enum PlanError {
     /// The words aren't those of the command.
-    #[error("usage: --mode feed --config PATH --script PATH, --mode serve --config PATH --listen ADDRESS:PORT, --mode workload, or --mode alerts --outbox PATH --progress PATH --command PROGRAM")]
+    #[error("usage: --mode feed --config PATH --script PATH, --mode serve --config PATH --listen ADDRESS:PORT, --mode workload, --mode alerts --outbox PATH --progress PATH --command PROGRAM, or --mode checkpoint --journal PATH --into PATH")]
     Usage,
     /// No memory was to be had.
     #[error("out of memory")]

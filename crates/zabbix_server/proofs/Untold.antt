@@ -4,17 +4,19 @@ use Rattle.std.specs.Prelude.{IfSome}
 use Rattle.std.proofs.lemmas.List.{length-map}
 use Rattle.outside.specs.Spawning.{SpawnerTells}
 use Rattle.server_jobs.specs.Sessions.{WorkTogetherIfAny}
+use Rattle.zbx_types.specs.declared.base.Base.{Base}
 use Rattle.zbx_types.specs.declared.entries.Numbered.{Numbered}
 use Rattle.outside.specs.Disk.{DiskTells, LeavesOnly}
 use Rattle.outside.specs.Tells.{SinkTells}
 use Rattle.intake_front.specs.Fronted.{Keeps, IsKept}
 use Rattle.intake_front.specs.declared.answer.Stop.{Stop}
+use Rattle.intake_journal.specs.Kept.{base_in}
 use Rattle.intake_journal.specs.Settled.{KeepsAsOneOf}
 use Rattle.server_words.specs.declared.status.Status.{Status}
 use Rattle.server_run.specs.Ran.{IsRun}
-use Rattle.server_run.specs.Runs.{Objects, Followed}
+use Rattle.server_run.specs.Runs.{Objects, EntersBy, Followed}
 use Rattle.server_words.specs.declared.status.Counts.{Counts}
-use Rattle.journal_opening.specs.Journals.{Journals}
+use Rattle.journal_opening.specs.Journals.{KeepsSome, Journals}
 use Rattle.outside.specs.Causes.{Rose}
 use Rattle.alert_marks.specs.Marks.{marks_in, EachKeeps}
 use Rattle.alert_media.specs.declared.media.Media.{Media}
@@ -36,19 +38,24 @@ nothing_left : (old new : DiskTells) (o : Option (List ℕ)) (P : List ℕ → T
 nothing_left old new None P = tt
 nothing_left old new (Some b) P = record { later = omega arith; each = λ c none. absurd none; before = λ t c le none. absurd none }
 
-kept_too : (disk : DiskTells) (entries : List Numbered) → IsKept disk entries → IsKept (untold disk) entries
-kept_too disk entries = by disk.bytes
+-- the same where what it might leave hangs on what its file held
+nothing_left_of : (old new : DiskTells) (o : Option (List ℕ)) (P : List ℕ → List ℕ → Type 0) → IfSome o (λ b. LeavesOnly (untold old) (untold new) (P b))
+nothing_left_of old new None P = tt
+nothing_left_of old new (Some b) P = record { later = omega arith; each = λ c none. absurd none; before = λ t c le none. absurd none }
+
+kept_too : (disk : DiskTells) (base : Base) (entries : List Numbered) → IsKept disk base entries → IsKept (untold disk) base entries
+kept_too disk base entries = by disk.bytes
   where
-    by : (o : Option (List ℕ)) → IfSome o (λ b. Keeps entries b × ((c : List ℕ) → disk.images c → Keeps entries c)) → IfSome o (λ b. Keeps entries b × ((c : List ℕ) → ⊥ → Keeps entries c))
+    by : (o : Option (List ℕ)) → IfSome o (λ b. Keeps base entries b × ((c : List ℕ) → disk.images c → Keeps base entries c)) → IfSome o (λ b. Keeps base entries b × ((c : List ℕ) → ⊥ → Keeps base entries c))
     by None k = tt
     by (Some b) k = (k.0, λ c none. absurd none)
 
-journals_too : (old new : DiskTells) (among : List Numbered → Type 0) (reason : Option Stop) (entries : List Numbered) → Journals (KeepsAsOneOf old) old new among reason entries
-    → Journals (KeepsAsOneOf (untold old)) (untold old) (untold new) among reason entries
-journals_too old new among reason entries j = record {
+journals_too : (old new : DiskTells) (base : Base) (among : List Numbered → Type 0) (reason : Option Stop) (entries : List Numbered) → Journals (KeepsAsOneOf old) old new base among reason entries
+    → Journals (KeepsAsOneOf (untold old)) (untold old) (untold new) base among reason entries
+journals_too old new base among reason entries j = record {
   left = nothing_left old new old.bytes _;
   fault = j.fault;
-  kept = λ other. kept_too new entries (j.kept other);
+  kept = λ other. kept_too new base entries (j.kept other);
   later = j.later;
   told = j.told;
 }
@@ -59,8 +66,8 @@ followed_too words before after s entries IsTold f = record {
   plan = f.plan;
   conf = f.conf;
   configured = f.configured;
-  groups = f.groups;
   found = f.found;
+  finds = f.finds;
   accepted = f.accepted;
   room = f.room;
   mendable = f.mendable;
@@ -80,7 +87,7 @@ followed_too words before after s entries IsTold f = record {
     ends = f.finished.ends;
     refused_is = f.finished.refused_is;
     shows = f.finished.shows;
-    journaled = journals_too before.disk after.disk _ _ entries f.finished.journaled;
+    journaled = journals_too before.disk after.disk f.found.base _ _ entries f.finished.journaled;
   };
   lines = f.lines;
   counts = f.counts;
@@ -107,14 +114,14 @@ run_too words before after line line' began entries s r = record {
   not_begun = r.not_begun;
   has_found = r.has_found;
   has = r.has;
-  stopped = λ n. nothing_left before.disk after.disk before.disk.bytes _;
+  stopped = λ n. nothing_left_of before.disk after.disk before.disk.bytes (λ b c. KeepsAsOneOf (untold before.disk) c ⊎ KeepsSome (base_in b) (EntersBy words before.source before.disk.bytes s) c);
   begun = r.begun;
   followed = λ y. followed_too words before after s entries _ (r.followed y);
   printed = r.printed;
   keeps = r.keeps;
   told = r.told;
-  complete = λ plan text conf file groups all a b d e f g h i j k l m none patterns.
-      r.complete plan text conf file groups all a b d e f g h i j k l m (record { source = none.source; wire = none.wire; disk = none.disk; outbox = none.outbox; printer = none.printer }) patterns;
+  complete = λ plan text conf file found all a b d e f g h i j k l m none patterns.
+      r.complete plan text conf file found all a b d e f g h i j k l m (record { source = none.source; wire = none.wire; disk = none.disk; outbox = none.outbox; printer = none.printer }) patterns;
 }
 
 -- ---- alerts

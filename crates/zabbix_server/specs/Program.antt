@@ -8,11 +8,12 @@ use Rattle.alert_queue.specs.declared.types.NoteMark.{NoteMark}
 use Rattle.outside.specs.Disk.{DiskTells}
 use Rattle.outside.specs.Spawning.{SpawnerTells}
 use Rattle.outside.specs.Tells.{SinkTells, WireTells}
+use Rattle.journal_copy.specs.Copies.{Disks, IsCopy}
 use Rattle.server_jobs.specs.Alerts.{Around, ComesTo}
 use Rattle.server_jobs.specs.Reports.{Prints}
 use Rattle.server_jobs.specs.Sessions.{WorkTogetherIfAny}
 use Rattle.server_jobs.specs.Working.{WorksIfAny}
-use Rattle.server_words.specs.Words.{alerts_plan_of}
+use Rattle.server_words.specs.Words.{alerts_plan_of, checkpoint_plan_of}
 use Rattle.server_words.specs.declared.words.Plan.{Plan}
 use Rattle.server_words.specs.declared.status.Status.{Status}
 use Rattle.server_words.specs.declared.status.Status.TheVariants as status
@@ -105,7 +106,37 @@ IsSessionsStatus words count s =
 abbrev pub IsAlertsStatus : List (List ℕ) → Plan → Status → Type 0
 IsAlertsStatus words plan s = ((plan.sessions ≡ 1) × IsOneStatus words s) ⊎ ((1 < plan.sessions) × IsSessionsStatus words plan.sessions s)
 
--- the status of the program over its words: that of a call for alerts where they have a plan for it, else of a run
+-- what a disk told at one moment, but for what a crash would leave of it
+pub record FileSeen : Type 0 where
+  pub file : Option (List ℕ)
+  pub faults : ℕ
+
+-- a disk that told this
+abbrev pub disk_of : FileSeen → DiskTells
+disk_of seen = without_images seen.file seen.faults
+
+-- the disks of a journal and of its copy that told these before a call and after it
+abbrev pub disks_of : FileSeen → FileSeen → FileSeen → FileSeen → Disks
+disks_of from from' into into' =
+    record { from = disk_of from; from' = disk_of from'; into = disk_of into; into' = disk_of into' }
+
+-- a status is that of a copy of a journal into a file, whose disks told this, and a printer
+abbrev pub IsCopyOf : List (List ℕ) → FileSeen → FileSeen → SinkTells → Status → Type 0
+IsCopyOf words from into line s =
+    (from' : FileSeen) × (into' : FileSeen) × (line' : SinkTells) × IsCopy words (disks_of from from' into into') line line' s
+
+-- a status is that of a copy over some objects, which the caller made itself
+abbrev pub IsCopyStatus : List (List ℕ) → Status → Type 0
+IsCopyStatus words s = (from : FileSeen) × (into : FileSeen) × (line : SinkTells) × IsCopyOf words from into line s
+
+-- the status of words that have no plan for alerts: that of a copy where they have a plan for it, else of a run
+abbrev pub IsOtherStatus : List (List ℕ) → Status → Type 0
+IsOtherStatus words s =
+    ((plan : Plan) × (checkpoint_plan_of words ≡ Some plan) × IsCopyStatus words s)
+    ⊎ ((checkpoint_plan_of words ≡ None) × IsRunStatus words s)
+
+-- the status of the program over its words: that of a call for alerts where they have a plan for it, else of a copy or of a
+-- run
 abbrev pub IsProgramStatus : List (List ℕ) → Status → Type 0
 IsProgramStatus words s =
-    ((plan : Plan) × (alerts_plan_of words ≡ Some plan) × IsAlertsStatus words plan s) ⊎ ((alerts_plan_of words ≡ None) × IsRunStatus words s)
+    ((plan : Plan) × (alerts_plan_of words ≡ Some plan) × IsAlertsStatus words plan s) ⊎ ((alerts_plan_of words ≡ None) × IsOtherStatus words s)

@@ -22,6 +22,9 @@
 //! [`SystemClock`](child_spawner::SystemClock). With `--sessions N`, where N is above 1, it is
 //! [`server_jobs::run_sessions`] with as many of both, each session in a thread of its own.
 //!
+//! With `--mode checkpoint --journal JOURNAL --into COPY` it copies the file JOURNAL into the new file COPY, as the state that
+//! its entries leave, in place of them. That is [`journal_copy::run_checkpoint`] over two files.
+//!
 //! It exits with the number of the status, 0 for Ok; `docs/FORMATS.md` has them all. Nothing goes to standard error.
 //!
 //! All that the run does is [`server_run::run_syncers`]. This crate hands it the files and standard output:
@@ -29,20 +32,21 @@
 //! [`FileDisk`](wire_mio::FileDisk) keeps one, and [`StdSink`](wire_mio::StdSink) writes to standard output.
 //!
 //! The one contract: the program exits with the number of its status, which is that of a run over its words, or of a
-//! call for alerts where they have a plan for that, and the clauses of that whole call are true of it. So it is Usage
+//! call for alerts or for a copy where they have a plan for that, and the clauses of that whole call are true of it. So it is Usage
 //! exactly where the words have no plan, unless memory was refused.
 #![tactic(auto)]
 
 mod alerting;
 mod arguments;
+mod copying;
 mod running;
 
 ghost use Rattle.std.specs.Prelude.{◌≡◌, ℕ, List, IfOk};
 ghost use Rattle.std.specs.Process.{exit_status};
 ghost use Rattle.server_words.specs.Printed.{exit_of};
-ghost use Rattle.zabbix_server.specs.Program.{status_in, IsProgramStatus};
+ghost use Rattle.zabbix_server.specs.Program.{status_in, IsOtherStatus, IsProgramStatus};
 
-use server_words::{PlanError, Status, alerts_plan};
+use server_words::{PlanError, Status, alerts_plan, checkpoint_plan};
 use std::alloc::Global;
 use std::process::ExitCode;
 use std::sync::Wait;
@@ -64,8 +68,8 @@ fn exit(ended: Result<Status, OutOfMemory>) -> ExitCode
     }
 }
 
-/// How the program ended: with the status of a run over its words, or of a call for alerts where they have a plan for
-/// that. [`OutOfMemory`] where there is no memory for its words or what they name; nothing was printed then.
+/// How the program ended: with the status of a run over its words, or of a call for alerts or for a copy where they have a
+/// plan for that. [`OutOfMemory`] where there is no memory for its words or what they name; nothing was printed then.
 fn status<R: Threads + Wait + Sync>(rt: &HostRuntime, threads: &R) -> Result<Status, OutOfMemory>
     ensures { IfOk result (λ status. (words : List (List ℕ)) × IsProgramStatus words status) }
 {
@@ -73,7 +77,8 @@ fn status<R: Threads + Wait + Sync>(rt: &HostRuntime, threads: &R) -> Result<Sta
     status_over(rt, threads, rt.alloc(), words.as_slice())
 }
 
-/// How the call that the words ask for ended: that of alerts where they have a plan for it, else the server's run.
+/// How the call that the words ask for ended: that of alerts where they have a plan for it, else that of a copy or the
+/// server's run.
 fn status_over<R: Threads + Wait + Sync>(
     rt: &HostRuntime,
     threads: &R,
@@ -84,6 +89,23 @@ fn status_over<R: Threads + Wait + Sync>(
 {
     match alerts_plan(alloc, words) {
         Ok(plan) => alerting::run(rt, threads, alloc, words, &plan),
+        Err(PlanError::Usage) => status_of_others(rt, threads, alloc, words),
+        Err(PlanError::OutOfMemory) => Err(OutOfMemory),
+    }
+}
+
+/// How a call ended whose words have no plan for alerts: that of a copy where they have a plan for it, else the server's
+/// run.
+fn status_of_others<R: Threads + Wait + Sync>(
+    rt: &HostRuntime,
+    threads: &R,
+    alloc: Global,
+    words: &[Text],
+) -> Result<Status, OutOfMemory>
+    ensures { IfOk result (IsOtherStatus words.now) }
+{
+    match checkpoint_plan(alloc, words) {
+        Ok(plan) => Ok(copying::run(rt, alloc, words, &plan)),
         Err(PlanError::Usage) => running::run(rt, threads, alloc, words),
         Err(PlanError::OutOfMemory) => Err(OutOfMemory),
     }

@@ -54,7 +54,7 @@ fn run_planned<R: Threads + Wait + Sync>(
         Mode::Feed => run_feed(rt, threads, alloc, words, plan),
         Mode::Serve => run_serve(rt, threads, alloc, words, plan),
         Mode::Workload => run_workload(rt, threads, alloc, words, plan),
-        Mode::Alerts => Ok(run_nothing(rt, threads, alloc, words)),
+        Mode::Alerts | Mode::Checkpoint => Ok(run_nothing(rt, threads, alloc, words)),
     }
 }
 

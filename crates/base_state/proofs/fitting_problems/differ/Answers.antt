@@ -1,4 +1,4 @@
-use Rattle.std.proofs.Common.{rules, tests, IfOk, subst, ◌≡◌, ◌∙◌, ◌≢◌, ◌&&◌, Bool, true, false, eqb, eqb-true, eq-eqb, ap, ap₂, sym, refl, map, ℕ}
+use Rattle.std.proofs.Common.{rules, tests, IfOk, subst, ◌≡◌, ◌∙◌, ◌≢◌, ◌&&◌, Bool, true, false, eqb, eqb-true, eq-eqb, ap, sym, refl, map, ℕ}
 use Rattle.std.specs.Bool.{Decides}
 use Rattle.std.specs.Cmp.{decided}
 use Rattle.std.specs.HashSet as bag

@@ -1,4 +1,4 @@
-use Rattle.std.proofs.Common.{◌≡◌, ◌≤◌, ap, arith}
+use Rattle.std.proofs.Common.{ap, arith}
 use Rattle.zbx_types.specs.declared.base.BaseProblem.{BaseProblem}
 use Rattle.zbx_types.specs.declared.entries.EventId.{EventId}
 use Rattle.entry_step.specs.Each.{EachPair}

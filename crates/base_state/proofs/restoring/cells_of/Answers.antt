@@ -1,4 +1,4 @@
-use Rattle.std.proofs.Common.{◌≡◌, [], length, replicate, subst}
+use Rattle.std.proofs.Common.{[], length, replicate, subst}
 use Rattle.zbx_types.specs.declared.conf.Conf.{Conf}
 use Rattle.trigger_state.specs.Stages.{Stage}
 use Rattle.base_laws.specs.Bases.{start_records}

@@ -1,4 +1,4 @@
-use Rattle.std.proofs.Common.{◌≡◌, ◌∙◌, ap}
+use Rattle.std.proofs.Common.{◌∙◌, ap}
 use Rattle.zbx_types.specs.Records.{event_of}
 use Rattle.zbx_types.specs.declared.base.BaseProblem.{BaseProblem}
 use Rattle.trigger_state.specs.Stages.{Stage}

@@ -1,5 +1,4 @@
 use Rattle.std.proofs.Common.{ap₂}
-use Rattle.zbx_types.specs.declared.base.BaseItem.{BaseItem}
 use Rattle.base_state.proofs.telling.item_of.Goals as goal
 
 pub returns : goal.returns

@@ -1,4 +1,4 @@
-use Rattle.std.proofs.Common.{◌+◌, ◌<◌, length, subst}
+use Rattle.std.proofs.Common.{◌<◌, length, subst}
 use Rattle.base_state.specs.Restoring.{PutsAt}
 use Rattle.base_state.proofs.Restored.{one_restored}
 use Rattle.base_state.proofs.values.put_all.Goals as goal

@@ -1,4 +1,4 @@
-use Rattle.std.proofs.Common.{rules, ◌≡◌, ◌≤◌, ◌<◌, ◌^◌, length, take, min, Some, None, refl, ap, ◌∙◌, subst, arith}
+use Rattle.std.proofs.Common.{rules, ◌≡◌, ◌≤◌, ◌<◌, ◌+◌, ◌^◌, ℕ, List, length, take, drop, min, Some, None, refl, ap, ◌∙◌, subst, arith}
 use Rattle.std.specs.Prelude.{IfSome}
 use Rattle.outside.specs.Others.{first_other}
 use Rattle.book_opening.proofs.Comparing.{front_uncut, front_cut, nothing_other, found_zero}
@@ -9,9 +9,12 @@ returns-in_default-clause-mended g c = λ all counted compared.
     let none : c.args.other ≡ None = search rules in
     let small : c.held-held.result < 2 ^ 64 = search rules in
     let size = c.held-held.ensures.size in
+    let some = c.if-held-before.false in
     let most = c.if-lines-held.false in
-    let enough : (g.O.Sink.tells c.args.outbox.now).held ≤ length all = omega arith in
-    front_uncut _ _ all refl refl c.held-held.ensures.told enough (subst (λ o. IfSome (g.O.Sink.tells c.args.outbox.now).bytes (λ b. o ≡ first_other 0 all b)) none compared.place)
+    let least : c.args.before ≤ (g.O.Sink.tells c.args.outbox.now).held = omega arith in
+    let enough : (g.O.Sink.tells c.args.outbox.now).held ≤ c.args.before + length all = omega arith in
+    front_uncut c.args.before _ _ all refl refl c.held-held.ensures.told least enough
+    (subst (λ o. IfSome (g.O.Sink.tells c.args.outbox.now).bytes (λ b. o ≡ first_other c.args.before all (drop c.args.before b))) none compared.place)
 
 pub returns-clause-mended : goal.returns-clause-mended
 returns-clause-mended g c = λ all counted compared.
@@ -19,9 +22,10 @@ returns-clause-mended g c = λ all counted compared.
     let cut = g.O.Sink.tells c.cut.new.self in
     let at = c.in-Some.at in
     let some : c.args.other ≡ Some at = search rules in
-    let within = subst (λ o. IfSome o (λ place. (place < outbox.held) × (place < length all))) some compared.within in
-    front_cut outbox cut all at (subst (λ o. IfSome o (λ b. cut.bytes ≡ Some (take at b))) c.differs.ensures.bytes c.in_ok-cut.ensures.bytes) (c.in_ok-cut.ensures.size ∙ ap (min at) c.differs.ensures.size)
-    within.0 within.1 (subst (λ o. IfSome outbox.bytes (λ b. o ≡ first_other 0 all b)) some compared.place)
+    let before = c.args.before in
+    let within = subst (λ o. IfSome o (λ place. (before ≤ place) × (place < outbox.held) × (place < before + length all))) some compared.within in
+    front_cut before outbox cut all at (subst (λ o. IfSome o (λ b. cut.bytes ≡ Some (take at b))) c.differs.ensures.bytes c.in_ok-cut.ensures.bytes) (c.in_ok-cut.ensures.size ∙ ap (min at) c.differs.ensures.size)
+    within.0 within.1 within.2 (subst (λ o. IfSome outbox.bytes (λ b. o ≡ first_other before all (drop before b))) some compared.place)
 
 pub returns-then-lines-held-clause-ahead : goal.returns-then-lines-held-clause-ahead
 returns-then-lines-held-clause-ahead g c = λ held count all is counted.

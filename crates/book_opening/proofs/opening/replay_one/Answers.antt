@@ -1,20 +1,20 @@
 use Rattle.std.proofs.Common.{◌++◌, ◌∷◌, ◌∙◌, sym, subst, List}
 use Rattle.zbx_types.specs.declared.entries.Rec.{Rec}
-use Rattle.entry_step.specs.Start.{nothing}
-use Rattle.entry_step.specs.Whole.{whole_replay}
 use Rattle.book_opening.specs.Opening.{IsPresent, IsRecorded}
+use Rattle.book_opening.specs.Outgoing.{log_records}
 use Rattle.book_opening.proofs.Growing.{on_ok, of_any}
 use Rattle.book_opening.proofs.opening.replay_one.Goals as goal
 
 pub returns-clause-replayed : goal.returns-clause-replayed
-returns-clause-replayed g c = on_ok c.compare.result _ _ (λ grew log later some sound epochs so_far.
+returns-clause-replayed g c = on_ok c.compare.result _ _ (λ grew log later sound epochs so_far.
     let flat = g.S.StartName.flat in
+    let base = g.S.StartName.base in
     let outbox = g.O.Sink.tells c.args.outbox.now in
-    let made = c.in_ok-records.ensures.made log later some sound epochs so_far.present in
+    let made = c.in_ok-records.ensures.made log later sound epochs so_far.present in
     record {
-      present = subst (IsPresent flat (c.args.entry.now ∷ log)) (sym c.compare.ensures.present) made.1;
-      recorded = subst (λ (rs : List Rec). IsRecorded (whole_replay flat nothing log ++ rs) outbox c.compare.new.so_far) (c.as_slice.ensures ∙ made.0)
-          (grew (whole_replay flat nothing log) (record { tally = so_far.recorded.tally; compared = so_far.recorded.compared; missing = so_far.recorded.missing }));
+      present = subst (IsPresent flat base (c.args.entry.now ∷ log)) (sym c.compare.ensures.present) made.1;
+      recorded = subst (λ (rs : List Rec). IsRecorded base.lines (log_records flat base log ++ rs) outbox c.compare.new.so_far) (c.as_slice.ensures ∙ made.0)
+          (grew base.lines (log_records flat base log) (record { tally = so_far.recorded.tally; compared = so_far.recorded.compared; missing = so_far.recorded.missing }));
     }) c.compare.ensures.lines
 
 pub returns-clause-epochs : goal.returns-clause-epochs

@@ -5,4 +5,4 @@ use Rattle.intake_front.specs.Intake.{half_minute, last_tick}
 use Rattle.intake_front.proofs.held.last_half.Given as goal
 
 abbrev pub invariant-loop-numbered : goal.invariant-loop-numbered
-invariant-loop-numbered l = l.last ≡ option_map half_minute (last_tick (log_of (take l.numbered-index l.entries)))
+invariant-loop-numbered l = l.last ≡ option_map half_minute (last_tick l.fn.before (log_of (take l.numbered-index l.entries)))

@@ -30,7 +30,7 @@ returns-in-Some-clause-offered g c =
     subst (λ (k : Conf). IsOffered d.tells journal c.commit.new.journal i c.commit.new.held (λ n. handled (limits_of journal n) k i e) (Ok c.in-Some.answer)) c.new-collection.ensures
     (⊎_elim
     (λ ready. alone_kept d.tells journal c.commit.new.journal i m c.commit.new.held b k says c.in_ok-receive.field-0 c.requires.block batch t front
-    c.pop.new.self.items c.in-Some.answer c.requires.answers (list ∙ (c.commit.ensures.done ready).0) (c.commit.ensures.done ready).1 (c.commit.ensures.done ready).2 c.commit.ensures.written)
+    c.pop.new.self.items c.in-Some.answer c.requires.answers (list ∙ (c.commit.ensures.done ready).0) (c.commit.ensures.done ready).1 (c.commit.ensures.done ready).2 c.commit.ensures.base c.commit.ensures.written)
     (λ broken. alone_failed d.tells journal c.commit.new.journal i m c.commit.new.held b k says c.in_ok-receive.field-0 c.requires.block batch t front
-    c.pop.new.self.items c.in-Some.answer c.requires.answers (list ∙ (c.commit.ensures.failed broken).0) (c.commit.ensures.failed broken).1 (c.commit.ensures.failed broken).2 (c.commit.ensures.failed broken).3 broken c.commit.ensures.written)
+    c.pop.new.self.items c.in-Some.answer c.requires.answers (list ∙ (c.commit.ensures.failed broken).0) (c.commit.ensures.failed broken).1 (c.commit.ensures.failed broken).2 (c.commit.ensures.failed broken).3 broken c.commit.ensures.base c.commit.ensures.written)
     c.commit.ensures.state)

@@ -4,4 +4,4 @@ use Rattle.intake_front.specs.Intake.{is_text, last_text}
 use Rattle.intake_front.proofs.opening.is_last_text.Given as goal
 
 abbrev pub invariant-loop-numbered : goal.invariant-loop-numbered
-invariant-loop-numbered l = l.is_last ≡ is_text l.text (last_text (log_of (take l.numbered-index l.kept)))
+invariant-loop-numbered l = l.is_last ≡ is_text l.text (last_text l.before (log_of (take l.numbered-index l.kept)))

@@ -5,4 +5,4 @@ use Rattle.journal_opening.proofs.numbering.number_group.Given as goal
 
 -- the entries so far, and those that are left with the numbers behind them
 abbrev pub invariant-loop-entry : goal.invariant-loop-entry
-invariant-loop-entry l = l.numbered ++ numbered_from (length l.numbered + 1) (into_iter_items l.entry-iterator) ≡ with_group 0 l.fn.numbered l.fn.entries
+invariant-loop-entry l = l.numbered ++ numbered_from (l.before + length l.numbered + 1) (into_iter_items l.entry-iterator) ≡ with_group l.before l.fn.numbered l.fn.entries

@@ -18,8 +18,8 @@ returns-in-Ok-None-clause-read g c =
 pub returns-in-Err-clause-why : goal.returns-in-Err-clause-why
 returns-in-Err-clause-why g c =
     let i = c.loop.invariant in
-    subst (StopsReading (g.D.Disk.tells c.args.journal.now.disk).bytes (g.D.Disk.tells c.args.journal.now.disk).faults (g.D.Disk.tells c.read_next.new.self.disk).faults) (sym c.status_of.ensures)
-    (stops _ _ i.read.groups c.loop.journal c.read_next.new.self c.in-Err.error _ _ _ i.before.same i.state i.read.found c.in-Err.ensures.next i.later (λ is. c.in-Err.ensures.fault (ap Err is)))
+    subst (StopsReading c.args.journal.now.first (g.D.Disk.tells c.args.journal.now.disk).bytes (g.D.Disk.tells c.args.journal.now.disk).faults (g.D.Disk.tells c.read_next.new.self.disk).faults) (sym c.status_of.ensures)
+    (stops c.args.journal.now.first _ _ i.read.groups c.loop.journal c.read_next.new.self c.in-Err.error _ _ _ i.before.same i.state i.read.found c.in-Err.ensures.next i.later (λ is. c.in-Err.ensures.fault (ap Err is)))
 
 pub loop-preserved : goal.loop-preserved
 loop-preserved g c =
@@ -41,5 +41,8 @@ loop-init g c = record {
   before = search rules;
   later = omega arith;
   state = c.requires.reading;
-  read = begins_reading _ c.args.journal.now c.new-numbering.result c.requires.first c.requires.none c.new-numbering.ensures;
+  read = begins_reading _ c.args.journal.now c.args.numbering c.requires.first c.requires.none c.requires.numbered;
 }
+
+pub add-requires : goal.add-requires
+add-requires g c = c.loop.invariant.read.numbered.counted

@@ -7,8 +7,8 @@ use Rattle.journal_opening.proofs.resuming.begin.Goals as goal
 pub returns-in-Ok-clause-ok : goal.returns-in-Ok-clause-ok
 returns-in-Ok-clause-ok g c = λ most old confs is t.
     let e = c.in-Ok.ensures in
-    has_begun g.D.Disk.tells c.args.ready.now.conf most old c.args.journal c.args.kept confs t c.in-Ok.front e.made (e.sound flat (flat_is c.args.ready.now.conf.text c.args.ready.now.conf is)) (λ some passes. (e.full some passes).0) e.idle e.durable e.state
-    e.later e.told e.any_moment
+    has_begun g.D.Disk.tells c.args.ready.now.conf most old c.args.journal c.args.kept confs t c.in-Ok.front e.made (λ ground stands. e.sound flat ground (flat_is c.args.ready.now.conf.text c.args.ready.now.conf is) stands) (λ some passes. (e.full some passes).0)
+    e.idle e.durable e.state e.base e.later e.told e.any_moment
 
 pub returns-in-Err-clause-err : goal.returns-in-Err-clause-err
 returns-in-Err-clause-err g c = λ most old confs outbox outbox' t.

@@ -5,7 +5,7 @@ use Rattle.trigger_state.specs.Stages.{Stage, first_stage}
 use Rattle.intake_front.specs.Intake.{start}
 use Rattle.journal_opening.specs.Epochs.{earlier}
 use Rattle.journal_opening.specs.Resumed.{TurnedAway, HasBegun}
-use Rattle.journal_opening.proofs.Beginning.{has_journaled, turned_unready}
+use Rattle.journal_opening.proofs.Beginning.{has_counted, has_journaled, turned_unready}
 use Rattle.journal_opening.proofs.KeptTexts.{some_last, epochs_begun}
 use Rattle.journal_opening.proofs.resuming.resume.Goals as goal
 
@@ -19,7 +19,12 @@ begin-requires-clause-read g c = c.in-Ok.ensures.ok.has.ready
 pub begin-requires-clause-journaled : goal.begin-requires-clause-journaled
 begin-requires-clause-journaled g c =
     let t = c.in-Ok.ensures.ok in
-    has_journaled g.D.Disk.tells c.in-Ok.taken.0 t.groups c.in-Ok.taken.1 t.kept_are t.has
+    has_journaled g.D.Disk.tells c.in-Ok.taken.0 t.found t.has c.in-Ok.taken.1 t.kept_are
+
+pub begin-requires-clause-counted : goal.begin-requires-clause-counted
+begin-requires-clause-counted g c =
+    let t = c.in-Ok.ensures.ok in
+    has_counted g.D.Disk.tells c.in-Ok.taken.0 t.found t.has t.accepted.0
 
 pub returns-in-Err-epochs_of-clause-err : goal.returns-in-Err-epochs_of-clause-err
 returns-in-Err-epochs_of-clause-err g c = λ outbox outbox'.
@@ -32,8 +37,8 @@ returns-in-Ok-begin-clause-epochs g c =
     let made : c.in-Ok-epochs_of.epochs.items ≡ map first_stage (earlier c.args.ready.conf.text taken.2.items) ++ first_stage c.args.ready.conf ∷ [] =
     c.in-Ok-epochs_of.ensures.ok ∙ ap (λ (s : Stage). map first_stage (earlier c.args.ready.conf.text taken.2.items) ++ s ∷ []) c.requires.first in
     let last = c.last_of.ensures (map first_stage (earlier c.args.ready.conf.text taken.2.items)) c.args.ready (c.as_slice.ensures.value ∙ c.in-Ok-epochs_of.ensures.ok) in
-    epochs_begun g.D.Disk.tells c.args.ready.conf c.args.max_entries c.args.disk taken.0 taken.1 taken.2.items c.in-Ok.ensures.ok c.in-Ok-begin.front.intake c.in-Ok-epochs_of.epochs.items c.requires.conf
-    (c.in-Ok-begin.ensures.made ∙ ap (λ (s : Stage). start s.conf.text taken.1 (taken.0.at + 1)) last) made
+    epochs_begun g.D.Disk.tells c.args.ready.conf c.args.max_entries c.args.disk taken.0 taken.1 taken.2.items c.in-Ok.ensures.ok c.in-Ok-begin.front.intake c.in-Ok-begin.front.journal.base c.in-Ok-epochs_of.epochs.items c.requires.conf
+    (c.in-Ok-begin.ensures.made ∙ ap (λ (s : Stage). start taken.0.base s.conf.text taken.1 (taken.0.at + 1)) last) c.in-Ok-begin.ensures.base made
 
 pub returns-in-Ok-begin-clause-ok : goal.returns-in-Ok-begin-clause-ok
 returns-in-Ok-begin-clause-ok g c =

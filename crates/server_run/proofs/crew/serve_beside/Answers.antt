@@ -57,6 +57,6 @@ join_mut-worked-requires-send-F g c = λ κs within.
 
 pub returns : goal.returns
 returns g c =
-    let h : HasServed g.D.Disk.tells g.S.StartName.flat g.S.StartName.start.stage.conf g.S.StartName.kept c.args.front.now c.front-1.given.0
+    let h : HasServed g.D.Disk.tells g.S.StartName.flat g.S.StartName.base g.S.StartName.start.stage.conf g.S.StartName.kept c.args.front.now c.front-1.given.0
     (g.W.Wire.tells c.args.wire.now) (g.W.Wire.tells c.wire-1.given.0) (g.T.Taker.head c.taker-1.given.0) c.args.turns c.join_mut-worked.result.1 = search of_calls parts 8 in
-    joined g.D.Disk.tells g.S.StartName.flat g.S.StartName.start.stage.conf g.S.StartName.kept _ _ _ _ _ _ _ _ c.joined.ensures h
+    joined g.D.Disk.tells g.S.StartName.base g.S.StartName.flat g.S.StartName.start.stage.conf g.S.StartName.kept _ _ _ _ _ _ _ _ c.joined.ensures h

@@ -18,4 +18,5 @@ returns c =
     let progress = c.in_ok-arg-6.ensures.shape c.option-5.ensures.local ∙ ap₂ with_rule journal c.option-5.ensures.rule in
     let command = c.in_ok-arg-7.ensures.shape c.option-6.ensures.local ∙ ap₂ with_rule progress c.option-6.ensures.rule in
     let media = c.in_ok-arg-8.ensures.shape c.option-7.ensures.local ∙ ap₂ with_rule command c.option-7.ensures.rule in
-    IfOk-weaker c.arg-9.result _ _ (λ made adds. adds.shape c.with_default.ensures.local ∙ ap₂ with_rule media c.with_default.ensures.rule) c.arg-9.ensures
+    let into = c.in_ok-arg-9.ensures.shape c.option-8.ensures.local ∙ ap₂ with_rule media c.option-8.ensures.rule in
+    IfOk-weaker c.arg-10.result _ _ (λ made adds. adds.shape c.with_default.ensures.local ∙ ap₂ with_rule into c.with_default.ensures.rule) c.arg-10.ensures

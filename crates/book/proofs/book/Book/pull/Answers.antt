@@ -6,7 +6,7 @@ use Rattle.book.proofs.book.Book.pull.Goals as goal
 
 pub invariant_of-self-2 : goal.invariant_of-self-2
 invariant_of-self-2 g c =
-    goes_on _ _ _ _ _ _ _ _ _ _ _ _ _ c.self.invariant c.pull.ensures.received
+    goes_on _ _ _ _ _ _ _ _ _ _ _ c.self.invariant c.pull.ensures.received
     (pulled_front _ _ _ _ c.self.inside.progress.entries c.pull.new.self.entries _
     (c.self.invariant.received_is ∙ sym c.look-count.ensures.same.0) c.pull.ensures.received c.pull.ensures.fifo c.in_ok-pull.ensures.count)
     (keep_pulled c.self.inside.progress.gate c.pull.new.self.gate _ c.in_ok-pull.ensures.gate)

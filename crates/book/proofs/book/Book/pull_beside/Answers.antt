@@ -10,7 +10,7 @@ returns-in_err-pull-clause-within g c =
 
 pub invariant_of-self-2 : goal.invariant_of-self-2
 invariant_of-self-2 g c =
-    goes_on _ _ _ _ _ _ _ _ _ _ _ _ _ c.self.invariant
+    goes_on _ _ _ _ _ _ _ _ _ _ _ c.self.invariant
     (c.pull.ensures.received ∙ sym c.look_beside.ensures.end.0)
     (pulled_front _ _ _ _ c.self.inside.progress.entries c.pull.new.self.entries _
     (c.self.invariant.received_is ∙ sym c.look_beside-count.ensures.end.0) c.pull.ensures.received c.pull.ensures.fifo c.in_ok-pull.ensures.count)

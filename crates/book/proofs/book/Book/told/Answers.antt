@@ -6,5 +6,5 @@ use Rattle.book.proofs.book.Book.told.Goals as goal
 
 pub returns : goal.returns
 returns g c =
-    subst (λ (b : BookView). b.unwritten ≡ [] → HasAll g.S.StartName.outbox b.sink (lines_upto g.S.StartName.flat g.S.StartName.kept b.entries b.frontier)) c.self.view_is
-    (front_all g.S.StartName.outbox _ _ c.self.inside.unwritten c.self.invariant.front c.self.invariant.left) c.requires
+    subst (λ (b : BookView). b.unwritten ≡ [] → HasAll g.S.StartName.base.lines g.S.StartName.outbox b.sink (lines_upto g.S.StartName.flat g.S.StartName.base g.S.StartName.kept b.entries b.frontier)) c.self.view_is
+    (front_all g.S.StartName.base.lines g.S.StartName.outbox _ _ c.self.inside.unwritten c.self.invariant.front c.self.invariant.left) c.requires

@@ -1,6 +1,7 @@
 use Rattle.std.proofs.Common.{◌≡◌, ◌++◌, ◌∷◌, [], ℕ, List, None, ◌∙◌, ap, subst}
 use Rattle.std.specs.Prelude.{OnOk}
 use Rattle.zbx_types.specs.declared.conf.Conf.{Conf}
+use Rattle.entry_step.specs.Start.{Start}
 use Rattle.outside.specs.declared.event.WireEvent.{WireEvent}
 use Rattle.intake_front.specs.Intake.{Intake, IsSound}
 use Rattle.intake_front.specs.Fronted.{limits_of}
@@ -34,7 +35,7 @@ pub returns-clause-keeps : goal.returns-clause-keeps
 returns-clause-keeps g c =
     let f = c.self.inside.inside in
     let conf = c.args.collection.now in
-    subst (λ v. OnOk c.receive.result ((flat : List ℕ → Conf) → IsSound flat conf v.intake → IsSound flat conf c.receive.new.held)) c.self.view_is
+    subst (λ v. OnOk c.receive.result ((flat : List ℕ → Conf) (ground : Start) → IsSound flat ground conf v.intake → IsSound flat ground conf c.receive.new.held)) c.self.view_is
     (did_keep f.journal conf f.held c.receive.new.held f.batch c.receive.new.batch c.args.event.now c.receive.result c.receive.ensures.taken)
 
 pub returns-clause-kept : goal.returns-clause-kept

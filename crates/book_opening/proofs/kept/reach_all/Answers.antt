@@ -1,0 +1,49 @@
+use Rattle.std.proofs.Common.{◌≡◌, ◌<◌, ◌≤◌, ◌+◌, ◌∷◌, ◌++◌, ◌∙◌, List, length, take, drop, sym, ap, subst, arith}
+use Rattle.trigger_state.specs.Stages.{Stage}
+use Rattle.zbx_types.specs.declared.entries.Numbered.{Numbered}
+use Rattle.entry_step.specs.Log.{log_of}
+use Rattle.book_opening.specs.Opening.{IsSound, IsReached, epochs_of}
+use Rattle.book_opening.proofs.Replaying.{next_log, next_left, next_sound, taken_all, epochs_some}
+use Rattle.book_opening.proofs.kept.reach_all.Goals as goal
+
+pub reach_one-requires : goal.reach_one-requires
+reach_one-requires g c = record {
+  some = λ yes.
+      let flat = g.S.StartName.flat in
+      let i = c.loop-entry.entry-index in
+      let kept = c.args.kept.now in
+      let e = c.entry-item.result in
+      let rest : drop i kept ≡ e ∷ drop (i + 1) kept = next_left kept i e c.loop-entry-test.true ∙ ap (λ (x : Numbered). x ∷ drop (i + 1) kept) (sym c.entry-item.is) in
+      let some = epochs_some flat e (drop (i + 1) kept) yes in
+      let long = ap (λ (es : List Stage). length es) (c.loop-entry.invariant.epochs ∙ ap (epochs_of flat) rest) in
+      let counted = c.loop-entry.invariant.counted in
+      omega arith;
+}
+
+pub loop-entry-preserved : goal.loop-entry-preserved
+loop-entry-preserved g c =
+    let flat = g.S.StartName.flat in
+    let base = g.S.StartName.base in
+    let i = c.loop-entry.entry-index in
+    let kept = c.args.kept.now in
+    let below : i < length kept = c.loop-entry-test.true in
+    let e = c.entry-item.result in
+    let next = next_log kept i e below ∙ ap (λ (x : Numbered). x ∷ log_of (take i kept)) (sym c.entry-item.is) in
+    let rest : drop i kept ≡ e ∷ drop (i + 1) kept = next_left kept i e below ∙ ap (λ (x : Numbered). x ∷ drop (i + 1) kept) (sym c.entry-item.is) in
+    let epochs = c.loop-entry.invariant.epochs ∙ ap (epochs_of flat) rest in record {
+      reached = λ log sound first.
+          let before = log_of (take i kept) ++ log in
+          subst (λ (es : List Numbered). IsReached flat base (es ++ log) c.reach_one.new.so_far) (sym next)
+          (c.in_ok-reach_one.ensures.reached before (drop (i + 1) kept)
+          (subst (λ (x : Numbered). IsSound flat base (x ∷ before)) (sym c.entry-item.is) (next_sound flat base kept log i e below sound)) epochs
+          (c.loop-entry.invariant.reached log sound first));
+      epochs = c.in_ok-reach_one.ensures.epochs (drop (i + 1) kept) epochs;
+      counted = c.in_ok-reach_one.ensures.len c.loop-entry.invariant.counted;
+    }
+
+pub returns : goal.returns
+returns g c = λ log sound first.
+    let past = c.loop-entry-test.false in
+    let all : length c.args.kept.now ≤ c.loop-entry.entry-index = omega arith in
+    subst (λ (es : List Numbered). IsReached g.S.StartName.flat g.S.StartName.base (log_of es ++ log) c.loop-entry.so_far) (taken_all c.args.kept.now c.loop-entry.entry-index all)
+    (c.loop-entry.invariant.reached log sound first)

@@ -1,0 +1,4 @@
+pub mod State
+pub mod Places
+pub mod Copies
+pub mod Laws
