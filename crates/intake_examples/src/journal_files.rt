@@ -126,7 +126,8 @@ fn cases() -> &'static str {
     file | Ok((0, 0)) | ZTSJ%00\n\
     file | Ok((0, 0)) | ZTSJRN01%01\n\
     file | Err(NotOurs) | %00%00%00%00%00%00%00%00%00%00\n\
-    file | Err(NotOurs) | ZTSJRN02%00%00\n\
+    file | Err(NotOurs) | ZTSJRN03%00%00\n\
+    file | Err(Unfinished) | ZTSJRN02%00%00\n\
     file | Ok((0, 0)) | ZTSJRN01%00%00\n\
     file | Ok((0, 0)) | ZTSJRN01%02%00\n\
     file | Ok((2, 3)) | ZTSJRN01%01%0f%00%00%00%01%00%00%00\
