@@ -26,7 +26,7 @@ use Rattle.base_laws.specs.FitsBase.{FitsBase}
 use Rattle.base_laws.specs.Restoring.{AreHoused}
 use Rattle.base_laws.proofs.Restored.{restored_holds}
 use Rattle.entry_step.specs.Changes.{Absorbed}
-use Rattle.entry_step.specs.Kept.{roomless}
+use Rattle.preprocess.specs.Draft.{roomless}
 use Rattle.entry_step.specs.Represents.{CellsView, Holds}
 use Rattle.entry_step.proofs.Phases.{none_same}
 use Rattle.base_state.specs.Restoring.{PutsItem, HaveOrdered, PutsAt, AreRestored}

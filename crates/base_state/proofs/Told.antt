@@ -24,7 +24,8 @@ use Rattle.entry_laws.proofs.InForce.{holds_behind_all}
 use Rattle.entry_step.specs.Cells.{Cells, ItemKey, TriggerKey, look, AreCellsOf}
 use Rattle.entry_step.specs.Due.{by_making}
 use Rattle.entry_step.specs.History.{marks_of}
-use Rattle.entry_step.specs.Kept.{Keeps, roomless}
+use Rattle.preprocess.specs.Draft.{roomless}
+use Rattle.entry_step.specs.Kept.{Keeps}
 use Rattle.entry_step.specs.Order.{by_event}
 use Rattle.entry_step.specs.Represents.{CellsView, problems_at, Holds}
 use Rattle.entry_step.specs.Start.{Start}

@@ -5,7 +5,10 @@ ghost use Rattle.prep_steps.specs.declared.memory.StepMemory.{StepMemory};
 ghost use Rattle.zbx_types.specs.Records.{event_of};
 ghost use Rattle.zbx_types.specs.declared.base.BaseProblem.{BaseProblem};
 ghost use Rattle.event_text.specs.Titles.{held_text};
+ghost use Rattle.value_cache.specs.Cells.{IsIn};
+ghost use Rattle.value_cache.specs.Tokens.{AreOf, values_of};
 ghost use Rattle.preprocess.specs.Chains.{listed};
+ghost use Rattle.preprocess.specs.Draft.{AreIn};
 ghost use Rattle.base_laws.specs.Bases.{told_value, told_step, told_ran, told_problem};
 ghost use Rattle.entry_step.specs.Order.{by_event};
 ghost use Rattle.entry_step.specs.Represents.{problems_at};
@@ -17,7 +20,7 @@ use entry_step::Cells;
 use prep_steps::StepMemory;
 use std::alloc::Global;
 use trigger_state::{InForce, Open};
-use value_cache::ItemCell;
+use value_cache::{Cache, ItemCell, Token};
 use zbx_types::{
     Base, BaseItem, BaseProblem, BaseStep, BaseValue, Held, Many, Moment, OutOfMemory, Ran, Rec,
     Stored, Text, by_id, id_of,
@@ -48,13 +51,14 @@ fn value_of(alloc: Global, stored: &Stored) -> Result<BaseValue, OutOfMemory>
     })
 }
 
-/// Values that an item keeps.
-fn values_of(alloc: Global, values: &[Stored]) -> Result<Many<BaseValue>, OutOfMemory>
-    ensures { IfOk result (λ made. made ≡ map told_value values.now) }
+/// Values that an item keeps, by their tokens.
+fn values_of(alloc: Global, cache: &Cache, tokens: &[Token]) -> Result<Many<BaseValue>, OutOfMemory>
+    requires { AreOf cache.now tokens.now }
+    ensures { IfOk result (λ made. made ≡ map told_value (values_of tokens.now)) }
 {
     let mut made = Many::new(alloc);
-    for stored in values {
-        made.push(value_of(alloc, stored)?)?;
+    for token in tokens {
+        made.push(value_of(alloc, cache.value(token))?)?;
     }
     Ok(made)
 }
@@ -82,24 +86,32 @@ fn steps_of(alloc: Global, marks: &[StepMemory]) -> Result<Many<BaseStep>, OutOf
 }
 
 /// What a cell keeps at a moment, the values the oldest first.
-fn kept_values(alloc: Global, now: Moment, cell: &ItemCell) -> Result<Many<BaseValue>, OutOfMemory>
+fn kept_values(
+    alloc: Global,
+    cache: &Cache,
+    now: Moment,
+    cell: &ItemCell,
+) -> Result<Many<BaseValue>, OutOfMemory>
+    requires { IsIn cache.now cell.now }
     ensures { IfOk result (λ made. (marks : List StepMemory) → made ≡ (cell_item now cell.now marks).values) }
 {
     let kept = cell.copy(alloc)?.with_keep(cell.keep(), now);
-    values_of(alloc, kept.values())
+    values_of(alloc, cache, kept.tokens())
 }
 
 /// What a cell keeps at a moment, and what the steps of its item remember.
 fn item_of(
     alloc: Global,
+    cache: &Cache,
     now: Moment,
     cell: &ItemCell,
     marks: &[StepMemory],
 ) -> Result<BaseItem, OutOfMemory>
+    requires { IsIn cache.now cell.now }
     ensures { IfOk result (λ made. made ≡ cell_item now cell.now marks.now) }
 {
     let steps = steps_of(alloc, marks)?;
-    let values = kept_values(alloc, now, cell)?;
+    let values = kept_values(alloc, cache, now, cell)?;
     Ok(BaseItem { values, steps })
 }
 
@@ -116,16 +128,18 @@ fn marks_at(memories: &[Many<StepMemory>], id: u32) -> &[StepMemory]
 /// What is kept of each item at a moment.
 fn items_of(
     alloc: Global,
+    cache: &Cache,
     now: Moment,
     cells: &[ItemCell],
     memories: &[Many<StepMemory>],
 ) -> Result<Many<BaseItem>, OutOfMemory>
+    requires { AreIn cache.now cells.now }
     ensures { IfOk result (λ made. made ≡ cell_items now memories.now 1 cells.now) }
 {
     let mut made = Many::new(alloc);
     for (place, cell) in cells.iter().enumerate() {
         let marks = marks_at(memories, id_of(place)?);
-        made.push(item_of(alloc, now, cell, marks)?)?;
+        made.push(item_of(alloc, cache, now, cell, marks)?)?;
     }
     Ok(made)
 }
@@ -253,7 +267,7 @@ pub fn base_of(alloc: Global, ready: &Ready, cells: &Cells, at: Place) -> Result
 {
     let problems = all_problems(alloc, ready, cells.problems())?;
     let kept = cells.items();
-    let items = items_of(alloc, at.now, kept.cells(), kept.memories())?;
+    let items = items_of(alloc, cells.cache(), at.now, kept.cells(), kept.memories())?;
     Ok(Base {
         number: at.number,
         now: at.now,

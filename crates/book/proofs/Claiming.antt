@@ -27,6 +27,7 @@ use Rattle.syncer_gate.proofs.MarkLemmas.{same_is}
 use Rattle.syncer_gate.proofs.Ended.{not_same}
 use Rattle.syncer_gate.proofs.Opened.{single_marks, AreFresh, RiseFrom, rise_above, held_rise, picked_rise, held_taken, given_marks}
 use Rattle.book.specs.Schedule.{batch_in, keeping, worked, begin_worked}
+use Rattle.value_cache.specs.Tokens.{CacheId}
 use Rattle.book.specs.Progress.{ProgressView, made_at, worked_of, IsGoing, entries_with, entry_at, AreHere, IsAmong, IsBlank, AreReady, AreOutputs, IsKept, IsWorkedIn, HasClaimed, IsSingle, IsClaim, IsOrder}
 use Rattle.book.proofs.Scheduled.{IsConsistent, stepped, batch_comes, begins}
 use Rattle.book.proofs.Going.{stands_of, going_of, gate_going}
@@ -379,7 +380,7 @@ blank_is stage held r = record {
 }
 
 -- cells before the first entry hold nothing, wherever events come from
-blank_at : (stage other : Stage) (conf : Conf) (held : CellsView) → conf ≡ other.conf → other ≡ stage → HoldsLog (first_start conf) held [] → IsBlank stage held
+blank_at : (stage other : Stage) (conf : Conf) (held : CellsView) → conf ≡ other.conf → other ≡ stage → HoldsLog (first_start conf) held [] → HoldsLog (fresh stage) held []
 unfolding AreCellsOf
 blank_at stage other conf held same is holds =
     let own : HoldsLog (first_start stage.conf) held [] = subst (λ (c : Conf). HoldsLog (first_start c) held []) (same ∙ ap (λ (k : Stage). k.conf) is) holds in
@@ -389,9 +390,9 @@ blank_at stage other conf held same is holds =
       represented = blank_is stage held (subst (λ (c : Cells). Represents (first_stage stage.conf) held c) (own.stand ∙ blank_cells stage) own.represented);
     }
 
-pub blank_made : {E : Type 0} (stage other : Stage) (conf : Conf) (r : Result CellsView E) → conf ≡ other.conf → other ≡ stage → IfOk r (λ held. HoldsLog (first_start conf) held []) → IfOk r (IsBlank stage)
-blank_made stage other conf (Ok held) same is holds = blank_at stage other conf held same is holds
-blank_made stage other conf (Err e) same is holds = tt
+pub blank_made : {E : Type 0} (stage other : Stage) (conf : Conf) (given cache : CacheId) (r : Result CellsView E) → conf ≡ other.conf → other ≡ stage → given ≡ cache → IfOk r (λ held. HoldsLog (first_start conf) held []) → IfOk r (λ held. held.cache ≡ given) → IfOk r (IsBlank stage cache)
+blank_made stage other conf given cache (Ok held) same is one holds own = (blank_at stage other conf held same is holds, own ∙ one)
+blank_made stage other conf given cache (Err e) same is one holds own = tt
 
 pub part_at : (stage other : Stage) (held : CellsView) (given es : List Numbered) (part : PartView) → other ≡ stage → given ≡ es → IsPartOf other.conf given held part → IsPartOf stage.conf es held part
 part_at stage other held given es part same is of = subst (λ xs. IsPartOf stage.conf xs held part) is (subst (λ (k : Stage). IsPartOf k.conf given held part) same of)
@@ -405,13 +406,14 @@ pub outputs_at : (stage other : Stage) (held : CellsView) (entries es given : Li
 outputs_at stage other held entries es given numbers part done lists same is also of works =
     worked_outputs stage held (entries_with numbers entries) part done lists of (subst (λ xs. WorksOut stage xs part done lists) (is ∙ also) (subst (λ k. WorksOut k es part done lists) same works))
 
-pub order_is : (before : ℕ) (stage : Stage) (held : CellsView) (entries es : List Numbered) (id : ℕ) (numbers ns : List ℕ) (part : PartView) (scratch : CellsView) → ns ≡ numbers → es ≡ entries_with ns entries → AreReady before stage held entries numbers → IsPartOf stage.conf (entries_with ns entries) held part → IsBlank stage scratch
-    → IsOrder stage (record { id = id; numbers = numbers }) es part scratch
-order_is before stage held entries es id numbers ns part scratch same is ready of free =
+pub order_is : (before : ℕ) (stage : Stage) (held : CellsView) (entries es : List Numbered) (id : ℕ) (numbers ns : List ℕ) (part : PartView) (scratch : CellsView) (cache : CacheId) → ns ≡ numbers → es ≡ entries_with ns entries → AreReady before stage held entries numbers → IsPartOf stage.conf (entries_with ns entries) held part → part.cache ≡ cache → IsBlank stage cache scratch
+    → IsOrder stage cache (record { id = id; numbers = numbers }) es part scratch
+order_is before stage held entries es id numbers ns part scratch cache same is ready of own free =
     let e : es ≡ entries_with numbers entries = is ∙ ap (λ ms. entries_with ms entries) same in
     record {
       numbers = ap (map (λ (x : Numbered). x.number)) e ∙ ready.numbered;
       workable = subst (λ xs. IsWorkable stage xs part) (sym e) (parts_work before stage held entries numbers part ready (subst (λ ms. IsPartOf stage.conf (entries_with ms entries) held part) same of));
+      cached = own;
       scratch_free = free;
     }
 

@@ -6,6 +6,7 @@ use Rattle.zbx_types.specs.declared.entries.Entry.TheVariants.{Tick}
 use Rattle.zbx_types.specs.declared.entries.Numbered.{Numbered}
 use Rattle.zbx_types.specs.declared.entries.Rec.{Rec}
 use Rattle.footprint.specs.Feet.{feet_of}
+use Rattle.value_cache.specs.Tokens.{CacheId}
 use Rattle.std.specs.List.{filter}
 use Rattle.entry_step.specs.Cells.{Cells}
 use Rattle.entry_step.specs.Represents.{CellsView, Represents, Holds as HoldsLog}
@@ -56,16 +57,18 @@ pub record OrderView : Type 0 where
   pub entries : List Numbered
   pub part : PartView
 
--- cells are those before the first entry
-abbrev pub IsBlank : Stage → CellsView → Type 0
-IsBlank stage cells = HoldsLog (fresh stage) cells []
+-- cells are those before the first entry, and their values are to stand in this cache
+abbrev pub IsBlank : Stage → CacheId → CellsView → Type 0
+IsBlank stage cache cells = HoldsLog (fresh stage) cells [] × (cells.cache ≡ cache)
 
--- an order's entries have the batch's numbers, its copies are of cells to which they come, and its scratch is free
-pub record IsOrder (stage : Stage) (batch : Batch) (entries : List Numbered) (part : PartView)
+-- an order's entries have the batch's numbers, its copies are of cells to which they come, their values stand in this
+-- cache, and its scratch is free
+pub record IsOrder (stage : Stage) (cache : CacheId) (batch : Batch) (entries : List Numbered) (part : PartView)
     (scratch : CellsView) : Type 0 where
   pub numbers : map (λ e. e.number) entries ≡ batch.numbers
   pub workable : IsWorkable stage entries part
-  pub scratch_free : IsBlank stage scratch
+  pub cached : part.cache ≡ cache
+  pub scratch_free : IsBlank stage cache scratch
 
 -- an order that was worked out, with the copies that it leaves and the records of its entries
 pub record DoneView : Type 0 where

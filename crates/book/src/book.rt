@@ -2,6 +2,7 @@
 //! lines.
 
 ghost use Rattle.std.specs.Prelude.{◌≡◌, ◌≢◌, ◌≤◌, ◌<◌, ◌+◌, ◌-◌, ◌++◌, [], ℕ, List, Some, min, true, false, length, map, drop, replicate, get_or, is_some, IfOk, IfErr, IfSome, OnOk, OnErr, IsErrOf};
+ghost use Rattle.std.specs.Arc.{arc_value};
 ghost use Rattle.std.specs.Option.{option_map};
 ghost use mathlib.Core.List.{IsPrefix};
 ghost use Rattle.outside.specs.Causes.{Rose};
@@ -37,7 +38,9 @@ use outside::Sink;
 use std::alloc::Global;
 use std::marker::Model;
 use std::mem::forget;
+use std::sync::Arc;
 use std::sync::ledger::Ledger;
+use value_cache::Cache;
 use zbx_types::{Base, Bytes, Numbered, OutOfMemory};
 
 /// The entries that came out of a ring behind those with which a run began, and how far the work on them is; and the
@@ -104,7 +107,8 @@ impl<S: StartName, N: RunName, O: Sink> Book<S, N, O> {
     /// where the base isn't empty, and behind it those of the Configs among the entries, in the same order. At each Config but
     /// the first of all configurations the run goes over to the next of them: what goes on under it is carried over, open
     /// problems that are gone are recovered, and the configuration before it is dropped. The last one comes back, with where
-    /// the problems come from that are open still: it is in force behind these entries, and all other calls take it.
+    /// the problems come from that are open still: it is in force behind these entries, and all other calls take it. The
+    /// values of the cells, and of those of all orders, stand in this cache.
     ///
     /// # Errors
     ///
@@ -116,6 +120,7 @@ impl<S: StartName, N: RunName, O: Sink> Book<S, N, O> {
         base: &Base,
         epochs: Vec<Ready>,
         kept: &[Numbered],
+        cache: Arc<Cache>,
         ring: RingEnd<S, N>,
         outbox: O,
     ) -> Result<(Book<S, N, O>, Ready), (O, BookError)>
@@ -127,6 +132,7 @@ impl<S: StartName, N: RunName, O: Sink> Book<S, N, O> {
         requires whole { IsFull (start_of S.flat S.base) (log_of S.kept)
             × FitsLog S.flat (start_of S.flat S.base) (log_of S.kept) }
         requires epochs { epochs.items ≡ map (λ text. first_stage (S.flat text)) (texts_on S.base.text S.kept) }
+        requires cache { arc_value cache ≡ S.cache }
         requires received { ring.received ≡ [] }
         requires outbox { O.tells outbox ≡ S.outbox }
         ensures ready { IfOk result (λ made. made.1 ≡ S.start.stage) }
@@ -158,7 +164,7 @@ impl<S: StartName, N: RunName, O: Sink> Book<S, N, O> {
         }
         let before = last_number(base, count);
         let mut outbox = outbox;
-        let replayed = match begin::<S, O>(alloc, base, epochs, kept, &mut outbox) {
+        let replayed = match begin::<S, O>(alloc, base, epochs, kept, cache, &mut outbox) {
             Ok(replayed) => replayed,
             Err(error) => return Err((outbox, error)),
         };

@@ -7,6 +7,7 @@ ghost use Rattle.syncer_gate.specs.Chosen.{chosen};
 ghost use Rattle.syncer_gate.specs.Marks.{is_open, is_pending};
 ghost use Rattle.std.specs.List.{list_any};
 ghost use Rattle.trigger_state.specs.Stages.{Stage};
+ghost use Rattle.value_cache.specs.Tokens.{CacheId};
 ghost use Rattle.entry_step.specs.Parts.{IsPartOf, IsSame};
 ghost use Rattle.book.specs.Progress.{entry_at, entries_with, AreHere, IsAmong, AreWithin, IsBlank, AreReady, AreOutputs, IsKept, IsWorkedIn, IsClaim};
 
@@ -90,33 +91,36 @@ fn inputs_of<S: StartName>(
     ensures entries { IfOk result (λ made. made.entries ≡ entries_with numbers.now all.entry.entries.now) }
     ensures part { IfOk result (λ made. IsPartOf S.start.stage.conf (entries_with numbers.now all.entry.entries.now)
         cells.now made.part) }
+    ensures cache { IfOk result (λ made. made.part.cache ≡ cells.now.cache) }
 {
     let entries = copies(alloc, all, numbers)?;
     let part = cells.part(alloc, ready, entries.as_slice())?;
     Ok(Inputs { entries, part })
 }
 
-/// Spare cells, or new ones where there are none.
+/// Spare cells, or new ones where there are none. Their values are to stand in the cache of these cells.
 fn scratch_of<S: StartName>(
     alloc: Global,
     ready: &Ready,
+    cells: &Cells,
     spare: &mut Vec<Cells>,
 ) -> Result<Cells, OutOfMemory>
     requires conf { ready.now ≡ S.start.stage }
-    requires spare { All (IsBlank S.start.stage) spare.old.items }
-    ensures cells { IfOk result (IsBlank S.start.stage) }
-    ensures spare { All (IsBlank S.start.stage) spare.new.items }
+    requires cache { cells.now.cache ≡ S.cache }
+    requires spare { All (IsBlank S.start.stage S.cache) spare.old.items }
+    ensures cells { IfOk result (IsBlank S.start.stage S.cache) }
+    ensures spare { All (IsBlank S.start.stage S.cache) spare.new.items }
 {
     match spare.pop() {
-        Some(cells) => Ok(cells),
-        None => Cells::new(alloc, ready.conf()),
+        Some(scratch) => Ok(scratch),
+        None => Cells::new(alloc, ready.conf(), cells.share()?),
     }
 }
 
 /// Keeps spare cells, if there is room.
 pub(crate) fn put_by(spare: &mut Vec<Cells>, scratch: Cells)
-    ensures { (stage : Stage) → All (IsBlank stage) spare.old.items → IsBlank stage scratch
-        → All (IsBlank stage) spare.new.items }
+    ensures { (stage : Stage) (cache : CacheId) → All (IsBlank stage cache) spare.old.items → IsBlank stage cache scratch
+        → All (IsBlank stage cache) spare.new.items }
 {
     let _ = spare.push(scratch);
 }
@@ -131,13 +135,14 @@ pub(crate) fn order_of<S: StartName>(
     batch: Batch,
 ) -> Result<Order<S>, (Batch, OutOfMemory)>
     requires conf { ready.now ≡ S.start.stage }
+    requires cache { cells.now.cache ≡ S.cache }
     requires ready { AreReady all.before S.start.stage cells.now all.entries.now batch.numbers }
-    requires spare { All (IsBlank S.start.stage) spare.old.items }
+    requires spare { All (IsBlank S.start.stage S.cache) spare.old.items }
     ensures batch { IfOk result (λ order. order.batch ≡ batch) }
     ensures entries { IfOk result (λ order. order.entries ≡ entries_with batch.numbers all.entry.entries.now) }
     ensures part { IfOk result (λ order. IsPartOf S.start.stage.conf (entries_with batch.numbers all.entry.entries.now) cells.now
         order.part) }
-    ensures spare { All (IsBlank S.start.stage) spare.new.items }
+    ensures spare { All (IsBlank S.start.stage S.cache) spare.new.items }
     ensures back { IfErr result (λ refused. refused.0 ≡ batch) }
 {
     let numbers = batch.numbers.as_slice();
@@ -145,7 +150,7 @@ pub(crate) fn order_of<S: StartName>(
         Ok(inputs) => inputs,
         Err(OutOfMemory) => return Err((batch, OutOfMemory)),
     };
-    let scratch = match scratch_of::<S>(alloc, ready, spare) {
+    let scratch = match scratch_of::<S>(alloc, ready, cells, spare) {
         Ok(scratch) => scratch,
         Err(OutOfMemory) => return Err((batch, OutOfMemory)),
     };
@@ -189,11 +194,13 @@ fn rework<S: StartName, L: Ledger>(
 ) -> Result<Again, OutOfMemory>
     requires conf { ready.now ≡ S.start.stage }
     requires ready { AreReady all.before S.start.stage cells.now all.entries.now numbers.now }
-    requires scratch { IsBlank S.start.stage scratch.old }
+    requires cache { cells.now.cache ≡ S.cache }
+    requires scratch { IsBlank S.start.stage S.cache scratch.old }
     ensures entries { IfOk result (λ again. again.entries ≡ entries_with numbers.now all.entry.entries.now) }
     ensures made { IfOk result (λ again. AreOutputs S.start.stage cells.now (entries_with numbers.now all.entry.entries.now)
         again.part again.made) }
-    ensures scratch { IsBlank S.start.stage scratch.new }
+    ensures cache { IfOk result (λ again. again.part.cache ≡ S.cache) }
+    ensures scratch { IsBlank S.start.stage S.cache scratch.new }
 {
     let inputs = inputs_of::<S>(alloc, ready, cells, all, numbers)?;
     let own = inputs.entries.as_slice();
@@ -207,7 +214,8 @@ fn rework<S: StartName, L: Ledger>(
 
 /// Whether entries and copies of cells are what is here.
 fn is_usable(cells: &Cells, all: Listed<'_>, given: &[Numbered], copies: &Part) -> bool
-    requires { All (λ e. IsAmong all.before (length all.entries.now) e.number) given.now }
+    requires within { All (λ e. IsAmong all.before (length all.entries.now) e.number) given.now }
+    requires cache { copies.now.cache ≡ cells.now.cache }
     ensures { (result ≡ true) ↔ (AreHere all.entry.before all.entry.entries.now given.now × IsSame cells.now copies.now) }
 {
     are_here(all, given) && cells.same(copies)
@@ -224,12 +232,14 @@ pub(crate) fn outputs_of<S: StartName, L: Ledger>(
     steps: &mut Steps<L>,
 ) -> Result<Outputs, (Done<S>, OutOfMemory)>
     requires conf { ready.now ≡ S.start.stage }
+    requires cache { cells.now.cache ≡ S.cache }
     requires ready { AreReady all.before S.start.stage cells.now all.entries.now done.order.batch.numbers }
     ensures batch { IfOk result (λ made. made.batch ≡ done.order.batch) }
     ensures entries { IfOk result (λ made. made.entries ≡ entries_with done.order.batch.numbers all.entry.entries.now) }
     ensures made { IfOk result (λ made. AreOutputs S.start.stage cells.now
         (entries_with done.order.batch.numbers all.entry.entries.now) made.part made.made) }
-    ensures scratch { IfOk result (λ made. IsBlank S.start.stage made.scratch) }
+    ensures cache { IfOk result (λ made. made.part.cache ≡ S.cache) }
+    ensures scratch { IfOk result (λ made. IsBlank S.start.stage S.cache made.scratch) }
     ensures uncounted { entries_with done.order.batch.numbers all.entry.entries.now ≡ done.order.entries
         → IsSame cells.now done.order.part → steps.new ≡ steps.old }
     ensures back { IfErr result (λ refused. refused.0 ≡ done) }
@@ -299,7 +309,9 @@ pub(crate) fn put_in(
 )
     requires within { All (λ e. IsAmong ones.before (length made.old.items) e.number) ones.entries.now }
     requires one { length lists ≡ length ones.entries.now }
-    ensures { (stage : Stage) → AreOutputs stage cells.old ones.entry.entries.now part lists
+    requires cache { part.cache ≡ cells.old.cache }
+    ensures cache { cells.new.cache ≡ cells.old.cache }
+    ensures works { (stage : Stage) → AreOutputs stage cells.old ones.entry.entries.now part lists
         → IsWorkedIn ones.entry.before stage ones.entry.entries.now cells.old made.old.items cells.new made.new.items }
 {
     cells.put(part);
@@ -322,6 +334,7 @@ pub(crate) fn work_in<S: StartName, L: Ledger>(
     requires size { length made.old.items ≡ length all.entries.now }
     ensures works { OnOk result (IsWorkedIn all.entry.before S.start.stage (entries_with numbers.now all.entry.entries.now)
         cells.old made.old.items cells.new made.new.items) }
+    ensures cache { cells.new.cache ≡ cells.old.cache }
     ensures err { OnErr result ((cells.new ≡ cells.old) × (made.new.items ≡ made.old.items)) }
 {
     let number = numbers[0];

@@ -12,7 +12,8 @@ use std::sync::ledger::Ledger;
 use syncer_gate::Batch;
 use zbx_types::{Many, Numbered, OutOfMemory, Rec};
 
-/// A batch of entries, with copies of the cells in their feet. That its configuration is the run's, its type says.
+/// A batch of entries, with copies of the cells in their feet. These have no values, which stand in the run's cache: that,
+/// and that its configuration is the run's, its type says.
 #[derive(Drop)]
 pub struct Order<S: StartName> {
     pub(crate) batch: Batch,
@@ -29,7 +30,7 @@ impl<S: StartName> Model for Order<S> {
 
     ghost view = { λ o. record { batch = o.batch; entries = o.entries; part = o.part } };
 
-    ghost invariant = { λ o. IsOrder S.start.stage o.batch o.entries o.part o.scratch };
+    ghost invariant = { λ o. IsOrder S.start.stage S.cache o.batch o.entries o.part o.scratch };
 }
 
 /// An order that was worked out.
@@ -41,6 +42,7 @@ pub struct Done<S: StartName> {
 }
 
 impl<S: StartName> Model for Done<S> {
+    ghost use Rattle.std.specs.Prelude.{◌≡◌};
     ghost use Rattle.entry_step.specs.Parts.{WorksOut};
     ghost use Rattle.book.specs.Progress.{DoneView};
 
@@ -48,7 +50,7 @@ impl<S: StartName> Model for Done<S> {
 
     ghost view = { λ d. record { order = d.order; part = d.part; made = d.made } };
 
-    ghost invariant = { λ d. WorksOut S.start.stage d.order.entries d.order.part d.part d.made };
+    ghost invariant = { λ d. WorksOut S.start.stage d.order.entries d.order.part d.part d.made × (d.part.cache ≡ S.cache) };
 }
 
 impl<S: StartName> Order<S> {

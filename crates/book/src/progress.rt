@@ -56,7 +56,7 @@ impl<S: StartName> Model for Progress<S> {
 
     ghost view = { λ p. record { entries = p.entries.items; gate = p.claims; cells = p.cells; made = p.made.items } };
 
-    ghost invariant = { λ p. IsGoing S.start (record { entries = p.entries.items; gate = p.claims; cells = p.cells; made = p.made.items }) × All (IsBlank S.start.stage) p.spare.items × (p.before ≡ S.start.number) × (p.before ≤ 9000000004294967295) };
+    ghost invariant = { λ p. IsGoing S.start (record { entries = p.entries.items; gate = p.claims; cells = p.cells; made = p.made.items }) × All (IsBlank S.start.stage S.cache) p.spare.items × (p.before ≡ S.start.number) × (p.before ≤ 9000000004294967295) × (p.cells.cache ≡ S.cache) };
 }
 
 /// The records at a place, none where there is no such place.
@@ -106,6 +106,7 @@ impl<S: StartName> Progress<S> {
         requires few { before ≤ 9000000004294967295 }
         requires good { IsGood S.start }
         requires cells { Holds S.start cells [] }
+        requires cache { cells.cache ≡ S.cache }
         ensures entries { result.entries ≡ [] }
         ensures gate { result.gate ≡ record { first = before + 1; marks = []; next = 1 } }
     {

@@ -7,6 +7,7 @@ use Rattle.zbx_types.specs.declared.entries.Rec.{Rec}
 use Rattle.outside.specs.Others.{first_other}
 use Rattle.outside.specs.Tells.{SinkTells}
 use Rattle.event_text.specs.Lines.{lines_of}
+use Rattle.value_cache.specs.Tokens.{CacheId}
 use Rattle.trigger_state.specs.Stages.{Stage, first_stage}
 use Rattle.base_laws.specs.Bases.{base_stage, told_start}
 use Rattle.entry_laws.specs.InForce.{AllDistinct, FitsLog, IsFull, config_texts, texts_on}
@@ -22,6 +23,10 @@ use Rattle.book_opening.specs.declared.present.Present.{Present}
 use Rattle.base_laws.specs.Grounds.{IsBase, start_of}
 use Rattle.book_opening.specs.Outgoing.{log_records, log_tally}
 use Rattle.book_opening.specs.Tally.{tally_of}
+
+-- a cache without rows
+abbrev pub no_cache : CacheId
+no_cache = record { rows = [] }
 
 -- the configurations of the Configs among these entries, in their order, each as it is made ready
 abbrev pub epochs_of : (List ℕ → Conf) → List Numbered → List Stage

@@ -20,7 +20,9 @@ use entry_step::Steps;
 use std::alloc::Global;
 use std::collections::VecDeque;
 use std::marker::Brand;
+use std::sync::Arc;
 use std::sync::ledger::{Blank, Ledger};
+use value_cache::Cache;
 use zbx_types::{Base, Bytes, Numbered, OutOfMemory, Rec};
 
 /// What entries leave that were replayed without an outbox (this project's own).
@@ -89,7 +91,7 @@ fn reach_all<S: StartName, L: Ledger>(
 /// Replays the entries that a journal kept, behind a base, or, where that is empty, from nothing on, and counts their
 /// records, and the bytes of their lines behind those of the base. It looks at no outbox, and holds the lines of one entry
 /// at a time. Of the configurations the first is that of the base, where it isn't empty; then there is one for each Config
-/// among the entries.
+/// among the entries. Stored values go into the cache.
 ///
 /// [`OutOfMemory`] where memory was refused.
 pub fn replay_kept<S: StartName>(
@@ -97,6 +99,7 @@ pub fn replay_kept<S: StartName>(
     base: &Base,
     epochs: Vec<Ready>,
     kept: &[Numbered],
+    cache: Arc<Cache>,
 ) -> Result<Reached, OutOfMemory>
     requires base { base.now ≡ S.base }
     requires kept { kept.now ≡ S.kept }
@@ -106,7 +109,7 @@ pub fn replay_kept<S: StartName>(
     ensures { IfOk result (IsReached S.flat S.base (log_of S.kept)) }
 {
     let mut epochs = VecDeque::from(epochs);
-    let present = Present::begin(alloc, next_epoch(&mut epochs), base)?;
+    let present = Present::begin(alloc, next_epoch(&mut epochs), base, cache)?;
     let tally = Tally::behind(base.lines);
     let mut so_far = Reached { present, tally };
     let rest = behind_first(kept, base);

@@ -43,6 +43,6 @@ pub use kept::{Reached, replay_kept};
 pub use names::StartName;
 pub use opening::{Replayed, begin, mend};
 pub use outgoing::{add_lines, behind, write_out};
-pub use present::Present;
+pub use present::{Present, new_cache};
 pub use tally::Tally;
 pub use writing::write_all;

@@ -13,6 +13,7 @@ pub trait StartName {
     ghost use Rattle.zbx_types.specs.declared.entries.Numbered.{Numbered};
     ghost use Rattle.outside.specs.Tells.{SinkTells};
     ghost use Rattle.base_laws.specs.Grounds.{start_of};
+    ghost use Rattle.value_cache.specs.Tokens.{CacheId};
 
     /// The configuration that a text stands for.
     ghost flat: { List ℕ → Conf };
@@ -31,6 +32,9 @@ pub trait StartName {
 
     /// What its outbox told at the opening.
     ghost outbox: { SinkTells };
+
+    /// The cache in which the values of all its cells stand: the book's, and those of orders.
+    ghost cache: { CacheId };
 }
 
 impl StartName for Brand {
@@ -40,6 +44,7 @@ impl StartName for Brand {
     ghost use Rattle.zbx_types.specs.Bases.{empty_base};
     ghost use Rattle.base_laws.specs.Grounds.{start_of};
     ghost use Rattle.book_opening.specs.Outgoing.{no_outbox};
+    ghost use Rattle.book_opening.specs.Opening.{no_cache};
 
     ghost flat = { λ _. no_conf };
 
@@ -52,4 +57,6 @@ impl StartName for Brand {
     ghost first = { refl };
 
     ghost outbox = { no_outbox };
+
+    ghost cache = { no_cache };
 }

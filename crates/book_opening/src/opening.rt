@@ -2,6 +2,7 @@
 //! compared with them.
 
 ghost use Rattle.std.specs.Prelude.{◌≡◌, ◌≢◌, ◌≤◌, ◌<◌, ◌+◌, ◌-◌, ◌++◌, [], ◌∷◌, ℕ, List, length, min, true, take, drop, get_or, Some, None, IfSome, IfOk, IfErr, OnOk, IsErrOf, unwrap_or};
+ghost use Rattle.std.specs.Arc.{arc_value};
 ghost use Rattle.std.specs.VecDeque.{deque_len};
 ghost use Rattle.zbx_types.specs.declared.entries.Numbered.{Numbered};
 ghost use Rattle.outside.specs.Causes.{Rose, HasCause};
@@ -24,7 +25,9 @@ use outside::{Failed, Sink};
 use std::alloc::Global;
 use std::collections::VecDeque;
 use std::marker::Brand;
+use std::sync::Arc;
 use std::sync::ledger::{Blank, Ledger};
+use value_cache::Cache;
 use zbx_types::{Base, Bytes, Numbered, Rec};
 
 /// What entries leave that were replayed (this project's own).
@@ -105,6 +108,7 @@ fn replay_one<S: StartName, O: Sink, L: Ledger>(
         → epochs.new.items ≡ epochs_of S.flat later) }
     ensures len { OnOk result (deque_len epochs.old ≡ length epochs.old.items
         → deque_len epochs.new ≡ length epochs.new.items) }
+    ensures cache { so_far.new.present.cells.cache ≡ so_far.old.present.cells.cache }
     ensures left { IsLeft (O.tells outbox.old) (O.tells outbox.new) }
     ensures cause { IsErrOf result BookError.OutboxFault → Rose (O.tells outbox.old).faults (O.tells outbox.new).faults }
     ensures why { IfErr result IsRefused }
@@ -131,6 +135,7 @@ fn replay_all<S: StartName, O: Sink, L: Ledger>(
     ensures replayed { OnOk result ((log : List Numbered) → IsSound S.flat S.base (log_of kept.now ++ log)
         → IsReplayed S.flat S.base log (O.tells outbox.old) so_far.old
         → IsReplayed S.flat S.base (log_of kept.now ++ log) (O.tells outbox.old) so_far.new) }
+    ensures cache { so_far.new.present.cells.cache ≡ so_far.old.present.cells.cache }
     ensures left { IsLeft (O.tells outbox.old) (O.tells outbox.new) }
     ensures cause { IsErrOf result BookError.OutboxFault → Rose (O.tells outbox.old).faults (O.tells outbox.new).faults }
     ensures why { IfErr result IsRefused }
@@ -161,7 +166,7 @@ pub(crate) fn behind_first<'a>(kept: &'a [Numbered], base: &Base) -> &'a [Number
 
 /// Replays the entries with which a run begins, behind a base, or, where that is empty, from nothing on, and makes their
 /// lines that the outbox lacks. Of the configurations the first is that of the base, where it isn't empty; then there is one
-/// for each Config among the entries. The outbox keeps what it holds. Where it holds fewer bytes than the base's lines have,
+/// for each Config among the entries. Stored values go into the cache. The outbox keeps what it holds. Where it holds fewer bytes than the base's lines have,
 /// it is compared with none.
 ///
 /// # Errors
@@ -172,6 +177,7 @@ pub fn begin<S: StartName, O: Sink>(
     base: &Base,
     epochs: Vec<Ready>,
     kept: &[Numbered],
+    cache: Arc<Cache>,
     outbox: &mut O,
 ) -> Result<Replayed, BookError>
     requires base { base.now ≡ S.base }
@@ -180,6 +186,7 @@ pub fn begin<S: StartName, O: Sink>(
     requires sound { IsSound S.flat S.base (log_of S.kept) }
     requires epochs { epochs.items ≡ run_epochs S.flat S.base S.kept }
     ensures replayed { IfOk result (IsReplayed S.flat S.base (log_of S.kept) (O.tells outbox.old)) }
+    ensures cache { IfOk result (λ replayed. replayed.present.cells.cache ≡ arc_value cache) }
     ensures left { IsLeft (O.tells outbox.old) (O.tells outbox.new) }
     ensures cause { IsErrOf result BookError.OutboxFault → Rose (O.tells outbox.old).faults (O.tells outbox.new).faults }
     ensures why { IfErr result IsRefused }
@@ -187,7 +194,7 @@ pub fn begin<S: StartName, O: Sink>(
     // One that can't be opened fails here.
     outbox.differs(0, &[])?;
     let mut epochs = VecDeque::from(epochs);
-    let present = Present::begin(alloc, next_epoch(&mut epochs), base)?;
+    let present = Present::begin(alloc, next_epoch(&mut epochs), base, cache)?;
     let tally = Tally::behind(base.lines);
     let missing = Bytes::new(alloc);
     let mut so_far = Replayed {

@@ -1,6 +1,7 @@
 //! What is in force behind the entries that were replayed, and the cells.
 
 ghost use Rattle.std.specs.Prelude.{◌≡◌, ◌≢◌, ◌<◌, ◌+◌, ◌==◌, [], ◌∷◌, List, true, length, IfOk, OnOk};
+ghost use Rattle.std.specs.Arc.{arc_value};
 ghost use Rattle.std.specs.VecDeque.{deque_len};
 ghost use Rattle.zbx_types.specs.declared.entries.Numbered.{Numbered};
 ghost use Rattle.entry_step.specs.InForce.{CarriesOver};
@@ -20,7 +21,9 @@ use entry_step::{Cells, Steps, carry, step};
 use std::alloc::Global;
 use std::collections::VecDeque;
 use std::mem::replace;
+use std::sync::Arc;
 use std::sync::ledger::Ledger;
+use value_cache::Cache;
 use zbx_types::{Base, Entry, Many, Moment, Numbered, OutOfMemory, Rec};
 
 /// What is in force behind the entries so far, and the cells (this project's own).
@@ -30,6 +33,11 @@ pub struct Present {
     pub ready: Ready,
     /// The cells, as the entries leave them.
     pub cells: Cells,
+}
+
+/// A cache for the values of a run, without any yet.
+pub fn new_cache(alloc: Global) -> Result<Arc<Cache>, OutOfMemory> {
+    Ok(Arc::new(alloc, Cache::new(alloc)?)?)
 }
 
 /// Whether a base stands in place of no entries.
@@ -57,7 +65,8 @@ fn carried(
     number: u64,
     at: Moment,
 ) -> Result<Many<Rec>, OutOfMemory>
-    ensures { IfOk result (λ made. CarriesOver old.now next.old.conf number at cells.old made next.new cells.new) }
+    ensures ok { IfOk result (λ made. CarriesOver old.now next.old.conf number at cells.old made next.new cells.new) }
+    ensures cache { cells.new.cache ≡ cells.old.cache }
 {
     carry(alloc, old, next, cells, number, at)
 }
@@ -79,7 +88,8 @@ fn exchanged(
     number: u64,
     at: Moment,
 ) -> Result<Many<Rec>, OutOfMemory>
-    ensures { IfOk result (λ made. CarriesOver ready.old next.conf number at cells.old made ready.new cells.new) }
+    ensures ok { IfOk result (λ made. CarriesOver ready.old next.conf number at cells.old made ready.new cells.new) }
+    ensures cache { cells.new.cache ≡ cells.old.cache }
 {
     let mut next = next;
     match carried(alloc, ready, &mut next, cells, number, at) {
@@ -96,37 +106,51 @@ fn exchanged(
 
 impl Present {
     /// Behind the first entry, which brings this configuration.
-    fn first(alloc: Global, ready: Ready) -> Result<Present, OutOfMemory>
-        ensures { IfOk result (λ made. (made.ready ≡ ready) × Holds (first_start ready.conf) made.cells []) }
+    fn first(alloc: Global, ready: Ready, cache: Arc<Cache>) -> Result<Present, OutOfMemory>
+        ensures made { IfOk result (λ made. (made.ready ≡ ready) × Holds (first_start ready.conf) made.cells []) }
+        ensures cache { IfOk result (λ made. made.cells.cache ≡ arc_value cache) }
     {
-        let cells = Cells::new(alloc, ready.conf())?;
+        let cells = Cells::new(alloc, ready.conf(), cache)?;
         Ok(Present { ready, cells })
     }
 
     /// Behind a base, which fits this configuration.
-    fn restored(alloc: Global, ready: Ready, base: &Base) -> Result<Present, OutOfMemory>
+    fn restored(
+        alloc: Global,
+        ready: Ready,
+        base: &Base,
+        cache: Arc<Cache>,
+    ) -> Result<Present, OutOfMemory>
         requires fits { FitsBase ready.conf base.now }
         requires first { ready.origins ≡ [] }
         ensures ready { IfOk result (λ made. made.ready ≡ base_stage ready.conf base.entry.now) }
         ensures cells { IfOk result (λ made. Holds (told_start ready.conf base.entry.now) made.cells []) }
+        ensures cache { IfOk result (λ made. made.cells.cache ≡ arc_value cache) }
     {
         let mut ready = ready;
-        match restore(alloc, &mut ready, base) {
+        match restore(alloc, &mut ready, base, cache) {
             Ok(cells) => Ok(Present { ready, cells }),
             Err(OutOfMemory) => Err(OutOfMemory),
         }
     }
 
     /// Behind a base, whose configuration this is, or, where the base is empty, behind the first entry, which brings it.
-    pub(crate) fn begin(alloc: Global, ready: Ready, base: &Base) -> Result<Present, OutOfMemory>
+    /// The values of the cells stand in this cache.
+    pub(crate) fn begin(
+        alloc: Global,
+        ready: Ready,
+        base: &Base,
+        cache: Arc<Cache>,
+    ) -> Result<Present, OutOfMemory>
         requires fits { base.now.text ≢ [] → FitsBase ready.conf base.now }
         requires first { ready.origins ≡ [] }
-        ensures { IfOk result (IsFirst base.entry.now.text base.entry.now ready) }
+        ensures first { IfOk result (IsFirst base.entry.now.text base.entry.now ready) }
+        ensures cache { IfOk result (λ made. made.cells.cache ≡ arc_value cache) }
     {
         if is_empty(base) {
-            return Present::first(alloc, ready);
+            return Present::first(alloc, ready, cache);
         }
-        Present::restored(alloc, ready, base)
+        Present::restored(alloc, ready, base, cache)
     }
 
     /// Goes over to the next configuration, at the entry with this number and moment, and drops the one before.
@@ -137,8 +161,9 @@ impl Present {
         number: u64,
         at: Moment,
     ) -> Result<Many<Rec>, OutOfMemory>
-        ensures { IfOk result (λ made. CarriesOver self.old.ready next.conf number at self.old.cells made self.new.ready
+        ensures ok { IfOk result (λ made. CarriesOver self.old.ready next.conf number at self.old.cells made self.new.ready
             self.new.cells) }
+        ensures cache { self.new.cells.cache ≡ self.old.cells.cache }
     {
         exchanged(alloc, &mut self.ready, next, &mut self.cells, number, at)
     }
@@ -161,6 +186,7 @@ impl Present {
             → epochs.new.items ≡ epochs_of S.flat later) }
         ensures len { OnOk result (deque_len epochs.old ≡ length epochs.old.items
             → deque_len epochs.new ≡ length epochs.new.items) }
+        ensures cache { self.new.cells.cache ≡ self.old.cells.cache }
     {
         match &entry.entry {
             Entry::Config { now, .. } => {

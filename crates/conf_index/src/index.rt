@@ -16,8 +16,9 @@ ghost use Rattle.value_cache.specs.Keeps.{seconds_in, most_seconds};
 ghost use Rattle.conf_index.specs.Order.{order};
 ghost use Rattle.footprint.specs.Feet.{feet_of, is_reached, told_by};
 ghost use Rattle.zbx_types.specs.Masters.{has_id};
-ghost use Rattle.preprocess.specs.Cells.{AreSame, prepared_of};
-ghost use Rattle.preprocess.specs.Draft.{AreApart, HaveRoom};
+ghost use Rattle.value_cache.specs.Tokens.{CacheId, AreOf};
+ghost use Rattle.preprocess.specs.Cells.{AreSame, IsPrepared};
+ghost use Rattle.preprocess.specs.Draft.{AreApart, AreIn, HaveRoom};
 ghost use Rattle.conf_index.specs.Index.{triggers_under};
 ghost use Rattle.conf_index.specs.Timed.{timed_triggers};
 ghost use Rattle.trigger_state.specs.Origins.{FindsTold, origins_told};
@@ -36,6 +37,7 @@ use std::alloc::Global;
 use std::convert::AsStr;
 use std::marker::Model;
 use trigger_state::{InForce, Origin, Told};
+use value_cache::Cache;
 use zbx_types::{Conf, Held, Many, Moment, OutOfMemory, Tag, Text, by_id};
 
 /// The patterns of these texts, built.
@@ -194,27 +196,32 @@ impl Ready {
         row(&self.indexes.triggers.turns.over, item)
     }
 
-    /// Finds what a value of an item is to leave in the cells, and takes all memory for it. They keep what they do.
+    /// Finds what a value of an item is to leave in the cells, and takes all memory for it. They keep what they do. What is
+    /// to be stored goes into the cache.
     pub fn prepare(
         &self,
         alloc: Global,
+        cache: &Cache,
         cells: &mut preprocess::Cells,
         item: u32,
         value: &Text,
         time: Moment,
         number: u64,
     ) -> Result<Prepared, OutOfMemory>
-        ensures prepared { IfOk result (λ prepared. prepared ≡ prepared_of self.now.conf cells.old
+        ensures prepared { IfOk result (IsPrepared self.now.conf cells.old
             (record { item = item; time = time; number = number; value = value.now })) }
+        ensures tokens { IfOk result (λ prepared. AreOf cache.now prepared.draft.tokens) }
         ensures apart { IfOk result (λ prepared. AreApart prepared.draft.visits) }
         ensures room { IfOk result (λ prepared. HaveRoom cells.new.cells.items prepared.draft.visits) }
         ensures same { AreSame cells.new cells.old }
+        ensures of { (other : CacheId) → AreIn other cells.old.cells.items → AreIn other cells.new.cells.items }
     {
         prepare(
             alloc,
             self.stage.conf(),
             &self.patterns,
             &self.indexes.items.chains,
+            cache,
             cells,
             item,
             value,

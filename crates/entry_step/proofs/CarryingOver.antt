@@ -39,7 +39,9 @@ use Rattle.entry_step.specs.Each.{Each}
 use Rattle.entry_step.specs.Following.{KeepsAll}
 use Rattle.entry_step.specs.History.{history_of}
 use Rattle.entry_step.specs.InForce.{SuitsWhole, HoldsAt, CarriesOver}
-use Rattle.entry_step.specs.Kept.{Keeps, roomless}
+use Rattle.value_cache.specs.Tokens.{CacheId}
+use Rattle.preprocess.specs.Draft.{roomless}
+use Rattle.entry_step.specs.Kept.{Keeps}
 use Rattle.entry_step.specs.Log.{last_moment}
 use Rattle.entry_step.specs.Order.{put_by, sorted_by}
 use Rattle.conf_index.specs.Order.{order}
@@ -144,12 +146,12 @@ keeps_roomless conf id seen history None k = k
 keeps_roomless conf id seen history (Some cell) k = keeps_same conf id seen history cell (roomless cell) refl k
 
 -- cells with these problems and this first Tick
-abbrev pub cells_with : ItemCells → List (List Open) → Option ℕ → CellsView
-cells_with items problems tick = record { items = map roomless items.cells.items; memories = items.memories.items; problems = problems; tick = tick }
+abbrev pub cells_with : ItemCells → List (List Open) → Option ℕ → CacheId → CellsView
+cells_with items problems tick cache = record { items = map roomless items.cells.items; memories = items.memories.items; problems = problems; tick = tick; cache = cache }
 
-keeps_before : (stage : Stage) (before : ItemCells) (problems : List (List Open)) (tick : Option ℕ) (c : Cells) → Represents stage (cells_with before problems tick) c
+keeps_before : (stage : Stage) (before : ItemCells) (problems : List (List Open)) (tick : Option ℕ) (cache : CacheId) (c : Cells) → Represents stage (cells_with before problems tick cache) c
     → KeepsAll stage.conf (λ id. (c (ItemKey id)).seen) (λ id. (c (ItemKey id)).history) (λ id. (c (ItemKey id)).marks) before
-keeps_before stage before problems tick c holds = record {
+keeps_before stage before problems tick cache c holds = record {
   items = sym (size_roomless before.cells.items) ∙ holds.items;
   memories = holds.memories;
   histories_are = λ id. keeps_bare stage.conf id (c (ItemKey id)).seen (c (ItemKey id)).history (at_id before.cells.items id)
@@ -238,7 +240,7 @@ module _ (flat : List ℕ → Conf) (start : Start) (log : List Numbered) (numbe
       absent = no_history stage.conf conf now (history_of p.start p.since);
     }
 
-    module _ (suits : SuitsWhole flat start log) (by : last_moment start log ≤ now) (before after : ItemCells) (problems : List (List Open)) (tick : Option ℕ) (holds : HoldsAt p (cells_with before problems tick)) where
+    module _ (suits : SuitsWhole flat start log) (by : last_moment start log ≤ now) (before after : ItemCells) (problems : List (List Open)) (tick : Option ℕ) (cache : CacheId) (holds : HoldsAt p (cells_with before problems tick cache)) where
       opens_are : problems_at problems ≡ found
       unfolding look
       opens_are = fun_ext (λ id. holds.problems id)
@@ -264,9 +266,9 @@ module _ (flat : List ℕ → Conf) (start : Start) (log : List Numbered) (numbe
         kept : KeepsAll conf (λ id. now) (carried_history stage.conf conf now (λ i. (cells_at p (ItemKey i)).history)) (carried_marks stage.conf conf (λ i. (cells_at p (ItemKey i)).marks)) after
         kept =
             keeps_on stage.conf conf now (λ i. (cells_at p (ItemKey i)).seen) (λ i. (cells_at p (ItemKey i)).history) (λ i. (cells_at p (ItemKey i)).marks) before after went_on was_seen
-            (keeps_before stage before problems tick (cells_at p) holds)
+            (keeps_before stage before problems tick cache (cells_at p) holds)
 
-        represented : Represents next (cells_with after (map (carried_to stage.conf conf (problems_at problems)) conf.triggers) tick) (carried stage conf now (cells_at p))
+        represented : Represents next (cells_with after (map (carried_to stage.conf conf (problems_at problems)) conf.triggers) tick cache) (carried stage conf now (cells_at p))
         represented = record {
           items = size_roomless after.cells.items ∙ kept.items;
           ordered = after_ordered stage.conf conf now before after went_on holds.ordered;
@@ -287,22 +289,22 @@ pub record AreLeft (old : Stage) (new : Conf) (problems rows : List (List Open))
   pub gone_are : gone ≡ gone_of new (flat_map (problems_at problems) (order old.conf))
   pub origins_are : origins ≡ map origin_in (filter (λ o. not (is_gone new o)) (in_making (flat_map (problems_at problems) (order old.conf))))
 
-carries_with : (old : Stage) (new : Conf) (number now : ℕ) (before after : ItemCells) (problems rows : List (List Open)) (tick : Option ℕ) (gone : List EventId) (origins : List Origin)
+carries_with : (old : Stage) (new : Conf) (number now : ℕ) (before after : ItemCells) (problems rows : List (List Open)) (tick : Option ℕ) (cache : CacheId) (gone : List EventId) (origins : List Origin)
     → AreLeft old new problems rows gone origins → AreCarried old.conf new now before after
-    → CarriesOver old new number now (cells_with before problems tick) (map (recovery_of number now causes.Removed) gone) (record { conf = new; origins = origins }) (cells_with after rows tick)
+    → CarriesOver old new number now (cells_with before problems tick cache) (map (recovery_of number now causes.Removed) gone) (record { conf = new; origins = origins }) (cells_with after rows tick cache)
 unfolding CarriesOver
-carries_with old new number now before after problems rows tick gone origins left went_on = λ flat start log text fits suits by is same holds.
+carries_with old new number now before after problems rows tick cache gone origins left went_on = λ flat start log text fits suits by is same holds.
     let e : Numbered = record { number = number; entry = Config now text } in
     let p : Point = point flat start log in
     let a : AreLeft p.start.stage (flat text) problems rows gone origins =
     subst (λ (s : Stage). AreLeft s (flat text) problems rows gone origins) (sym same) (subst (λ (c : Conf). AreLeft old c problems rows gone origins) (sym is) left) in
     let w : AreCarried p.start.stage.conf (flat text) now before after =
     subst (λ (s : Stage). AreCarried s.conf (flat text) now before after) (sym same) (subst (λ (c : Conf). AreCarried old.conf c now before after) (sym is) went_on) in (
-      records_are flat start log number now text fits suits by before after problems tick holds gone a.gone_are,
-      ap (λ (c : Conf). (let s : Stage = record { conf = c; origins = origins } in s)) (sym is) ∙ stage_is flat start log number now text fits suits by before after problems tick holds origins a.origins_are,
-      subst (λ (c : Cells). Represents (point flat start (e ∷ log)).start.stage (cells_with after rows tick) c) (cells_are flat start log number now text fits)
-          (subst (λ (rs : List (List Open)). Represents (point flat start (e ∷ log)).start.stage (cells_with after rs tick) (carried p.start.stage (flat text) now (cells_at p))) (sym a.rows_are)
-          (represented flat start log number now text fits suits by before after problems tick holds w)),
+      records_are flat start log number now text fits suits by before after problems tick cache holds gone a.gone_are,
+      ap (λ (c : Conf). (let s : Stage = record { conf = c; origins = origins } in s)) (sym is) ∙ stage_is flat start log number now text fits suits by before after problems tick cache holds origins a.origins_are,
+      subst (λ (c : Cells). Represents (point flat start (e ∷ log)).start.stage (cells_with after rows tick cache) c) (cells_are flat start log number now text fits)
+          (subst (λ (rs : List (List Open)). Represents (point flat start (e ∷ log)).start.stage (cells_with after rs tick cache) (carried p.start.stage (flat text) now (cells_at p))) (sym a.rows_are)
+          (represented flat start log number now text fits suits by before after problems tick cache holds w)),
     )
 
 -- the same, as the code comes by it
@@ -322,12 +324,12 @@ left_is old new a b ids shown problems rows gone origins is_old is_new is_order 
 pub went_on_is : (old : Stage) (new a b : Conf) (now : ℕ) (before after : ItemCells) → a ≡ old.conf → b ≡ new → AreCarried a b now before after → AreCarried old.conf new now before after
 went_on_is old new a b now before after is_old is_new w = subst (λ (x : Conf). AreCarried old.conf x now before after) is_new (subst (λ (x : Conf). AreCarried x b now before after) is_old w)
 
-pub carries : (old was next : Stage) (number now : ℕ) (held : CellsView) (before after : ItemCells) (problems rows : List (List Open)) (tick : Option ℕ) (gone : List EventId) (origins : List Origin) (made : List Rec)
-    → cells_with before problems tick ≡ held → AreLeft old was.conf problems rows gone origins → AreCarried old.conf was.conf now before after
+pub carries : (old was next : Stage) (number now : ℕ) (held : CellsView) (before after : ItemCells) (problems rows : List (List Open)) (tick : Option ℕ) (cache : CacheId) (gone : List EventId) (origins : List Origin) (made : List Rec)
+    → cells_with before problems tick cache ≡ held → AreLeft old was.conf problems rows gone origins → AreCarried old.conf was.conf now before after
     → made ≡ map (recovery_of number now causes.Removed) gone → next ≡ record { conf = was.conf; origins = origins }
-    → CarriesOver old was.conf number now held made next (cells_with after rows tick)
-carries old was next number now held before after problems rows tick gone origins made v left w m s =
-    subst (λ (x : CellsView). CarriesOver old was.conf number now x made next (cells_with after rows tick)) v
-    (subst (λ (x : List Rec). CarriesOver old was.conf number now (cells_with before problems tick) x next (cells_with after rows tick)) (sym m)
-    (subst (λ (x : Stage). CarriesOver old was.conf number now (cells_with before problems tick) (map (recovery_of number now causes.Removed) gone) x (cells_with after rows tick)) (sym s)
-    (carries_with old was.conf number now before after problems rows tick gone origins left w)))
+    → CarriesOver old was.conf number now held made next (cells_with after rows tick cache)
+carries old was next number now held before after problems rows tick cache gone origins made v left w m s =
+    subst (λ (x : CellsView). CarriesOver old was.conf number now x made next (cells_with after rows tick cache)) v
+    (subst (λ (x : List Rec). CarriesOver old was.conf number now (cells_with before problems tick cache) x next (cells_with after rows tick cache)) (sym m)
+    (subst (λ (x : Stage). CarriesOver old was.conf number now (cells_with before problems tick cache) (map (recovery_of number now causes.Removed) gone) x (cells_with after rows tick cache)) (sym s)
+    (carries_with old was.conf number now before after problems rows tick cache gone origins left w)))

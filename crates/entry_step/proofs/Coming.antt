@@ -19,7 +19,8 @@ use Rattle.preprocess.specs.declared.cells.Cells.{Cells as ItemCells}
 use Rattle.preprocess.specs.declared.visit.Visit.{Visit}
 use Rattle.preprocess.proofs.Logs.{at_map}
 use Rattle.entry_step.specs.History.{with_stored}
-use Rattle.entry_step.specs.Kept.{Keeps, roomless, Sees, CameIn}
+use Rattle.preprocess.specs.Draft.{roomless}
+use Rattle.entry_step.specs.Kept.{Keeps, Sees, CameIn}
 use Rattle.zbx_types.proofs.RowLemmas.{at_suc}
 
 -- two lists whose ids have something at the same places are of one length
@@ -38,19 +39,9 @@ some_map f (Some a) = refl
 
 -- ---- cells as what they keep alone
 
-abbrev pub of_kept : Kept → CellView
-of_kept kept = record { keep = kept.keep; values = kept.values; room = 0 }
-
-pub roomless_of : (cells : List CellView) → map roomless cells ≡ map of_kept (map kept_of cells)
-roomless_of [] = refl
-roomless_of (cell ∷ cells) = ap (λ xs. roomless cell ∷ xs) (roomless_of cells)
-
 pub kept_roomless : (cells : List CellView) → map kept_of (map roomless cells) ≡ map kept_of cells
 kept_roomless [] = refl
 kept_roomless (cell ∷ cells) = ap (λ xs. kept_of cell ∷ xs) (kept_roomless cells)
-
-pub roomless_same : (a b : List CellView) → map kept_of a ≡ map kept_of b → map roomless a ≡ map roomless b
-roomless_same a b e = roomless_of a ∙ ap (map of_kept) e ∙ sym (roomless_of b)
 
 -- two cells that keep the same stand for the same
 pub stands_same : (one other : CellView) (seen : ℕ) (history : List Stored) → kept_of other ≡ kept_of one → IsCellOf one seen history → IsCellOf other seen history

@@ -19,7 +19,8 @@ use Rattle.preprocess.specs.Rows.{with_row}
 use Rattle.preprocess.proofs.Rows.{row_same, row_other}
 use Rattle.preprocess.proofs.Logs.{at_map}
 use Rattle.entry_step.specs.Each.{Each, In}
-use Rattle.entry_step.specs.Kept.{roomless}
+use Rattle.value_cache.specs.Tokens.{TokenView}
+use Rattle.preprocess.specs.Draft.{roomless}
 use Rattle.entry_step.specs.Parts.{row_with}
 use Rattle.entry_step.specs.Exchange.{roomless_row, item_copy, trigger_copy, item_copies, trigger_copies, put_all, item_taken, trigger_taken, items_taken, triggers_taken, IsSameCell}
 use Rattle.entry_step.specs.declared.parts.ItemRow.{ItemRow}
@@ -50,12 +51,13 @@ cond_none false = refl
 
 pub same_roomless : (one other : CellView) → IsSameKept one other → roomless one ≡ roomless other
 same_roomless one other same =
-    let a : (k : Keep) → CellView = λ k. record { keep = k; values = one.values; room = 0 } in
-    let b : (v : List Stored) → CellView = λ v. record { keep = other.keep; values = v; room = 0 } in
-    ap a same.0 ∙ ap b same.1
+    let a : (k : Keep) → CellView = λ k. record { keep = k; values = one.values; tokens = one.tokens; room = 0 } in
+    let b : (v : List Stored) → CellView = λ v. record { keep = other.keep; values = v; tokens = one.tokens; room = 0 } in
+    let d : (t : List TokenView) → CellView = λ t. record { keep = other.keep; values = other.values; tokens = t; room = 0 } in
+    ap a same.0 ∙ ap b same.1 ∙ ap d same.2
 
 pub roomless_is : (one other : CellView) → roomless one ≡ roomless other → IsSameKept one other
-roomless_is one other e = (ap (λ (c : CellView). c.keep) e, ap (λ (c : CellView). c.values) e)
+roomless_is one other e = (ap (λ (c : CellView). c.keep) e, ap (λ (c : CellView). c.values) e, ap (λ (c : CellView). c.tokens) e)
 
 pub row_made : (id : ℕ) (made cell : CellView) (kept marks : List StepMemory) → IsSameKept made cell → kept ≡ marks
     → roomless_row (record { id = id; cell = made; marks = kept }) ≡ record { id = id; cell = roomless cell; marks = marks }

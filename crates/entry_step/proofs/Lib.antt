@@ -25,6 +25,7 @@ pub mod Turns
 pub mod Sorting
 pub mod Dues
 pub mod Exchanging
+mod Cached
 pub mod Parting
 pub mod Stepped
 pub mod Touching

@@ -16,7 +16,9 @@ use Rattle.footprint.specs.Rows.{rises, those}
 use Rattle.preprocess.specs.Rows.{with_row}
 use Rattle.preprocess.proofs.Logs.{at_map}
 use Rattle.entry_step.specs.Each.{Each, In}
-use Rattle.entry_step.specs.Kept.{roomless, Keeps}
+use Rattle.value_cache.specs.Tokens.{CacheId}
+use Rattle.preprocess.specs.Draft.{roomless}
+use Rattle.entry_step.specs.Kept.{Keeps}
 use Rattle.entry_step.specs.Cells.{Key, ItemKey, TriggerKey, TickKey, ItemCell, Cells, memory_in, touches, look, AreCellsOf, after}
 use Rattle.entry_step.specs.Laws.{any_touches, cells_done, records_done, put_over}
 use Rattle.zbx_types.specs.Entries.{moment_of}
@@ -46,11 +48,11 @@ plain_marks : (o : Option ItemRow) → option_map item_marks o ≡ option_map it
 plain_marks None = refl
 plain_marks (Some r) = refl
 
-module _ (rows made : List ItemRow) (triggers again : List TriggerRow) (tick : Option ℕ) (e : map roomless_row made ≡ map roomless_row rows) (f : again ≡ triggers) where
+module _ (rows made : List ItemRow) (triggers again : List TriggerRow) (tick : Option ℕ) (own other : CacheId) (e : map roomless_row made ≡ map roomless_row rows) (f : again ≡ triggers) where
   found_same : (id : ℕ) → option_map roomless_row (row_with item_id made id) ≡ option_map roomless_row (row_with item_id rows id)
   found_same id = sym (plain_found made id) ∙ ap (λ rs. row_with item_id rs id) e ∙ plain_found rows id
 
-  pub copy_is : IsCopy (record { items = made; triggers = again; tick = tick }) (record { items = rows; triggers = triggers; tick = tick })
+  pub copy_is : IsCopy (record { items = made; triggers = again; tick = tick; cache = own }) (record { items = rows; triggers = triggers; tick = tick; cache = other })
   copy_is = record {
     cells = λ id. plain_cell (row_with item_id made id) ∙ ap (option_map item_cell) (found_same id) ∙ sym (plain_cell (row_with item_id rows id));
     marks = λ id. plain_marks (row_with item_id made id) ∙ ap (option_map item_marks) (found_same id) ∙ sym (plain_marks (row_with item_id rows id));
@@ -76,8 +78,8 @@ module _ (conf : Conf) (es : List Numbered) (cells : List CellView) (memories : 
     triggers_rise problems (λ id. any_touches conf es (TriggerKey id)) triggers f,
   )
 
-  pub part_is : (tick : Option ℕ) → length cells ≡ length memories → IsPartOf conf es (record { items = map roomless cells; memories = memories; problems = problems; tick = tick }) (record { items = rows; triggers = triggers; tick = tick })
-  part_is tick size = record {
+  pub part_is : (tick : Option ℕ) (own other : CacheId) → length cells ≡ length memories → IsPartOf conf es (record { items = map roomless cells; memories = memories; problems = problems; tick = tick; cache = own }) (record { items = rows; triggers = triggers; tick = tick; cache = other })
+  part_is tick own other size = record {
     cells = λ id. item_cells_are (map roomless cells) memories (λ id. any_touches conf es (ItemKey id)) rows plain_rows (size_roomless cells ∙ size) id;
     marks = λ id. item_marks_are (map roomless cells) memories (λ id. any_touches conf es (ItemKey id)) rows plain_rows (size_roomless cells ∙ size) id;
     problems = λ id. trigger_problems_are problems (λ id. any_touches conf es (TriggerKey id)) triggers f id;
@@ -86,13 +88,13 @@ module _ (conf : Conf) (es : List Numbered) (cells : List CellView) (memories : 
 
 -- ---- the same
 
-module _ (cells : List CellView) (memories : List (List StepMemory)) (problems : List (List Open)) (kept tick : Option ℕ) (rows : List ItemRow) (triggers : List TriggerRow)
+module _ (cells : List CellView) (memories : List (List StepMemory)) (problems : List (List Open)) (kept tick : Option ℕ) (own other : CacheId) (rows : List ItemRow) (triggers : List TriggerRow)
     (rise : rises (map item_id rows) ≡ true) (climb : rises (map trigger_id triggers) ≡ true) where
   abbrev kept_here : CellsView
-  kept_here = record { items = map roomless cells; memories = memories; problems = problems; tick = kept }
+  kept_here = record { items = map roomless cells; memories = memories; problems = problems; tick = kept; cache = own }
 
   abbrev part_here : PartView
-  part_here = record { items = rows; triggers = triggers; tick = tick }
+  part_here = record { items = rows; triggers = triggers; tick = tick; cache = other }
 
   pub same_from : kept ≡ tick → Each (IsSameItem cells memories) rows → Each (IsSameTrigger problems) triggers → IsSame kept_here part_here
   same_from t items others = record {
@@ -149,11 +151,11 @@ module _ (cells : List CellView) (memories : List (List StepMemory)) (problems :
 
 -- ---- exchanged
 
-module _ (cells next : List CellView) (memories marks : List (List StepMemory)) (problems opens : List (List Open)) (kept tick : Option ℕ) (rows taken : List ItemRow) (triggers others : List TriggerRow)
+module _ (cells next : List CellView) (memories marks : List (List StepMemory)) (problems opens : List (List Open)) (kept tick : Option ℕ) (own other : CacheId) (rows taken : List ItemRow) (triggers others : List TriggerRow)
     (rise : rises (map item_id rows) ≡ true) (climb : rises (map trigger_id triggers) ≡ true)
     (e : next ≡ put_all item_id item_cell cells rows) (m : marks ≡ put_all item_id item_marks memories rows) (p : opens ≡ put_all trigger_id trigger_problems problems triggers)
     (t : taken ≡ items_taken cells memories rows) (u : others ≡ triggers_taken problems triggers) where
-  pub replaced_is : IsReplaced (record { items = map roomless cells; memories = memories; problems = problems; tick = kept }) (record { items = rows; triggers = triggers; tick = tick }) (record { items = map roomless next; memories = marks; problems = opens; tick = tick })
+  pub replaced_is : IsReplaced (record { items = map roomless cells; memories = memories; problems = problems; tick = kept; cache = own }) (record { items = rows; triggers = triggers; tick = tick; cache = other }) (record { items = map roomless next; memories = marks; problems = opens; tick = tick; cache = own })
   replaced_is = record {
     items = λ id. at_map roomless next id ∙ ap (λ cs. option_map roomless (at_id cs id)) e ∙ ap (option_map roomless) (at_put_all item_id item_cell rows rise cells id)
         ∙ plain (row_with item_id rows id) (at_id cells id) ∙ ap (option_map (unwrap_or (option_map (λ (r : ItemRow). roomless r.cell) (row_with item_id rows id)))) (sym (at_map roomless cells id));
@@ -168,7 +170,7 @@ module _ (cells next : List CellView) (memories marks : List (List StepMemory)) 
       plain (Some r) None = refl
       plain (Some r) (Some c) = refl
 
-  pub taken_is : IsTaken (record { items = map roomless cells; memories = memories; problems = problems; tick = kept }) (record { items = rows; triggers = triggers; tick = tick }) (record { items = taken; triggers = others; tick = kept })
+  pub taken_is : IsTaken (record { items = map roomless cells; memories = memories; problems = problems; tick = kept; cache = own }) (record { items = rows; triggers = triggers; tick = tick; cache = other }) (record { items = taken; triggers = others; tick = kept; cache = other })
   taken_is = record {
     cells = λ id. ap (λ rs. option_map (λ (r : ItemRow). roomless r.cell) (row_with item_id rs id)) t ∙ ap (option_map (λ (r : ItemRow). roomless r.cell)) (item_at_taken cells memories rows id) ∙ cell id (row_with item_id rows id) refl;
     marks = λ id. ap (λ rs. option_map item_marks (row_with item_id rs id)) t ∙ ap (option_map item_marks) (item_at_taken cells memories rows id) ∙ mark id (row_with item_id rows id) refl;
@@ -200,20 +202,20 @@ module _ (cells next : List CellView) (memories marks : List (List StepMemory)) 
   others_rise = ap (λ rs. rises (map trigger_id rs)) u ∙ ap rises (trigger_ids_taken problems triggers) ∙ climb
 
   -- the same, where what is left goes by other names
-  module _ (view : CellsView) (copy : PartView) (v : record { items = map roomless cells; memories = memories; problems = problems; tick = kept } ≡ view) (w : record { items = rows; triggers = triggers; tick = tick } ≡ copy) where
-    pub replaced_by : (now : Option ℕ) → now ≡ tick → IsReplaced view copy (record { items = map roomless next; memories = marks; problems = opens; tick = now })
+  module _ (view : CellsView) (copy : PartView) (v : record { items = map roomless cells; memories = memories; problems = problems; tick = kept; cache = own } ≡ view) (w : record { items = rows; triggers = triggers; tick = tick; cache = other } ≡ copy) where
+    pub replaced_by : (now : Option ℕ) → now ≡ tick → IsReplaced view copy (record { items = map roomless next; memories = marks; problems = opens; tick = now; cache = own })
     replaced_by now q =
-        subst (λ (x : CellsView). IsReplaced x copy (record { items = map roomless next; memories = marks; problems = opens; tick = now })) v
-        (subst (λ (y : PartView). IsReplaced (record { items = map roomless cells; memories = memories; problems = problems; tick = kept }) y (record { items = map roomless next; memories = marks; problems = opens; tick = now })) w
-        (subst (λ (t : Option ℕ). IsReplaced (record { items = map roomless cells; memories = memories; problems = problems; tick = kept }) (record { items = rows; triggers = triggers; tick = tick }) (record { items = map roomless next; memories = marks; problems = opens; tick = t })) (sym q) replaced_is))
+        subst (λ (x : CellsView). IsReplaced x copy (record { items = map roomless next; memories = marks; problems = opens; tick = now; cache = own })) v
+        (subst (λ (y : PartView). IsReplaced (record { items = map roomless cells; memories = memories; problems = problems; tick = kept; cache = own }) y (record { items = map roomless next; memories = marks; problems = opens; tick = now; cache = own })) w
+        (subst (λ (t : Option ℕ). IsReplaced (record { items = map roomless cells; memories = memories; problems = problems; tick = kept; cache = own }) (record { items = rows; triggers = triggers; tick = tick; cache = other }) (record { items = map roomless next; memories = marks; problems = opens; tick = t; cache = own })) (sym q) replaced_is))
 
-    pub taken_by : (left : List ItemRow) (rest : List TriggerRow) (now : Option ℕ) → left ≡ taken → rest ≡ others → now ≡ kept → IsTaken view copy (record { items = left; triggers = rest; tick = now })
+    pub taken_by : (left : List ItemRow) (rest : List TriggerRow) (now : Option ℕ) → left ≡ taken → rest ≡ others → now ≡ kept → IsTaken view copy (record { items = left; triggers = rest; tick = now; cache = other })
     taken_by left rest now a b q =
-        subst (λ (x : CellsView). IsTaken x copy (record { items = left; triggers = rest; tick = now })) v
-        (subst (λ (y : PartView). IsTaken (record { items = map roomless cells; memories = memories; problems = problems; tick = kept }) y (record { items = left; triggers = rest; tick = now })) w
-        (subst (λ (xs : List ItemRow). IsTaken (record { items = map roomless cells; memories = memories; problems = problems; tick = kept }) (record { items = rows; triggers = triggers; tick = tick }) (record { items = xs; triggers = rest; tick = now })) (sym a)
-        (subst (λ (ys : List TriggerRow). IsTaken (record { items = map roomless cells; memories = memories; problems = problems; tick = kept }) (record { items = rows; triggers = triggers; tick = tick }) (record { items = taken; triggers = ys; tick = now })) (sym b)
-        (subst (λ (t : Option ℕ). IsTaken (record { items = map roomless cells; memories = memories; problems = problems; tick = kept }) (record { items = rows; triggers = triggers; tick = tick }) (record { items = taken; triggers = others; tick = t })) (sym q) taken_is))))
+        subst (λ (x : CellsView). IsTaken x copy (record { items = left; triggers = rest; tick = now; cache = other })) v
+        (subst (λ (y : PartView). IsTaken (record { items = map roomless cells; memories = memories; problems = problems; tick = kept; cache = own }) y (record { items = left; triggers = rest; tick = now; cache = other })) w
+        (subst (λ (xs : List ItemRow). IsTaken (record { items = map roomless cells; memories = memories; problems = problems; tick = kept; cache = own }) (record { items = rows; triggers = triggers; tick = tick; cache = other }) (record { items = xs; triggers = rest; tick = now; cache = other })) (sym a)
+        (subst (λ (ys : List TriggerRow). IsTaken (record { items = map roomless cells; memories = memories; problems = problems; tick = kept; cache = own }) (record { items = rows; triggers = triggers; tick = tick; cache = other }) (record { items = taken; triggers = ys; tick = now; cache = other })) (sym b)
+        (subst (λ (t : Option ℕ). IsTaken (record { items = map roomless cells; memories = memories; problems = problems; tick = kept; cache = own }) (record { items = rows; triggers = triggers; tick = tick; cache = other }) (record { items = taken; triggers = others; tick = t; cache = other })) (sym q) taken_is))))
 
 pub items_taken_size : (cells : List CellView) (memories : List (List StepMemory)) (rows : List ItemRow) → length (items_taken cells memories rows) ≡ length rows
 items_taken_size cells memories [] = refl

@@ -37,7 +37,9 @@ use Rattle.zbx_types.specs.Entries.{moment_of}
 use Rattle.entry_step.specs.Log.{last_moment, tick_with, first_tick, Suits}
 use Rattle.entry_step.specs.Occasions.{occasion_of}
 use Rattle.entry_step.specs.History.{visits_at, stored_of, marks_of, memory_of, with_stored, history_of}
-use Rattle.entry_step.specs.Kept.{Keeps, roomless, Sees, IsCalled, SeesFor, CameIn}
+use Rattle.value_cache.specs.Tokens.{CacheId}
+use Rattle.preprocess.specs.Draft.{roomless}
+use Rattle.entry_step.specs.Kept.{Keeps, Sees, IsCalled, SeesFor, CameIn}
 use Rattle.entry_step.specs.Due.{by_making, due_for, due_over, due_at}
 use Rattle.entry_step.specs.Records.{evaluated, phase, triggers_at, failures_at, judged_of, out_of, replay}
 use Rattle.conf_index.specs.Timed.{timed_triggers}
@@ -438,10 +440,10 @@ pub length_replicated : {A : Type 0} (n : ℕ) (x : A) → length (replicate n x
 length_replicated zero x = refl
 length_replicated (suc n) x = ap suc (length_replicated n x)
 
-pub holds_nothing : (conf : Conf) (made : ItemCells) (problems : List (List Open)) → AreNew conf made → problems ≡ replicate (length conf.triggers) []
-    → Holds (first_start conf) (record { items = map roomless made.cells.items; memories = made.memories.items; problems = problems; tick = None }) []
+pub holds_nothing : (conf : Conf) (made : ItemCells) (problems : List (List Open)) (cache : CacheId) → AreNew conf made → problems ≡ replicate (length conf.triggers) []
+    → Holds (first_start conf) (record { items = map roomless made.cells.items; memories = made.memories.items; problems = problems; tick = None; cache = cache }) []
 unfolding AreCellsOf look marks_of Rattle.preprocess.specs.Laws.marks_behind
-holds_nothing conf made problems new none = record {
+holds_nothing conf made problems cache new none = record {
   cells = look (first_start conf) [] [];
   stand = refl;
   represented = record {

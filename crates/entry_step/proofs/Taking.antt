@@ -12,16 +12,18 @@ use Rattle.prep_steps.specs.declared.memory.StepMemory.{StepMemory}
 use Rattle.preprocess.specs.Draft.{stored_at, failures_of}
 use Rattle.preprocess.specs.Cells.{AreSame, Becomes}
 use Rattle.preprocess.specs.declared.cells.Cells.{Cells as ItemCells}
-use Rattle.preprocess.specs.declared.draft.Draft.{Draft}
+use Rattle.preprocess.specs.Cached.{DraftView}
 use Rattle.preprocess.specs.declared.visit.Visit.{Visit}
 use Rattle.preprocess.proofs.Becoming.{same_becomes}
-use Rattle.entry_step.specs.Kept.{roomless, still_to_come, SeesFor}
+use Rattle.value_cache.specs.Tokens.{CacheId}
+use Rattle.preprocess.specs.Draft.{roomless}
+use Rattle.entry_step.specs.Kept.{still_to_come, SeesFor}
 use Rattle.conf_index.specs.Timed.{timed_triggers}
 use Rattle.entry_step.specs.Due.{due_over}
 use Rattle.entry_step.specs.Represents.{CellsView, problems_at}
 use Rattle.entry_step.specs.Changes.{is_asked, RunsOver, Absorbed, Drafted, TakesIn, TakesTick}
 use Rattle.entry_step.proofs.Members.{each_sub}
-use Rattle.entry_step.proofs.Coming.{roomless_same, sees_roomless, came_in}
+use Rattle.entry_step.proofs.Coming.{sees_roomless, came_in}
 
 same_runs : (stage : Stage) (occasion : Occasion) (cells kept : List CellView) (stored more : ℕ → Option Stored) (rows before : List (List Open)) (ids all : List ℕ) (made : List Rec) (next : List (List Open)) → cells ≡ kept → stored ≡ more → rows ≡ before → ids ≡ all
     → RunsOver stage occasion cells stored rows ids made next → RunsOver stage occasion kept more before all made next
@@ -36,16 +38,16 @@ runs_roomless stage occasion cells stored before ids made rows runs = λ items s
     runs items (each_sub (SeesFor stage.conf (map roomless cells) stored occasion.now items) (SeesFor stage.conf cells stored occasion.now items) ids (λ id h item calls. sees_roomless stage.conf item cells (stored item) occasion.now (items item) (h item calls)) sees) tidy
 
 -- a value is taken in
-pub takes_in : (stage : Stage) (occasion : Occasion) (draft : Draft) (visits : List Visit) (failures : List Rec) (ids all : List ℕ) (old between new : ItemCells) (problems rows : List (List Open)) (tick : Option ℕ) (before : CellsView) (made : List Rec)
-    → before ≡ record { items = map roomless old.cells.items; memories = old.memories.items; problems = problems; tick = tick }
+pub takes_in : (stage : Stage) (occasion : Occasion) (draft : DraftView) (visits : List Visit) (failures : List Rec) (ids all : List ℕ) (old between new : ItemCells) (problems rows : List (List Open)) (tick : Option ℕ) (cache : CacheId) (before : CellsView) (made : List Rec)
+    → before ≡ record { items = map roomless old.cells.items; memories = old.memories.items; problems = problems; tick = tick; cache = cache }
     → draft.visits ≡ visits → failures ≡ failures_of stage.conf occasion.number visits → ids ≡ all → AreSame between old
     → Drafted stage occasion (Some draft) ids failures between.cells.items problems made rows → Becomes occasion.now draft.visits between new
-    → TakesIn stage occasion visits all before made (record { items = map roomless new.cells.items; memories = new.memories.items; problems = rows; tick = tick })
-takes_in stage occasion draft visits failures ids all old between new problems rows tick before made is same fails listed still drafted becomes =
+    → TakesIn stage occasion visits all before made (record { items = map roomless new.cells.items; memories = new.memories.items; problems = rows; tick = tick; cache = cache })
+takes_in stage occasion draft visits failures ids all old between new problems rows tick cache before made is same fails listed still drafted becomes =
     subst (λ v. TakesIn stage occasion visits all v made after) (sym is) (record {
       judged = drafted.judged;
       runs = subst (λ vs. RunsOver stage occasion (map roomless old.cells.items) (stored_at vs) problems all drafted.judged rows) same (subst (λ xs. RunsOver stage occasion (map roomless old.cells.items) (stored_at draft.visits) problems xs drafted.judged rows) listed
-          (subst (λ cells. RunsOver stage occasion cells (stored_at draft.visits) problems ids drafted.judged rows) (roomless_same between.cells.items old.cells.items still.cells)
+          (subst (λ cells. RunsOver stage occasion cells (stored_at draft.visits) problems ids drafted.judged rows) still.cells
           (runs_roomless stage occasion between.cells.items (stored_at draft.visits) problems ids drafted.judged rows drafted.runs)));
       records = drafted.records ∙ ap (λ fs. fs ++ drafted.judged) fails;
       came = came_in occasion.now visits old new (same_becomes occasion.now visits old between new still (subst (λ vs. Becomes occasion.now vs between new) same becomes));
@@ -53,20 +55,20 @@ takes_in stage occasion draft visits failures ids all old between new problems r
     })
   where
     after : CellsView
-    after = record { items = map roomless new.cells.items; memories = new.memories.items; problems = rows; tick = tick }
+    after = record { items = map roomless new.cells.items; memories = new.memories.items; problems = rows; tick = tick; cache = cache }
 
 -- what is kept is the same, whatever room it has
-pub same_view : (old between : ItemCells) (problems : List (List Open)) (tick : Option ℕ) (view : CellsView) → AreSame between old → record { items = map roomless old.cells.items; memories = old.memories.items; problems = problems; tick = tick } ≡ view
-    → record { items = map roomless between.cells.items; memories = between.memories.items; problems = problems; tick = tick } ≡ view
-same_view old between problems tick view same is =
-    let of_items : List CellView → CellsView = λ items. record { items = items; memories = between.memories.items; problems = problems; tick = tick } in
-    let of_memories : List (List StepMemory) → CellsView = λ memories. record { items = map roomless old.cells.items; memories = memories; problems = problems; tick = tick } in
-    ap of_items (roomless_same between.cells.items old.cells.items same.cells) ∙ ap of_memories same.memories ∙ is
+pub same_view : (old between : ItemCells) (problems : List (List Open)) (tick : Option ℕ) (cache : CacheId) (view : CellsView) → AreSame between old → record { items = map roomless old.cells.items; memories = old.memories.items; problems = problems; tick = tick; cache = cache } ≡ view
+    → record { items = map roomless between.cells.items; memories = between.memories.items; problems = problems; tick = tick; cache = cache } ≡ view
+same_view old between problems tick cache view same is =
+    let of_items : List CellView → CellsView = λ items. record { items = items; memories = between.memories.items; problems = problems; tick = tick; cache = cache } in
+    let of_memories : List (List StepMemory) → CellsView = λ memories. record { items = map roomless old.cells.items; memories = memories; problems = problems; tick = tick; cache = cache } in
+    ap of_items same.cells ∙ ap of_memories same.memories ∙ is
 
-pub same_parts : (between new : ItemCells) (problems rows : List (List Open)) (tick : Option ℕ) (view : CellsView) → new ≡ between → rows ≡ problems → record { items = map roomless between.cells.items; memories = between.memories.items; problems = problems; tick = tick } ≡ view
-    → record { items = map roomless new.cells.items; memories = new.memories.items; problems = rows; tick = tick } ≡ view
-same_parts between new problems rows tick view n r is =
-    let of : ItemCells → List (List Open) → CellsView = λ cells opens. record { items = map roomless cells.cells.items; memories = cells.memories.items; problems = opens; tick = tick } in
+pub same_parts : (between new : ItemCells) (problems rows : List (List Open)) (tick : Option ℕ) (cache : CacheId) (view : CellsView) → new ≡ between → rows ≡ problems → record { items = map roomless between.cells.items; memories = between.memories.items; problems = problems; tick = tick; cache = cache } ≡ view
+    → record { items = map roomless new.cells.items; memories = new.memories.items; problems = rows; tick = tick; cache = cache } ≡ view
+same_parts between new problems rows tick cache view n r is =
+    let of : ItemCells → List (List Open) → CellsView = λ cells opens. record { items = map roomless cells.cells.items; memories = cells.memories.items; problems = opens; tick = tick; cache = cache } in
     ap (λ cells. of cells rows) n ∙ ap (of between) r ∙ is
 
 pub ok_both : {T E : Type 0} (r : Result T E) (P R : T → Type 0) (Q : Type 0) → ((x : T) → P x → Q → R x) → IfOk r P → OnOk r Q → IfOk r R

@@ -10,6 +10,7 @@ use Rattle.zbx_types.specs.declared.triggers.Trigger.{Trigger}
 use Rattle.zbx_types.specs.declared.entries.Entry.{Entry}
 use Rattle.zbx_types.specs.declared.entries.Entry.TheVariants.{Config, Value, Tick}
 use Rattle.prep_steps.specs.declared.memory.StepMemory.{StepMemory}
+use Rattle.value_cache.specs.Tokens.{TokenView}
 use Rattle.preprocess.specs.Visits.{visited}
 use Rattle.preprocess.specs.Walks.{takes}
 use Rattle.zbx_types.specs.Items.{is_received_item}
@@ -207,9 +208,9 @@ filter_filter p q (x ∷ xs) h = go (p x) refl (q x) refl (filter_filter p q xs 
     go false e true f ih = rw e ih
     go false e false f ih = ih
 
-pub triggers_listed : (conf : Conf) (memory : Memory) (number now item time : ℕ) (value : List ℕ)
-    → filter (is_asked conf (Some (record { visits = visits_at conf memory number (Value now item time value) }))) (triggers_under conf item) ≡ triggers_at conf memory number (Value now item time value)
+pub triggers_listed : (conf : Conf) (memory : Memory) (number now item time : ℕ) (value : List ℕ) (tokens : List TokenView)
+    → filter (is_asked conf (Some (record { visits = visits_at conf memory number (Value now item time value); tokens = tokens }))) (triggers_under conf item) ≡ triggers_at conf memory number (Value now item time value)
 unfolding triggers_at triggers_under stored_of
-triggers_listed conf memory number now item time value =
+triggers_listed conf memory number now item time value tokens =
     filter_filter (λ id. has_call (stores conf memory number (Value now item time value)) (at_id conf.triggers id)) (λ id. is_over_below conf item (at_id conf.triggers id)) (order conf)
     (λ id e. asked_below conf memory number now item time value id e)

@@ -1,9 +1,13 @@
 -- The calls of a trigger over cells.
-use Rattle.std.specs.Prelude.{◌≡◌, ℕ, List, Option, None, ℤ, slice_index_or}
+use Rattle.std.specs.Prelude.{◌≡◌, ℕ, List, Option, None, IfSome, ℤ, slice_index_or}
 use Rattle.zbx_types.specs.Tree.{Tree}
 use Rattle.zbx_types.specs.declared.entries.Held.{Held}
 use Rattle.zbx_types.specs.declared.entries.Stored.{Stored}
 use Rattle.expr_eval.specs.Values.{value_over}
+use Rattle.value_cache.specs.Cells.{CellView}
+use Rattle.value_cache.specs.Tokens.{CacheId, AreOf}
+use Rattle.preprocess.specs.Cached.{DraftView}
+use Rattle.preprocess.specs.Draft.{AreIn}
 use Rattle.entry_step.specs.Kept.{still_to_come, SeesFor}
 use Rattle.entry_step.specs.Evaluation.{call_value}
 use Rattle.entry_step.specs.Seen.{shown_values, Seen}
@@ -15,6 +19,14 @@ use Rattle.conf_index.specs.declared.plans.Node.{Node}
 abbrev pub Shown : Calls → (ℕ → List Stored) → Type 0
 Shown calls items =
     SeesFor calls.ready.now.conf calls.items.now (still_to_come calls.coming.now) calls.occasion.now items calls.id
+
+-- the tokens of these cells, and of what is still to come, are of this vector
+abbrev pub AreSeenIn : CacheId → List CellView → Option DraftView → Type 0
+AreSeenIn cache cells coming = AreIn cache cells × IfSome coming (λ draft. AreOf cache draft.tokens)
+
+-- those of a trigger's calls are of the cache
+abbrev pub AreCached : Calls → Type 0
+AreCached calls = AreSeenIn calls.cache.now calls.items.now calls.coming.now
 
 -- the values of the calls, by their places, over histories
 abbrev pub values_of : Calls → (ℕ → List Stored) → ℕ → Option ℤ

@@ -24,7 +24,7 @@ use Rattle.entry_step.specs.Represents.{CellsView, problems_at, AllAtHome}
 use Rattle.value_cache.specs.Cells.{CellView}
 use Rattle.zbx_types.specs.Ids.{at_id}
 use Rattle.preprocess.specs.Draft.{stored_at, failures_of}
-use Rattle.preprocess.specs.declared.draft.Draft.{Draft}
+use Rattle.preprocess.specs.Cached.{DraftView}
 use Rattle.preprocess.specs.declared.visit.Visit.{Visit}
 use Rattle.entry_step.specs.Kept.{still_to_come, SeesFor, CameIn}
 use Rattle.trigger_state.specs.declared.problems.Open.{Open}
@@ -154,12 +154,12 @@ RunsOn stage occasion cells stored asked id made rows more next =
     → Runs stage (evaluated stage occasion items) before (if asked then ids ++ id ∷ [] else ids) more next
 
 -- the triggers with a call over an item that a draft stores a value of; without a draft all
-abbrev pub is_asked : Conf → Option Draft → ℕ → Bool
+abbrev pub is_asked : Conf → Option DraftView → ℕ → Bool
 is_asked conf None id = true
 is_asked conf (Some draft) id = has_call (λ item. is_some (stored_at draft.visits item)) (at_id conf.triggers id)
 
 -- triggers are evaluated over cells with what is still to come, and their records stand behind some failures
-pub record Drafted (stage : Stage) (occasion : Occasion) (coming : Option Draft) (ids : List ℕ) (failures : List Rec)
+pub record Drafted (stage : Stage) (occasion : Occasion) (coming : Option DraftView) (ids : List ℕ) (failures : List Rec)
     (cells : List CellView) (before : List (List Open)) (made : List Rec) (rows : List (List Open)) : Type 0 where
   pub judged : List Rec
   pub runs : RunsOver stage occasion cells (still_to_come coming) before ids judged rows

@@ -7,7 +7,7 @@ use Rattle.prep_steps.specs.declared.memory.StepMemory.{StepMemory}
 use Rattle.value_cache.specs.Cells.{CellView}
 use Rattle.trigger_state.specs.declared.problems.Open.{Open}
 use Rattle.preprocess.specs.Rows.{with_row}
-use Rattle.entry_step.specs.Kept.{roomless}
+use Rattle.preprocess.specs.Draft.{roomless}
 use Rattle.entry_step.specs.Represents.{CellsView}
 use Rattle.entry_step.specs.Parts.{PartView, cell_in, marks_in, problems_in}
 use Rattle.entry_step.specs.declared.parts.ItemRow.{ItemRow}

@@ -8,7 +8,7 @@ use Rattle.prep_steps.specs.declared.memory.StepMemory.{StepMemory}
 use Rattle.value_cache.specs.Cells.{CellView, IsCellOf}
 use Rattle.value_cache.specs.Keeps.{keep_of}
 use Rattle.preprocess.specs.Draft.{kept_of, visit_at, stored_at, kept_after, marks_after}
-use Rattle.preprocess.specs.declared.draft.Draft.{Draft}
+use Rattle.preprocess.specs.Cached.{DraftView}
 use Rattle.preprocess.specs.declared.visit.Visit.{Visit}
 use Rattle.entry_step.specs.Each.{In}
 use Rattle.entry_step.specs.History.{with_stored}
@@ -19,7 +19,7 @@ Keeps conf id seen history None = history ≡ []
 Keeps conf id seen history (Some cell) = (cell.keep ≡ keep_of conf id) × IsCellOf cell seen history
 
 -- the values that are still to come, as a look-up of items: those of a draft, if there is one
-abbrev pub still_to_come : Option Draft → ℕ → Option Stored
+abbrev pub still_to_come : Option DraftView → ℕ → Option Stored
 still_to_come None id = None
 still_to_come (Some draft) id = stored_at draft.visits id
 
@@ -45,10 +45,6 @@ IsCalled conf id item = (trigger : Trigger) × (at_id conf.triggers id ≡ Some 
 abbrev pub SeesFor : Conf → List CellView → (ℕ → Option Stored) → ℕ → (ℕ → List Stored) → ℕ → Type 0
 SeesFor conf cells stored now items id =
     (item : ℕ) → IsCalled conf id item → Sees conf item (at_id cells item) (stored item) now (items item)
-
--- a cell as what it keeps alone, whatever room it has
-abbrev pub roomless : CellView → CellView
-roomless cell = record { keep = cell.keep; values = cell.values; room = 0 }
 
 -- what visits store came into the cells at a moment, and what they leave into the memories
 pub record CameIn (now : ℕ) (visits : List Visit) (before after : List CellView)

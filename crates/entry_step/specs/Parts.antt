@@ -1,5 +1,5 @@
 -- Parts of cells: copies of those in the feet of some entries, which are worked on apart from the others.
-use Rattle.std.specs.Prelude.{◌≡◌, ℕ, ◌+◌, ◌==◌, List, [], ◌∷◌, length, Option, Some, None, option_map, IfSome, if◌then◌else◌}
+use Rattle.std.specs.Prelude.{◌≡◌, ℕ, ◌+◌, ◌==◌, List, [], ◌∷◌, length, Option, Some, None, option_map, IfSome, All, if◌then◌else◌}
 use Rattle.std.specs.Option.{unwrap_or}
 use Rattle.zbx_types.specs.Ids.{at_id}
 use Rattle.zbx_types.specs.declared.conf.Conf.{Conf}
@@ -7,10 +7,11 @@ use Rattle.trigger_state.specs.Stages.{Stage, OwnsEvents}
 use Rattle.zbx_types.specs.declared.entries.Numbered.{Numbered}
 use Rattle.zbx_types.specs.declared.entries.Rec.{Rec}
 use Rattle.prep_steps.specs.declared.memory.StepMemory.{StepMemory}
-use Rattle.value_cache.specs.Cells.{CellView}
+use Rattle.value_cache.specs.Cells.{CellView, IsIn}
+use Rattle.value_cache.specs.Tokens.{CacheId}
 use Rattle.trigger_state.specs.declared.problems.Open.{Open}
 use Rattle.entry_step.specs.Log.{IsFitting}
-use Rattle.entry_step.specs.Kept.{roomless}
+use Rattle.preprocess.specs.Draft.{roomless}
 use Rattle.entry_step.specs.Records.{triggers_at}
 use Rattle.entry_step.specs.Cells.{Cells, ItemKey, TriggerKey, memory_in, after}
 use Rattle.entry_step.specs.Laws.{any_touches, cells_done, records_done}
@@ -18,12 +19,17 @@ use Rattle.entry_step.specs.Represents.{CellsView, Represents, ComesAfter}
 use Rattle.entry_step.specs.declared.parts.ItemRow.{ItemRow}
 use Rattle.entry_step.specs.declared.parts.TriggerRow.{TriggerRow}
 
--- what contracts see of a part: the copies of items' cells and of triggers' open problems, each with its id, and the
--- moment of the first Tick
+-- what contracts see of a part: the copies of items' cells and of triggers' open problems, each with its id, the moment of
+-- the first Tick, and the cache in which the values of the cells stand
 pub record PartView : Type 0 where
   pub items : List ItemRow
   pub triggers : List TriggerRow
   pub tick : Option ℕ
+  pub cache : CacheId
+
+-- the tokens of these copies of cells are of this vector
+abbrev pub AreHeldIn : CacheId → List ItemRow → Type 0
+AreHeldIn cache rows = All (λ row. IsIn cache row.cell) rows
 
 -- the first of some rows with an id
 abbrev pub row_with : {A : Type 0} → (A → ℕ) → List A → ℕ → Option A

@@ -16,18 +16,20 @@ use Rattle.prep_steps.specs.declared.memory.StepMemory.{StepMemory}
 use Rattle.preprocess.specs.Chains.{listed}
 use Rattle.value_cache.specs.Cells.{CellView}
 use Rattle.value_cache.specs.Histories.{IsOrdered}
+use Rattle.value_cache.specs.Tokens.{CacheId}
 use Rattle.entry_step.specs.Kept.{Keeps}
 use Rattle.entry_step.specs.Cells.{Cells, ItemKey, TriggerKey, TickKey, opens_in, touches, records, after, AreCellsOf}
 use Rattle.trigger_state.specs.declared.problems.Open.{Open}
 use Rattle.entry_step.specs.Start.{Start}
 
--- the cells of the items, what their steps remember and the open problems of each trigger, in the order of ids, and the
--- first Tick
+-- the cells of the items, what their steps remember and the open problems of each trigger, in the order of ids, the first
+-- Tick, and the cache in which the values of the cells stand
 pub record CellsView : Type 0 where
   pub items : List CellView
   pub memories : List (List StepMemory)
   pub problems : List (List Open)
   pub tick : Option ℕ
+  pub cache : CacheId
 
 -- the open problems of the trigger with this id
 unfoldable pub problems_at : List (List Open) → ℕ → List Open

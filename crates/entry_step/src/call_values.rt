@@ -1,23 +1,23 @@
 //! The values of the calls of a trigger.
 
-ghost use Rattle.std.specs.Prelude.{◌≡◌, ℕ, List, Some, IfOk, IfSome, option_copied, slice_get};
+ghost use Rattle.std.specs.Prelude.{◌≡◌, ℕ, List, Some, IfOk, IfSome, option_copied, option_map, slice_get};
 ghost use Rattle.zbx_types.specs.Ids.{at_id};
 ghost use Rattle.zbx_types.specs.Operators.{call_pattern};
 ghost use Rattle.zbx_types.specs.declared.entries.Stored.{Stored};
-ghost use Rattle.value_cache.specs.Beside.{shown};
-ghost use Rattle.value_cache.specs.Cells.{IsWithin};
+ghost use Rattle.value_cache.specs.Cells.{IsIn, IsWithin};
 ghost use Rattle.value_cache.specs.Keeps.{keep_of};
+ghost use Rattle.value_cache.specs.Tokens.{IsOf};
 ghost use Rattle.value_cache.specs.Windows.{window_of};
 ghost use Rattle.history_functions.specs.Functions.{value_of};
 ghost use Rattle.entry_step.specs.Kept.{still_to_come, Sees};
-ghost use Rattle.entry_step.specs.Calls.{Shown, values_of, AreValues};
+ghost use Rattle.entry_step.specs.Calls.{Shown, values_of, AreCached, AreValues};
 
 use crate::calls::Calls;
 use history_functions::value_at;
 use std::alloc::Global;
 use value_cache::laws::asks_within;
-use value_cache::{ItemCell, Window};
-use zbx_types::{Call, Fix, Many, OutOfMemory, Stored, Trigger, by_id};
+use value_cache::{ItemCell, Token, Values};
+use zbx_types::{Call, Fix, Many, OutOfMemory, Trigger, by_id};
 
 /// The value of a call over a window.
 fn value_over(
@@ -25,7 +25,7 @@ fn value_over(
     calls: &Calls,
     call: &Call,
     pattern: u32,
-    window: &[Stored],
+    window: &Values,
 ) -> Result<Option<Fix>, OutOfMemory>
     requires { at_id calls.now.ready.now.conf.patterns pattern ≡ call_pattern call.now }
     ensures { IfOk result (λ v. v ≡ value_of call.now window.now calls.now.occasion.now calls.now.occasion.tick
@@ -43,48 +43,15 @@ fn value_over(
     )
 }
 
-/// The values of a window, where they lie in one slice.
-pub(crate) fn whole<'a>(window: &Window<'a>) -> Option<&'a [Stored]>
-    ensures { IfSome result (λ values. values.now ≡ shown window.now) }
-{
-    if window.before.is_empty() && window.stored.is_empty() {
-        return Some(window.after);
-    }
-    if window.before.is_empty() && window.after.is_empty() {
-        return Some(window.stored);
-    }
-    if window.stored.is_empty() && window.after.is_empty() {
-        return Some(window.before);
-    }
-    None
-}
-
-/// The value of a call over a window beside a value that isn't in the cell yet.
-fn value_beside(
-    alloc: Global,
-    calls: &Calls,
-    call: &Call,
-    pattern: u32,
-    window: &Window,
-) -> Result<Option<Fix>, OutOfMemory>
-    requires { at_id calls.now.ready.now.conf.patterns pattern ≡ call_pattern call.now }
-    ensures { IfOk result (λ v. v ≡ value_of call.now (shown window.now) calls.now.occasion.now
-        calls.now.occasion.tick calls.now.ready.now.conf.utc_offset) }
-{
-    if let Some(values) = whole(window) {
-        return value_over(alloc, calls, call, pattern, values);
-    }
-    let values = window.copies(alloc)?;
-    value_over(alloc, calls, call, pattern, values.as_slice())
-}
-
-/// The value of an item that is still to come.
-pub(crate) fn still_to_come<'a>(calls: &Calls<'a>, id: u32) -> Option<&'a Stored>
-    ensures { option_copied result ≡ still_to_come calls.now.coming.now id }
+/// The token of the value of an item that is still to come.
+pub(crate) fn still_to_come<'a>(calls: &Calls<'a>, id: u32) -> Option<&'a Token>
+    requires { AreCached calls.now }
+    ensures value { option_map (λ t. t.value) (option_copied result) ≡ still_to_come calls.now.coming.now id }
+    ensures of { IfSome result (λ t. IsOf calls.now.cache.now t.now) }
 {
     match calls.coming {
         None => None,
-        Some(draft) => draft.stored(id),
+        Some(draft) => draft.token(id),
     }
 }
 
@@ -95,23 +62,27 @@ fn value_in(
     call: &Call,
     pattern: u32,
     cell: &ItemCell,
-    stored: Option<&Stored>,
+    token: Option<&Token>,
 ) -> Result<Option<Fix>, OutOfMemory>
-    requires { at_id calls.now.ready.now.conf.patterns pattern ≡ call_pattern call.now }
+    requires pattern { at_id calls.now.ready.now.conf.patterns pattern ≡ call_pattern call.now }
+    requires cell { IsIn calls.now.cache.now cell.now }
+    requires token { IfSome token (λ t. IsOf calls.now.cache.now t.now) }
     ensures { IfOk result (λ v. (id : ℕ) (history : List Stored)
-        → Sees calls.now.ready.now.conf id (Some cell.now) (option_copied stored.entry) calls.now.occasion.now history
+        → Sees calls.now.ready.now.conf id (Some cell.now) (option_map (λ t. t.value) (option_copied token.entry))
+        calls.now.occasion.now history
         → IsWithin (keep_of calls.now.ready.now.conf id) call.now.range call.now.shift
         → v ≡ value_of call.now (window_of call.now.range call.now.shift calls.now.occasion.now history)
         calls.now.occasion.now calls.now.occasion.tick calls.now.ready.now.conf.utc_offset) }
 {
-    match stored {
+    let cache = calls.cache;
+    match token {
         None => {
             let window = cell.window_slice(call.range, call.shift, calls.occasion.now);
-            value_over(alloc, calls, call, pattern, window)
+            value_over(alloc, calls, call, pattern, &Values::cached(cache, window))
         }
-        Some(stored) => {
-            let window = cell.window_with(stored, call.range, call.shift, calls.occasion.now);
-            value_beside(alloc, calls, call, pattern, &window)
+        Some(token) => {
+            let window = cell.window_with(token, call.range, call.shift, calls.occasion.now);
+            value_over(alloc, calls, call, pattern, &Values::seen(cache, window))
         }
     }
 }
@@ -135,7 +106,8 @@ fn item_at(trigger: &Trigger, place: usize) -> Option<u32>
 
 /// The value of a call, by its place, over what is kept of its item.
 fn call_value(alloc: Global, calls: &Calls, place: usize) -> Result<Option<Fix>, OutOfMemory>
-    requires { at_id calls.now.ready.now.conf.triggers calls.now.id ≡ Some calls.now.trigger.now }
+    requires cached { AreCached calls.now }
+    requires trigger { at_id calls.now.ready.now.conf.triggers calls.now.id ≡ Some calls.now.trigger.now }
     ensures { IfOk result (λ v. (items : ℕ → List Stored) → Shown calls.now items
         → v ≡ values_of calls.now items place) }
 {
@@ -148,17 +120,18 @@ fn call_value(alloc: Global, calls: &Calls, place: usize) -> Result<Option<Fix>,
     asks_within();
     let pattern = calls.ready.place_of(calls.id, place);
     match by_id(calls.items, item) {
-        None => value_over(alloc, calls, call, pattern, &[]),
+        None => value_over(alloc, calls, call, pattern, &Values::plain(&[])),
         Some(cell) => {
-            let stored = still_to_come(calls, item);
-            value_in(alloc, calls, call, pattern, cell, stored)
+            let token = still_to_come(calls, item);
+            value_in(alloc, calls, call, pattern, cell, token)
         }
     }
 }
 
 /// The values of the calls, by their places.
 pub(crate) fn values_of(alloc: Global, calls: &Calls) -> Result<Many<Option<Fix>>, OutOfMemory>
-    requires { at_id calls.now.ready.now.conf.triggers calls.now.id ≡ Some calls.now.trigger.now }
+    requires cached { AreCached calls.now }
+    requires trigger { at_id calls.now.ready.now.conf.triggers calls.now.id ≡ Some calls.now.trigger.now }
     ensures { IfOk result (AreValues calls.now) }
 {
     let mut values = Many::new(alloc);

@@ -53,6 +53,7 @@ pub fn carry(
     now: Moment,
 ) -> Result<Many<Rec>, OutOfMemory>
     ensures ok { IfOk result (λ made. CarriesOver old.now new.old.conf number now cells.old made new.new cells.new) }
+    ensures cache { cells.new.cache ≡ cells.old.cache }
     ensures err { OnErr result ((cells.new ≡ cells.old) × (new.new ≡ new.old)) }
 {
     let opens = Looked {

@@ -3,7 +3,7 @@
 ghost use Rattle.std.specs.Prelude.{◌≡◌, ◌++◌, [], map, option_map, IfOk, OnOk};
 ghost use Rattle.std.specs.List.{cons_option};
 ghost use Rattle.zbx_types.specs.Ids.{at_id};
-ghost use Rattle.entry_step.specs.Kept.{roomless};
+ghost use Rattle.preprocess.specs.Draft.{roomless};
 ghost use Rattle.entry_step.specs.Exchange.{roomless_row, item_copy, item_copies, trigger_copy, trigger_copies};
 
 use crate::opens::copies;

@@ -3,7 +3,10 @@
 ghost use Rattle.std.specs.Prelude.{◌≡◌, ◌↔◌, IsTrue, Some, None};
 ghost use Rattle.zbx_types.specs.Ids.{at_id};
 ghost use Rattle.preprocess.specs.Rows.{with_row};
+ghost use Rattle.value_cache.specs.Cells.{IsIn};
+ghost use Rattle.preprocess.specs.Draft.{AreIn};
 ghost use Rattle.entry_step.specs.Each.{Each};
+ghost use Rattle.entry_step.specs.Parts.{AreHeldIn};
 ghost use Rattle.entry_step.specs.Exchange.{put_all, item_taken, items_taken, trigger_taken, triggers_taken};
 ghost use Rattle.entry_step.specs.Exchange.{IsSameCell, IsSameItem, IsSameTrigger};
 
@@ -11,6 +14,7 @@ use crate::parts::{ItemRow, TriggerRow};
 use crate::same::{same_memories, same_opens};
 use preprocess::exchange_at;
 use trigger_state::Open;
+use value_cache::Cache;
 use zbx_types::{Many, by_id};
 
 /// Exchanges the copies of an item for what is kept of it. Takes no memory.
@@ -54,12 +58,14 @@ pub(crate) fn exchange_triggers(problems: &mut Vec<Many<Open>>, rows: &mut [Trig
 
 /// Whether the copy of a cell is what is kept.
 #[tactic(auto, using(crate::proofs::Exchanging::cell_some, crate::proofs::Exchanging::cell_none))]
-fn same_cell(items: &preprocess::Cells, row: &ItemRow) -> bool
+fn same_cell(cache: &Cache, items: &preprocess::Cells, row: &ItemRow) -> bool
+    requires own { AreIn cache.now items.now.cells.items }
+    requires copy { IsIn cache.now row.now.cell }
     ensures { IsTrue result ↔ IsSameCell items.now.cells.items row.now }
 {
     match items.cell(row.id) {
         None => false,
-        Some(cell) => cell.same(&row.cell),
+        Some(cell) => cell.same(cache, &row.cell),
     }
 }
 
@@ -74,18 +80,22 @@ fn same_marks(memories: &[Many<prep_steps::StepMemory>], row: &ItemRow) -> bool
 }
 
 /// Whether the copies of an item are what is kept.
-fn same_item(items: &preprocess::Cells, row: &ItemRow) -> bool
+fn same_item(cache: &Cache, items: &preprocess::Cells, row: &ItemRow) -> bool
+    requires own { AreIn cache.now items.now.cells.items }
+    requires copy { IsIn cache.now row.now.cell }
     ensures { IsTrue result ↔ IsSameItem items.now.cells.items items.now.memories.items row.now }
 {
-    same_cell(items, row) && same_marks(items.memories(), row)
+    same_cell(cache, items, row) && same_marks(items.memories(), row)
 }
 
 /// Whether the copies of items are what is kept of them.
-pub(crate) fn same_items(items: &preprocess::Cells, rows: &[ItemRow]) -> bool
+pub(crate) fn same_items(cache: &Cache, items: &preprocess::Cells, rows: &[ItemRow]) -> bool
+    requires own { AreIn cache.now items.now.cells.items }
+    requires copies { AreHeldIn cache.now rows.now }
     ensures { IsTrue result ↔ Each (IsSameItem items.now.cells.items items.now.memories.items) rows.now }
 {
     for row in rows {
-        if !same_item(items, row) {
+        if !same_item(cache, items, row) {
             return false;
         }
     }

@@ -35,7 +35,7 @@
 //! rule's reach holds a trigger, nothing is looked at for its problems.
 //!
 //! ```text
-//! let ready = Ready::build(alloc, conf)?;
+//! let ready = Ready::build(alloc, conf, cache)?;
 //! let mut cells = Cells::new(alloc, ready.conf())?;
 //! let mut steps = Steps::new(blank);
 //! let made = step(alloc, &ready, &mut cells, &entry, &mut steps)?;

@@ -8,7 +8,7 @@ ghost use Rattle.entry_step.specs.Parts.{IsPartOf, IsSame, IsReplaced, IsWorkabl
 ghost use Rattle.entry_step.specs.Exchange.{IsCopy, IsTaken};
 ghost use Rattle.entry_step.specs.Stepping.{AllMade, AllCounted, AreSteppedTo};
 
-use crate::cells::Cells;
+use crate::cells::{Cells, shared};
 use crate::copying::{copied_items, copied_triggers, items_again, triggers_again};
 use crate::exchange::{exchange_items, exchange_triggers, same_items, same_triggers};
 use crate::stepping::step;
@@ -19,9 +19,10 @@ use prep_steps::StepMemory;
 use std::alloc::Global;
 use std::marker::Model;
 use std::mem::swap;
+use std::sync::Arc;
 use std::sync::ledger::Ledger;
 use trigger_state::Open;
-use value_cache::ItemCell;
+use value_cache::{Cache, ItemCell};
 use zbx_types::{Many, Moment, Numbered, OutOfMemory, Rec};
 
 /// The copy of an item's cell, and of what its steps remember.
@@ -39,36 +40,42 @@ pub struct TriggerRow {
     pub(crate) problems: Many<Open>,
 }
 
-/// Copies of the cells in the feet of some entries, and the moment of the first Tick.
+/// Copies of the cells in the feet of some entries, and the moment of the first Tick. Copies of cells have no values: these
+/// stand in the cache of the cells that they were copied from.
 #[derive(Drop)]
 pub struct Part {
     items: Vec<ItemRow>,
     triggers: Vec<TriggerRow>,
     tick: Option<Moment>,
+    cache: Arc<Cache>,
 }
 
 impl Model for Part {
     ghost use Rattle.std.specs.Prelude.{◌≡◌, true, map};
+    ghost use Rattle.std.specs.Arc.{arc_value};
     ghost use Rattle.footprint.specs.Rows.{rises};
-    ghost use Rattle.entry_step.specs.Parts.{PartView};
+    ghost use Rattle.entry_step.specs.Parts.{PartView, AreHeldIn};
 
     ghost Value = { PartView };
 
-    ghost view = { λ p. record { items = p.items.items; triggers = p.triggers.items; tick = p.tick } };
+    ghost view = { λ p. record { items = p.items.items; triggers = p.triggers.items; tick = p.tick; cache = arc_value p.cache } };
 
-    ghost invariant = { λ p. (rises (map (λ row. row.id) p.items.items) ≡ true) × (rises (map (λ row. row.id) p.triggers.items) ≡ true) };
+    ghost invariant = { λ p. (rises (map (λ row. row.id) p.items.items) ≡ true) × (rises (map (λ row. row.id) p.triggers.items) ≡ true) × AreHeldIn (arc_value p.cache) p.items.items };
 }
 
 impl Part {
     /// A copy. [`OutOfMemory`] where there is no room for it.
     #[tactic(auto, using(crate::proofs::Parting::copy_rises))]
     fn copy(&self, alloc: Global) -> Result<Part, OutOfMemory>
-        ensures { IfOk result (λ made. IsCopy made self.now) }
+        ensures copy { IfOk result (λ made. IsCopy made self.now) }
+        ensures cache { IfOk result (λ made. made.cache ≡ self.now.cache) }
     {
+        let cache = shared(&self.cache)?;
         Ok(Part {
             items: items_again(alloc, self.items.as_slice())?,
             triggers: triggers_again(alloc, self.triggers.as_slice())?,
             tick: self.tick,
+            cache,
         })
     }
 }
@@ -83,8 +90,8 @@ pub struct WorkedOut {
 }
 
 impl Cells {
-    /// Copies the cells in the feet of some entries, and the moment of the first Tick. [`OutOfMemory`] where there is
-    /// no room for them.
+    /// Copies the cells in the feet of some entries, and the moment of the first Tick. No value is copied: those of the
+    /// copies are where those of the cells are. [`OutOfMemory`] where there is no room for them.
     ///
     /// It takes time in the sizes of the feet, and for a Config or a Tick in that of all cells.
     pub fn part(
@@ -93,48 +100,59 @@ impl Cells {
         ready: &Ready,
         entries: &[Numbered],
     ) -> Result<Part, OutOfMemory>
-        ensures { IfOk result (λ part. IsPartOf ready.now.conf entries.now self.now part) }
+        ensures part { IfOk result (λ part. IsPartOf ready.now.conf entries.now self.now part) }
+        ensures cache { IfOk result (λ part. part.cache ≡ self.now.cache) }
     {
         let cells = self.items.cells();
         let memories = self.items.memories();
         if cells.len() != memories.len() {
             return Err(OutOfMemory);
         }
+        let cache = shared(&self.cache)?;
         let items = item_ids(alloc, ready, entries, cells)?;
         let triggers = trigger_ids(alloc, ready, entries, self.problems.as_slice())?;
         Ok(Part {
             items: copied_items(alloc, cells, memories, items.as_slice())?,
             triggers: copied_triggers(alloc, self.problems.as_slice(), triggers.as_slice())?,
             tick: self.tick,
+            cache,
         })
     }
 
-    /// Whether each copy in a part equals what is here. Takes no memory.
+    /// Whether each copy in a part, whose values stand in the same cache, equals what is here: of values it compares
+    /// indexes. Takes no memory.
     pub fn same(&self, part: &Part) -> bool
+        requires { part.now.cache ≡ self.now.cache }
         ensures { (result ≡ true) ↔ IsSame self.now part.now }
     {
         if !same_tick(self.tick, part.tick) {
             return false;
         }
-        if !same_items(&self.items, part.items.as_slice()) {
+        if !same_items(&self.cache, &self.items, part.items.as_slice()) {
             return false;
         }
         same_triggers(self.problems.as_slice(), part.triggers.as_slice())
     }
 
-    /// Exchanges each copy for what is in its place, and the moments of the first Tick. Takes no memory.
+    /// Exchanges each copy for what is in its place, and the moments of the first Tick. The values of both stand in one
+    /// cache. Takes no memory.
     fn exchange(&mut self, part: &mut Part)
+        requires { part.old.cache ≡ self.old.cache }
         ensures replaced { IsReplaced self.old part.old self.new }
         ensures taken { IsTaken self.old part.old part.new }
+        ensures cache { self.new.cache ≡ self.old.cache }
+        ensures part_cache { part.new.cache ≡ part.old.cache }
     {
         exchange_items(&mut self.items, part.items.as_mut_slice());
         exchange_triggers(&mut self.problems, part.triggers.as_mut_slice());
         swap(&mut self.tick, &mut part.tick);
     }
 
-    /// Puts each copy in its place. Takes no memory.
+    /// Puts each copy, whose values stand in the same cache, in its place. Takes no memory.
     pub fn put(&mut self, part: Part)
-        ensures { IsReplaced self.old part self.new }
+        requires { part.cache ≡ self.old.cache }
+        ensures replaced { IsReplaced self.old part self.new }
+        ensures cache { self.new.cache ≡ self.old.cache }
     {
         let mut part = part;
         self.exchange(&mut part);
@@ -163,6 +181,7 @@ pub(crate) fn step_all<L: Ledger>(
     ensures made { IfOk result (λ made. AllMade ready.now cells.old entries.now made cells.new) }
     ensures counted { OnOk result (AllCounted ready.now cells.old entries.now steps.old steps.new) }
     ensures some { AreSteppedTo ready.now cells.old entries.now cells.new }
+    ensures cache { cells.new.cache ≡ cells.old.cache }
 {
     let mut made = Many::new(alloc);
     for entry in entries {
@@ -172,7 +191,8 @@ pub(crate) fn step_all<L: Ledger>(
 }
 
 /// Works out entries, one after another, on a part of cells. The part has to be of some cells to which they come.
-/// `scratch` are cells before the first entry, in which it is done, and which are so again behind it.
+/// `scratch` are cells before the first entry, in which it is done, and which are so again behind it; its values stand in the
+/// same cache.
 ///
 /// One step is counted for each trigger that is evaluated. `Err` where no memory is to be had.
 pub fn work_out<L: Ledger>(
@@ -184,8 +204,11 @@ pub fn work_out<L: Ledger>(
     steps: &mut Steps<L>,
 ) -> Result<WorkedOut, OutOfMemory>
     requires scratch { Holds (fresh ready.now) scratch.old [] }
+    requires cache { part.now.cache ≡ scratch.old.cache }
     requires workable { IsWorkable ready.now entries.now part.now }
     ensures scratch { Holds (fresh ready.now) scratch.new [] }
+    ensures cache { scratch.new.cache ≡ scratch.old.cache }
+    ensures part_cache { IfOk result (λ w. w.part.cache ≡ part.now.cache) }
     ensures made { IfOk result (λ w. WorksOut ready.now entries.now part.now w.part w.made) }
     ensures counted { OnOk result (IsCounted ready.now entries.now part.now steps.old steps.new) }
 {

@@ -16,7 +16,7 @@ ghost use Rattle.zbx_types.specs.declared.triggers.Trigger.{Trigger};
 ghost use Rattle.entry_step.specs.Changes.{IsAbsorbed, has_fresh, Leaves, Lands, outcome_records, outcome_rows, EachClosed, judged, Serve, AreTidy, Absorbed};
 ghost use Rattle.event_text.specs.Titles.{event_tags};
 ghost use Rattle.zbx_types.specs.declared.entries.Stored.{Stored};
-ghost use Rattle.entry_step.specs.Calls.{Shown, sight_of};
+ghost use Rattle.entry_step.specs.Calls.{Shown, AreCached, sight_of};
 ghost use Rattle.entry_step.specs.Seen.{shown_values};
 ghost use Rattle.conf_index.specs.Plans.{plan_of, recovery_plan_of};
 
@@ -413,7 +413,8 @@ fn settled(
     problems: &[Many<Open>],
     verdict: &Verdict,
 ) -> Result<Option<TriggerOutcome>, OutOfMemory>
-    requires { at_id calls.now.ready.now.conf.triggers calls.now.id ≡ Some calls.now.trigger.now }
+    requires cached { AreCached calls.now }
+    requires trigger { at_id calls.now.ready.now.conf.triggers calls.now.id ≡ Some calls.now.trigger.now }
     ensures records { IfOk result (λ made. (items : ℕ → List Stored) → Shown calls.now items
         → outcome_records made ≡ verdict_records calls.now.ready.now calls.now.occasion.number calls.now.occasion.now
         (shown_values items calls.now.occasion.now calls.now.trigger.now) calls.now.id calls.now.trigger.now
@@ -454,7 +455,8 @@ fn settled(
 /// The tags that a trigger has now, as far as its verdict needs them: only open problems that close by a tag do.
 #[tactic(auto, using(crate::proofs::Sight::serve_same, crate::proofs::Sight::serve_untagged, crate::proofs::Sight::serve_none))]
 fn closing_tags(alloc: Global, calls: &Calls, opens: &[Open]) -> Result<Many<Tag>, OutOfMemory>
-    requires { at_id calls.now.ready.now.conf.triggers calls.now.id ≡ Some calls.now.trigger.now }
+    requires cached { AreCached calls.now }
+    requires trigger { at_id calls.now.ready.now.conf.triggers calls.now.id ≡ Some calls.now.trigger.now }
     ensures { IfOk result (λ made. (items : ℕ → List Stored) → Shown calls.now items
         → Serve calls.now.trigger.now opens.now made (event_tags calls.now.ready.now.conf calls.now.id
         (shown_values items calls.now.occasion.now calls.now.trigger.now))) }
@@ -479,6 +481,7 @@ pub(crate) fn judge(
     held: bool,
     problems: &[Many<Open>],
 ) -> Result<Option<TriggerOutcome>, OutOfMemory>
+    requires cached { AreCached calls.now }
     requires there { at_id calls.now.ready.now.conf.triggers calls.now.id ≡ Some calls.now.trigger.now }
     requires plan { plan.now ≡ plan_of calls.now.trigger.now }
     requires recovery { recovery.now ≡ recovery_plan_of calls.now.trigger.now }

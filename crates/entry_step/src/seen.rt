@@ -1,42 +1,31 @@
 //! The values that the events of a trigger show.
 
-ghost use Rattle.std.specs.Prelude.{◌≡◌, ℕ, List, length, take, Some, IfOk, option_copied};
+ghost use Rattle.std.specs.Prelude.{◌≡◌, ℕ, List, length, take, Some, IfOk, IfSome, option_copied, option_map};
 ghost use Rattle.zbx_types.specs.Ids.{at_id};
 ghost use Rattle.zbx_types.specs.declared.calls.Range.TheVariants.{Count};
 ghost use Rattle.zbx_types.specs.declared.entries.Stored.{Stored};
-ghost use Rattle.value_cache.specs.Beside.{shown};
-ghost use Rattle.value_cache.specs.Cells.{IsWithin};
+ghost use Rattle.value_cache.specs.Cells.{IsIn, IsWithin};
+ghost use Rattle.value_cache.specs.Tokens.{IsOf};
 ghost use Rattle.value_cache.specs.Keeps.{keep_of};
 ghost use Rattle.entry_step.specs.Kept.{Sees, IsCalled};
 ghost use Rattle.entry_step.specs.Seen.{first_held, latest_in};
-ghost use Rattle.entry_step.specs.Calls.{Shown, AreShown};
+ghost use Rattle.entry_step.specs.Calls.{Shown, AreCached, AreShown};
 
-use crate::call_values::{still_to_come, whole};
+use crate::call_values::still_to_come;
 use crate::calls::Calls;
 use std::alloc::Global;
 use value_cache::laws::asks_within;
-use value_cache::{ItemCell, Window};
-use zbx_types::{Held, Many, OutOfMemory, Range, Stored, Trigger, by_id};
+use value_cache::{ItemCell, Token, Values};
+use zbx_types::{Held, Many, OutOfMemory, Range, Trigger, by_id};
 
 /// The value of the first of a window.
-fn first_held(alloc: Global, window: &[Stored]) -> Result<Option<Held>, OutOfMemory>
+fn first_held(alloc: Global, window: &Values) -> Result<Option<Held>, OutOfMemory>
     ensures { IfOk result (λ made. made ≡ first_held window.now) }
 {
-    match window.first() {
+    match window.get(0) {
         None => Ok(None),
         Some(stored) => Ok(Some(stored.value.copy(alloc)?)),
     }
-}
-
-/// The value of the first of a window beside a value that isn't in the cell yet.
-fn first_beside(alloc: Global, window: &Window) -> Result<Option<Held>, OutOfMemory>
-    ensures { IfOk result (λ made. made ≡ first_held (shown window.now)) }
-{
-    if let Some(values) = whole(window) {
-        return first_held(alloc, values);
-    }
-    let values = window.copies(alloc)?;
-    first_held(alloc, values.as_slice())
 }
 
 /// The latest value of an item, by its cell.
@@ -44,27 +33,32 @@ fn latest_in(
     alloc: Global,
     calls: &Calls,
     cell: &ItemCell,
-    stored: Option<&Stored>,
+    token: Option<&Token>,
 ) -> Result<Option<Held>, OutOfMemory>
+    requires cell { IsIn calls.now.cache.now cell.now }
+    requires token { IfSome token (λ t. IsOf calls.now.cache.now t.now) }
     ensures { IfOk result (λ made. (id : ℕ) (history : List Stored)
-        → Sees calls.now.ready.now.conf id (Some cell.now) (option_copied stored.entry) calls.now.occasion.now history
+        → Sees calls.now.ready.now.conf id (Some cell.now) (option_map (λ t. t.value) (option_copied token.entry))
+        calls.now.occasion.now history
         → IsWithin (keep_of calls.now.ready.now.conf id) (Count 1) 0
         → made ≡ latest_in calls.now.occasion.now history) }
 {
-    match stored {
+    let cache = calls.cache;
+    match token {
         None => {
             let window = cell.window_slice(Range::Count(1), 0, calls.occasion.now);
-            first_held(alloc, window)
+            first_held(alloc, &Values::cached(cache, window))
         }
-        Some(stored) => {
-            let window = cell.window_with(stored, Range::Count(1), 0, calls.occasion.now);
-            first_beside(alloc, &window)
+        Some(token) => {
+            let window = cell.window_with(token, Range::Count(1), 0, calls.occasion.now);
+            first_held(alloc, &Values::seen(cache, window))
         }
     }
 }
 
 /// The latest value of the item with an id, where the trigger has a call over it.
 fn latest_of(alloc: Global, calls: &Calls, item: u32) -> Result<Option<Held>, OutOfMemory>
+    requires { AreCached calls.now }
     ensures { IfOk result (λ made. (items : ℕ → List Stored) → Shown calls.now items
         → IsCalled calls.now.ready.now.conf calls.now.id item → IsWithin (keep_of calls.now.ready.now.conf item) (Count 1) 0
         → made ≡ latest_in calls.now.occasion.now (items item)) }
@@ -72,8 +66,8 @@ fn latest_of(alloc: Global, calls: &Calls, item: u32) -> Result<Option<Held>, Ou
     match by_id(calls.items, item) {
         None => Ok(None),
         Some(cell) => {
-            let stored = still_to_come(calls, item);
-            latest_in(alloc, calls, cell, stored)
+            let token = still_to_come(calls, item);
+            latest_in(alloc, calls, cell, token)
         }
     }
 }
@@ -92,7 +86,8 @@ fn items_of(trigger: &Trigger) -> &[u32]
 
 /// The latest values of the items of the trigger's history calls, in the order of the calls.
 pub(crate) fn shown_values(alloc: Global, calls: &Calls) -> Result<Many<Option<Held>>, OutOfMemory>
-    requires { at_id calls.now.ready.now.conf.triggers calls.now.id ≡ Some calls.now.trigger.now }
+    requires cached { AreCached calls.now }
+    requires trigger { at_id calls.now.ready.now.conf.triggers calls.now.id ≡ Some calls.now.trigger.now }
     ensures { IfOk result (AreShown calls.now) }
 {
     let mut made = Many::new(alloc);

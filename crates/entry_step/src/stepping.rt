@@ -11,18 +11,20 @@ ghost use Rattle.trigger_state.specs.Stages.{OwnsEvents};
 ghost use Rattle.entry_step.specs.Start.{Start};
 ghost use Rattle.entry_step.specs.Log.{Suits};
 ghost use Rattle.preprocess.specs.Visits.{memory_in};
-ghost use Rattle.preprocess.specs.Draft.{stored_at, AreApart, HaveRoom};
+ghost use Rattle.value_cache.specs.Tokens.{CacheId, AreOf};
+ghost use Rattle.preprocess.specs.Draft.{stored_at, AreApart, AreIn, HaveRoom};
 ghost use Rattle.preprocess.specs.Cells.{Becomes};
 ghost use Rattle.entry_step.specs.History.{visits_at};
 ghost use Rattle.entry_step.specs.Records.{evaluated, triggers_at, out_of, replay};
 ghost use Rattle.conf_index.specs.Timed.{timed_triggers};
+ghost use Rattle.entry_step.specs.Calls.{AreSeenIn};
 ghost use Rattle.entry_step.specs.Kept.{still_to_come, SeesFor};
 ghost use Rattle.entry_step.specs.Represents.{Holds, StepsTo, problems_at};
 ghost use Rattle.entry_step.specs.Changes.{is_asked, outcome_records, outcome_rows, put_back, AreTidy, RunsOver, RunsOn, Absorbed, Drafted, TakesIn, TakesTick};
 ghost use Rattle.conf_index.specs.Index.{triggers_under};
 
 use crate::call_values::values_of;
-use crate::calls::Calls;
+use crate::calls::{Calls, Scene};
 use crate::cells::Cells;
 use crate::changes::{Draft, TriggerOutcome, put_back};
 use crate::due::run_due;
@@ -35,7 +37,7 @@ use preprocess::{Prepared, commit};
 use std::alloc::Global;
 use std::sync::ledger::Ledger;
 use trigger_state::{Open, held_by};
-use value_cache::ItemCell;
+use value_cache::Cache;
 use zbx_types::{Conf, Entry, Many, Moment, Numbered, OutOfMemory, Rec, Text, by_id};
 
 /// Whether the trigger with an id is evaluated: where values are to be stored, it has a call over an item that is to
@@ -57,7 +59,7 @@ fn stores_one(draft: &preprocess::Draft, items: &[u32]) -> bool
     ensures { result ≡ list_any (λ item. is_some (stored_at draft.now.visits item)) items.now }
 {
     for item in items {
-        if draft.stored(*item).is_some() {
+        if draft.token(*item).is_some() {
             return true;
         }
     }
@@ -68,28 +70,29 @@ fn stores_one(draft: &preprocess::Draft, items: &[u32]) -> bool
 #[tactic(auto, using(crate::proofs::Landing::evaluated_none))]
 fn outcome_of(
     alloc: Global,
-    ready: &Ready,
-    items: &[ItemCell],
+    scene: &Scene,
     problems: &[Many<Open>],
-    occasion: &Occasion,
-    coming: &Option<preprocess::Draft>,
     id: u32,
 ) -> Result<Option<TriggerOutcome>, OutOfMemory>
+    requires { AreSeenIn scene.now.cache.now scene.now.items.now scene.now.coming.now }
     ensures records { IfOk result (λ made. (histories : ℕ → List Stored)
-        → SeesFor ready.now.conf items.now (still_to_come coming.now) occasion.entry.now.now histories id
-        → outcome_records made ≡ evaluated ready.now occasion.entry.now histories (problems_at problems.now) id) }
-    ensures rows { IfOk result (λ made. AreTidy ready.now occasion.entry.now.number problems.now
-        → Absorbed ready.now problems.now (outcome_records made) (outcome_rows problems.now id made)) }
+        → SeesFor scene.now.ready.now.conf scene.now.items.now (still_to_come scene.now.coming.now)
+        scene.now.occasion.now histories id
+        → outcome_records made ≡ evaluated scene.now.ready.now scene.now.occasion histories (problems_at problems.now) id) }
+    ensures rows { IfOk result (λ made. AreTidy scene.now.ready.now scene.now.occasion.number problems.now
+        → Absorbed scene.now.ready.now problems.now (outcome_records made) (outcome_rows problems.now id made)) }
 {
+    let ready = scene.ready;
     let conf = ready.conf();
     let Some(trigger) = by_id(conf.triggers.as_slice(), id) else {
         return Ok(None);
     };
     let calls = Calls {
         ready,
-        items,
-        coming,
-        occasion: *occasion,
+        cache: scene.cache,
+        items: scene.items,
+        coming: scene.coming,
+        occasion: scene.occasion,
         id,
         trigger,
     };
@@ -110,27 +113,26 @@ fn outcome_of(
 /// draft, also at `Err`.
 fn evaluate_one<L: Ledger>(
     alloc: Global,
-    ready: &Ready,
-    items: &[ItemCell],
+    scene: &Scene,
     problems: &mut Vec<Many<Open>>,
-    occasion: &Occasion,
-    coming: &Option<preprocess::Draft>,
     id: u32,
     draft: &mut Draft,
     steps: &mut Steps<L>,
 ) -> Result<(), OutOfMemory>
+    requires { AreSeenIn scene.now.cache.now scene.now.items.now scene.now.coming.now }
     ensures same { put_back problems.new.items draft.new.taken ≡ put_back problems.old.items draft.old.taken }
-    ensures runs { OnOk result (RunsOn ready.now occasion.entry.now items.now (still_to_come coming.now)
-        (is_asked ready.now.conf coming.now id) id draft.old.records problems.old.items draft.new.records
-        problems.new.items) }
-    ensures counted { OnOk result (steps.new ≡ steps.old + (if is_asked ready.now.conf coming.now id then 1 else 0)) }
-    ensures most { steps.new ≤ steps.old + (if is_asked ready.now.conf coming.now id then 1 else 0) }
+    ensures runs { OnOk result (RunsOn scene.now.ready.now scene.now.occasion scene.now.items.now
+        (still_to_come scene.now.coming.now) (is_asked scene.now.ready.now.conf scene.now.coming.now id) id
+        draft.old.records problems.old.items draft.new.records problems.new.items) }
+    ensures counted { OnOk result (steps.new ≡ steps.old
+        + (if is_asked scene.now.ready.now.conf scene.now.coming.now id then 1 else 0)) }
+    ensures most { steps.new ≤ steps.old + (if is_asked scene.now.ready.now.conf scene.now.coming.now id then 1 else 0) }
 {
-    if !is_asked(ready.conf(), coming, id) {
+    if !is_asked(scene.ready.conf(), scene.coming, id) {
         return Ok(());
     }
     let rows = problems.as_slice();
-    let outcome = outcome_of(alloc, ready, items, rows, occasion, coming, id)?;
+    let outcome = outcome_of(alloc, scene, rows, id)?;
     draft.take(alloc, problems, id, outcome)?;
     steps.tick();
     Ok(())
@@ -139,26 +141,25 @@ fn evaluate_one<L: Ledger>(
 /// Evaluates triggers on an occasion, one after another. What they had before is kept in the draft, also at `Err`.
 fn evaluate_all<L: Ledger>(
     alloc: Global,
-    ready: &Ready,
-    items: &[ItemCell],
+    scene: &Scene,
     problems: &mut Vec<Many<Open>>,
-    occasion: &Occasion,
-    coming: &Option<preprocess::Draft>,
     ids: &[u32],
     draft: &mut Draft,
     steps: &mut Steps<L>,
 ) -> Result<(), OutOfMemory>
-    requires { draft.old.records ≡ [] }
+    requires cached { AreSeenIn scene.now.cache.now scene.now.items.now scene.now.coming.now }
+    requires none { draft.old.records ≡ [] }
     ensures same { put_back problems.new.items draft.new.taken ≡ put_back problems.old.items draft.old.taken }
-    ensures runs { OnOk result (RunsOver ready.now occasion.entry.now items.now (still_to_come coming.now)
-        problems.old.items (filter (is_asked ready.now.conf coming.now) ids.now) draft.new.records problems.new.items) }
-    ensures counted { OnOk result (steps.new ≡ steps.old + length (filter (is_asked ready.now.conf coming.now) ids.now)) }
-    ensures most { steps.new ≤ steps.old + length (filter (is_asked ready.now.conf coming.now) ids.now) }
+    ensures runs { OnOk result (RunsOver scene.now.ready.now scene.now.occasion scene.now.items.now
+        (still_to_come scene.now.coming.now) problems.old.items
+        (filter (is_asked scene.now.ready.now.conf scene.now.coming.now) ids.now) draft.new.records problems.new.items) }
+    ensures counted { OnOk result (steps.new ≡ steps.old
+        + length (filter (is_asked scene.now.ready.now.conf scene.now.coming.now) ids.now)) }
+    ensures most { steps.new ≤ steps.old
+        + length (filter (is_asked scene.now.ready.now.conf scene.now.coming.now) ids.now) }
 {
     for id in ids {
-        evaluate_one(
-            alloc, ready, items, problems, occasion, coming, *id, draft, steps,
-        )?;
+        evaluate_one(alloc, scene, problems, *id, draft, steps)?;
     }
     Ok(())
 }
@@ -166,28 +167,27 @@ fn evaluate_all<L: Ledger>(
 /// Evaluates triggers on an occasion, and answers their records. At `Err` the open problems are as before.
 fn evaluated<L: Ledger>(
     alloc: Global,
-    ready: &Ready,
-    items: &[ItemCell],
+    scene: &Scene,
     problems: &mut Vec<Many<Open>>,
-    occasion: &Occasion,
-    coming: &Option<preprocess::Draft>,
     ids: &[u32],
     steps: &mut Steps<L>,
 ) -> Result<Draft, OutOfMemory>
+    requires { AreSeenIn scene.now.cache.now scene.now.items.now scene.now.coming.now }
     ensures same { IfOk result (λ draft. put_back problems.new.items draft.taken ≡ problems.old.items) }
-    ensures runs { IfOk result (λ draft. RunsOver ready.now occasion.entry.now items.now (still_to_come coming.now)
-        problems.old.items (filter (is_asked ready.now.conf coming.now) ids.now) draft.records problems.new.items) }
-    ensures counted { OnOk result (steps.new ≡ steps.old + length (filter (is_asked ready.now.conf coming.now) ids.now)) }
-    ensures most { steps.new ≤ steps.old + length (filter (is_asked ready.now.conf coming.now) ids.now) }
+    ensures runs { IfOk result (λ draft. RunsOver scene.now.ready.now scene.now.occasion scene.now.items.now
+        (still_to_come scene.now.coming.now) problems.old.items
+        (filter (is_asked scene.now.ready.now.conf scene.now.coming.now) ids.now) draft.records problems.new.items) }
+    ensures counted { OnOk result (steps.new ≡ steps.old
+        + length (filter (is_asked scene.now.ready.now.conf scene.now.coming.now) ids.now)) }
+    ensures most { steps.new ≤ steps.old
+        + length (filter (is_asked scene.now.ready.now.conf scene.now.coming.now) ids.now) }
     ensures err { OnErr result (problems.new.items ≡ problems.old.items) }
 {
     let mut draft = Draft {
         records: Many::new(alloc),
         taken: Many::new(alloc),
     };
-    match evaluate_all(
-        alloc, ready, items, problems, occasion, coming, ids, &mut draft, steps,
-    ) {
+    match evaluate_all(alloc, scene, problems, ids, &mut draft, steps) {
         Ok(()) => Ok(draft),
         Err(OutOfMemory) => {
             put_back(alloc, problems, draft.taken);
@@ -208,6 +208,7 @@ fn take_value<L: Ledger>(
     value: &Text,
     steps: &mut Steps<L>,
 ) -> Result<Many<Rec>, OutOfMemory>
+    ensures cache { cells.new.cache ≡ cells.old.cache }
     ensures ok { IfOk result (λ made. TakesIn ready.now occasion.entry.now
         (visits_at ready.now.conf (memory_in cells.old.memories) occasion.entry.now.number
         (Value occasion.entry.now.now item time value.now))
@@ -223,6 +224,7 @@ fn take_value<L: Ledger>(
 {
     let Prepared { draft, failures } = ready.prepare(
         alloc,
+        &cells.cache,
         &mut cells.items,
         item,
         value,
@@ -232,6 +234,7 @@ fn take_value<L: Ledger>(
     take_draft(
         alloc,
         ready,
+        &cells.cache,
         &mut cells.items,
         &mut cells.problems,
         occasion,
@@ -247,6 +250,7 @@ fn take_value<L: Ledger>(
 fn take_draft<L: Ledger>(
     alloc: Global,
     ready: &Ready,
+    cache: &Cache,
     items: &mut preprocess::Cells,
     problems: &mut Vec<Many<Open>>,
     occasion: &Occasion,
@@ -255,8 +259,11 @@ fn take_draft<L: Ledger>(
     failures: Many<Rec>,
     steps: &mut Steps<L>,
 ) -> Result<Many<Rec>, OutOfMemory>
+    requires cached { AreIn cache.now items.old.cells.items }
+    requires tokens { IfSome coming (λ draft. AreOf cache.now draft.tokens) }
     requires apart { IfSome coming (λ draft. AreApart draft.visits) }
     requires room { IfSome coming (λ draft. HaveRoom items.old.cells.items draft.visits) }
+    ensures of { AreIn cache.now items.new.cells.items }
     ensures made { IfOk result (λ made. Drafted ready.now occasion.entry.now coming
         (filter (is_asked ready.now.conf coming) (triggers_under ready.now.conf item)) failures items.old.cells.items
         problems.old.items made problems.new.items) }
@@ -268,16 +275,14 @@ fn take_draft<L: Ledger>(
     ensures items { OnErr result (items.new ≡ items.old) }
     ensures problems { OnErr result (problems.new.items ≡ problems.old.items) }
 {
-    let draft = evaluated(
-        alloc,
+    let scene = Scene {
         ready,
-        items.cells(),
-        problems,
-        occasion,
-        &coming,
-        ready.over(item),
-        steps,
-    )?;
+        cache,
+        items: items.cells(),
+        coming: &coming,
+        occasion: *occasion,
+    };
+    let draft = evaluated(alloc, &scene, problems, ready.over(item), steps)?;
     match behind(failures, draft.records) {
         Ok(records) => {
             settle(items, coming, occasion.now);
@@ -294,7 +299,8 @@ fn take_draft<L: Ledger>(
 fn settle(items: &mut preprocess::Cells, coming: Option<preprocess::Draft>, now: Moment)
     requires apart { IfSome coming (λ draft. AreApart draft.visits) }
     requires room { IfSome coming (λ draft. HaveRoom items.old.cells.items draft.visits) }
-    ensures { IfSome coming (λ draft. Becomes now draft.visits items.old items.new) }
+    ensures becomes { IfSome coming (λ draft. Becomes now draft.visits items.old items.new) }
+    ensures of { (cache : CacheId) → IfSome coming (λ draft. AreOf cache draft.tokens) → AreIn cache items.old.cells.items → AreIn cache items.new.cells.items }
 {
     if let Some(draft) = coming {
         commit(items, draft, now);
@@ -321,21 +327,20 @@ fn take_tick<L: Ledger>(
     occasion: &Occasion,
     steps: &mut Steps<L>,
 ) -> Result<Many<Rec>, OutOfMemory>
+    ensures cache { cells.new.cache ≡ cells.old.cache }
     ensures ok { IfOk result (λ made. TakesTick ready.now occasion.entry.now cells.old made cells.new) }
     ensures err { OnErr result (cells.new ≡ cells.old) }
     ensures counted { OnOk result (steps.new ≡ steps.old + length (timed_triggers ready.now.conf)) }
     ensures most { steps.new ≤ steps.old + length (timed_triggers ready.now.conf) }
 {
-    let mut draft = evaluated(
-        alloc,
+    let scene = Scene {
         ready,
-        cells.items.cells(),
-        &mut cells.problems,
-        occasion,
-        &None,
-        ready.timed(),
-        steps,
-    )?;
+        cache: &cells.cache,
+        items: cells.items.cells(),
+        coming: &None,
+        occasion: *occasion,
+    };
+    let mut draft = evaluated(alloc, &scene, &mut cells.problems, ready.timed(), steps)?;
     let now = occasion.now;
     match run_due(alloc, ready, now, &mut cells.problems, &mut draft.records) {
         Ok(()) => {
@@ -357,6 +362,7 @@ fn advance<L: Ledger>(
     entry: &Numbered,
     steps: &mut Steps<L>,
 ) -> Result<Many<Rec>, OutOfMemory>
+    ensures cache { cells.new.cache ≡ cells.old.cache }
     ensures made { IfOk result (λ made. StepsTo ready.now cells.old entry.now made cells.new) }
     ensures counted { OnOk result (steps.new ≡ steps.old + length
         (triggers_at ready.now.conf (memory_in cells.old.memories) entry.now.number entry.now.entry)) }
@@ -397,6 +403,7 @@ pub fn step<L: Ledger>(
     entry: &Numbered,
     steps: &mut Steps<L>,
 ) -> Result<Many<Rec>, OutOfMemory>
+    ensures cache { cells.new.cache ≡ cells.old.cache }
     ensures made { IfOk result (λ made. StepsTo ready.now cells.old entry.now made cells.new) }
     ensures out { IfOk result (λ made. (start : Start) (log : List Numbered) → start.stage ≡ ready.now
         → OwnsEvents start.stage entry.now.number → Holds start cells.old log → Suits start (entry.now ∷ log)

@@ -1,6 +1,6 @@
 -- Functions of the numbers of a window, oldest first (the Zabbix 6.0 manual, "Aggregate functions", "History
 -- functions").
-use Rattle.std.specs.Prelude.{◌*◌, ℤ, pos, List, [], ◌∷◌, length, Option, Some, None, option_and_then}
+use Rattle.std.specs.Prelude.{◌*◌, ℤ, pos, List, [], ◌∷◌, length, Option, Some, None, option_and_then, int_lt, if◌then◌else◌}
 use Rattle.zbx_types.specs.Arithmetic.{in_range, quotient_of}
 use Rattle.zbx_types.specs.Ids.{at_id}
 use Rattle.zbx_types.specs.Numbers.{least, greatest, total}
@@ -16,6 +16,18 @@ last_of (Period seconds) zs = None
 -- `first`: the oldest
 abbrev pub first_of : List ℤ → Option ℤ
 first_of zs = at_id zs 1
+
+-- the less of two numbers, of which none, one or both are there
+abbrev pub lesser : Option ℤ → Option ℤ → Option ℤ
+lesser None other = other
+lesser (Some z) None = Some z
+lesser (Some z) (Some x) = Some (if int_lt x z then x else z)
+
+-- the greater of them
+abbrev pub greater : Option ℤ → Option ℤ → Option ℤ
+greater None other = other
+greater (Some z) None = Some z
+greater (Some z) (Some x) = Some (if int_lt z x then x else z)
 
 -- `min`: of no number unknown
 abbrev pub min_of : List ℤ → Option ℤ

@@ -1,5 +1,5 @@
 -- The values of a window, which stand oldest first.
-use Rattle.std.specs.Prelude.{ℕ, ◌+◌, ◌-◌, ◌*◌, ℤ, pos, List, [], ◌∷◌, Option, drop, length}
+use Rattle.std.specs.Prelude.{ℕ, ◌+◌, ◌-◌, ◌*◌, ℤ, pos, List, [], ◌∷◌, Option, Some, None, drop, length}
 use Rattle.std.specs.List.{zip}
 use Rattle.zbx_types.specs.Arithmetic.{in_range}
 use Rattle.zbx_types.specs.Ids.{at_id}
@@ -16,6 +16,16 @@ number_before (Words text) zs = zs
 abbrev pub numbers : List Stored → List ℤ
 numbers [] = []
 numbers (s ∷ ss) = number_before s.value (numbers ss)
+
+-- a value as a number, where it is one
+abbrev pub number_of : Held → Option ℤ
+number_of (Number z) = Some z
+number_of (Words text) = None
+
+-- the same where there may be no value
+abbrev pub number_in : Option Stored → Option ℤ
+number_in None = None
+number_in (Some s) = number_of s.value
 
 -- each value with the next one in time
 abbrev pub neighbours : {A : Type 0} → List A → List (A × A)

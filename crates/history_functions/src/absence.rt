@@ -3,7 +3,8 @@
 ghost use Rattle.std.specs.Prelude.{◌≡◌};
 ghost use Rattle.history_functions.specs.Absence.{awaited, nodata_of};
 
-use zbx_types::{Fix, Moment, Range, Stored};
+use value_cache::Values;
+use zbx_types::{Fix, Moment, Range};
 
 /// Whether a period is over since the first Tick.
 fn awaited(seconds: u32, now: Moment, first_tick: Option<Moment>) -> Option<Fix>
@@ -24,17 +25,17 @@ fn awaited(seconds: u32, now: Moment, first_tick: Option<Moment>) -> Option<Fix>
 /// `nodata`: whether no value came in the period.
 pub(crate) fn nodata(
     range: Range,
-    window: &[Stored],
+    window: &Values,
     now: Moment,
     first_tick: Option<Moment>,
 ) -> Option<Fix>
     ensures { result ≡ nodata_of range window.now now first_tick }
 {
-    match window {
-        [_, ..] => Some(Fix::truth(false)),
-        [] => match range {
-            Range::Count(_) => None,
-            Range::Period(seconds) => awaited(seconds, now, first_tick),
-        },
+    if !window.is_empty() {
+        return Some(Fix::truth(false));
+    }
+    match range {
+        Range::Count(_) => None,
+        Range::Period(seconds) => awaited(seconds, now, first_tick),
     }
 }

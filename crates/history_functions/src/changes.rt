@@ -4,8 +4,9 @@ ghost use Rattle.std.specs.Prelude.{◌≡◌};
 ghost use Rattle.history_functions.specs.Changes.{change_between, change_of, counted_by, number_counts, counts, changes, changecount_of};
 ghost use Rattle.history_functions.specs.Changes.{may_rise, is_strict, all_rise, all_fall, monoinc_of, monodec_of};
 
-use crate::values::{nth_last, whole};
-use zbx_types::{Fix, Held, Stored, same_text};
+use crate::values::{nth_last, one_if, stored_at, whole};
+use value_cache::Values;
+use zbx_types::{Fix, Held, same_text};
 
 /// What `changecount` counts.
 #[derive(Clone, Copy)]
@@ -33,7 +34,7 @@ fn change_between(later: &Held, earlier: &Held) -> Option<Fix>
 }
 
 /// `change`: the latest value less the one before.
-pub(crate) fn change(window: &[Stored]) -> Option<Fix>
+pub(crate) fn change(window: &Values) -> Option<Fix>
     ensures { result ≡ change_of window.now }
 {
     let earlier = nth_last(window, 2)?;
@@ -80,19 +81,20 @@ fn counts(counted: Counted, later: &Held, earlier: &Held) -> bool
 }
 
 /// How many values count after the one before.
-#[tactic(auto, unfolding(crate::specs::Changes::changes))]
-fn count_changes(counted: Counted, window: &[Stored]) -> usize
+fn count_changes(counted: Counted, window: &Values) -> usize
     ensures { result ≡ changes counted window.now }
 {
-    window
-        .iter()
-        .zip(window.iter().skip(1))
-        .filter(|pair| counts(counted, &pair.1.value, &pair.0.value))
-        .count()
+    let mut count = 0;
+    for place in 0..window.len().saturating_sub(1) {
+        let earlier = stored_at(window, place);
+        let later = stored_at(window, place + 1);
+        count += one_if(counts(counted, &later.value, &earlier.value));
+    }
+    count
 }
 
 /// `changecount`: how many values differ from the one before, are greater or are less.
-pub(crate) fn changecount(mode: &[u8], window: &[Stored]) -> Option<Fix>
+pub(crate) fn changecount(mode: &[u8], window: &Values) -> Option<Fix>
     ensures { result ≡ changecount_of mode.now window.now }
 {
     whole(count_changes(counted_by(mode), window) as u64)

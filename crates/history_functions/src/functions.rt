@@ -17,22 +17,33 @@ use crate::ranks::percentile;
 use crate::values::numbers;
 use pattern_set::Patterns;
 use std::alloc::Global;
+use value_cache::Values;
 use zbx_types::{Call, Fix, Fun, Moment, OutOfMemory, Stored};
 
-/// The functions of numbers.
-fn of_these(alloc: Global, call: &Call, numbers: &[Fix]) -> Result<Option<Fix>, OutOfMemory>
-    ensures { IfOk result (λ v. v ≡ of_numbers call.now.fun call.now numbers.now) }
+/// The functions of the numbers of a window. Those that look at neighbours or ranks take a list of the numbers, and the
+/// others no memory.
+fn of_numbers(alloc: Global, call: &Call, window: &Values) -> Result<Option<Fix>, OutOfMemory>
+    ensures { IfOk result (λ v. v ≡ of_numbers call.now.fun call.now (numbers window.now)) }
 {
     match call.fun {
-        Fun::Last => Ok(last(call.range, numbers)),
-        Fun::First => Ok(first(numbers)),
-        Fun::Min => Ok(min(numbers)),
-        Fun::Max => Ok(max(numbers)),
-        Fun::Avg => avg(numbers),
-        Fun::Sum => sum(numbers),
-        Fun::Percentile => percentile(alloc, call.op.as_bytes(), numbers),
-        Fun::MonoInc => Ok(monoinc(call.op.as_bytes(), numbers)),
-        Fun::MonoDec => Ok(monodec(call.op.as_bytes(), numbers)),
+        Fun::Last => Ok(last(call.range, window)),
+        Fun::First => Ok(first(window)),
+        Fun::Min => Ok(min(window)),
+        Fun::Max => Ok(max(window)),
+        Fun::Avg => avg(window),
+        Fun::Sum => sum(window),
+        Fun::Percentile => {
+            let numbers = numbers(alloc, window)?;
+            percentile(alloc, call.op.as_bytes(), numbers.as_slice())
+        }
+        Fun::MonoInc => {
+            let numbers = numbers(alloc, window)?;
+            Ok(monoinc(call.op.as_bytes(), numbers.as_slice()))
+        }
+        Fun::MonoDec => {
+            let numbers = numbers(alloc, window)?;
+            Ok(monodec(call.op.as_bytes(), numbers.as_slice()))
+        }
         Fun::Change
         | Fun::Count
         | Fun::Find
@@ -44,14 +55,6 @@ fn of_these(alloc: Global, call: &Call, numbers: &[Fix]) -> Result<Option<Fix>, 
         | Fun::DayOfWeek
         | Fun::DayOfMonth => Ok(None),
     }
-}
-
-/// The same of the numbers of a window.
-fn of_numbers(alloc: Global, call: &Call, window: &[Stored]) -> Result<Option<Fix>, OutOfMemory>
-    ensures { IfOk result (λ v. v ≡ of_numbers call.now.fun call.now (numbers window.now)) }
-{
-    let numbers = numbers(alloc, window)?;
-    of_these(alloc, call, numbers.as_slice())
 }
 
 /// The functions of the moment.
@@ -105,19 +108,23 @@ pub fn value(
     ensures { IfOk result (λ v. v ≡ value_of call.now window.now now first_tick offset) }
 {
     let place = pattern_place(alloc, call, patterns)?;
+    let window = Values::plain(window);
     value_at(
-        alloc, call, place, window, now, first_tick, offset, patterns,
+        alloc, call, place, &window, now, first_tick, offset, patterns,
     )
 }
 
-/// The same as [`value`] gives, where the call's pattern stands at `place` among `patterns`, and isn't sought for: 0 where
-/// it has none. [`pattern_place`](crate::pattern_place) tells the place.
+/// The same as [`value`] gives, over values where they stand, and where the call's pattern stands at `place` among
+/// `patterns`, and isn't sought for: 0 where it has none. [`pattern_place`](crate::pattern_place) tells the place.
+///
+/// No value is copied. Memory is taken by `percentile`, `monoinc` and `monodec`, for the numbers of the window, and by
+/// `count` and `find` with a pattern.
 #[tactic(auto, unfolding(crate::specs::Functions::value_of, zbx_types::specs::Operators::call_pattern))]
 pub fn value_at(
     alloc: Global,
     call: &Call,
     place: u32,
-    window: &[Stored],
+    window: &Values,
     now: Moment,
     first_tick: Option<Moment>,
     offset: i32,

@@ -1,9 +1,10 @@
 //! The value of a call of a function in a trigger's expression (the Zabbix 6.0 manual, "Supported functions").
 //!
 //! The public contract: [`value`] gives what the definition of the call's function says of the window of its item,
-//! oldest first, at a moment, or None where that is unknown. [`value_at`] gives the same where the place of the call's
-//! pattern is known, as [`pattern_place`] found it once. A definition looks at lists alone; the code costs about as much
-//! as the window is long, `percentile` sorts it once, and `count` and `find` make one matcher for all of it.
+//! oldest first, at a moment, or None where that is unknown. [`value_at`] gives the same over values where they stand, of
+//! which none is copied, and where the place of the call's pattern is known, as [`pattern_place`] found it once. A
+//! definition looks at lists alone; the code costs about as much as the window is long, `percentile` sorts its numbers
+//! once, and `count` and `find` make one matcher for all of it.
 //!
 //! ```text
 //! last #n, first                   the n-th latest number, the oldest; unknown where there is none
@@ -28,7 +29,8 @@
 //! // avg(/host/key,#2) over 3.25 and 1.5
 //! value(alloc, &call, window, now, first_tick, offset, &patterns)?    // Some(2.375)
 //! let place = pattern_place(alloc, &call, &patterns)?;                // 0: it has none
-//! value_at(alloc, &call, place, window, now, first_tick, offset, &patterns)?
+//! let window = Values::cached(&cache, tokens);
+//! value_at(alloc, &call, place, &window, now, first_tick, offset, &patterns)?
 //! ```
 #![tactic(auto)]
 

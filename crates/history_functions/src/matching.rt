@@ -7,11 +7,12 @@ ghost use Rattle.zbx_types.specs.Suffixes.{read_suffixed};
 ghost use Rattle.zbx_types.specs.Written.{written};
 ghost use Rattle.history_functions.specs.Matching.{is_found, comparison, compares, number_matches, text_matches, matches, count_matching, any_matches, count_of, find_of};
 
-use crate::values::whole;
+use crate::values::{one_if, stored_at, whole};
 use pattern_set::{Matcher, Patterns};
 use std::alloc::Global;
 use std::convert::AsStr;
-use zbx_types::{Fix, Held, Operator, OutOfMemory, Stored, Text, operator_of, same_text};
+use value_cache::Values;
+use zbx_types::{Fix, Held, Operator, OutOfMemory, Text, operator_of, same_text};
 
 /// What values are tested for.
 #[derive(Clone, Copy)]
@@ -144,38 +145,36 @@ fn matches(
 }
 
 /// How many values match.
-#[tactic(auto, unfolding(crate::specs::Matching::count_matching))]
 fn count_matching(
     alloc: Global,
     test: &Test,
     matcher: &mut Option<Matcher<'_>>,
-    window: &[Stored],
+    window: &Values,
 ) -> Result<u64, OutOfMemory>
     requires { matcher.old ≡ pattern_of test.now.operator test.now.arg.now }
     ensures { IfOk result (λ count. count ≡ count_matching test.now.operator test.now.arg.now window.now) }
 {
     let mut count = 0;
-    for stored in window {
-        if matches(alloc, test, matcher, &stored.value)? {
-            count += 1;
-        }
+    for place in 0..window.len() {
+        let stored = stored_at(window, place);
+        count += one_if(matches(alloc, test, matcher, &stored.value)?);
     }
-    Ok(count)
+    Ok(count as u64)
 }
 
 /// Whether a value matches.
-#[tactic(auto, unfolding(crate::specs::Matching::any_matches))]
+#[tactic(auto, using(crate::proofs::Looking::any_found, crate::proofs::Looking::any_more, crate::proofs::Looking::any_none))]
 fn any_matches(
     alloc: Global,
     test: &Test,
     matcher: &mut Option<Matcher<'_>>,
-    window: &[Stored],
+    window: &Values,
 ) -> Result<bool, OutOfMemory>
     requires { matcher.old ≡ pattern_of test.now.operator test.now.arg.now }
     ensures { IfOk result (λ any. any ≡ any_matches test.now.operator test.now.arg.now window.now) }
 {
-    for stored in window {
-        if matches(alloc, test, matcher, &stored.value)? {
+    for place in 0..window.len() {
+        if matches(alloc, test, matcher, &stored_at(window, place).value)? {
             return Ok(true);
         }
     }
@@ -188,7 +187,7 @@ pub(crate) fn count(
     op: &Text,
     arg: &Text,
     place: u32,
-    window: &[Stored],
+    window: &Values,
     patterns: &Patterns,
 ) -> Result<Option<Fix>, OutOfMemory>
     requires { at_id patterns.now place ≡ pattern_of (operator_of op.now arg.now) arg.now }
@@ -205,7 +204,7 @@ pub(crate) fn find(
     op: &Text,
     arg: &Text,
     place: u32,
-    window: &[Stored],
+    window: &Values,
     patterns: &Patterns,
 ) -> Result<Option<Fix>, OutOfMemory>
     requires { at_id patterns.now place ≡ pattern_of (operator_of op.now arg.now) arg.now }

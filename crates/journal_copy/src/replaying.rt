@@ -10,7 +10,7 @@ ghost use Rattle.journal_copy.specs.State.{AreKept, counted, state_of};
 
 use crate::placing::place_of;
 use base_state::base_of;
-use book_opening::{Reached, replay_kept};
+use book_opening::{Reached, new_cache, replay_kept};
 use conf_index::Ready;
 use std::alloc::Global;
 use std::marker::Brand;
@@ -46,7 +46,8 @@ pub(crate) fn state_of(
     requires epochs { epochs.items ≡ run_epochs flat base.now entries.now }
     ensures { IfOk result (λ made. made ≡ counted (state_of base.entry.now entries.now)) }
 {
-    match replay_kept::<Brand>(alloc, base, epochs, entries) {
+    let cache = new_cache(alloc)?;
+    match replay_kept::<Brand>(alloc, base, epochs, entries, cache) {
         Ok(reached) => told(alloc, base, entries, &reached),
         Err(OutOfMemory) => Err(OutOfMemory),
     }

@@ -5,10 +5,10 @@ use Rattle.std.proofs.lemmas.Option.{get_or_from_slice_get}
 use Rattle.zbx_types.specs.Ids.{at_id}
 use Rattle.zbx_types.specs.declared.entries.Stored.{Stored}
 use Rattle.prep_steps.specs.declared.memory.StepMemory.{StepMemory}
-use Rattle.value_cache.specs.Cells.{CellView, IsExact, trim}
+use Rattle.value_cache.specs.Cells.{CellView, IsExact, IsSame, trim}
 use Rattle.value_cache.specs.declared.keeping.Keep.{Keep}
 use Rattle.preprocess.specs.Cells.{empty}
-use Rattle.preprocess.specs.Draft.{Kept, kept_of, kept_with, kept_after, marks_after, stored_by, visit_at, HasRoom, HaveRoom, IsOther}
+use Rattle.preprocess.specs.Draft.{Kept, kept_of, roomless, kept_with, kept_after, marks_after, stored_by, visit_at, HasRoom, HaveRoom, IsOther}
 use Rattle.preprocess.specs.Putting.{kept_row, kept_put}
 use Rattle.preprocess.specs.Rows.{with_row}
 use Rattle.preprocess.specs.declared.visit.Visit.{Visit}
@@ -36,12 +36,26 @@ set_own [] i x e = refl
 set_own (y ∷ xs) zero x e = let s : y ≡ x = cc in ap (λ z. z ∷ xs) (sym s)
 set_own (y ∷ xs) (suc i) x e = ap (λ zs. y ∷ zs) (set_own xs i x e)
 
-pub kept_set : (cells : List CellView) (i : ℕ) (cell : CellView) → i < length cells → kept_of cell ≡ kept_of (get_or cells i cell) → map kept_of (set cells i cell) ≡ map kept_of cells
-kept_set cells i cell l e =
+-- the cells are the same but for their room
+pub roomless_set : (cells : List CellView) (i : ℕ) (cell : CellView) → i < length cells → IsSame cell (get_or cells i cell) → map roomless (set cells i cell) ≡ map roomless cells
+roomless_set cells i cell l e =
     let t = there cells i l in
     let g : get_or cells i cell ≡ t.0 = get_or_from_slice_get cells i t.0 cell t.1 in
-    map_set kept_of cells i cell ∙ ap (set (map kept_of cells) i) (e ∙ ap kept_of g)
-    ∙ set_own (map kept_of cells) i (kept_of t.0) (map_get kept_of cells i ∙ ap (option_map kept_of) t.1)
+    map_set roomless cells i cell ∙ ap (set (map roomless cells) i) (same_roomless cell (get_or cells i cell) e ∙ ap roomless g)
+    ∙ set_own (map roomless cells) i (roomless t.0) (map_get roomless cells i ∙ ap (option_map roomless) t.1)
+  where
+    same_roomless : (one other : CellView) → IsSame one other → roomless one ≡ roomless other
+    same_roomless one other e =
+        ap (λ k. record { keep = k; values = one.values; tokens = one.tokens; room = 0 }) e.0
+        ∙ ap (λ vs. record { keep = other.keep; values = vs; tokens = one.tokens; room = 0 }) e.1
+        ∙ ap (λ ts. record { keep = other.keep; values = other.values; tokens = ts; room = 0 }) e.2
+
+kept_roomless : (cells : List CellView) → map kept_of (map roomless cells) ≡ map kept_of cells
+kept_roomless [] = refl
+kept_roomless (x ∷ xs) = ap (λ ks. kept_of x ∷ ks) (kept_roomless xs)
+
+pub same_kept : (one other : List CellView) → map roomless one ≡ map roomless other → map kept_of one ≡ map kept_of other
+same_kept one other e = sym (kept_roomless one) ∙ ap (map kept_of) e ∙ kept_roomless other
 
 with_index : {A : Type 0} (rows : List A) (id : ℕ) (row : A) → id ≢ 0 → set rows (id - 1) row ≡ with_row rows id row
 with_index rows zero row ne = absurd (ne refl)
@@ -163,7 +177,7 @@ marks_set rows id row ne = with_index rows id row ne
 
 -- ---- one visit after the other
 
-other_visit : (id : ℕ) (v : Visit) (visits : List Visit) → v.item ≢ id → visit_at (v ∷ visits) id ≡ visit_at visits id
+pub other_visit : (id : ℕ) (v : Visit) (visits : List Visit) → v.item ≢ id → visit_at (v ∷ visits) id ≡ visit_at visits id
 other_visit id v visits ne = go (v.item == id) refl
   where
     go : (b : Bool) → (v.item == id) ≡ b → cond b (Some v) (visit_at visits id) ≡ visit_at visits id

@@ -14,3 +14,5 @@ mod Named
 pub mod GoingOn
 mod Moving
 pub mod Stands
+pub mod Caching
+pub mod InCache

@@ -1,6 +1,6 @@
 -- A walk by its parts.
-use Rattle.std.proofs.Common.{◌≡◌, ◌≢◌, ◌≤◌, ◌-◌, ℕ, zero, suc, List, [], ◌∷◌, ◌++◌, flat_map, Option, Some, None, refl, ap, sym, ◌∙◌, arith, append-nil, append_assoc, map, slice_get, true≢false, length, drop}
-use Rattle.std.proofs.lemmas.List.{drop_all}
+use Rattle.std.proofs.Common.{◌≡◌, ◌≢◌, ◌≤◌, ◌<◌, ◌+◌, ◌-◌, get_or, ℕ, zero, suc, List, [], ◌∷◌, ◌++◌, flat_map, Option, Some, None, refl, ap, sym, ◌∙◌, arith, append-nil, append_assoc, map, slice_get, true≢false, length, drop}
+use Rattle.std.proofs.lemmas.List.{drop_all, drop_more}
 use Rattle.zbx_types.specs.Ids.{at_id}
 use Rattle.zbx_types.specs.declared.conf.Conf.{Conf}
 use Rattle.zbx_types.specs.declared.items.Item.{Item}
@@ -125,3 +125,11 @@ pub finished : (one : ℕ → List Visit) (ids : List ℕ) (index : ℕ) (before
     → after ++ flat_map one (drop index ids) ≡ before ++ flat_map one ids → whole ≡ flat_map one ids → after ≡ before ++ whole
 finished one ids index before after whole past is w =
     sym (ap (λ x. after ++ flat_map one x) (drop_all index ids past) ∙ append-nil after) ∙ is ∙ ap (λ x. before ++ x) (sym w)
+
+-- one more item of a level is passed
+pub passed : (one : ℕ → List Visit) (ids : List ℕ) (index id d : ℕ) (before after whole : List Visit) → index < length ids → id ≡ get_or ids index d
+    → after ≡ before ++ one id → before ++ flat_map one (drop index ids) ≡ whole → after ++ flat_map one (drop (index + 1) ids) ≡ whole
+passed one ids index id d before after whole l at e was =
+    ap (λ x. x ++ flat_map one (drop (index + 1) ids)) e ∙ append_assoc before (one id) (flat_map one (drop (index + 1) ids))
+    ∙ ap (λ (i : ℕ). before ++ (one i ++ flat_map one (drop (index + 1) ids))) at
+    ∙ ap (λ is. before ++ flat_map one is) (sym (drop_more ids index d l)) ∙ was

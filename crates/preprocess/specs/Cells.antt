@@ -8,7 +8,7 @@ use Rattle.prep_steps.specs.declared.memory.StepMemory.{StepMemory}
 use Rattle.value_cache.specs.Keeps.{keeps_of}
 use Rattle.value_cache.specs.declared.keeping.Keep.{Keep}
 use Rattle.preprocess.specs.Visits.{Arrival, memory_in, visits_of}
-use Rattle.preprocess.specs.Draft.{Kept, kept_of, visit_at, kept_after, marks_after, failures_of}
+use Rattle.preprocess.specs.Draft.{Kept, kept_of, roomless, visit_at, kept_after, marks_after, failures_of}
 use Rattle.preprocess.specs.declared.cells.Cells.{Cells}
 use Rattle.preprocess.specs.declared.draft.Prepared.{Prepared}
 use Rattle.preprocess.specs.declared.visit.Visit.{Visit}
@@ -19,7 +19,7 @@ kept_in cells = map kept_of cells.cells.items
 
 -- both keep the same, whatever room they have
 pub record AreSame (one other : Cells) : Type 0 where
-  pub cells : kept_in one ≡ kept_in other
+  pub cells : map roomless one.cells.items ≡ map roomless other.cells.items
   pub memories : one.memories.items ≡ other.memories.items
 
 -- nothing is kept yet
@@ -47,9 +47,7 @@ pub record Becomes (now : ℕ) (visits : List Visit) (before after : Cells) : Ty
 abbrev pub visits_in : Conf → Cells → Arrival → List Visit
 visits_in conf cells arrival = visits_of conf (memory_in cells.memories.items) arrival
 
--- that, and the Failure records
-abbrev pub prepared_of : Conf → Cells → Arrival → Prepared
-prepared_of conf cells arrival = record {
-  draft = record { visits = visits_in conf cells arrival };
-  failures = failures_of conf arrival.number (visits_in conf cells arrival);
-}
+-- that was prepared, with the Failure records
+pub record IsPrepared (conf : Conf) (cells : Cells) (arrival : Arrival) (prepared : Prepared) : Type 0 where
+  pub visits : prepared.draft.visits ≡ visits_in conf cells arrival
+  pub failures : prepared.failures ≡ failures_of conf arrival.number (visits_in conf cells arrival)

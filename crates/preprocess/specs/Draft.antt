@@ -1,6 +1,6 @@
 -- What the visits of an entry's value leave.
 use Rattle.std.specs.Prelude.{◌≢◌, ◌<◌, ℕ, ◌==◌, List, [], ◌∷◌, filter_map, Option, Some, None, IfSome, if◌then◌else◌}
-use Rattle.std.specs.Prelude.{⊤}
+use Rattle.std.specs.Prelude.{⊤, All}
 use Rattle.std.specs.List.{AllByRecursion}
 use Rattle.zbx_types.specs.Hosts.{host_name}
 use Rattle.zbx_types.specs.Ids.{at_id}
@@ -10,8 +10,9 @@ use Rattle.zbx_types.specs.declared.entries.Rec.TheVariants.{Failure}
 use Rattle.zbx_types.specs.declared.entries.Stored.{Stored}
 use Rattle.zbx_types.specs.declared.items.Item.{Item}
 use Rattle.prep_steps.specs.declared.memory.StepMemory.{StepMemory}
-use Rattle.value_cache.specs.Cells.{CellView, trim}
+use Rattle.value_cache.specs.Cells.{CellView, IsIn, trim}
 use Rattle.value_cache.specs.Histories.{placed}
+use Rattle.value_cache.specs.Tokens.{CacheId}
 use Rattle.value_cache.specs.declared.keeping.Keep.{Keep}
 use Rattle.preprocess.specs.declared.visit.ItemOutcome.{ItemOutcome}
 use Rattle.preprocess.specs.declared.visit.ItemOutcome.TheVariants as outcome
@@ -34,6 +35,14 @@ pub record Kept : Type 0 where
 -- what a cell keeps
 abbrev pub kept_of : CellView → Kept
 kept_of cell = record { keep = cell.keep; values = cell.values }
+
+-- a cell as what it keeps alone, whatever room it has
+abbrev pub roomless : CellView → CellView
+roomless cell = record { keep = cell.keep; values = cell.values; tokens = cell.tokens; room = 0 }
+
+-- each of these cells has tokens of this vector alone
+abbrev pub AreIn : CacheId → List CellView → Type 0
+AreIn cache cells = All (IsIn cache) cells
 
 -- what a cell keeps with one more value at a moment, if there is one
 abbrev pub kept_with : ℕ → Option Stored → Kept → Kept

@@ -8,6 +8,7 @@ pub mod Rows
 pub mod Visits
 pub mod Walks
 pub mod Draft
+pub mod Cached
 pub mod Putting
 pub mod Cells
 pub mod Carry

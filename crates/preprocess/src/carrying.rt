@@ -4,8 +4,10 @@
 ghost use Rattle.std.specs.Prelude.{◌≡◌, ◌≢◌, ◌<◌, ℕ, Some, true, length, map, set, replicate, option_and_then, IfOk, OnErr};
 ghost use Rattle.std.specs.Bool.{OnTrue};
 ghost use Rattle.zbx_types.specs.Ids.{at_id};
-ghost use Rattle.value_cache.specs.Cells.{CellView};
+ghost use Rattle.value_cache.specs.Cells.{CellView, IsIn};
+ghost use Rattle.value_cache.specs.Tokens.{CacheId};
 ghost use Rattle.preprocess.specs.Carry.{still_kept};
+ghost use Rattle.preprocess.specs.Draft.{AreIn};
 ghost use Rattle.preprocess.specs.Moves.{Claims, GoApart};
 
 use crate::cells::empty_cells;
@@ -15,7 +17,7 @@ use value_cache::{ItemCell, Keep};
 use zbx_types::{Moment, OutOfMemory, by_id};
 
 /// The cell of an item by a rule, where this is the id of its old one: it has what that one's is to keep.
-#[tactic(auto, using(crate::proofs::GoingOn::exact_empty))]
+#[tactic(auto, using(crate::proofs::GoingOn::exact_empty, crate::proofs::InCache::in_found))]
 fn cell_for(
     alloc: Global,
     cells: &[ItemCell],
@@ -25,6 +27,7 @@ fn cell_for(
 ) -> Result<ItemCell, OutOfMemory>
     ensures keep { IfOk result (λ cell. cell.keep ≡ keep) }
     ensures values { IfOk result (λ cell. cell.values ≡ still_kept now (option_and_then (at_id cells.now) id)) }
+    ensures of { IfOk result (λ cell. (cache : CacheId) → AreIn cache cells.now → IsIn cache cell) }
 {
     let Some(id) = id else {
         return Ok(ItemCell::new(alloc, keep));
@@ -46,6 +49,7 @@ fn copied_cells(
     requires { length olds.now ≡ length keeps.now }
     ensures keeps { IfOk result (λ made. map (λ (c : CellView). c.keep) made.items ≡ keeps.now) }
     ensures values { IfOk result (λ made. map (λ (c : CellView). c.values) made.items ≡ map (λ id. still_kept now (option_and_then (at_id cells.now) id)) olds.now) }
+    ensures of { IfOk result (λ made. (cache : CacheId) → AreIn cache cells.now → AreIn cache made.items) }
 {
     let mut made = Vec::new(alloc);
     for (place, keep) in keeps.iter().enumerate() {
@@ -92,7 +96,7 @@ fn go_apart(alloc: Global, count: usize, olds: &[Option<u32>]) -> Result<bool, O
 }
 
 /// Moves what the cell with an id is to keep into the one at a place. Takes no memory.
-#[tactic(auto, using(crate::proofs::Moving::keep_set, crate::proofs::Moving::values_set))]
+#[tactic(auto, using(crate::proofs::Moving::keep_set, crate::proofs::Moving::values_set, crate::proofs::InCache::in_exchanged, crate::proofs::InCache::in_taken, crate::proofs::InCache::in_set))]
 fn move_one(
     alloc: Global,
     made: &mut Vec<ItemCell>,
@@ -105,6 +109,8 @@ fn move_one(
     ensures keeps { map (λ (c : CellView). c.keep) made.new.items ≡ map (λ (c : CellView). c.keep) made.old.items }
     ensures values { map (λ (c : CellView). c.values) made.new.items ≡ set (map (λ (c : CellView). c.values) made.old.items) place (still_kept now (option_and_then (at_id cells.old.items) old)) }
     ensures others { (id : ℕ) → old ≢ Some id → at_id cells.new.items id ≡ at_id cells.old.items id }
+    ensures of { (cache : CacheId) → AreIn cache made.old.items → AreIn cache cells.old.items → AreIn cache made.new.items }
+    ensures left { (cache : CacheId) → AreIn cache cells.old.items → AreIn cache cells.new.items }
 {
     let keep = made[place].keep();
     let mut cell = ItemCell::new(alloc, keep);
@@ -124,6 +130,7 @@ fn move_in(
     requires count { length made.old.items ≡ length olds.now }
     ensures keeps { map (λ (c : CellView). c.keep) made.new.items ≡ map (λ (c : CellView). c.keep) made.old.items }
     ensures values { map (λ (c : CellView). c.values) made.new.items ≡ map (λ id. still_kept now (option_and_then (at_id cells.old.items) id)) olds.now }
+    ensures of { (cache : CacheId) → AreIn cache made.old.items → AreIn cache cells.old.items → AreIn cache made.new.items }
 {
     for (place, old) in olds.iter().enumerate() {
         move_one(alloc, made, cells, place, *old, now);
@@ -143,6 +150,7 @@ pub(crate) fn cells_for(
     requires { length olds.now ≡ length keeps.now }
     ensures keeps { IfOk result (λ made. map (λ (c : CellView). c.keep) made.items ≡ keeps.now) }
     ensures values { IfOk result (λ made. map (λ (c : CellView). c.values) made.items ≡ map (λ id. still_kept now (option_and_then (at_id cells.old.items) id)) olds.now) }
+    ensures of { IfOk result (λ made. (cache : CacheId) → AreIn cache cells.old.items → AreIn cache made.items) }
     ensures err { OnErr result (cells.new ≡ cells.old) }
 {
     if !go_apart(alloc, cells.len(), olds)? {

@@ -6,7 +6,9 @@ ghost use Rattle.zbx_types.specs.Ids.{at_id};
 ghost use Rattle.preprocess.specs.Rows.{with_row};
 ghost use Rattle.preprocess.specs.Carry.{AreCarried};
 ghost use Rattle.preprocess.specs.Cells.{AreNew, empty, no_marks};
-ghost use Rattle.preprocess.specs.Draft.{kept_of, HasRoom};
+ghost use Rattle.value_cache.specs.Cells.{IsIn};
+ghost use Rattle.value_cache.specs.Tokens.{CacheId};
+ghost use Rattle.preprocess.specs.Draft.{kept_of, roomless, AreIn, HasRoom};
 
 use crate::carrying::cells_for;
 use crate::exchange::exchange_at;
@@ -26,9 +28,9 @@ pub struct Cells {
 }
 
 /// Cells without values.
-
 pub(crate) fn empty_cells(alloc: Global, keeps: &[Keep]) -> Result<Vec<ItemCell>, OutOfMemory>
-    ensures { IfOk result (λ cells. map kept_of cells.items ≡ map empty keeps.now) }
+    ensures kept { IfOk result (λ cells. map kept_of cells.items ≡ map empty keeps.now) }
+    ensures of { IfOk result (λ cells. (cache : CacheId) → AreIn cache cells.items) }
 {
     let mut cells = Vec::new(alloc);
     for keep in keeps {
@@ -63,7 +65,8 @@ impl Cells {
     /// The cells before the first entry of a configuration: without values, and no step has a mark. Each cell is to
     /// keep what the calls of the configuration ask for. [`OutOfMemory`] where there is no room for them.
     pub fn new(alloc: Global, conf: &Conf) -> Result<Cells, OutOfMemory>
-        ensures { IfOk result (λ cells. AreNew conf.now cells) }
+        ensures new { IfOk result (λ cells. AreNew conf.now cells) }
+        ensures of { IfOk result (λ cells. (cache : CacheId) → AreIn cache cells.cells.items) }
     {
         let keeps = keeps(alloc, conf)?;
         Ok(Cells {
@@ -94,11 +97,14 @@ impl Cells {
     }
 
     /// Exchanges a cell, and what steps remember, for those of the item with an id. Takes no memory.
+    #[tactic(auto, using(crate::proofs::InCache::in_exchanged, crate::proofs::InCache::in_taken))]
     pub fn exchange(&mut self, id: u32, cell: &mut ItemCell, marks: &mut Many<StepMemory>)
         ensures cells { self.new.cells.items ≡ with_row self.old.cells.items id cell.old }
         ensures cell { cell.new ≡ unwrap_or (at_id self.old.cells.items id) cell.old }
         ensures memories { self.new.memories.items ≡ with_row self.old.memories.items id marks.old }
         ensures marks { marks.new ≡ unwrap_or (at_id self.old.memories.items id) marks.old }
+        ensures of { (cache : CacheId) → AreIn cache self.old.cells.items → IsIn cache cell.old → AreIn cache self.new.cells.items }
+        ensures cell_of { (cache : CacheId) → AreIn cache self.old.cells.items → IsIn cache cell.old → IsIn cache cell.new }
     {
         exchange_at(&mut self.cells, id, cell);
         exchange_at(&mut self.memories, id, marks);
@@ -121,6 +127,7 @@ impl Cells {
         now: Moment,
     ) -> Result<(), OutOfMemory>
         ensures ok { OnOk result (AreCarried old.now new.now now self.old self.new) }
+        ensures of { (cache : CacheId) → AreIn cache self.old.cells.items → AreIn cache self.new.cells.items }
         ensures err { OnErr result (self.new ≡ self.old) }
     {
         let olds = old_items(alloc, old, new)?;
@@ -140,9 +147,9 @@ impl Cells {
 }
 
 /// Makes room for one more value of an item, if it has a cell.
-#[tactic(auto, using(crate::proofs::Keeping::kept_set, crate::proofs::Keeping::room_own, crate::proofs::Keeping::room_none, crate::proofs::Keeping::room_past, crate::proofs::Keeping::room_other))]
+#[tactic(auto, using(crate::proofs::Keeping::roomless_set, crate::proofs::Keeping::room_own, crate::proofs::Keeping::room_none, crate::proofs::Keeping::room_past, crate::proofs::Keeping::room_other))]
 pub(crate) fn reserve_at(cells: &mut Vec<ItemCell>, id: u32) -> Result<(), OutOfMemory>
-    ensures same { map kept_of cells.new.items ≡ map kept_of cells.old.items }
+    ensures same { map roomless cells.new.items ≡ map roomless cells.old.items }
     ensures room { OnOk result (HasRoom cells.new.items id) }
     ensures others { OnOk result ((other : ℕ) → HasRoom cells.old.items other → HasRoom cells.new.items other) }
 {

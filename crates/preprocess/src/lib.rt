@@ -21,12 +21,13 @@
 //!
 //! A text is read as JSON once a chain, as long as it stays the same text. A path is read, and the place of a pattern
 //! found, once, at the opening. A caller of many values builds [`Chains`] once, and takes each value in two calls, of
-//! which the second takes no memory:
+//! which the second takes no memory. The first puts what is to be stored into the cache, and the second its tokens into
+//! the cells:
 //!
 //! ```text
 //! let chains = Chains::build(alloc, &conf, &patterns)?;
 //! let mut cells = Cells::new(alloc, &conf)?;
-//! let made = prepare(alloc, &conf, &patterns, &chains, &mut cells, item, &value, time, number)?;
+//! let made = prepare(alloc, &conf, &patterns, &chains, &cache, &mut cells, item, &value, time, number)?;
 //! commit(&mut cells, made.draft, now);            // made.failures: records
 //! ```
 //!
@@ -35,6 +36,7 @@
 //! up to the first that differs.
 #![tactic(auto)]
 
+mod cached;
 mod carrying;
 mod cells;
 mod chain;
@@ -59,4 +61,5 @@ pub use draft::{Draft, Prepared, commit, prepare};
 pub use ended::Ended;
 pub use exchange::exchange_at;
 pub use running::run;
+pub use visit::{ItemOutcome, Visit};
 pub use ways::{Way, ways_of};

@@ -1,15 +1,17 @@
 //! What a visit leaves, put in place.
 
-ghost use Rattle.std.specs.Prelude.{◌≡◌, ◌≢◌, Some, map, ℕ};
-ghost use Rattle.preprocess.specs.Draft.{HasRoom, kept_of, stored_by};
+ghost use Rattle.std.specs.Prelude.{◌≡◌, ◌≢◌, Some, IfSome, map, option_map, ℕ};
+ghost use Rattle.value_cache.specs.Tokens.{CacheId, IsOf};
+ghost use Rattle.preprocess.specs.Cached.{outcome_in, token_by};
+ghost use Rattle.preprocess.specs.Draft.{HasRoom, AreIn, kept_of, stored_by};
 ghost use Rattle.preprocess.specs.Putting.{kept_put};
 ghost use Rattle.preprocess.specs.Rows.{with_row};
 
+use crate::cached::{CachedOutcome, CachedVisit};
 use crate::cells::Cells;
-use crate::visit::{ItemOutcome, Visit};
 use prep_steps::StepMemory;
-use value_cache::ItemCell;
-use zbx_types::{Many, Moment, Stored};
+use value_cache::{ItemCell, Token};
+use zbx_types::{Many, Moment};
 
 /// What the steps of an item remember from now on.
 #[tactic(auto, using(crate::proofs::Keeping::marks_none, crate::proofs::Keeping::marks_past, crate::proofs::Keeping::marks_set))]
@@ -27,9 +29,10 @@ fn put_marks(memories: &mut Vec<Many<StepMemory>>, item: u32, marks: Many<StepMe
 
 /// One more value of an item, if it has a cell.
 #[tactic(auto, using(crate::proofs::Keeping::put_none, crate::proofs::Keeping::put_past, crate::proofs::Keeping::put_kept, crate::proofs::Keeping::room_at, crate::proofs::Keeping::room_apart))]
-fn put_value(cells: &mut Vec<ItemCell>, item: u32, stored: Stored, now: Moment)
+fn put_value(cells: &mut Vec<ItemCell>, item: u32, token: Token, now: Moment)
     requires { HasRoom cells.old.items item }
-    ensures kept { map kept_of cells.new.items ≡ kept_put now (Some stored) item (map kept_of cells.old.items) }
+    ensures kept { map kept_of cells.new.items ≡ kept_put now (Some token.value) item (map kept_of cells.old.items) }
+    ensures of { (cache : CacheId) → IsOf cache token → AreIn cache cells.old.items → AreIn cache cells.new.items }
     ensures others { (other : ℕ) → other ≢ item → HasRoom cells.old.items other → HasRoom cells.new.items other }
 {
     if item == 0 {
@@ -39,34 +42,36 @@ fn put_value(cells: &mut Vec<ItemCell>, item: u32, stored: Stored, now: Moment)
     if index >= cells.len() {
         return;
     }
-    cells[index].insert_reserved(stored, now);
+    cells[index].insert_token(token, now);
 }
 
-/// The value that a visit stores, if it stores one.
-fn stored_by(outcome: ItemOutcome) -> Option<Stored>
-    ensures { result ≡ stored_by outcome }
+/// The token of the value that a visit stores, if it stores one.
+fn token_by(outcome: CachedOutcome) -> Option<Token>
+    ensures token { result ≡ token_by outcome }
+    ensures stored { option_map (λ t. t.value) result ≡ stored_by (outcome_in outcome) }
 {
     match outcome {
-        ItemOutcome::Stored(stored) => Some(stored),
-        ItemOutcome::Discarded | ItemOutcome::Failed(_) => None,
+        CachedOutcome::Stored(token) => Some(token),
+        CachedOutcome::Discarded | CachedOutcome::Failed(_) => None,
     }
 }
 
 /// What a visit leaves at a moment: the value that its item stores, and what the steps of the item remember.
-pub(crate) fn put(cells: &mut Cells, visit: Visit, now: Moment)
+pub(crate) fn put(cells: &mut Cells, visit: CachedVisit, now: Moment)
     requires { HasRoom cells.old.cells.items visit.item }
-    ensures kept { map kept_of cells.new.cells.items ≡ kept_put now (stored_by visit.outcome) visit.item (map kept_of cells.old.cells.items) }
+    ensures kept { map kept_of cells.new.cells.items ≡ kept_put now (stored_by (outcome_in visit.outcome)) visit.item (map kept_of cells.old.cells.items) }
+    ensures of { (cache : CacheId) → IfSome (token_by visit.outcome) (IsOf cache) → AreIn cache cells.old.cells.items → AreIn cache cells.new.cells.items }
     ensures memories { cells.new.memories.items ≡ with_row cells.old.memories.items visit.item visit.marks }
     ensures others { (other : ℕ) → other ≢ visit.item → HasRoom cells.old.cells.items other → HasRoom cells.new.cells.items other }
 {
-    let Visit {
+    let CachedVisit {
         item,
         outcome,
         marks,
     } = visit;
     put_marks(&mut cells.memories, item, marks);
-    match stored_by(outcome) {
-        Some(stored) => put_value(&mut cells.cells, item, stored, now),
+    match token_by(outcome) {
+        Some(token) => put_value(&mut cells.cells, item, token, now),
         None => {}
     }
 }

@@ -1,26 +1,29 @@
 //! The way of a value through an item and the items that depend on it.
 
-ghost use Rattle.std.specs.Prelude.{◌≡◌, ◌++◌, [], ℕ, true, OnOk, IfOk, option_copied};
+ghost use Rattle.std.specs.Prelude.{◌≡◌, ◌++◌, [], ℕ, true, OnOk, IfOk};
 ghost use Rattle.preprocess.specs.Chain.{chain_of, read_as};
 ghost use Rattle.prep_steps.specs.declared.memory.StepMemory.{StepMemory};
 ghost use Rattle.preprocess.specs.Chains.{AreChainsOf, listed};
-ghost use Rattle.preprocess.specs.Draft.{stored_by};
+ghost use Rattle.value_cache.specs.Tokens.{AreOf};
+ghost use Rattle.preprocess.specs.Cached.{visits_shown, tokens_shown};
 ghost use Rattle.preprocess.specs.Visits.{ended_text, outcome_of, visit_of, memory_in, visits_of, ArePatternsOf};
 ghost use Rattle.preprocess.specs.Walks.{walk, walk_below, takes};
 
+use crate::cached::{CachedVisit, add_visit};
 use crate::chain::{Chained, run_chain};
 use crate::chains::Chains;
 use crate::ended::Ended;
 use pattern_set::Patterns;
 use prep_steps::StepMemory;
 use std::alloc::Global;
+use value_cache::Cache;
 use zbx_types::{
     Conf, Fix, Held, Item, Many, Moment, OutOfMemory, Stored, Text, ValueType, by_id, unpadded,
 };
 
-/// What an entry's value left at an item.
+/// What an entry's value left at an item. Contracts speak of it.
 #[derive(Drop)]
-pub(crate) enum ItemOutcome {
+pub enum ItemOutcome {
     /// The item stores this.
     Stored(Stored),
     /// Nothing is stored, without an error.
@@ -29,25 +32,13 @@ pub(crate) enum ItemOutcome {
     Failed(Text),
 }
 
-/// What an entry's value did at an item to which it came.
+/// What an entry's value did at an item to which it came. Contracts see a draft as such visits.
 #[derive(Drop)]
-pub(crate) struct Visit {
+pub struct Visit {
     pub(crate) item: u32,
     pub(crate) outcome: ItemOutcome,
     /// What the steps to which it came remember from then on.
     pub(crate) marks: Many<StepMemory>,
-}
-
-impl Visit {
-    /// The value that it stores, if it stores one.
-    pub(crate) fn stored(&self) -> Option<&Stored>
-        ensures { option_copied result ≡ stored_by self.now.outcome }
-    {
-        match &self.outcome {
-            ItemOutcome::Stored(stored) => Some(stored),
-            ItemOutcome::Discarded | ItemOutcome::Failed(_) => None,
-        }
-    }
 }
 
 /// A visit, and the text that goes to the dependents.
@@ -161,7 +152,7 @@ fn memories_of(memories: &[Many<StepMemory>], id: u32) -> &[StepMemory]
     }
 }
 
-/// A value at an item, and at those below it, so many levels down.
+/// A value at an item, and at those below it, so many levels down. What is stored goes into the cache.
 #[cycle(visiting)]
 #[tactic(auto, using(crate::proofs::Walking::walk_none, crate::proofs::Walking::walk_is))]
 pub(crate) fn go_through(
@@ -169,35 +160,42 @@ pub(crate) fn go_through(
     conf: &Conf,
     patterns: &Patterns,
     chains: &Chains,
+    cache: &Cache,
     memories: &[Many<StepMemory>],
     time: Moment,
     number: u64,
-    visits: &mut Many<Visit>,
+    visits: &mut Many<CachedVisit>,
     id: u32,
     value: &Text,
     down: usize,
 ) -> Result<(), OutOfMemory>
     requires chains { AreChainsOf conf.now patterns.now chains.now }
     requires patterns { ArePatternsOf conf.now patterns.now }
-    ensures { OnOk result (visits.new ≡ visits.old ++ walk conf.now (memory_in memories.now) time number down id value.now) }
+    ensures shown { OnOk result (visits_shown visits.new ≡ visits_shown visits.old ++ walk conf.now (memory_in memories.now) time number down id value.now) }
+    ensures of { OnOk result (AreOf cache.now (tokens_shown visits.old) → AreOf cache.now (tokens_shown visits.new)) }
 {
     let Some(item) = by_id(conf.items.as_slice(), id) else {
         return Ok(());
     };
     if is_alone(item, chains.below(id)) {
-        visits.push(left_plainly(alloc, time, number, id, item, value)?)?;
+        add_visit(
+            cache,
+            visits,
+            left_plainly(alloc, time, number, id, item, value)?,
+        )?;
         return Ok(());
     }
     let own = memories_of(memories, id);
     let chained = run_chain(alloc, item, chains.ways(id), patterns, own, value, time)?;
     let Visited { visit, text } = left_by(time, number, id, chained);
-    visits.push(visit)?;
+    add_visit(cache, visits, visit)?;
     match text {
         None => Ok(()),
         Some(text) => {
             let below = chains.below(id);
             visit_below(
-                alloc, conf, patterns, chains, memories, time, number, visits, below, &text, down,
+                alloc, conf, patterns, chains, cache, memories, time, number, visits, below, &text,
+                down,
             )
         }
     }
@@ -211,17 +209,19 @@ fn visit_below(
     conf: &Conf,
     patterns: &Patterns,
     chains: &Chains,
+    cache: &Cache,
     memories: &[Many<StepMemory>],
     time: Moment,
     number: u64,
-    visits: &mut Many<Visit>,
+    visits: &mut Many<CachedVisit>,
     ids: &[u32],
     value: &Text,
     down: usize,
 ) -> Result<(), OutOfMemory>
     requires chains { AreChainsOf conf.now patterns.now chains.now }
     requires patterns { ArePatternsOf conf.now patterns.now }
-    ensures { OnOk result (visits.new ≡ visits.old ++ walk_below conf.now (memory_in memories.now) time number down ids.now value.now) }
+    ensures shown { OnOk result (visits_shown visits.new ≡ visits_shown visits.old ++ walk_below conf.now (memory_in memories.now) time number down ids.now value.now) }
+    ensures of { OnOk result (AreOf cache.now (tokens_shown visits.old) → AreOf cache.now (tokens_shown visits.new)) }
 {
     if down == 0 {
         return Ok(());
@@ -232,6 +232,7 @@ fn visit_below(
             conf,
             patterns,
             chains,
+            cache,
             memories,
             time,
             number,
@@ -261,15 +262,17 @@ pub(crate) fn visits(
     conf: &Conf,
     patterns: &Patterns,
     chains: &Chains,
+    cache: &Cache,
     memories: &[Many<StepMemory>],
     item: u32,
     value: &Text,
     time: Moment,
     number: u64,
-) -> Result<Many<Visit>, OutOfMemory>
+) -> Result<Many<CachedVisit>, OutOfMemory>
     requires chains { AreChainsOf conf.now patterns.now chains.now }
     requires patterns { ArePatternsOf conf.now patterns.now }
-    ensures { IfOk result (λ visits. visits ≡ visits_of conf.now (memory_in memories.now) (record { item = item; time = time; number = number; value = value.now })) }
+    ensures shown { IfOk result (λ visits. visits_shown visits ≡ visits_of conf.now (memory_in memories.now) (record { item = item; time = time; number = number; value = value.now })) }
+    ensures of { IfOk result (λ visits. AreOf cache.now (tokens_shown visits)) }
 {
     let mut visits = Many::new(alloc);
     if !takes(conf, item) {
@@ -280,6 +283,7 @@ pub(crate) fn visits(
         conf,
         patterns,
         chains,
+        cache,
         memories,
         time,
         number,

@@ -6,7 +6,10 @@ ghost use Rattle.outside.specs.Causes.{Rose};
 ghost use Rattle.trigger_state.specs.Stages.{first_stage};
 ghost use Rattle.entry_step.specs.Log.{log_of};
 ghost use Rattle.entry_step.specs.Named.{AreDistinct};
-ghost use Rattle.entry_laws.specs.InForce.{texts_on};
+ghost use Rattle.entry_laws.specs.InForce.{behind_all, texts_on};
+ghost use Rattle.base_laws.specs.Grounds.{start_of};
+ghost use Rattle.std.specs.Arc.{arc_value};
+ghost use Rattle.journal_opening.specs.Replayed.{flat};
 ghost use Rattle.book_opening.specs.Outgoing.{IsLeft, log_lines, log_tally};
 ghost use Rattle.intake_front.specs.Batch.{IsIdle};
 ghost use Rattle.server_run.specs.Going.{IsServing, TakesOn, IsEndedAt, IsSentAt, IsOpened, IsWorse, HasGone, book_status};
@@ -19,7 +22,7 @@ use crate::crew::{Alone, serve_syncers};
 use crate::serving::{Taken, serve};
 use crate::shared::Prepared;
 use book::{Book, FlushError, Ring, RingHead, RunName};
-use book_opening::{BookError, StartName, Tally};
+use book_opening::{BookError, StartName, Tally, new_cache};
 use conf_index::Ready;
 use intake_front::Front;
 use outside::{Disk, Gate, Sink, Wire};
@@ -27,8 +30,9 @@ use server_words::{Counts, Status};
 use std::alloc::Global;
 use std::marker::Brand;
 use std::mem::forget;
-use std::sync::Wait;
+use std::sync::{Arc, Wait};
 use std::thread::Threads;
+use value_cache::Cache;
 use zbx_types::{Many, Numbered, OutOfMemory};
 
 /// How a run went, before it is printed.
@@ -305,6 +309,7 @@ fn named<S: StartName, N: RunName, W: Wire, D: Disk, O: Sink>(
     epochs: Vec<Ready>,
     wire: &mut W,
     front: Front<D>,
+    cache: Arc<Cache>,
     ring: Ring<S>,
     outbox: O,
 ) -> Course<D, O>
@@ -313,13 +318,22 @@ fn named<S: StartName, N: RunName, W: Wire, D: Disk, O: Sink>(
     requires texts { (text : List ℕ) → AreDistinct (S.flat text) }
     requires epochs { epochs.items ≡ map (λ text. first_stage (S.flat text)) (texts_on S.base.text S.kept) }
     requires opened { IsOpened D.tells S.flat S.base S.start.stage.conf S.kept front }
+    requires cache { arc_value cache ≡ S.cache }
     requires outbox { O.tells outbox ≡ S.outbox }
     ensures gone { HasGone D.tells O.tells S.flat S.base S.kept S.outbox front turns (W.tells wire.old) (W.tells wire.new)
         result }
     ensures untouched { result.began ≡ false → (wire.new ≡ wire.old) × IsLeft (O.tells outbox) (O.tells result.outbox) }
 {
     let (head, end) = ring.named::<N>();
-    let (book, ready) = match Book::new(alloc, front.base(), epochs, front.entries(), end, outbox) {
+    let (book, ready) = match Book::new(
+        alloc,
+        front.base(),
+        epochs,
+        front.entries(),
+        cache,
+        end,
+        outbox,
+    ) {
         Ok(made) => made,
         Err((outbox, error)) => return held_back(front, refused(error), outbox),
     };
@@ -340,24 +354,28 @@ const RING_CAPACITY: usize = 4096;
 /// Runs on one thread behind what the journal kept, with which and with what the outbox tells the run begins. The
 /// configurations are that of the journal's base, where it has one, and those of the Configs among the kept entries, in
 /// their order, each made ready: that of the run is the last one.
-pub(crate) fn started<S: StartName, W: Wire, D: Disk, O: Sink>(
+fn started<S: StartName, W: Wire, D: Disk, O: Sink>(
     alloc: Global,
     turns: u64,
     epochs: Vec<Ready>,
     wire: &mut W,
     front: Front<D>,
+    cache: Arc<Cache>,
     outbox: O,
 ) -> Course<D, O>
     requires texts { (text : List ℕ) → AreDistinct (S.flat text) }
     requires epochs { epochs.items ≡ map (λ text. first_stage (S.flat text)) (texts_on S.base.text S.kept) }
     requires opened { IsOpened D.tells S.flat S.base S.start.stage.conf S.kept front }
+    requires cache { arc_value cache ≡ S.cache }
     requires outbox { O.tells outbox ≡ S.outbox }
     ensures gone { HasGone D.tells O.tells S.flat S.base S.kept S.outbox front turns (W.tells wire.old) (W.tells wire.new)
         result }
     ensures untouched { result.began ≡ false → (wire.new ≡ wire.old) × IsLeft (O.tells outbox) (O.tells result.outbox) }
 {
     match Ring::<S>::new(alloc, RING_CAPACITY) {
-        Ok(ring) => { named::<S, Brand, W, D, O>(alloc, turns, epochs, wire, front, ring, outbox) }
+        Ok(ring) => {
+            named::<S, Brand, W, D, O>(alloc, turns, epochs, wire, front, cache, ring, outbox)
+        }
         Err(OutOfMemory) => held_back(front, Status::OutOfMemory, outbox),
     }
 }
@@ -372,6 +390,7 @@ fn named_beside<S, N, W, D, O, R, G>(
     epochs: Vec<Ready>,
     wire: &mut W,
     front: Front<D>,
+    cache: Arc<Cache>,
     ring: Ring<S>,
     outbox: O,
     gate: &G,
@@ -389,6 +408,7 @@ where
     requires texts { (text : List ℕ) → AreDistinct (S.flat text) }
     requires epochs { epochs.items ≡ map (λ text. first_stage (S.flat text)) (texts_on S.base.text S.kept) }
     requires opened { IsOpened D.tells S.flat S.base S.start.stage.conf S.kept front }
+    requires cache { arc_value cache ≡ S.cache }
     requires outbox { O.tells outbox ≡ S.outbox }
     ensures gone { HasGone D.tells O.tells S.flat S.base S.kept S.outbox front turns (W.tells wire.old) (W.tells wire.new)
         result }
@@ -396,7 +416,15 @@ where
 {
     let before = outbox.faults();
     let (head, end) = ring.named::<N>();
-    let (book, ready) = match Book::new(alloc, front.base(), epochs, front.entries(), end, outbox) {
+    let (book, ready) = match Book::new(
+        alloc,
+        front.base(),
+        epochs,
+        front.entries(),
+        cache,
+        end,
+        outbox,
+    ) {
         Ok(made) => made,
         Err((outbox, error)) => return held_back(front, refused(error), outbox),
     };
@@ -412,7 +440,7 @@ where
 /// Runs beside syncers behind what the journal kept, with which and with what the outbox tells the run begins. The
 /// configurations are that of the journal's base, where it has one, and those of the Configs among the kept entries, in
 /// their order, each made ready: that of the run is the last one.
-pub(crate) fn started_beside<S, W, D, O, R, G>(
+fn started_beside<S, W, D, O, R, G>(
     rt: &R,
     alloc: Global,
     syncers: u32,
@@ -420,6 +448,7 @@ pub(crate) fn started_beside<S, W, D, O, R, G>(
     epochs: Vec<Ready>,
     wire: &mut W,
     front: Front<D>,
+    cache: Arc<Cache>,
     outbox: O,
     gate: &G,
 ) -> Course<D, O>
@@ -433,6 +462,7 @@ where
     requires texts { (text : List ℕ) → AreDistinct (S.flat text) }
     requires epochs { epochs.items ≡ map (λ text. first_stage (S.flat text)) (texts_on S.base.text S.kept) }
     requires opened { IsOpened D.tells S.flat S.base S.start.stage.conf S.kept front }
+    requires cache { arc_value cache ≡ S.cache }
     requires outbox { O.tells outbox ≡ S.outbox }
     ensures gone { HasGone D.tells O.tells S.flat S.base S.kept S.outbox front turns (W.tells wire.old) (W.tells wire.new)
         result }
@@ -441,7 +471,66 @@ where
     match Ring::<S>::new(alloc, RING_CAPACITY) {
         Ok(ring) => {
             named_beside::<S, Brand, W, D, O, R, G>(
-                rt, alloc, syncers, turns, epochs, wire, front, ring, outbox, gate,
+                rt, alloc, syncers, turns, epochs, wire, front, cache, ring, outbox, gate,
+            )
+        }
+        Err(OutOfMemory) => held_back(front, Status::OutOfMemory, outbox),
+    }
+}
+
+/// Runs on one thread behind what the journal kept, as [`started`] does, over a cache of values that it makes.
+pub(crate) fn run_alone<W: Wire, D: Disk, O: Sink>(
+    alloc: Global,
+    turns: u64,
+    epochs: Vec<Ready>,
+    wire: &mut W,
+    front: Front<D>,
+    outbox: O,
+) -> Course<D, O>
+    requires epochs { epochs.items ≡ map (λ text. first_stage (flat text)) (texts_on front.journal.base.text
+        front.intake.entries) }
+    requires opened { IsOpened D.tells flat front.journal.base (behind_all flat (start_of flat front.journal.base)
+        (log_of front.intake.entries)).stage.conf front.intake.entries front }
+    ensures gone { HasGone D.tells O.tells flat front.journal.base front.intake.entries (O.tells outbox) front turns
+        (W.tells wire.old) (W.tells wire.new) result }
+    ensures untouched { result.began ≡ false → (wire.new ≡ wire.old) × IsLeft (O.tells outbox) (O.tells result.outbox) }
+{
+    match new_cache(alloc) {
+        Ok(cache) => started::<Brand, W, D, O>(alloc, turns, epochs, wire, front, cache, outbox),
+        Err(OutOfMemory) => held_back(front, Status::OutOfMemory, outbox),
+    }
+}
+
+/// Runs beside syncers behind what the journal kept, as [`started_beside`] does, over a cache of values that it makes.
+pub(crate) fn run_beside<W, D, O, R, G>(
+    rt: &R,
+    alloc: Global,
+    syncers: u32,
+    turns: u64,
+    epochs: Vec<Ready>,
+    wire: &mut W,
+    front: Front<D>,
+    outbox: O,
+    gate: &G,
+) -> Course<D, O>
+where
+    W: Wire,
+    D: Disk,
+    O: Sink + Send,
+    R: Threads + Wait + Sync,
+    G: Gate + Sync,
+    requires epochs { epochs.items ≡ map (λ text. first_stage (flat text)) (texts_on front.journal.base.text
+        front.intake.entries) }
+    requires opened { IsOpened D.tells flat front.journal.base (behind_all flat (start_of flat front.journal.base)
+        (log_of front.intake.entries)).stage.conf front.intake.entries front }
+    ensures gone { HasGone D.tells O.tells flat front.journal.base front.intake.entries (O.tells outbox) front turns
+        (W.tells wire.old) (W.tells wire.new) result }
+    ensures untouched { result.began ≡ false → (wire.new ≡ wire.old) × IsLeft (O.tells outbox) (O.tells result.outbox) }
+{
+    match new_cache(alloc) {
+        Ok(cache) => {
+            started_beside::<Brand, W, D, O, R, G>(
+                rt, alloc, syncers, turns, epochs, wire, front, cache, outbox, gate,
             )
         }
         Err(OutOfMemory) => held_back(front, Status::OutOfMemory, outbox),

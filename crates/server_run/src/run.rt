@@ -8,7 +8,7 @@ ghost use Rattle.server_run.specs.Ran.{IsUpToLine, IsRun};
 ghost use Rattle.server_run.specs.Runs.{Prints};
 ghost use Rattle.server_run.specs.Statuses.{cut_short, IsUnprinted, EndsPrinted};
 
-use crate::course::{Course, NOTHING, started, started_beside};
+use crate::course::{Course, NOTHING, run_alone, run_beside};
 use crate::opening::{Begun, open};
 use book_opening::write_all;
 use journal_opening::Refused;
@@ -16,7 +16,6 @@ use outside::{Disk, Failed, Gate, Sink, Source, Wire};
 use server_words::{Counts, Status, printed};
 use std::alloc::Global;
 use std::convert::AsStr;
-use std::marker::Brand;
 use std::sync::Wait;
 use std::thread::Threads;
 use zbx_types::{Many, Numbered, OutOfMemory, Text};
@@ -87,7 +86,7 @@ fn go<S: Source, W: Wire, D: Disk, O: Sink>(
             };
         }
     };
-    started::<Brand, W, D, O>(alloc, turns, epochs, wire, front, outbox)
+    run_alone(alloc, turns, epochs, wire, front, outbox)
 }
 
 /// Runs beside syncers up to the printed line.
@@ -148,9 +147,7 @@ where
             };
         }
     };
-    started_beside::<Brand, W, D, O, R, G>(
-        rt, alloc, syncers, turns, epochs, wire, front, outbox, gate,
-    )
+    run_beside(rt, alloc, syncers, turns, epochs, wire, front, outbox, gate)
 }
 
 /// Prints the line of a status, and answers how the run ended.
@@ -253,7 +250,7 @@ pub fn run_single<S: Source, W: Wire, D: Disk, O: Sink, P: Sink>(
 }
 
 /// Runs the server as [`run_single`] does, while as many history syncers as the plan says work entries out, each in a
-/// thread of its own. Where the plan says 0, or no thread can be started, this thread does all. If it returns, the
+/// thread of its own. Where the plan says 0, or no thread can be run_alone, this thread does all. If it returns, the
 /// same is true of it as of `run_single`, whatever the threads do and when.
 ///
 /// A syncer calls the gate, with its number from 1 on and the number of the first entry, between taking an order and

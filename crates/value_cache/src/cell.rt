@@ -1,42 +1,46 @@
 //! The cell of an item.
 
-ghost use Rattle.std.specs.Prelude.{◌≡◌, ◌<◌, ◌↔◌, [], length, IsTrue, OnOk, OnErr, IfOk, IfErr, slice_get};
+ghost use Rattle.std.specs.Prelude.{◌≡◌, ◌<◌, ◌↔◌, [], length, map, IsTrue, OnOk, OnErr, IfOk, IfErr, IfSome, option_map, slice_get};
 ghost use Rattle.std.specs.Option.{option_copied};
-ghost use Rattle.value_cache.specs.Beside.{shown};
+ghost use Rattle.value_cache.specs.Beside.{shown, IsSeenIn};
 ghost use Rattle.value_cache.specs.Cells.{IsCellOf, IsExact, Gains, StaysExact, Shows, ShowsWith, ShowsLatest};
-ghost use Rattle.value_cache.specs.Cells.{IsSame, trim};
+ghost use Rattle.value_cache.specs.Cells.{IsSame, IsIn, trim};
 ghost use Rattle.value_cache.specs.Histories.{placed, oldest_first};
+ghost use Rattle.value_cache.specs.Tokens.{CacheId, AreOf, IsOf, values_of};
 
 use crate::beside::{Window, window_with};
+use crate::cache::Cache;
 use crate::keeping::{Keep, same_keep};
 use crate::placing::put;
 use crate::row::Row;
-use crate::same::same_values;
+use crate::same::{same_tokens, tokens_again};
+use crate::token::Token;
 use crate::trimming::trim;
-use crate::windows::{copies, window};
+use crate::windows::window;
 use std::alloc::Global;
 use std::marker::Model;
 use zbx_types::{Many, Moment, OutOfMemory, Range, Stored};
 
-/// The values of an item: those that a window within its [`Keep`] can see from the moment of the last insert on, and no
-/// others. Contracts see the latest first.
+/// The values of an item, by their tokens: those that a window within its [`Keep`] can see from the moment of the last
+/// insert on, and no others. Contracts see the latest first.
 #[derive(Drop)]
 pub struct ItemCell {
     keep: Keep,
-    // the oldest first: so the next value, which mostly is the latest, is put at the end
-    values: Row<Stored>,
+    // that of the oldest value first: so the next one, which mostly is the latest, is put at the end
+    tokens: Row<Token>,
 }
 
 impl Model for ItemCell {
     ghost use Rattle.std.specs.Prelude.{reverse};
     ghost use Rattle.value_cache.specs.Histories.{IsOrdered};
+    ghost use Rattle.value_cache.specs.Tokens.{values_of};
     ghost use Rattle.value_cache.specs.Cells.{CellView};
 
     ghost Value = { CellView };
 
-    ghost view = { λ c. record { keep = c.keep; values = reverse c.values.items; room = c.values.room } };
+    ghost view = { λ c. record { keep = c.keep; values = reverse (values_of c.tokens.items); tokens = reverse c.tokens.items; room = c.tokens.room } };
 
-    ghost invariant = { λ c. IsOrdered (reverse c.values.items) };
+    ghost invariant = { λ c. IsOrdered (reverse (values_of c.tokens.items)) };
 }
 
 impl ItemCell {
@@ -45,52 +49,61 @@ impl ItemCell {
         ensures keep { result.keep ≡ keep }
         ensures empty { IsCellOf result 0 [] }
         ensures exact { IsExact result 0 [] }
+        ensures of { (cache : CacheId) → IsIn cache result }
     {
         ItemCell {
             keep,
-            values: Row::new(alloc),
+            tokens: Row::new(alloc),
         }
     }
 
     /// Takes a value in at a moment, which isn't before that of an earlier insert, and drops what no longer is to be
     /// kept. The value may be of any moment; of two values with one time that with the greater number is the later one.
-    /// Where no memory is to be had the value comes back in the error, and the cell is as before.
-    pub fn insert(&mut self, stored: Stored, now: Moment) -> Result<(), (Stored, OutOfMemory)>
+    /// Where no memory is to be had the value comes back in the error, and the cell keeps the same.
+    pub fn insert(
+        &mut self,
+        cache: &Cache,
+        stored: Stored,
+        now: Moment,
+    ) -> Result<(), (Stored, OutOfMemory)>
+        requires { IsIn cache.now self.old }
+        ensures of { IsIn cache.now self.new }
         ensures ok { OnOk result (Gains self.old self.new stored now) }
         ensures exact { OnOk result (StaysExact self.old self.new stored now) }
         ensures trimmed { OnOk result (self.new.values ≡ trim self.old.keep now (placed stored self.old.values)) }
         ensures keep { self.new.keep ≡ self.old.keep }
-        ensures err { IfErr result (λ e. (e.0 ≡ stored) × (self.new ≡ self.old)) }
+        ensures err { IfErr result (λ e. (e.0 ≡ stored) × IsSame self.new self.old) }
     {
-        match self.reserve() {
-            Ok(()) => {
-                self.insert_reserved(stored, now);
-                Ok(())
-            }
-            Err(OutOfMemory) => Err((stored, OutOfMemory)),
+        if self.reserve().is_err() {
+            return Err((stored, OutOfMemory));
         }
+        let token = cache.push(stored)?;
+        self.insert_token(token, now);
+        Ok(())
     }
 
-    /// Makes room for one more value, so that [`ItemCell::insert_reserved`] may be called once. At [`OutOfMemory`] the
+    /// Makes room for one more value, so that [`ItemCell::insert_token`] may be called once. At [`OutOfMemory`] the
     /// cell is as before.
     pub fn reserve(&mut self) -> Result<(), OutOfMemory>
         ensures room { OnOk result (0 < self.new.room) }
         ensures same { IsSame self.new self.old }
+        ensures of { (cache : CacheId) → IsIn cache self.old → IsIn cache self.new }
         ensures err { OnErr result (self.new ≡ self.old) }
     {
-        self.values.reserve()
+        self.tokens.reserve()
     }
 
-    /// The same as [`ItemCell::insert`] where there is room: takes no memory.
-    pub fn insert_reserved(&mut self, stored: Stored, now: Moment)
+    /// The same as [`ItemCell::insert`] of a value that stands in the cache, where there is room: takes no memory.
+    pub fn insert_token(&mut self, token: Token, now: Moment)
         requires { 0 < self.old.room }
-        ensures ok { Gains self.old self.new stored now }
-        ensures exact { StaysExact self.old self.new stored now }
-        ensures trimmed { self.new.values ≡ trim self.old.keep now (placed stored self.old.values) }
+        ensures of { (cache : CacheId) → IsIn cache self.old → IsOf cache token → IsIn cache self.new }
+        ensures ok { Gains self.old self.new token.value now }
+        ensures exact { StaysExact self.old self.new token.value now }
+        ensures trimmed { self.new.values ≡ trim self.old.keep now (placed token.value self.old.values) }
         ensures keep { self.new.keep ≡ self.old.keep }
     {
-        put(&mut self.values, stored);
-        trim(&mut self.values, self.keep, now);
+        put(&mut self.tokens, token);
+        trim(&mut self.tokens, self.keep, now);
     }
 
     /// The values that a range with a time shift looks at, the oldest first, at a moment that isn't before that of the
@@ -99,57 +112,76 @@ impl ItemCell {
     pub fn window(
         &self,
         alloc: Global,
+        cache: &Cache,
         range: Range,
         shift: u32,
         now: Moment,
     ) -> Result<Many<Stored>, OutOfMemory>
+        requires { IsIn cache.now self.now }
         ensures { IfOk result (Shows self.now range shift now) }
     {
-        copies(alloc, self.window_slice(range, shift, now))
+        cache.copies(alloc, self.window_slice(range, shift, now))
     }
 
-    /// The same as [`ItemCell::window`] where the values lie. Takes no memory.
-    pub fn window_slice(&self, range: Range, shift: u32, now: Moment) -> &[Stored]
-        ensures { Shows self.now range shift now result.now }
+    /// The tokens of the same values where they lie. Takes no memory.
+    pub fn window_slice(&self, range: Range, shift: u32, now: Moment) -> &[Token]
+        ensures values { Shows self.now range shift now (values_of result.now) }
+        ensures of { (cache : CacheId) → IsIn cache self.now → AreOf cache result.now }
     {
-        window(self.values.as_slice(), range, shift, now)
+        window(self.tokens.as_slice(), range, shift, now)
     }
 
-    /// The window that the cell will have once a value is inserted at that moment. It isn't inserted, and no memory is
-    /// taken.
+    /// The window that the cell will have once a value, which is in the cache, is inserted at that moment. It isn't
+    /// inserted, and no memory is taken.
     pub fn window_with<'a>(
         &'a self,
-        stored: &'a Stored,
+        token: &'a Token,
         range: Range,
         shift: u32,
         now: Moment,
     ) -> Window<'a>
-        ensures { ShowsWith self.now stored.now range shift now (shown result) }
+        ensures values { ShowsWith self.now token.now.value range shift now (shown result) }
+        ensures of { (cache : CacheId) → IsIn cache self.now → IsOf cache token.now → IsSeenIn cache result }
     {
-        window_with(self.values.as_slice(), stored, range, shift, now)
+        window_with(self.tokens.as_slice(), token, range, shift, now)
     }
 
     /// The latest value: that with the greatest time, and of these with the greatest number. Where `count` of the
     /// cell's [`Keep`] is at least 1, it is the latest one of all that were inserted.
-    pub fn latest(&self) -> Option<&Stored>
+    pub fn latest<'a>(&self, cache: &'a Cache) -> Option<&'a Stored>
+        requires { IsIn cache.now self.now }
         ensures value { option_copied result ≡ slice_get self.now.values 0 }
         ensures latest { ShowsLatest self.now (option_copied result) }
     {
-        self.values.as_slice().last()
+        match self.last() {
+            None => None,
+            Some(token) => Some(cache.value(token)),
+        }
     }
 
-    /// The values, the oldest first.
-    pub fn values(&self) -> &[Stored]
-        ensures { result.now ≡ oldest_first self.now.values }
+    // Its token.
+    fn last(&self) -> Option<&Token>
+        ensures of { (cache : CacheId) → IsIn cache self.now → IfSome result (λ token. IsOf cache token.now) }
+        ensures value { option_map (λ t. t.value) (option_copied result) ≡ slice_get self.now.values 0 }
+        ensures latest { ShowsLatest self.now (option_map (λ t. t.value) (option_copied result)) }
     {
-        self.values.as_slice()
+        self.tokens.as_slice().last()
+    }
+
+    /// The tokens, that of the oldest value first.
+    pub fn tokens(&self) -> &[Token]
+        ensures tokens { result.now ≡ oldest_first self.now.tokens }
+        ensures of { (cache : CacheId) → IsIn cache self.now → AreOf cache result.now }
+        ensures values { values_of result.now ≡ oldest_first self.now.values }
+    {
+        self.tokens.as_slice()
     }
 
     /// How many values there are.
     pub fn held(&self) -> u64
         ensures { result ≡ length self.now.values }
     {
-        self.values.as_slice().len() as u64
+        self.tokens.as_slice().len() as u64
     }
 
     /// What the cell is to keep.
@@ -165,27 +197,31 @@ impl ItemCell {
     pub fn with_keep(self, keep: Keep, now: Moment) -> ItemCell
         ensures keep { result.keep ≡ keep }
         ensures values { result.values ≡ trim self.keep now self.values }
+        ensures of { (cache : CacheId) → IsIn cache self → IsIn cache result }
     {
-        let mut values = self.values;
-        trim(&mut values, self.keep, now);
-        ItemCell { keep, values }
+        let mut tokens = self.tokens;
+        trim(&mut tokens, self.keep, now);
+        ItemCell { keep, tokens }
     }
 
-    /// A copy. [`OutOfMemory`] where there is no room for it.
+    /// A copy, which shares the values. [`OutOfMemory`] where there is no room for its tokens.
     pub fn copy(&self, alloc: Global) -> Result<ItemCell, OutOfMemory>
-        ensures { IfOk result (λ made. IsSame made self.now) }
+        ensures same { IfOk result (λ made. IsSame made self.now) }
+        ensures of { IfOk result (λ made. (cache : CacheId) → IsIn cache self.now → IsIn cache made) }
     {
         Ok(ItemCell {
             keep: self.keep,
-            values: Row::of(copies(alloc, self.values.as_slice())?),
+            tokens: Row::of(tokens_again(alloc, self.tokens.as_slice())?),
         })
     }
 
-    /// Whether two cells keep the same values by the same rule.
-    pub fn same(&self, other: &ItemCell) -> bool
+    /// Whether two cells over one cache keep the same values by the same rule: it compares indexes.
+    pub fn same(&self, cache: &Cache, other: &ItemCell) -> bool
+        requires own { IsIn cache.now self.now }
+        requires others { IsIn cache.now other.now }
         ensures { IsTrue result ↔ IsSame self.now other.now }
     {
         same_keep(self.keep, other.keep)
-            && same_values(self.values.as_slice(), other.values.as_slice())
+            && same_tokens(cache, self.tokens.as_slice(), other.tokens.as_slice())
     }
 }

@@ -21,23 +21,38 @@
 //! ends of a window are found by search. A window can be copied, or lent as it lies, also beside a value that isn't
 //! inserted yet.
 //!
+//! The values themselves stand once, in a [`Cache`], a vector that only grows and that threads share without waiting for
+//! each other. A cell has a [`Token`] of each of its values: an index of the cache, with the time and the number by which
+//! values are ordered. So windows are found in the cell alone, a copy of a cell copies no value, and two cells over one
+//! cache are the same where their indexes are. Who reads a value has the cache of its token; [`Values`] are those of a
+//! window where they stand.
+//!
 //! ```text
+//! let cache = Cache::new(alloc)?;
 //! let mut cell = ItemCell::new(alloc, Keep { count: 2, period: 300 });
-//! cell.insert(stored, now)?;                                        // refused: the value comes back in the error
-//! let latest = cell.window(alloc, Range::Count(2), 0, now)?;        // the older one first
+//! cell.insert(&cache, stored, now)?;                                // refused: the value comes back in the error
+//! let latest = cell.window(alloc, &cache, Range::Count(2), 0, now)?;   // the older one first
+//! let tokens = cell.window_slice(Range::Count(2), 0, now);          // their tokens; nothing is copied
+//! let values = Values::cached(&cache, tokens);
 //! ```
 #![tactic(auto)]
 
 mod beside;
+mod cache;
 mod cell;
 mod keeping;
 pub mod laws;
 mod placing;
 mod row;
 mod same;
+mod token;
 mod trimming;
+mod values;
 mod windows;
 
 pub use beside::Window;
+pub use cache::Cache;
 pub use cell::ItemCell;
 pub use keeping::{Keep, keeps, seconds_in};
+pub use token::{Place, Token};
+pub use values::Values;

@@ -4,7 +4,7 @@ ghost use Rattle.std.specs.Prelude.{◌≡◌, ◌≤◌, ◌<◌, [], drop, ins
 
 use std::alloc::Global;
 use std::marker::Model;
-use zbx_types::{Many, OutOfMemory};
+use zbx_types::OutOfMemory;
 
 /// A list that gets its items mostly at the end and loses them at the front, each at a constant cost in the mean: what
 /// is lost stays where it is until it is half of all, and then goes at once. Contracts see the items in order and how
@@ -40,13 +40,10 @@ impl<T: Drop> Row<T> {
     }
 
     /// A row of a list's items. Takes no memory.
-    pub(crate) fn of(items: Many<T>) -> Row<T>
-        ensures { result.items ≡ items }
+    pub(crate) fn of(items: Vec<T>) -> Row<T>
+        ensures { result.items ≡ items.items }
     {
-        Row {
-            items: items.into_vec(),
-            lost: 0,
-        }
+        Row { items, lost: 0 }
     }
 
     /// The items.

@@ -8,8 +8,8 @@ use Rattle.book.proofs.Batches.{within_ones}
 use Rattle.book.proofs.Claiming.{here_with, with_here, fresh_outputs}
 use Rattle.book.proofs.inputs.outputs_of.Goals as goal
 
-pub is_usable-requires : goal.is_usable-requires
-is_usable-requires g c =
+pub is_usable-requires-clause-within : goal.is_usable-requires-clause-within
+is_usable-requires-clause-within g c =
     let numbers = ap (λ (o : OrderView). o.batch.numbers) c.order.view_is ∙ ap (λ (d : DoneView). d.order.batch.numbers) c.done.view_is in
     subst (All (λ (e : Numbered). IsAmong c.args.all.before (length c.args.all.entries.now) e.number)) (sym c.as_slice.ensures)
     (within_ones c.args.all.before c.args.all.entries.now c.order.inside.entries c.args.done.order.batch.numbers (c.order.invariant.numbers ∙ numbers) c.requires.ready.within)
@@ -27,7 +27,7 @@ returns-then-is_usable-clause-made g c =
     fresh_outputs c.args.all.before g.S.StartName.start.stage c.args.cells.now c.args.all.entries.now c.order.inside.entries c.args.done.order.batch.numbers c.order.inside.part c.done.inside.part c.done.inside.made c.requires.ready
     (here_with c.args.all.before g.S.StartName.start.stage c.args.cells.now c.args.all.entries.now c.order.inside.entries c.args.done.order.batch.numbers c.requires.ready (c.order.invariant.numbers ∙ numbers) (subst (AreHere c.args.all.before c.args.all.entries.now) c.as_slice.ensures usable.0))
     c.order.invariant.workable usable.1
-    (subst (λ (o : OrderView). WorksOut g.S.StartName.start.stage o.entries o.part c.done.inside.part c.done.inside.made) (sym c.order.view_is) c.done.invariant)
+    (subst (λ (o : OrderView). WorksOut g.S.StartName.start.stage o.entries o.part c.done.inside.part c.done.inside.made) (sym c.order.view_is) c.done.invariant.0)
 
 pub returns-in-Ok-clause-made : goal.returns-in-Ok-clause-made
 returns-in-Ok-clause-made g c =

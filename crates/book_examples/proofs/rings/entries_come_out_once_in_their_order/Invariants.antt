@@ -5,6 +5,7 @@ use Rattle.zbx_types.specs.Bases.{empty_base}
 use Rattle.entry_laws.specs.InForce.{behind_all}
 use Rattle.entry_step.specs.Start.{no_conf}
 use Rattle.base_laws.specs.Grounds.{start_of}
+use Rattle.book_opening.specs.Opening.{no_cache}
 use Rattle.book_opening.specs.Outgoing.{no_outbox}
 use Rattle.book_examples.proofs.rings.entries_come_out_once_in_their_order.Given as goal
 
@@ -17,4 +18,5 @@ ghosts-hold g a = record {
   start = behind_all (λ text. no_conf) (start_of (λ text. no_conf) empty_base) (record { number = 1; entry = Config 0 [] } ∷ []);
   first = refl;
   outbox = no_outbox;
+  cache = no_cache;
 }

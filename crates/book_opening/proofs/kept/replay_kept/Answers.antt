@@ -52,7 +52,7 @@ returns g c =
     let rest : c.behind_first-rest.result.now ≡ replayed_of base.text kept = c.behind_first-rest.ensures ∙ ap (λ (b : Base). replayed_of b.text c.args.kept.now) c.requires.base ∙ ap (replayed_of base.text) c.requires.kept in
     let first =
     reached_first flat base kept c.next_epoch.result c.from-epochs.result.items c.next_epoch.new.epochs.items _ c.requires.sound c.requires.begun (c.from-epochs.ensures.0 ∙ c.requires.epochs) c.next_epoch.ensures.next
-    (subst (λ (b : Base). IsFirst b.text b c.next_epoch.result c.in_ok-present.present) c.requires.base c.in_ok-present.ensures) (c.behind-tally.ensures ∙ ap (λ (b : Base). tally_of b.lines []) c.requires.base) in
+    (subst (λ (b : Base). IsFirst b.text b c.next_epoch.result c.in_ok-present.present) c.requires.base c.in_ok-present.ensures.first) (c.behind-tally.ensures ∙ ap (λ (b : Base). tally_of b.lines []) c.requires.base) in
     let split : log_of kept ≡ log_of c.behind_first-rest.result.now ++ first.0 = first.1 ∙ ap (λ (es : List Numbered). log_of es ++ first.0) (sym rest) in
     subst (λ (log : List Numbered). IsReached flat base log c.reach_all.new.so_far) (sym split)
     (c.in_ok-reach_all.ensures first.0 (subst (IsSound flat base) split c.requires.sound) first.2)

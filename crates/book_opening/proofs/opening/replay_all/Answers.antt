@@ -44,6 +44,7 @@ loop-entry-preserved g c =
           (replayed_at flat base before outbox meanwhile c.loop-entry.so_far left.bytes left.size (c.loop-entry.invariant.replayed log sound first))));
       epochs = c.in_ok-replay_one.ensures.epochs (drop (i + 1) kept) epochs;
       counted = c.in_ok-replay_one.ensures.len c.loop-entry.invariant.counted;
+      cache = c.replay_one.ensures.cache ∙ c.loop-entry.invariant.cache;
       left = left_on outbox meanwhile (g.O.Sink.tells c.replay_one.new.outbox) left c.replay_one.ensures.left;
     }
 

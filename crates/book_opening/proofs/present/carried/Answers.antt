@@ -1,4 +1,4 @@
 use Rattle.book_opening.proofs.present.carried.Goals as goal
 
-pub returns : goal.returns
-returns c = c.carry.ensures.ok
+pub returns-clause-ok : goal.returns-clause-ok
+returns-clause-ok c = c.carry.ensures.ok

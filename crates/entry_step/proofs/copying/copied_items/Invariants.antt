@@ -1,5 +1,5 @@
 use Rattle.std.proofs.Common.{◌≡◌, ◌++◌, map, drop}
-use Rattle.entry_step.specs.Kept.{roomless}
+use Rattle.preprocess.specs.Draft.{roomless}
 use Rattle.entry_step.specs.Exchange.{roomless_row, item_copies}
 use Rattle.entry_step.proofs.copying.copied_items.Given as goal
 

@@ -16,8 +16,8 @@ loop-item-preserved c = λ items sees.
     let item : ℕ = get_or c.items_of-item-items.result.now k 0 in
     let is : item ≡ get_or ids k 0 = ap (λ (xs : List ℕ). get_or xs k 0) c.items_of-item-items.ensures in
     let within : k < length ids = subst (λ (xs : List ℕ). k < length xs) c.items_of-item-items.ensures c.loop-item-test.true in
-    let called : IsCalled c.args.calls.now.ready.now.conf c.args.calls.now.id item = called_at c.args.calls.now.ready.now.conf c.args.calls.now.id k item trigger c.requires within is in
-    let keeps : IsWithin (keep_of c.args.calls.now.ready.now.conf item) (Count 1) 0 = within_at c.args.calls.now.ready.now.conf c.args.calls.now.id k item trigger c.asks_within.ensures c.requires within is in
+    let called : IsCalled c.args.calls.now.ready.now.conf c.args.calls.now.id item = called_at c.args.calls.now.ready.now.conf c.args.calls.now.id k item trigger c.requires.trigger within is in
+    let keeps : IsWithin (keep_of c.args.calls.now.ready.now.conf item) (Count 1) 0 = within_at c.args.calls.now.ready.now.conf c.args.calls.now.id k item trigger c.asks_within.ensures c.requires.trigger within is in
     elim c.if-item-ne0.branch [
       | then-item-ne0+in_ok-latest_of+in_ok-push w ↦
           (let some : item ≢ 0 = w.if-item-ne0.true in

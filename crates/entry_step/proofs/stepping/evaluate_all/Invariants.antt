@@ -9,7 +9,7 @@ use Rattle.entry_step.proofs.stepping.evaluate_all.Given as goal
 abbrev pub invariant-loop-id : goal.invariant-loop-id
 invariant-loop-id g l = record {
   same : put_back l.problems.items l.draft.taken ≡ put_back l.fn.problems.items l.fn.draft.taken;
-  runs : (items : ℕ → List Stored) → Each (SeesFor l.ready.conf l.items (still_to_come l.coming) l.occasion.now items) (filter (is_asked l.ready.conf l.coming) l.ids) → AreTidy l.ready l.occasion.number l.fn.problems.items
-      → Runs l.ready (evaluated l.ready l.occasion items) l.fn.problems.items (filter (is_asked l.ready.conf l.coming) (take l.id-index l.ids)) l.draft.records l.problems.items;
-  counted : l.steps ≡ l.fn.steps + length (filter (is_asked l.ready.conf l.coming) (take l.id-index l.ids));
+  runs : (items : ℕ → List Stored) → Each (SeesFor l.scene.ready.now.conf l.scene.items.now (still_to_come l.scene.coming.now) l.scene.occasion.now items) (filter (is_asked l.scene.ready.now.conf l.scene.coming.now) l.ids) → AreTidy l.scene.ready.now l.scene.occasion.number l.fn.problems.items
+      → Runs l.scene.ready.now (evaluated l.scene.ready.now l.scene.occasion items) l.fn.problems.items (filter (is_asked l.scene.ready.now.conf l.scene.coming.now) (take l.id-index l.ids)) l.draft.records l.problems.items;
+  counted : l.steps ≡ l.fn.steps + length (filter (is_asked l.scene.ready.now.conf l.scene.coming.now) (take l.id-index l.ids));
 }

@@ -13,3 +13,6 @@ returns-in-Ok-clause-made g c = record {
       c.cells.ensures c.in_ok-draft.ensures.runs);
   records = c.in-Ok.ensures;
 }
+
+pub returns-in-Ok-clause-of : goal.returns-in-Ok-clause-of
+returns-in-Ok-clause-of g c = c.settle.ensures.of c.args.cache.now c.requires.tokens c.requires.cached

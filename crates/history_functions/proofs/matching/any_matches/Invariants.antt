@@ -3,7 +3,7 @@ use Rattle.zbx_types.specs.Operators.{pattern_of}
 use Rattle.history_functions.specs.Matching.{any_matches}
 use Rattle.history_functions.proofs.matching.any_matches.Given as goal
 
-abbrev pub invariant-loop-stored : goal.invariant-loop-stored
-invariant-loop-stored l =
+abbrev pub invariant-loop-place : goal.invariant-loop-place
+invariant-loop-place l =
     (l.matcher ≡ pattern_of l.test.operator l.test.arg.now)
-    × (any_matches l.test.operator l.test.arg.now (drop l.stored-index l.window) ≡ any_matches l.test.operator l.test.arg.now l.window)
+    × (any_matches l.test.operator l.test.arg.now (drop l.place l.window) ≡ any_matches l.test.operator l.test.arg.now l.window)

@@ -15,4 +15,5 @@ ghosts-replay_kept a = record {
   start = behind_all flat (start_of flat a.base.now) (log_of a.kept.now);
   first = refl;
   outbox = no_outbox;
+  cache = a.cache.value;
 }

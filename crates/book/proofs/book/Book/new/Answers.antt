@@ -174,3 +174,6 @@ pub new-requires-clause-cells : goal.new-requires-clause-cells
 new-requires-clause-cells g c =
     start_holds g.S.StartName.flat g.S.StartName.base g.S.StartName.kept g.S.StartName.start c.in-Ok.replayed.present g.S.StartName.first
     (sound_of g.S.StartName.flat g.S.StartName.base (log_of g.S.StartName.kept) c.requires.distinct c.requires.fits c.requires.whole) c.in-Ok.ensures.replayed.present
+
+pub new-requires-clause-cache : goal.new-requires-clause-cache
+new-requires-clause-cache g c = c.in-Ok.ensures.cache ∙ c.requires.cache

@@ -37,8 +37,12 @@ invariant_of-self g c =
     let own = subst (IsOpenBatch c.self.inside.claims) (sym same) opened in (
       applied_going g.S.StartName.start (record { entries = c.self.inside.entries.items; gate = c.self.inside.claims; cells = c.self.inside.cells; made = c.self.inside.made.items }) c.settle.new.self c.in_ok-outputs.outputs.batch c.put_in.new.cells c.put_in.new.made.items c.self.invariant.0 own (c.settle.ensures.open own) (c.settle.ensures.step own c.self.inside.entries.items)
           (subst (λ xs. IsWorkedIn g.S.StartName.start.number g.S.StartName.start.stage xs c.self.inside.cells c.self.inside.made.items c.put_in.new.cells c.put_in.new.made.items) (es ∙ ap (λ (b : Batch). entries_with b.numbers c.self.inside.entries.items) (sym same))
-          (worked_before c.self.inside.before g.S.StartName.start.number g.S.StartName.start.stage _ _ _ _ _ c.self.invariant.2 (c.put_in.ensures g.S.StartName.start.stage (subst (λ xs. AreOutputs g.S.StartName.start.stage c.self.inside.cells xs c.in_ok-outputs.outputs.part c.in_ok-outputs.outputs.made) (sym es) outputs)))),
-      c.put_by.ensures g.S.StartName.start.stage c.self.invariant.1 c.in_ok-outputs.ensures.scratch,
+          (worked_before c.self.inside.before g.S.StartName.start.number g.S.StartName.start.stage _ _ _ _ _ c.self.invariant.2 (c.put_in.ensures.works g.S.StartName.start.stage (subst (λ xs. AreOutputs g.S.StartName.start.stage c.self.inside.cells xs c.in_ok-outputs.outputs.part c.in_ok-outputs.outputs.made) (sym es) outputs)))),
+      c.put_by.ensures g.S.StartName.start.stage g.S.StartName.cache c.self.invariant.1 c.in_ok-outputs.ensures.scratch,
       c.self.invariant.2,
       c.self.invariant.3,
+      c.put_in.ensures.cache ∙ c.self.invariant.4,
     )
+
+pub put_in-requires-clause-cache : goal.put_in-requires-clause-cache
+put_in-requires-clause-cache g c = c.in_ok-outputs.ensures.cache ∙ sym c.self.invariant.4

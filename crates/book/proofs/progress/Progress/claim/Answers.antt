@@ -15,7 +15,7 @@ invariant_of-self-in-Ok g c =
     let claim =
     claimed_some g.S.StartName.start c.self.inside.entries.items c.as_slice-all.result.now c.self.inside.claims c.take_batch.new.claims c.in_ok-taken.taken c.in-Some.batch c.self.inside.cells c.self.inside.made.items
     c.as_slice-all.ensures.value c.in-Some.is c.in_ok-taken.ensures.some c.self.invariant.0 in
-    (claim.going, c.order_of.ensures.spare, c.self.invariant.2, c.self.invariant.3)
+    (claim.going, c.order_of.ensures.spare, c.self.invariant.2, c.self.invariant.3, c.self.invariant.4)
 
 pub invariant_of-self-in-Err : goal.invariant_of-self-in-Err
 invariant_of-self-in-Err g c =
@@ -26,6 +26,7 @@ invariant_of-self-in-Err g c =
       c.order_of.ensures.spare,
       c.self.invariant.2,
       c.self.invariant.3,
+      c.self.invariant.4,
     )
 
 pub returns-in-Err-clause-err : goal.returns-in-Err-clause-err

@@ -30,6 +30,7 @@ invariant_of-self-in-Ok g c =
       c.self.invariant.1,
       c.self.invariant.2,
       c.self.invariant.3,
+      c.work_in.ensures.cache ∙ c.self.invariant.4,
     )
 
 pub invariant_of-self-in-Err : goal.invariant_of-self-in-Err
@@ -42,6 +43,7 @@ invariant_of-self-in-Err g c =
       c.self.invariant.1,
       c.self.invariant.2,
       c.self.invariant.3,
+      c.work_in.ensures.cache ∙ c.self.invariant.4,
     )
 
 pub returns-in-Ok-clause-one : goal.returns-in-Ok-clause-one

@@ -1,4 +1,4 @@
 use Rattle.book_opening.proofs.present.Present.go_over.Goals as goal
 
-pub returns : goal.returns
-returns c = c.exchanged.ensures
+pub returns-clause-ok : goal.returns-clause-ok
+returns-clause-ok c = c.exchanged.ensures.ok

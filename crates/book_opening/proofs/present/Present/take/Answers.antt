@@ -5,7 +5,7 @@ use Rattle.book_opening.proofs.present.Present.take.Goals as goal
 
 pub returns-in-Config-clause-made : goal.returns-in-Config-clause-made
 returns-in-Config-clause-made g c =
-    config_step g.S.StartName.flat g.S.StartName.base c.args.entry.now _ _ c.args.self.now c.go_over.new.self c.next_epoch.result c.args.epochs.now.items c.next_epoch.new.epochs.items c.go_over.result c.in-Config.is c.next_epoch.ensures.next c.go_over.ensures
+    config_step g.S.StartName.flat g.S.StartName.base c.args.entry.now _ _ c.args.self.now c.go_over.new.self c.next_epoch.result c.args.epochs.now.items c.next_epoch.new.epochs.items c.go_over.result c.in-Config.is c.next_epoch.ensures.next c.go_over.ensures.ok
 
 pub returns-in-Config-clause-epochs : goal.returns-in-Config-clause-epochs
 returns-in-Config-clause-epochs g c =

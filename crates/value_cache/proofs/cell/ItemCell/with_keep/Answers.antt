@@ -1,0 +1,9 @@
+use Rattle.std.proofs.Common.{subst, sym}
+use Rattle.value_cache.specs.Tokens.{AreOf}
+use Rattle.value_cache.proofs.Shown.{of_reversed, of_turned}
+use Rattle.value_cache.proofs.cell.ItemCell.with_keep.Goals as goal
+
+pub returns-clause-of : goal.returns-clause-of
+returns-clause-of c cache h =
+    let own = of_turned cache c.self.inside.tokens.items (subst (λ cell. AreOf cache cell.tokens) (sym c.self.view_is) h) in
+    of_reversed cache c.trim.new.tokens.items (c.trim.ensures.of cache own)
