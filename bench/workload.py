@@ -2,14 +2,14 @@
 """Runs built programs on the workload: values of 50 hosts with ten items each, whose triggers average five values.
 
 usage: bench/workload.py PROGRAM.. [--values N] [--number N] [--without-actions] [--journal FOLDER] [--triggers N]
-       [--syncers LIST] [--runs N]
+       [--window RANGE] [--syncers LIST] [--runs N]
 
 200,000 values and the number 7 if none are given. With a list such as 0,1,2,4,8 each program is run with each of these
 numbers of syncers in turn, so often as --runs says, and must leave the same outbox each time; the middle run and the best
 one are printed.
 With more triggers than one, each item has so many, whose averages have other bounds. The configuration and the values follow from the number alone: a
 template with the items k0 to k9 and a trigger over each, `avg(/w/kj,#5)>80` with the recovery expression
-`avg(/w/kj,#5)<60`, of which the second depends on the first; 50 hosts; an action for the triggers of severity 4 and 5.
+`avg(/w/kj,#5)<60`, or with another range than #5, such as #1000, of which the second depends on the first; 50 hosts; an action for the triggers of severity 4 and 5.
 Each frame has 250 values and a connection of its own, a second after the one before. Printed are the values a second and
 the processor time a value, the opening and the reading of the script with them, and the program's line. Last the last
 program runs in mode workload, which has the same configuration and values without a file, and must print the same line;
@@ -23,13 +23,13 @@ import tempfile
 import time
 
 
-def configuration(with_actions, count):
+def configuration(with_actions, count, window="#5"):
     triggers = [
         {
             "name": f"t{j}" + f".{at}" * (at > 0),
-            "expression": f"avg(/w/k{j},#5)>{80 + at}",
+            "expression": f"avg(/w/k{j},{window})>{80 + at}",
             "recovery": "recovery_expression",
-            "recovery_expression": f"avg(/w/k{j},#5)<{60 + at}",
+            "recovery_expression": f"avg(/w/k{j},{window})<{60 + at}",
             "severity": j % 6,
         }
         for at in range(count)
@@ -96,7 +96,7 @@ def once(program, words, folder):
 
 
 def main():
-    words, named = sys.argv[1:], {"--values": "200000", "--number": "7", "--journal": "", "--triggers": "1", "--syncers": "", "--runs": "1"}
+    words, named = sys.argv[1:], {"--values": "200000", "--number": "7", "--journal": "", "--triggers": "1", "--window": "#5", "--syncers": "", "--runs": "1"}
     with_actions = "--without-actions" not in words
     words = [word for word in words if word != "--without-actions"]
     for name in named:
@@ -105,12 +105,12 @@ def main():
             named[name] = words[at + 1]
             del words[at : at + 2]
     if not words:
-        print("usage: bench/workload.py PROGRAM.. [--values N] [--number N] [--without-actions] [--journal FOLDER]\n       [--triggers N] [--syncers LIST] [--runs N]", file=sys.stderr)
+        print("usage: bench/workload.py PROGRAM.. [--values N] [--number N] [--without-actions] [--journal FOLDER]\n       [--triggers N] [--window RANGE] [--syncers LIST] [--runs N]", file=sys.stderr)
         return 2
     values, triggers = int(named["--values"]), int(named["--triggers"])
     with tempfile.TemporaryDirectory(dir=named["--journal"] or None) as folder:
         with open(f"{folder}/configuration", "w") as it:
-            json.dump(configuration(with_actions, triggers), it)
+            json.dump(configuration(with_actions, triggers, named["--window"]), it)
         write_script(f"{folder}/script", int(named["--number"]), values)
         for program in words:
             print(program)
@@ -135,7 +135,7 @@ def main():
             if len(same) > 1:
                 print("the runs left different outboxes", file=sys.stderr)
                 return 1
-        if with_actions and triggers == 1 and values <= 1_000_000:
+        if with_actions and triggers == 1 and named["--window"] == "#5" and values <= 1_000_000:
             options = ["--mode", "workload", "--number", named["--number"], "--values", named["--values"]]
             again = run(os.path.realpath(words[-1]), [*options, "--outbox", f"{folder}/outbox"])[3]
             if again != said:

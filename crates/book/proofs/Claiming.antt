@@ -21,7 +21,7 @@ use Rattle.syncer_gate.specs.declared.marks.Mark.TheVariants.{Pending, Applied}
 use Rattle.syncer_gate.specs.Marks.{is_pending, is_taken, ended}
 use Rattle.syncer_gate.specs.Gate.{Gate, AreAlike, mark_of, batch_of, with_taken, claimed, held_by, same_numbers, IsOpenBatch, with_ended}
 use Rattle.syncer_gate.specs.Chosen.{opens, conflicts_with, picked, chosen}
-use Rattle.syncer_gate.specs.Core.{Core, Claim, Apply, GiveBack, happens, start, offered, IsStep, core_of}
+use Rattle.syncer_gate.specs.Core.{Core, Claim, Apply, GiveBack, happens, start, IsStep, core_of}
 use Rattle.syncer_gate.proofs.Claimed.{by_marks, chosen_free}
 use Rattle.syncer_gate.proofs.MarkLemmas.{same_is}
 use Rattle.syncer_gate.proofs.Ended.{not_same}

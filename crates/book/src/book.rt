@@ -168,15 +168,24 @@ impl<S: StartName, N: RunName, O: Sink> Book<S, N, O> {
             Ok(replayed) => replayed,
             Err(error) => return Err((outbox, error)),
         };
+        match mend(
+            &mut outbox,
+            base.lines,
+            replayed.tally.bytes,
+            replayed.other,
+        ) {
+            Ok(()) => {}
+            Err(error) => {
+                drop(replayed);
+                return Err((outbox, error));
+            }
+        }
         let Replayed {
             present: Present { ready, cells },
             tally,
-            other,
+            other: _,
             missing,
         } = replayed;
-        if let Err(error) = mend(&mut outbox, base.lines, tally.bytes, other) {
-            return Err((outbox, error));
-        }
         let book = Book {
             progress: Progress::new(alloc, before, cells),
             ring,
@@ -459,13 +468,16 @@ impl<S: StartName, N: RunName, O: Sink> Book<S, N, O> {
         ensures sink { O.tells result ≡ self.sink }
     {
         let Book {
-            progress: _,
-            ring: _,
+            progress,
+            ring,
             frontier: _,
             tally: _,
-            unwritten: _,
+            unwritten,
             outbox,
         } = self;
+        drop(progress);
+        drop(ring);
+        drop(unwritten);
         outbox
     }
 

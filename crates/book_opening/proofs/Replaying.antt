@@ -12,7 +12,7 @@ use Rattle.zbx_types.specs.declared.entries.Entry.TheVariants.{Config, Value, Ti
 use Rattle.zbx_types.specs.declared.entries.Numbered.{Numbered}
 use Rattle.zbx_types.specs.declared.entries.Rec.{Rec}
 use Rattle.trigger_state.specs.Stages.{Stage, OwnsEvents, first_stage}
-use Rattle.entry_step.specs.Cells.{Cells, look, records}
+use Rattle.entry_step.specs.Cells.{Cells, look}
 use Rattle.entry_step.specs.Due.{by_making}
 use Rattle.entry_step.specs.InForce.{SuitsWhole, HoldsAt, CarriesOver}
 use Rattle.entry_step.specs.Laws.{IsGood}

@@ -49,6 +49,12 @@ pub record IsPresent (flat : List ℕ → Conf) (base : Base) (log : List Number
   pub stage : now.ready ≡ (point flat (start_of flat base) log).start.stage
   pub cells : HoldsAt (point flat (start_of flat base) log) now.cells
 
+-- what was in force behind any log, and the cells, still are
+abbrev pub IsStill : Present → Present → Type 0
+IsStill before after =
+    (flat : List ℕ → Conf) (base : Base) (log : List Numbered) → IsPresent flat base log before
+    → IsPresent flat base log after
+
 -- what is in force and the cells before entries are replayed, where this is the first configuration of a run with a base of
 -- this text: the cells of nothing, or those of the base
 abbrev pub IsFirst : List ℕ → Base → Stage → Present → Type 0

@@ -13,16 +13,14 @@ ghost use Rattle.book_opening.specs.Tally.{tally_with};
 use crate::names::StartName;
 use crate::opening::behind_first;
 use crate::outgoing::add_lines;
-use crate::present::{Present, next_epoch};
+use crate::present::{Present, new_cache, next_epoch};
 use crate::tally::Tally;
 use conf_index::Ready;
 use entry_step::Steps;
 use std::alloc::Global;
 use std::collections::VecDeque;
 use std::marker::Brand;
-use std::sync::Arc;
 use std::sync::ledger::{Blank, Ledger};
-use value_cache::Cache;
 use zbx_types::{Base, Bytes, Numbered, OutOfMemory, Rec};
 
 /// What entries leave that were replayed without an outbox (this project's own).
@@ -91,7 +89,8 @@ fn reach_all<S: StartName, L: Ledger>(
 /// Replays the entries that a journal kept, behind a base, or, where that is empty, from nothing on, and counts their
 /// records, and the bytes of their lines behind those of the base. It looks at no outbox, and holds the lines of one entry
 /// at a time. Of the configurations the first is that of the base, where it isn't empty; then there is one for each Config
-/// among the entries. Stored values go into the cache.
+/// among the entries. Of the values that are stored meanwhile it holds those that the cells have, and of the others a bounded
+/// number.
 ///
 /// [`OutOfMemory`] where memory was refused.
 pub fn replay_kept<S: StartName>(
@@ -99,7 +98,6 @@ pub fn replay_kept<S: StartName>(
     base: &Base,
     epochs: Vec<Ready>,
     kept: &[Numbered],
-    cache: Arc<Cache>,
 ) -> Result<Reached, OutOfMemory>
     requires base { base.now ≡ S.base }
     requires kept { kept.now ≡ S.kept }
@@ -108,12 +106,18 @@ pub fn replay_kept<S: StartName>(
     requires epochs { epochs.items ≡ run_epochs S.flat S.base S.kept }
     ensures { IfOk result (IsReached S.flat S.base (log_of S.kept)) }
 {
+    let cache = new_cache(alloc)?;
     let mut epochs = VecDeque::from(epochs);
     let present = Present::begin(alloc, next_epoch(&mut epochs), base, cache)?;
     let tally = Tally::behind(base.lines);
     let mut so_far = Reached { present, tally };
     let rest = behind_first(kept, base);
     let blank = Blank::new(1);
-    reach_all::<S, Brand>(alloc, rest, &mut epochs, &mut so_far, blank)?;
-    Ok(so_far)
+    match reach_all::<S, Brand>(alloc, rest, &mut epochs, &mut so_far, blank) {
+        Ok(()) => Ok(so_far),
+        Err(OutOfMemory) => {
+            drop(so_far);
+            Err(OutOfMemory)
+        }
+    }
 }

@@ -4,7 +4,10 @@
 ghost use Rattle.std.specs.Prelude.{◌≡◌, ◌≢◌, ◌≤◌, ◌<◌, ◌+◌, ◌-◌, ◌++◌, [], ◌∷◌, ℕ, List, length, min, true, take, drop, get_or, Some, None, IfSome, IfOk, IfErr, OnOk, IsErrOf, unwrap_or};
 ghost use Rattle.std.specs.Arc.{arc_value};
 ghost use Rattle.std.specs.VecDeque.{deque_len};
+ghost use Rattle.zbx_types.specs.declared.base.Base.{Base};
+ghost use Rattle.zbx_types.specs.declared.conf.Conf.{Conf};
 ghost use Rattle.zbx_types.specs.declared.entries.Numbered.{Numbered};
+ghost use Rattle.outside.specs.Tells.{SinkTells};
 ghost use Rattle.outside.specs.Causes.{Rose, HasCause};
 ghost use Rattle.entry_step.specs.Log.{log_of, is_config};
 ghost use Rattle.zbx_types.specs.declared.entries.Rec.{Rec};
@@ -17,7 +20,7 @@ ghost use Rattle.book_opening.specs.Outgoing.{HasFront, IsLeft};
 use crate::errors::BookError;
 use crate::names::StartName;
 use crate::outgoing::{add_lines, behind};
-use crate::present::{Present, is_empty, next_epoch};
+use crate::present::{Present, is_empty, new_cache, next_epoch};
 use crate::tally::Tally;
 use conf_index::Ready;
 use entry_step::Steps;
@@ -28,7 +31,7 @@ use std::marker::Brand;
 use std::sync::Arc;
 use std::sync::ledger::{Blank, Ledger};
 use value_cache::Cache;
-use zbx_types::{Base, Bytes, Numbered, Rec};
+use zbx_types::{Base, Bytes, Numbered, OutOfMemory, Rec};
 
 /// What entries leave that were replayed (this project's own).
 #[derive(Drop)]
@@ -108,7 +111,6 @@ fn replay_one<S: StartName, O: Sink, L: Ledger>(
         → epochs.new.items ≡ epochs_of S.flat later) }
     ensures len { OnOk result (deque_len epochs.old ≡ length epochs.old.items
         → deque_len epochs.new ≡ length epochs.new.items) }
-    ensures cache { so_far.new.present.cells.cache ≡ so_far.old.present.cells.cache }
     ensures left { IsLeft (O.tells outbox.old) (O.tells outbox.new) }
     ensures cause { IsErrOf result BookError.OutboxFault → Rose (O.tells outbox.old).faults (O.tells outbox.new).faults }
     ensures why { IfErr result IsRefused }
@@ -135,7 +137,6 @@ fn replay_all<S: StartName, O: Sink, L: Ledger>(
     ensures replayed { OnOk result ((log : List Numbered) → IsSound S.flat S.base (log_of kept.now ++ log)
         → IsReplayed S.flat S.base log (O.tells outbox.old) so_far.old
         → IsReplayed S.flat S.base (log_of kept.now ++ log) (O.tells outbox.old) so_far.new) }
-    ensures cache { so_far.new.present.cells.cache ≡ so_far.old.present.cells.cache }
     ensures left { IsLeft (O.tells outbox.old) (O.tells outbox.new) }
     ensures cause { IsErrOf result BookError.OutboxFault → Rose (O.tells outbox.old).faults (O.tells outbox.new).faults }
     ensures why { IfErr result IsRefused }
@@ -145,6 +146,22 @@ fn replay_all<S: StartName, O: Sink, L: Ledger>(
         replay_one::<S, O, L>(alloc, entry, epochs, outbox, so_far, &mut steps)?;
     }
     Ok(())
+}
+
+/// The same with what the cells have in the cache of the run.
+fn settled(alloc: Global, so_far: Replayed, cache: Arc<Cache>) -> Result<Replayed, OutOfMemory>
+    ensures replayed { IfOk result (λ done. (flat : List ℕ → Conf) (base : Base) (log : List Numbered) (outbox : SinkTells)
+        → IsReplayed flat base log outbox so_far → IsReplayed flat base log outbox done) }
+    ensures cache { IfOk result (λ done. done.present.cells.cache ≡ arc_value cache) }
+{
+    let mut so_far = so_far;
+    match so_far.present.move_to(alloc, cache) {
+        Ok(()) => Ok(so_far),
+        Err(OutOfMemory) => {
+            drop(so_far);
+            Err(OutOfMemory)
+        }
+    }
 }
 
 /// All entries but the first.
@@ -166,8 +183,9 @@ pub(crate) fn behind_first<'a>(kept: &'a [Numbered], base: &Base) -> &'a [Number
 
 /// Replays the entries with which a run begins, behind a base, or, where that is empty, from nothing on, and makes their
 /// lines that the outbox lacks. Of the configurations the first is that of the base, where it isn't empty; then there is one
-/// for each Config among the entries. Stored values go into the cache. The outbox keeps what it holds. Where it holds fewer bytes than the base's lines have,
-/// it is compared with none.
+/// for each Config among the entries. What the cells have behind them stands in the cache; the other values that are stored
+/// meanwhile are given up, so that the memory which they take is bounded. The outbox keeps what it holds. Where it holds fewer
+/// bytes than the base's lines have, it is compared with none.
 ///
 /// # Errors
 ///
@@ -193,8 +211,9 @@ pub fn begin<S: StartName, O: Sink>(
 {
     // One that can't be opened fails here.
     outbox.differs(0, &[])?;
+    let own = new_cache(alloc)?;
     let mut epochs = VecDeque::from(epochs);
-    let present = Present::begin(alloc, next_epoch(&mut epochs), base, cache)?;
+    let present = Present::begin(alloc, next_epoch(&mut epochs), base, own)?;
     let tally = Tally::behind(base.lines);
     let missing = Bytes::new(alloc);
     let mut so_far = Replayed {
@@ -205,8 +224,13 @@ pub fn begin<S: StartName, O: Sink>(
     };
     let rest = behind_first(kept, base);
     let blank = Blank::new(1);
-    replay_all::<S, O, Brand>(alloc, rest, &mut epochs, outbox, &mut so_far, blank)?;
-    Ok(so_far)
+    match replay_all::<S, O, Brand>(alloc, rest, &mut epochs, outbox, &mut so_far, blank) {
+        Ok(()) => Ok(settled(alloc, so_far, cache)?),
+        Err(error) => {
+            drop(so_far);
+            Err(error)
+        }
+    }
 }
 
 /// Cuts an outbox where it holds a 0 in place of the lines' byte, as a power cut may leave it. It is refused where it holds

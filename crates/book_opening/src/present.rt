@@ -1,6 +1,6 @@
 //! What is in force behind the entries that were replayed, and the cells.
 
-ghost use Rattle.std.specs.Prelude.{◌≡◌, ◌≢◌, ◌<◌, ◌+◌, ◌==◌, [], ◌∷◌, List, true, length, IfOk, OnOk};
+ghost use Rattle.std.specs.Prelude.{◌≡◌, ◌≢◌, ◌<◌, ◌+◌, ◌%◌, ◌==◌, [], ◌∷◌, List, true, length, IsTrue, IfOk, OnOk};
 ghost use Rattle.std.specs.Arc.{arc_value};
 ghost use Rattle.std.specs.VecDeque.{deque_len};
 ghost use Rattle.zbx_types.specs.declared.entries.Numbered.{Numbered};
@@ -12,7 +12,7 @@ ghost use Rattle.entry_step.specs.Whole.{point, out_at};
 ghost use Rattle.base_laws.specs.Bases.{base_stage, told_start};
 ghost use Rattle.base_laws.specs.FitsBase.{FitsBase};
 ghost use Rattle.base_laws.specs.Grounds.{start_of};
-ghost use Rattle.book_opening.specs.Opening.{IsFirst, IsSound, IsPresent, epochs_of};
+ghost use Rattle.book_opening.specs.Opening.{IsFirst, IsSound, IsPresent, IsStill, epochs_of};
 
 use crate::names::StartName;
 use base_state::restore;
@@ -23,7 +23,7 @@ use std::collections::VecDeque;
 use std::mem::replace;
 use std::sync::Arc;
 use std::sync::ledger::Ledger;
-use value_cache::Cache;
+use value_cache::{Cache, ItemCell};
 use zbx_types::{Base, Entry, Many, Moment, Numbered, OutOfMemory, Rec};
 
 /// What is in force behind the entries so far, and the cells (this project's own).
@@ -38,6 +38,30 @@ pub struct Present {
 /// A cache for the values of a run, without any yet.
 pub fn new_cache(alloc: Global) -> Result<Arc<Cache>, OutOfMemory> {
     Ok(Arc::new(alloc, Cache::new(alloc)?)?)
+}
+
+/// How many entries are taken at least until the values that no cell has anymore are given up.
+const RENEWED_AFTER: u64 = 65_536;
+
+/// How many values cells have, or the greatest number that there is.
+fn held(cells: &[ItemCell]) -> u64 {
+    let mut held: u64 = 0;
+    for cell in cells {
+        held = held.saturating_add(cell.held());
+    }
+    held
+}
+
+/// Whether the values that no cell has anymore are given up at the entry with this number: so often that they are bounded by
+/// those that the cells have, and so seldom that each entry pays for one copy of a value at most.
+fn is_due(cells: &Cells, number: u64) -> bool
+    ensures { IsTrue result → number % 65536 ≡ 0 }
+{
+    if number % RENEWED_AFTER != 0 {
+        return false;
+    }
+    let times = (held(cells.items().cells()) / RENEWED_AFTER + 1).next_power_of_two();
+    (number / RENEWED_AFTER) % times == 0
 }
 
 /// Whether a base stands in place of no entries.
@@ -110,8 +134,13 @@ impl Present {
         ensures made { IfOk result (λ made. (made.ready ≡ ready) × Holds (first_start ready.conf) made.cells []) }
         ensures cache { IfOk result (λ made. made.cells.cache ≡ arc_value cache) }
     {
-        let cells = Cells::new(alloc, ready.conf(), cache)?;
-        Ok(Present { ready, cells })
+        match Cells::new(alloc, ready.conf(), cache) {
+            Ok(cells) => Ok(Present { ready, cells }),
+            Err(OutOfMemory) => {
+                drop(ready);
+                Err(OutOfMemory)
+            }
+        }
     }
 
     /// Behind a base, which fits this configuration.
@@ -130,7 +159,10 @@ impl Present {
         let mut ready = ready;
         match restore(alloc, &mut ready, base, cache) {
             Ok(cells) => Ok(Present { ready, cells }),
-            Err(OutOfMemory) => Err(OutOfMemory),
+            Err(OutOfMemory) => {
+                drop(ready);
+                Err(OutOfMemory)
+            }
         }
     }
 
@@ -168,6 +200,24 @@ impl Present {
         exchanged(alloc, &mut self.ready, next, &mut self.cells, number, at)
     }
 
+    /// Moves what the cells still have into a cache, which is theirs from now on.
+    pub(crate) fn move_to(&mut self, alloc: Global, cache: Arc<Cache>) -> Result<(), OutOfMemory>
+        ensures still { OnOk result (IsStill self.old self.new) }
+        ensures cache { OnOk result (self.new.cells.cache ≡ arc_value cache) }
+    {
+        self.cells.move_to(alloc, cache)
+    }
+
+    /// Gives up the values that no cell has anymore, now and then: a cache only grows.
+    fn renew(&mut self, alloc: Global, number: u64) -> Result<(), OutOfMemory>
+        ensures { OnOk result (IsStill self.old self.new) }
+    {
+        if !is_due(&self.cells, number) {
+            return Ok(());
+        }
+        self.move_to(alloc, new_cache(alloc)?)
+    }
+
     /// Takes the next entry, and answers its records. A Config brings the first of the configurations that are still to
     /// come.
     pub(crate) fn take<S: StartName, L: Ledger>(
@@ -186,7 +236,28 @@ impl Present {
             → epochs.new.items ≡ epochs_of S.flat later) }
         ensures len { OnOk result (deque_len epochs.old ≡ length epochs.old.items
             → deque_len epochs.new ≡ length epochs.new.items) }
-        ensures cache { self.new.cells.cache ≡ self.old.cells.cache }
+    {
+        self.renew(alloc, entry.number)?;
+        self.take_on::<S, L>(alloc, entry, epochs, steps)
+    }
+
+    // The same over the cells as they are.
+    fn take_on<S: StartName, L: Ledger>(
+        &mut self,
+        alloc: Global,
+        entry: &Numbered,
+        epochs: &mut VecDeque<Ready>,
+        steps: &mut Steps<L>,
+    ) -> Result<Many<Rec>, OutOfMemory>
+        requires some { is_config entry.now.entry ≡ true → 0 < deque_len epochs.old }
+        ensures made { IfOk result (λ made. (log later : List Numbered) → IsSound S.flat S.base (entry.now ∷ log)
+            → epochs.old.items ≡ epochs_of S.flat (entry.now ∷ later) → IsPresent S.flat S.base log self.old
+            → (made ≡ out_at S.flat (point S.flat (start_of S.flat S.base) log) entry.now entry.now.entry)
+            × IsPresent S.flat S.base (entry.now ∷ log) self.new) }
+        ensures epochs { OnOk result ((later : List Numbered) → epochs.old.items ≡ epochs_of S.flat (entry.now ∷ later)
+            → epochs.new.items ≡ epochs_of S.flat later) }
+        ensures len { OnOk result (deque_len epochs.old ≡ length epochs.old.items
+            → deque_len epochs.new ≡ length epochs.new.items) }
     {
         match &entry.entry {
             Entry::Config { now, .. } => {

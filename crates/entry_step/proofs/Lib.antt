@@ -35,4 +35,5 @@ mod Told
 pub mod Moving
 pub mod Wholes
 pub mod Following
+mod Moved
 mod CarryingOver

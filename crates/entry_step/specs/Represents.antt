@@ -67,6 +67,10 @@ pub record Represents (stage : Stage) (held : CellsView) (c : Cells) : Type 0 wh
   pub tick : held.tick ≡ c TickKey
   pub tidy : IsTidy stage c
 
+-- what a run keeps represents whatever it did before
+abbrev pub StillRepresents : CellsView → CellsView → Type 0
+StillRepresents before after = (stage : Stage) (c : Cells) → Represents stage before c → Represents stage after c
+
 -- what a run keeps represents the cells that stand for a log
 pub record Holds (start : Start) (held : CellsView) (log : List Numbered) : Type 0 where
   pub cells : Cells

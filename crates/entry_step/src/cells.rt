@@ -1,10 +1,10 @@
 //! The cells of a run.
 
-ghost use Rattle.std.specs.Prelude.{◌≡◌, [], map, replicate, IfOk};
+ghost use Rattle.std.specs.Prelude.{◌≡◌, [], map, replicate, IfOk, OnOk, OnErr};
 ghost use Rattle.std.specs.Arc.{arc_value};
 ghost use Rattle.entry_step.specs.Start.{first_start};
 ghost use Rattle.preprocess.specs.Draft.{roomless, AreIn};
-ghost use Rattle.entry_step.specs.Represents.{Holds};
+ghost use Rattle.entry_step.specs.Represents.{Holds, StillRepresents};
 
 use std::alloc::Global;
 use std::marker::Model;
@@ -106,6 +106,18 @@ impl Cells {
         ensures { IfOk result (λ cache. arc_value cache ≡ self.now.cache) }
     {
         shared(&self.cache)
+    }
+
+    /// Stores copies of the values of the cells in another cache, which is theirs from now on, and leaves the one so far:
+    /// what else it holds is free once it has no other owner. At [`OutOfMemory`] the cells are as before.
+    pub fn move_to(&mut self, alloc: Global, cache: Arc<Cache>) -> Result<(), OutOfMemory>
+        ensures represented { OnOk result (StillRepresents self.old self.new) }
+        ensures cache { OnOk result (self.new.cache ≡ arc_value cache) }
+        ensures err { OnErr result (self.new ≡ self.old) }
+    {
+        self.items.move_to(alloc, &self.cache, &cache)?;
+        self.cache = cache;
+        Ok(())
     }
 
     /// What is kept of the items. Takes no memory.

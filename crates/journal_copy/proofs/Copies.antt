@@ -1,5 +1,5 @@
 -- Laws of copies: how they end, and what they leave.
-use Rattle.std.proofs.Common.{◌≡◌, ◌≢◌, ◌⊎◌, ◌≤◌, ◌<◌, ◌+◌, ℕ, Bool, true, false, true≢false, List, [], ◌∷◌, ◌++◌, length, map, Option, Some, None, Result, Ok, Err, inl, inr, refl, sym, ap, ap₂, ◌∙◌, subst, append_assoc, length-append, arith}
+use Rattle.std.proofs.Common.{◌≡◌, ◌≢◌, ◌⊎◌, ◌≤◌, ◌<◌, ◌+◌, ℕ, Bool, true, false, true≢false, List, [], ◌∷◌, ◌++◌, length, map, Option, Some, None, inl, inr, refl, sym, ap, ap₂, ◌∙◌, subst, append_assoc, length-append, arith}
 use Rattle.std.specs.Prelude.{IfSome, IsSome, IsTrue, is_some, min, nat_lt, ◌||◌}
 use Rattle.std.proofs.lemmas.Bool.Decides.{nat_tests}
 use Rattle.zbx_types.specs.declared.base.Base.{Base}
@@ -10,8 +10,7 @@ use Rattle.outside.specs.Tells.{SinkTells}
 use Rattle.intake_journal.specs.Based.{HasBase, IsMaking, block_bytes, is_too_large, most_counted}
 use Rattle.intake_journal.specs.BaseBytes.{base_bytes, head_bytes, item_bytes, list_bytes, long_bytes, problem_bytes, ticks_bytes}
 use Rattle.intake_journal.specs.Bytes.{moment_bytes, number_bytes, text_bytes}
-use Rattle.intake_journal.specs.Kept.{kept, based_magic, longest_journal}
-use Rattle.intake_journal.specs.Kept.Kept.{Unfinished}
+use Rattle.intake_journal.specs.Kept.{based_magic, longest_journal}
 use Rattle.intake_journal.specs.Settled.{Journaled, KeepsAsOneOf}
 use Rattle.intake_journal.specs.declared.making.MakeError.{MakeError}
 use Rattle.intake_journal.specs.declared.making.MakeError.TheVariants as error
@@ -21,12 +20,12 @@ use Rattle.server_words.specs.declared.status.Status.{Status}
 use Rattle.server_words.specs.declared.status.Status.TheVariants as status
 use Rattle.server_words.specs.declared.words.Plan.{Plan}
 use Rattle.whole_texts.specs.Writes.{GrewByFront}
-use Rattle.journal_opening.specs.Recovered.{Found, FoundGroups, GoesOn, found_entries}
+use Rattle.journal_opening.specs.Recovered.{Found, FoundGroups, GoesOn}
 use Rattle.journal_opening.specs.Replayed.{flat}
 use Rattle.journal_opening.specs.Resumed.{IsTakenUp}
 use Rattle.journal_opening.specs.Unkept.{IsUnkept}
 use Rattle.journal_opening.proofs.Leaving.{leaves_more}
-use Rattle.journal_copy.specs.Copies.{Disks, IsCopied, IsTooLarge, HoldsSome, EndsCopy, EndsBy, EndsPrinted, HasNoState, AreLeft, Leaves, MayEnd, Prints, cut_short, line_of, nothing, status_for}
+use Rattle.journal_copy.specs.Copies.{Disks, IsCopied, IsTooLarge, HoldsSome, EndsCopy, EndsBy, EndsPrinted, HasNoState, AreLeft, Leaves, MayEnd, Prints, cut_short, line_of, status_for}
 use Rattle.journal_copy.specs.State.{IsNothing, OfState, counted, found_state, state_of}
 
 -- ---- a state whose lines stand as counted

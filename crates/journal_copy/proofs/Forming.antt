@@ -1,5 +1,5 @@
 -- The state of what a journal keeps is one that can be written: it has a text, both Ticks or neither, and orderly problems.
-use Rattle.std.proofs.Common.{◌≡◌, ◌<◌, ◌≤◌, ◌+◌, ℕ, Bool, true, false, List, [], ◌∷◌, length, map, All, Option, Some, None, refl, sym, ap, ap₂, ◌∙◌, subst, arith, Ordering, Less, Equal, Greater}
+use Rattle.std.proofs.Common.{◌≡◌, ◌<◌, ◌≤◌, ◌+◌, ℕ, true, List, [], ◌∷◌, length, map, All, Option, Some, None, refl, sym, ap, ap₂, ◌∙◌, subst, arith, Ordering, Less, Equal, Greater}
 use Rattle.std.specs.Cmp.Lexicographic.{slice_cmp}
 use Rattle.std.specs.Option.{option_or}
 use Rattle.std.specs.Ordering.{is_le, is_lt, nat_cmp}
@@ -8,8 +8,6 @@ use Rattle.std.specs.Str.{chars, is_utf8}
 use Rattle.std.proofs.lemmas.List.{length-reverse}
 use Rattle.std.proofs.lemmas.List.Elements.{All-cons, All-nil}
 use Rattle.zbx_types.specs.declared.base.Base.{Base}
-use Rattle.zbx_types.specs.declared.base.Ran.{Ran}
-use Rattle.zbx_types.specs.declared.conf.Conf.{Conf}
 use Rattle.zbx_types.specs.declared.entries.Entry.{Entry}
 use Rattle.zbx_types.specs.declared.entries.Entry.TheVariants.{Config, Value, Tick}
 use Rattle.zbx_types.specs.declared.entries.Numbered.{Numbered}
@@ -22,9 +20,9 @@ use Rattle.config_templates.specs.Flat.{flat_of}
 use Rattle.trigger_state.specs.Problems.{action_of, open_of}
 use Rattle.trigger_state.specs.declared.problems.Open.{Open}
 use Rattle.entry_step.specs.Due.{by_making}
-use Rattle.entry_step.specs.Each.{Each, EachPair}
+use Rattle.entry_step.specs.Each.{Each}
 use Rattle.entry_step.specs.Making.{is_problem}
-use Rattle.entry_step.specs.Log.{first_tick, is_config, log_of, tick_of, tick_with}
+use Rattle.entry_step.specs.Log.{first_tick, log_of, tick_of, tick_with}
 use Rattle.entry_step.specs.Start.{Start, no_conf}
 use Rattle.entry_step.specs.Whole.{Point, point, point_with}
 use Rattle.entry_laws.specs.InForce.{FitsLog, FitsOn, left_by}
@@ -35,7 +33,7 @@ use Rattle.base_laws.proofs.Steps.{Ordered}
 use Rattle.base_laws.specs.FitsBase.{FitTicks}
 use Rattle.base_laws.specs.Grounds.{start_of}
 use Rattle.base_laws.proofs.Grounds.{some_of, start_none, start_some}
-use Rattle.intake_journal.specs.BaseBytes.{IsFormed, IsOrderly, IsProblem, stand_in_order, stands_first}
+use Rattle.intake_journal.specs.BaseBytes.{IsFormed, IsOrderly, IsProblem, stand_in_order}
 use Rattle.journal_opening.specs.Replayed.{flat, IsFlat, IsGoodBase}
 use Rattle.journal_opening.proofs.Bases.{stands_of}
 use Rattle.journal_copy.specs.State.{AreKept, counted, state_of}

@@ -1,5 +1,5 @@
 -- What newer entries make on the state of older ones.
-use Rattle.std.proofs.Common.{◌≡◌, ◌≢◌, ◌≤◌, ◌+◌, ℕ, List, [], ◌∷◌, ◌++◌, length, All, Option, None, refl, sym, ap, ◌∙◌, subst, append_assoc, length-append, arith}
+use Rattle.std.proofs.Common.{◌≡◌, ◌≢◌, ◌≤◌, ◌+◌, ℕ, List, [], ◌∷◌, ◌++◌, length, All, None, refl, sym, ap, ◌∙◌, subst, append_assoc, length-append, arith}
 use Rattle.std.specs.Prelude.{option_to_list}
 use Rattle.std.proofs.lemmas.List.{length-reverse, reverse-append}
 use Rattle.std.proofs.lemmas.List.Elements.{All-cons, All-nil, All-head}
@@ -18,7 +18,7 @@ use Rattle.entry_laws.proofs.InForce.{conf_is_behind, config_texts_append, fits_
 use Rattle.base_laws.specs.Bases.{Beside, beside_of, beside_with, base_at, last_text, text_with, told_start, whole_base}
 use Rattle.base_laws.specs.Dated.{HasSeverities, IsDated}
 use Rattle.base_laws.specs.FitsBase.{most_counted, FitsBase}
-use Rattle.base_laws.specs.Grounds.{IsBase, start_of}
+use Rattle.base_laws.specs.Grounds.{start_of}
 use Rattle.base_laws.specs.WholeBases.{conf_after, IsRegular, IsWhole, start_after}
 use Rattle.base_laws.proofs.BaseFitting.{base_fits, checkpoint_fits}
 use Rattle.base_laws.proofs.Central.{beside_back}
@@ -28,7 +28,7 @@ use Rattle.base_laws.proofs.Nothing.{whole_over_nothing}
 use Rattle.base_laws.proofs.Texts.{text_in_force}
 use Rattle.base_laws.proofs.WholeBases.{whole_law}
 use Rattle.journal_opening.specs.Replayed.{flat, IsFlat, AreFlat, IsGoodBase}
-use Rattle.journal_opening.proofs.Bases.{flat_one, good_ground, stands_of}
+use Rattle.journal_opening.proofs.Bases.{good_ground, stands_of}
 use Rattle.journal_opening.proofs.Judging.{all_back, all_front}
 use Rattle.journal_opening.proofs.Regular.{all_regular, all_severe}
 use Rattle.journal_opening.proofs.Texts.{text_kept}

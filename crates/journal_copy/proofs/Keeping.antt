@@ -11,7 +11,7 @@ use Rattle.entry_step.specs.Start.{Start}
 use Rattle.intake_journal.specs.Settled.{Journaled}
 use Rattle.intake_front.specs.Fronted.{numbered_of}
 use Rattle.book_opening.specs.Opening.{IsSound}
-use Rattle.journal_opening.specs.Recovered.{Found, found_entries}
+use Rattle.journal_opening.specs.Recovered.{found_entries}
 use Rattle.journal_opening.specs.Replayed.{flat, AreFlat, IsGoodBase}
 use Rattle.journal_opening.specs.Resumed.{IsTakenUp}
 use Rattle.journal_opening.proofs.Bases.{stands_of}

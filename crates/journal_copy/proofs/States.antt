@@ -1,5 +1,5 @@
 -- Laws of the state of what a journal keeps.
-use Rattle.std.proofs.Common.{◌≡◌, ◌≤◌, ◌+◌, ℕ, List, [], ◌∷◌, ◌++◌, length, All, refl, sym, ap, ◌∙◌, subst, append-nil, arith}
+use Rattle.std.proofs.Common.{◌≡◌, ◌+◌, List, [], ◌∷◌, ◌++◌, length, All, refl, sym, ap, ◌∙◌, subst, append-nil}
 use Rattle.std.specs.Prelude.{min, option_to_list}
 use Rattle.std.proofs.lemmas.List.{reverse-append}
 use Rattle.std.proofs.lemmas.List.Elements.{All-head}
@@ -14,8 +14,8 @@ use Rattle.entry_step.specs.Cells.{Cells, TickKey, AreCellsOf, look}
 use Rattle.entry_step.specs.Log.{log_of, last_moment, last_number, moment_from}
 use Rattle.entry_step.specs.Represents.{CellsView, Holds}
 use Rattle.entry_step.specs.Start.{Start}
-use Rattle.entry_step.specs.Whole.{Point, point, whole_replay}
-use Rattle.entry_laws.specs.InForce.{conf_behind, conf_with, config_texts, texts_of, left_by, text_in, texts_on}
+use Rattle.entry_step.specs.Whole.{point, whole_replay}
+use Rattle.entry_laws.specs.InForce.{conf_behind, conf_with, config_texts, texts_of, left_by, text_in}
 use Rattle.entry_laws.proofs.InForce.{conf_is_behind, holds_behind_all, moment_behind_all, number_behind_all}
 use Rattle.base_laws.specs.Bases.{Beside, beside_of, beside_with, base_at, last_text, text_with}
 use Rattle.base_state.specs.Telling.{EndsAt, IsBaseOf}
@@ -24,7 +24,7 @@ use Rattle.base_laws.specs.Grounds.{start_of}
 use Rattle.book_opening.specs.Opening.{IsReached}
 use Rattle.book_opening.specs.Tally.{tally_of}
 use Rattle.book_opening.specs.declared.kept.Reached.{Reached}
-use Rattle.journal_opening.specs.Replayed.{flat, IsFlat, AreFlat}
+use Rattle.journal_opening.specs.Replayed.{flat, IsFlat}
 use Rattle.journal_opening.proofs.Bases.{good_ground, stands_of}
 use Rattle.journal_opening.proofs.Judging.{all_back, all_front}
 use Rattle.journal_opening.proofs.Texts.{text_kept}

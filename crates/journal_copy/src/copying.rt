@@ -170,7 +170,11 @@ fn go<D: Disk, E: Disk>(alloc: Global, words: &[Text], from: D, into: E) -> Cour
         × (result.from ≡ from) × (result.into ≡ into) }
 {
     match checkpoint_plan(alloc, words) {
-        Ok(plan) => copy(alloc, from, into, plan.max_entries),
+        Ok(plan) => {
+            let max_entries = plan.max_entries;
+            drop(plan);
+            copy(alloc, from, into, max_entries)
+        }
         Err(PlanError::Usage) => stopped(Status::Usage, from, into),
         Err(PlanError::OutOfMemory) => stopped(Status::OutOfMemory, from, into),
     }

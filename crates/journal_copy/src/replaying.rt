@@ -10,7 +10,7 @@ ghost use Rattle.journal_copy.specs.State.{AreKept, counted, state_of};
 
 use crate::placing::place_of;
 use base_state::base_of;
-use book_opening::{Reached, new_cache, replay_kept};
+use book_opening::{Reached, replay_kept};
 use conf_index::Ready;
 use std::alloc::Global;
 use std::marker::Brand;
@@ -46,9 +46,12 @@ pub(crate) fn state_of(
     requires epochs { epochs.items ≡ run_epochs flat base.now entries.now }
     ensures { IfOk result (λ made. made ≡ counted (state_of base.entry.now entries.now)) }
 {
-    let cache = new_cache(alloc)?;
-    match replay_kept::<Brand>(alloc, base, epochs, entries, cache) {
-        Ok(reached) => told(alloc, base, entries, &reached),
+    match replay_kept::<Brand>(alloc, base, epochs, entries) {
+        Ok(reached) => {
+            let made = told(alloc, base, entries, &reached);
+            drop(reached);
+            made
+        }
         Err(OutOfMemory) => Err(OutOfMemory),
     }
 }

@@ -1,12 +1,10 @@
 -- Laws of what a crash leaves in a run's journal.
-use Rattle.std.proofs.Common.{◌≡◌, ◌⊎◌, ⊎_elim, ℕ, ◌≤◌, List, Option, Some, None, arith, inl, inr, ap, ◌∙◌}
+use Rattle.std.proofs.Common.{◌≡◌, ⊎_elim, ℕ, ◌≤◌, List, Option, Some, None, arith, inl, inr, ap, ◌∙◌}
 use Rattle.std.specs.Prelude.{IfSome, is_some}
 use Rattle.outside.specs.Causes.{Rose}
 use Rattle.outside.specs.Disk.{DiskTells, IsLawful, LeavesOnly}
 use Rattle.gated_file.specs.Moments.{IsAsBefore}
 use Rattle.intake_journal.specs.Settled.{KeepsAsOneOf}
-use Rattle.intake_front.specs.declared.answer.Stop.{Stop}
-use Rattle.intake_front.specs.declared.answer.Stop.TheVariants as stop
 use Rattle.journal_opening.specs.Recovered.{GoesOn}
 
 -- a count rose since an earlier moment

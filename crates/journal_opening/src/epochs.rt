@@ -68,7 +68,10 @@ fn put(epochs: &mut Vec<Ready>, ready: Ready) -> Result<(), Status>
 {
     match epochs.push(ready) {
         Ok(()) => Ok(()),
-        Err(_) => Err(Status::OutOfMemory),
+        Err(refused) => {
+            drop(refused);
+            Err(Status::OutOfMemory)
+        }
     }
 }
 
@@ -119,7 +122,10 @@ pub(crate) fn epochs_of(alloc: Global, confs: Vec<Conf>, ready: Ready) -> Result
 {
     let mut epochs = match ready_all(alloc, earlier(&ready.conf().text, confs)) {
         Ok(epochs) => epochs,
-        Err(status) => return Err(status),
+        Err(status) => {
+            drop(ready);
+            return Err(status);
+        }
     };
     match put(&mut epochs, ready) {
         Ok(()) => Ok(epochs),

@@ -165,7 +165,10 @@ pub fn resume<D: Disk>(
 {
     let (journal, kept, confs) = match accepted(alloc, disk, max_entries) {
         Ok(taken) => taken,
-        Err(refused) => return Err(refused),
+        Err(refused) => {
+            drop(ready);
+            return Err(refused);
+        }
     };
     let epochs = match epochs_of(alloc, confs, ready) {
         Ok(epochs) => epochs,

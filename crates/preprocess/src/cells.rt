@@ -5,7 +5,7 @@ ghost use Rattle.std.specs.Option.{unwrap_or};
 ghost use Rattle.zbx_types.specs.Ids.{at_id};
 ghost use Rattle.preprocess.specs.Rows.{with_row};
 ghost use Rattle.preprocess.specs.Carry.{AreCarried};
-ghost use Rattle.preprocess.specs.Cells.{AreNew, empty, no_marks};
+ghost use Rattle.preprocess.specs.Cells.{AreNew, empty, kept_in, no_marks};
 ghost use Rattle.value_cache.specs.Cells.{IsIn};
 ghost use Rattle.value_cache.specs.Tokens.{CacheId};
 ghost use Rattle.preprocess.specs.Draft.{kept_of, roomless, AreIn, HasRoom};
@@ -16,7 +16,7 @@ use crate::memories::memories_for;
 use crate::naming::old_items;
 use prep_steps::StepMemory;
 use std::alloc::Global;
-use value_cache::{ItemCell, Keep, keeps};
+use value_cache::{Cache, ItemCell, Keep, keeps};
 use zbx_types::{Conf, Item, Many, Moment, OutOfMemory, by_id};
 
 /// What a run keeps of the items of a configuration, in the order of their ids: the cell of each, and what its steps
@@ -59,6 +59,24 @@ fn all_marks(alloc: Global, items: &[Item]) -> Result<Vec<Many<StepMemory>>, Out
         memories.push(no_marks(alloc, item)?)?;
     }
     Ok(memories)
+}
+
+/// Cells over another cache, in which copies of their values are stored.
+fn moved_cells(
+    alloc: Global,
+    from: &Cache,
+    to: &Cache,
+    cells: &[ItemCell],
+) -> Result<Vec<ItemCell>, OutOfMemory>
+    requires { AreIn from.now cells.now }
+    ensures kept { IfOk result (λ made. map kept_of made.items ≡ map kept_of cells.now) }
+    ensures of { IfOk result (λ made. AreIn to.now made.items) }
+{
+    let mut made = Vec::with_capacity(alloc, cells.len())?;
+    for cell in cells {
+        made.push(cell.moved(alloc, from, to)?)?;
+    }
+    Ok(made)
 }
 
 impl Cells {
@@ -142,6 +160,19 @@ impl Cells {
         )?;
         self.cells = cells;
         self.memories = memories;
+        Ok(())
+    }
+
+    /// Stores copies of the values of the cells, which stand in one cache, in another one, and has the cells show those. At
+    /// [`OutOfMemory`] the cells are as before.
+    pub fn move_to(&mut self, alloc: Global, from: &Cache, to: &Cache) -> Result<(), OutOfMemory>
+        requires { AreIn from.now self.old.cells.items }
+        ensures kept { OnOk result (kept_in self.new ≡ kept_in self.old) }
+        ensures of { OnOk result (AreIn to.now self.new.cells.items) }
+        ensures memories { self.new.memories ≡ self.old.memories }
+        ensures err { OnErr result (self.new ≡ self.old) }
+    {
+        self.cells = moved_cells(alloc, from, to, self.cells.as_slice())?;
         Ok(())
     }
 }

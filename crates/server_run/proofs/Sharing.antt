@@ -1,6 +1,6 @@
 -- That threads may share a configuration that was made ready. Its parts are many, so each is shown by itself.
-use denote.Param.Send.{sendable, IsSync, view_sync, plain_sync, such_sync}
-use denote.Param.SendFields.{as_row_sync, declared_sync}
+use denote.Param.Send.{sendable, IsSync, view_sync, plain_sync}
+use denote.Param.SendFields.{declared_sync}
 use denote.Hole.{as_row}
 use Rattle.std.proofs.hash.BuildHasherDefault.TheSendSync as m_core_hash_build_buildhasherdefault
 use Rattle.std.proofs.hash.FoldHasher.TheSendSync as m_core_hash_fold_foldhasher

@@ -1,5 +1,5 @@
 -- The contract of a whole run, from what holds of it up to its printed line.
-use Rattle.std.proofs.Common.{◌≡◌, ◌⊎◌, ⊎_elim, inl, inr, ℕ, List, Bool, true, false, true≢false, Option, sym, ◌∙◌, subst}
+use Rattle.std.proofs.Common.{◌≡◌, ⊎_elim, inl, inr, ℕ, List, Bool, true, false, true≢false, Option, sym, ◌∙◌, subst}
 use Rattle.zbx_types.specs.declared.base.Base.{Base}
 use Rattle.zbx_types.specs.declared.conf.Conf.{Conf}
 use Rattle.zbx_types.specs.declared.entries.Numbered.{Numbered}

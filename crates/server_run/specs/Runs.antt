@@ -18,7 +18,6 @@ use Rattle.intake_journal.specs.Kept.{longest_journal, base_in}
 use Rattle.intake_journal.specs.Settled.{KeepsAsOneOf}
 use Rattle.server_words.specs.declared.status.Counts.{Counts}
 use Rattle.server_words.specs.declared.status.Status.{Status}
-use Rattle.server_words.specs.declared.status.Status.TheVariants as status
 use Rattle.server_words.specs.declared.words.Plan.{Plan}
 use Rattle.server_words.specs.Words.{plan_of}
 use Rattle.server_words.specs.Printed.{ok_text, printed_text}

@@ -5,8 +5,6 @@ use Rattle.zbx_types.specs.declared.entries.Numbered.{Numbered}
 use Rattle.outside.specs.declared.event.WireEvent.{WireEvent}
 use Rattle.intake_front.specs.Intake.{Limits, Intake}
 use Rattle.intake_front.specs.Served.{served}
-use Rattle.intake_front.specs.declared.answer.Stop.{Stop}
-use Rattle.intake_front.specs.declared.answer.Stop.TheVariants as stop
 
 -- the limits where the disk refuses the group with this number, or none at 0
 abbrev pub refusing : Limits → ℕ → Limits

@@ -335,7 +335,10 @@ fn named<S: StartName, N: RunName, W: Wire, D: Disk, O: Sink>(
         outbox,
     ) {
         Ok(made) => made,
-        Err((outbox, error)) => return held_back(front, refused(error), outbox),
+        Err((outbox, error)) => {
+            drop(head);
+            return held_back(front, refused(error), outbox);
+        }
     };
     let prepared = Prepared::<S>::new(ready);
     let mut front = front;
@@ -426,7 +429,10 @@ where
         outbox,
     ) {
         Ok(made) => made,
-        Err((outbox, error)) => return held_back(front, refused(error), outbox),
+        Err((outbox, error)) => {
+            drop(head);
+            return held_back(front, refused(error), outbox);
+        }
     };
     let prepared = Prepared::<S>::new(ready);
     let mut front = front;

@@ -86,6 +86,8 @@ fn set_up<S: Source>(alloc: Global, words: &[Text], config: &mut S) -> Result<Se
         Err(PlanError::Usage) => return Err(Status::Usage),
         Err(PlanError::OutOfMemory) => return Err(Status::OutOfMemory),
     };
+    let (turns, syncers, max_entries) = (plan.turns, plan.syncers, plan.max_entries);
+    drop(plan);
     let bytes = match read_all(alloc, LONGEST_TEXT as u32, config) {
         Ok(bytes) => bytes,
         Err(ReadError::Failed) => return Err(Status::SourceFault),
@@ -93,9 +95,9 @@ fn set_up<S: Source>(alloc: Global, words: &[Text], config: &mut S) -> Result<Se
     };
     match prepare(alloc, bytes.as_slice()) {
         Ok(ready) => Ok(Setup {
-            turns: plan.turns,
-            syncers: plan.syncers,
-            max_entries: plan.max_entries,
+            turns,
+            syncers,
+            max_entries,
             ready,
         }),
         Err(status) => Err(status),

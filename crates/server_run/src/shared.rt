@@ -88,7 +88,10 @@ impl<S: StartName, N: RunName, O: Sink> State<S, N, O> {
         self.open = self.open.saturating_sub(1);
         match self.book.apply(alloc, prepared.ready(), done, steps) {
             Ok(()) => {}
-            Err((_done, refused)) => return Err(refused),
+            Err((done, refused)) => {
+                drop(done);
+                return Err(refused);
+            }
         }
         match self.book.flush(alloc) {
             Ok(()) => Ok(true),
@@ -166,11 +169,13 @@ impl<S: StartName, N: RunName, O: Sink> Shared<S, N, O> {
     ) -> Result<Option<Order<S>>, OutOfMemory> {
         for _ in rt.forever() {
             let mut state = self.state.lock(rt);
-            let order = state.next_order(alloc, prepared)?;
-            if order.is_some() {
-                drop(state);
-                self.woken.notify_one();
-                return Ok(order);
+            match state.next_order(alloc, prepared)? {
+                Some(order) => {
+                    drop(state);
+                    self.woken.notify_one();
+                    return Ok(Some(order));
+                }
+                None => {}
             }
             if state.is_over() {
                 return Ok(None);

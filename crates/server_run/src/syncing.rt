@@ -48,8 +48,9 @@ fn do_orders<S: StartName, N: RunName, O: Sink, L: Ledger, R: Wait, G: Gate>(
 {
     let mut steps = Steps::<L>::new(blank);
     for _ in rt.forever() {
-        let Some(order) = shared.next_order(rt, alloc, prepared)? else {
-            return Ok(());
+        let order = match shared.next_order(rt, alloc, prepared)? {
+            Some(order) => order,
+            None => return Ok(()),
         };
         gate.reached(syncer, order.first());
         if !do_order(rt, alloc, prepared, shared, order, &mut steps)? {

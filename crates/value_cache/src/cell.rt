@@ -13,7 +13,7 @@ use crate::cache::Cache;
 use crate::keeping::{Keep, same_keep};
 use crate::placing::put;
 use crate::row::Row;
-use crate::same::{same_tokens, tokens_again};
+use crate::same::{same_tokens, tokens_again, tokens_moved};
 use crate::token::Token;
 use crate::trimming::trim;
 use crate::windows::window;
@@ -212,6 +212,20 @@ impl ItemCell {
         Ok(ItemCell {
             keep: self.keep,
             tokens: Row::of(tokens_again(alloc, self.tokens.as_slice())?),
+        })
+    }
+
+    /// The cell over another cache, in which copies of its values are stored. [`OutOfMemory`] where there is no room for
+    /// them.
+    pub fn moved(&self, alloc: Global, from: &Cache, to: &Cache) -> Result<ItemCell, OutOfMemory>
+        requires { IsIn from.now self.now }
+        ensures keep { IfOk result (λ made. made.keep ≡ self.now.keep) }
+        ensures values { IfOk result (λ made. made.values ≡ self.now.values) }
+        ensures of { IfOk result (IsIn to.now) }
+    {
+        Ok(ItemCell {
+            keep: self.keep,
+            tokens: Row::of(tokens_moved(alloc, from, to, self.tokens.as_slice())?),
         })
     }
 

@@ -1,5 +1,5 @@
 -- A copy over disks is one over disks that tell no image.
-use Rattle.std.proofs.Common.{◌⊎◌, ⊎_elim, inl, inr, ℕ, List, Option, Some, None, arith}
+use Rattle.std.proofs.Common.{ℕ, List, Option, Some, None, arith}
 use Rattle.std.specs.Prelude.{IfSome}
 use Rattle.outside.specs.Disk.{DiskTells, Only, LeavesOnly}
 use Rattle.outside.specs.Tells.{SinkTells}
@@ -7,7 +7,7 @@ use Rattle.zbx_types.specs.declared.base.Base.{Base}
 use Rattle.intake_journal.specs.Based.{HasBase}
 use Rattle.server_words.specs.declared.status.Status.{Status}
 use Rattle.server_words.specs.declared.status.Status.TheVariants as status
-use Rattle.journal_copy.specs.Copies.{Disks, IsCopied, IsTooLarge, EndsCopy, EndsBy, EndsPrinted, AreLeft, IsCopy}
+use Rattle.journal_copy.specs.Copies.{Disks, IsCopied, IsTooLarge, EndsBy, EndsPrinted, AreLeft, IsCopy}
 use Rattle.journal_copy.specs.State.{OfState}
 use Rattle.zabbix_server.specs.Program.{FileSeen, disk_of, disks_of, IsCopyOf}
 

@@ -88,7 +88,11 @@ fn status_over<R: Threads + Wait + Sync>(
     ensures { IfOk result (IsProgramStatus words.now) }
 {
     match alerts_plan(alloc, words) {
-        Ok(plan) => alerting::run(rt, threads, alloc, words, &plan),
+        Ok(plan) => {
+            let ended = alerting::run(rt, threads, alloc, words, &plan);
+            drop(plan);
+            ended
+        }
         Err(PlanError::Usage) => status_of_others(rt, threads, alloc, words),
         Err(PlanError::OutOfMemory) => Err(OutOfMemory),
     }
@@ -105,7 +109,11 @@ fn status_of_others<R: Threads + Wait + Sync>(
     ensures { IfOk result (IsOtherStatus words.now) }
 {
     match checkpoint_plan(alloc, words) {
-        Ok(plan) => Ok(copying::run(rt, alloc, words, &plan)),
+        Ok(plan) => {
+            let status = copying::run(rt, alloc, words, &plan);
+            drop(plan);
+            Ok(status)
+        }
         Err(PlanError::Usage) => running::run(rt, threads, alloc, words),
         Err(PlanError::OutOfMemory) => Err(OutOfMemory),
     }

@@ -33,7 +33,11 @@ pub(crate) fn run<R: Threads + Wait + Sync>(
     ensures ran { IfOk result (IsRunStatus words.now) }
 {
     match plan(alloc, words) {
-        Ok(plan) => run_planned(rt, threads, alloc, words, &plan),
+        Ok(plan) => {
+            let ended = run_planned(rt, threads, alloc, words, &plan);
+            drop(plan);
+            ended
+        }
         Err(PlanError::Usage) => Ok(run_nothing(rt, threads, alloc, words)),
         Err(PlanError::OutOfMemory) => Err(OutOfMemory),
     }

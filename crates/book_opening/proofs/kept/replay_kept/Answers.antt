@@ -44,8 +44,8 @@ reach_all-requires-clause-len g c =
     let same = ap (λ (es : List Stage). length es) c.from-epochs.ensures.0 in
     omega (arith, long, same, c.next_epoch.ensures.len, c.from-epochs.ensures.1, c.args.epochs.ok.0)
 
-pub returns : goal.returns
-returns g c =
+pub returns-in-Ok : goal.returns-in-Ok
+returns-in-Ok g c =
     let flat = g.S.StartName.flat in
     let base = g.S.StartName.base in
     let kept = g.S.StartName.kept in
@@ -55,4 +55,4 @@ returns g c =
     (subst (λ (b : Base). IsFirst b.text b c.next_epoch.result c.in_ok-present.present) c.requires.base c.in_ok-present.ensures.first) (c.behind-tally.ensures ∙ ap (λ (b : Base). tally_of b.lines []) c.requires.base) in
     let split : log_of kept ≡ log_of c.behind_first-rest.result.now ++ first.0 = first.1 ∙ ap (λ (es : List Numbered). log_of es ++ first.0) (sym rest) in
     subst (λ (log : List Numbered). IsReached flat base log c.reach_all.new.so_far) (sym split)
-    (c.in_ok-reach_all.ensures first.0 (subst (IsSound flat base) split c.requires.sound) first.2)
+    (c.in-Ok.ensures first.0 (subst (IsSound flat base) split c.requires.sound) first.2)

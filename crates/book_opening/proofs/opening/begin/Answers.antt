@@ -45,8 +45,8 @@ replay_all-requires-clause-len g c =
     let same = ap (λ (es : List Stage). length es) c.from-epochs.ensures.0 in
     omega (arith, long, same, c.next_epoch.ensures.len, c.from-epochs.ensures.1, c.args.epochs.ok.0)
 
-pub returns-clause-replayed : goal.returns-clause-replayed
-returns-clause-replayed g c =
+pub returns-in_ok-settled-in-Ok-clause-replayed : goal.returns-in_ok-settled-in-Ok-clause-replayed
+returns-in_ok-settled-in-Ok-clause-replayed g c =
     let flat = g.S.StartName.flat in
     let base = g.S.StartName.base in
     let kept = g.S.StartName.kept in
@@ -56,6 +56,7 @@ returns-clause-replayed g c =
     begun flat base kept asked c.next_epoch.result c.from-epochs.result.items c.next_epoch.new.epochs.items _ c.requires.sound c.requires.begun (c.from-epochs.ensures.0 ∙ c.requires.epochs) c.next_epoch.ensures.next
     (subst (λ (b : Base). IsFirst b.text b c.next_epoch.result c.in_ok-present.present) c.requires.base c.in_ok-present.ensures.first) (c.behind-tally.ensures ∙ ap (λ (b : Base). tally_of b.lines []) c.requires.base) refl c.new-missing.ensures in
     let split : log_of kept ≡ log_of c.behind_first-rest.result.now ++ first.0 = first.1 ∙ ap (λ (es : List Numbered). log_of es ++ first.0) (sym rest) in
-    replayed_at flat base (log_of kept) asked (g.O.Sink.tells c.args.outbox.now) c.replay_all.new.so_far (sym c.differs.ensures.bytes) (sym c.differs.ensures.size)
+    c.in_ok-settled-in-Ok.ensures.replayed flat base (log_of kept) (g.O.Sink.tells c.args.outbox.now)
+    (replayed_at flat base (log_of kept) asked (g.O.Sink.tells c.args.outbox.now) c.replay_all.new.so_far (sym c.differs.ensures.bytes) (sym c.differs.ensures.size)
     (subst (λ (log : List Numbered). IsReplayed flat base log asked c.replay_all.new.so_far) (sym split)
-    (c.in_ok-replay_all.ensures.replayed first.0 (subst (IsSound flat base) split c.requires.sound) first.2))
+    (c.in-Ok.ensures.replayed first.0 (subst (IsSound flat base) split c.requires.sound) first.2)))

@@ -1,4 +1,4 @@
-use Rattle.std.proofs.Common.{rules, arith, ◌≡◌, ◌≤◌, ◌<◌, ◌+◌, ◌^◌, ◌++◌, [], true, false, ℕ, List, length, Some, None, refl, sym, ◌∙◌, subst}
+use Rattle.std.proofs.Common.{rules, arith, ◌≡◌, ◌≤◌, ◌<◌, ◌+◌, ◌^◌, [], true, false, length, sym, ◌∙◌, subst}
 use Rattle.std.specs.Prelude.{is_some}
 use Rattle.book_opening.specs.Opening.{IsCompared}
 use Rattle.book_opening.proofs.Comparing.{compared_kept, compared_behind, compared_same, compared_more, none_of, empty_list, by_both}

@@ -1,4 +1,4 @@
-use Rattle.std.proofs.Common.{◌≡◌, ◌<◌, ◌≤◌, ◌+◌, ◌∷◌, ◌++◌, ◌∙◌, [], List, length, take, drop, sym, ap, subst, arith}
+use Rattle.std.proofs.Common.{◌≡◌, ◌<◌, ◌≤◌, ◌+◌, ◌∷◌, ◌++◌, ◌∙◌, List, length, take, drop, sym, ap, subst, arith}
 use Rattle.trigger_state.specs.Stages.{Stage}
 use Rattle.zbx_types.specs.declared.entries.Numbered.{Numbered}
 use Rattle.entry_step.specs.Log.{log_of}
@@ -44,7 +44,6 @@ loop-entry-preserved g c =
           (replayed_at flat base before outbox meanwhile c.loop-entry.so_far left.bytes left.size (c.loop-entry.invariant.replayed log sound first))));
       epochs = c.in_ok-replay_one.ensures.epochs (drop (i + 1) kept) epochs;
       counted = c.in_ok-replay_one.ensures.len c.loop-entry.invariant.counted;
-      cache = c.replay_one.ensures.cache ∙ c.loop-entry.invariant.cache;
       left = left_on outbox meanwhile (g.O.Sink.tells c.replay_one.new.outbox) left c.replay_one.ensures.left;
     }
 

@@ -13,6 +13,5 @@ invariant-loop-entry g l = record {
       → IsReplayed g.S.StartName.flat g.S.StartName.base (log_of (take l.entry-index l.kept) ++ log) (g.O.Sink.tells l.fn.outbox) l.so_far;
   epochs : l.epochs.items ≡ epochs_of g.S.StartName.flat (drop l.entry-index l.kept);
   counted : deque_len l.epochs ≡ length l.epochs.items;
-  cache : l.so_far.present.cells.cache ≡ l.fn.so_far.present.cells.cache;
   left : IsLeft (g.O.Sink.tells l.fn.outbox) (g.O.Sink.tells l.outbox);
 }

@@ -1,4 +1,4 @@
-use Rattle.std.proofs.Common.{◌≡◌, ◌≤◌, ◌+◌, ◌∙◌, List, length, ap, subst, sym}
+use Rattle.std.proofs.Common.{◌≤◌, ◌+◌, ◌∙◌, List, length, ap, subst, sym}
 use Rattle.zbx_types.specs.declared.base.Base.{Base}
 use Rattle.zbx_types.specs.declared.entries.Numbered.{Numbered}
 use Rattle.base_laws.specs.Grounds.{start_of}

@@ -1,5 +1,6 @@
 use Rattle.std.proofs.Common.{refl}
 use Rattle.base_laws.specs.Grounds.{start_of}
+use Rattle.book_opening.specs.Opening.{no_cache}
 use Rattle.book_opening.specs.Outgoing.{no_outbox}
 use Rattle.entry_laws.specs.InForce.{behind_all}
 use Rattle.entry_step.specs.Log.{log_of}
@@ -15,5 +16,5 @@ ghosts-replay_kept a = record {
   start = behind_all flat (start_of flat a.base.now) (log_of a.kept.now);
   first = refl;
   outbox = no_outbox;
-  cache = a.cache.value;
+  cache = no_cache;
 }

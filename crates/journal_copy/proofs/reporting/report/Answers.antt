@@ -1,4 +1,3 @@
-use Rattle.journal_copy.specs.Copies.{Prints}
 use Rattle.journal_copy.proofs.Copies.{prints_line}
 use Rattle.journal_copy.proofs.reporting.report.Goals as goal
 

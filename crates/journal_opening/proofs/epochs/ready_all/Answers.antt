@@ -1,7 +1,6 @@
-use Rattle.std.proofs.Common.{◌≡◌, [], ◌∷◌, ◌++◌, map, List, sym, ap, ◌∙◌, subst, append_assoc}
+use Rattle.std.proofs.Common.{◌≡◌, [], ◌∷◌, ◌++◌, map, sym, ap, ◌∙◌, subst, append_assoc}
 use Rattle.std.specs.Prelude.{Contains}
 use Rattle.std.specs.Vec.Iter.{into_iter_items}
-use Rattle.zbx_types.specs.declared.conf.Conf.{Conf}
 use Rattle.trigger_state.specs.Stages.{first_stage}
 use Rattle.journal_opening.proofs.MadeReady.{one_unready, among_first, among_rest}
 use Rattle.journal_opening.proofs.epochs.ready_all.Goals as goal

@@ -1,4 +1,4 @@
-use Rattle.std.proofs.Common.{refl, ap, rules}
+use Rattle.std.proofs.Common.{refl, ap}
 use Rattle.server_run.proofs.Runs.{opened_behind}
 use Rattle.server_run.proofs.Outbox.{left_so}
 use Rattle.server_run.proofs.Whole.{refused_so_far, gone_so_far}

@@ -1,5 +1,5 @@
 use Rattle.std.proofs.Common.{◌≡◌, ◌≢◌, get_or, ◌<◌, ◌≤◌, ◌+◌, ◌∙◌, ℕ, min, List, Option, length, drop, refl, sym, ap, subst, arith}
-use Rattle.std.specs.Prelude.{Some, IfSome}
+use Rattle.std.specs.Prelude.{IfSome}
 use Rattle.zbx_types.specs.declared.base.Base.{Base}
 use Rattle.zbx_types.specs.declared.conf.Conf.{Conf}
 use Rattle.zbx_types.specs.declared.entries.Numbered.{Numbered}
@@ -87,7 +87,7 @@ returns-clause-front g c =
     let over = (replayed_at flat base log (g.O.Sink.tells c.args.outbox) opening c.in-Ok.replayed left.bytes left.size c.in-Ok.ensures.replayed).recorded in
     let counted = tally_size base.lines (log_records flat base log) c.in-Ok.replayed.tally over.tally in
     front_at base.lines opening g.S.StartName.outbox (g.O.Sink.tells c.mend.new.outbox) (log_lines flat base log) (sym (left.bytes ∙ ap (λ (t : SinkTells). t.bytes) c.requires.outbox))
-    (mended_by c.args.base.now base c.in-Ok.replayed.tally.bytes opening (g.O.Sink.tells c.mend.new.outbox) c.in-Ok.replayed.other (log_lines flat base log) c.requires.base c.in_default.ensures.mended counted over.compared)
+    (mended_by c.args.base.now base c.in-Ok.replayed.tally.bytes opening (g.O.Sink.tells c.mend.new.outbox) c.in-Ok.replayed.other (log_lines flat base log) c.requires.base c.in-Ok-mend.ensures.mended counted over.compared)
 
 pub returns-clause-unwritten : goal.returns-clause-unwritten
 returns-clause-unwritten g c =
@@ -97,7 +97,7 @@ returns-clause-unwritten g c =
     let opening = g.O.Sink.tells c.begin.new.outbox in
     let left = c.in-Ok.ensures.left in
     let over = (replayed_at flat base log (g.O.Sink.tells c.args.outbox) opening c.in-Ok.replayed left.bytes left.size c.in-Ok.ensures.replayed).recorded in
-    lacks_from base.lines opening.held (g.O.Sink.tells c.mend.new.outbox).held c.in-Ok.replayed.other (log_lines flat base log) c.in-Ok.replayed.missing over.compared.within c.in_default.ensures.held over.missing
+    lacks_from base.lines opening.held (g.O.Sink.tells c.mend.new.outbox).held c.in-Ok.replayed.other (log_lines flat base log) c.in-Ok.replayed.missing over.compared.within c.in-Ok-mend.ensures.held over.missing
 
 pub returns-clause-mendable : goal.returns-clause-mendable
 returns-clause-mendable g c =
@@ -111,9 +111,9 @@ returns-clause-mendable g c =
     let counted = tally_size base.lines (log_records flat base log) c.in-Ok.replayed.tally over.tally in
     let same = left.size ∙ ap (λ (t : SinkTells). t.held) c.requires.outbox in
     let before = ap (λ (b : Base). b.lines) c.requires.base in
-    let least = c.in_default.ensures.least in
-    let few = c.in_default.ensures.enough in
-    mendable_at base.lines opening first (log_lines flat base log) c.in-Ok.replayed.other (sym (left.bytes ∙ ap (λ (t : SinkTells). t.bytes) c.requires.outbox)) (omega arith) (omega arith) over.compared.place c.in_default.ensures.mendable
+    let least = c.in-Ok-mend.ensures.least in
+    let few = c.in-Ok-mend.ensures.enough in
+    mendable_at base.lines opening first (log_lines flat base log) c.in-Ok.replayed.other (sym (left.bytes ∙ ap (λ (t : SinkTells). t.bytes) c.requires.outbox)) (omega arith) (omega arith) over.compared.place c.in-Ok-mend.ensures.mendable
 
 pub invariant_of-book : goal.invariant_of-book
 invariant_of-book g c =
@@ -130,17 +130,17 @@ invariant_of-book g c =
     let over = (replayed_at flat base log before opening c.in-Ok.replayed left.bytes left.size c.in-Ok.ensures.replayed).recorded in
     let counted = tally_size base.lines (log_records flat base log) c.in-Ok.replayed.tally over.tally in
     let same = left.size ∙ ap (λ (t : SinkTells). t.held) c.requires.outbox in
-    let few = c.in_default.ensures.enough in
+    let few = c.in-Ok-mend.ensures.enough in
     let enough : first.held ≤ base.lines + length lines = omega arith in
     let lawful = subst (λ (t : SinkTells). IfSome t.bytes (λ b. t.held ≡ length b)) c.requires.outbox (g.met.O.Sink.held_is c.args.outbox) in
     let front : HasFront base.lines first sink lines = front_at base.lines opening first sink lines (sym (left.bytes ∙ ap (λ (t : SinkTells). t.bytes) c.requires.outbox))
-    (mended_by c.args.base.now base c.in-Ok.replayed.tally.bytes opening sink c.in-Ok.replayed.other lines c.requires.base c.in_default.ensures.mended counted over.compared) in
+    (mended_by c.args.base.now base c.in-Ok.replayed.tally.bytes opening sink c.in-Ok.replayed.other lines c.requires.base c.in-Ok-mend.ensures.mended counted over.compared) in
     let faults = ap (λ (t : SinkTells). t.faults) c.requires.outbox in
     let rose = left.later in
-    let rose2 = c.in_default.ensures.later in
+    let rose2 = c.in-Ok-mend.ensures.later in
     opened run c.args.ring.received c.new.result.entries c.new.result.gate.marks 0 c.in-Ok.replayed.tally sink c.in-Ok.replayed.missing
     c.new.ensures.entries c.requires.received refl over.tally enough lawful front
-    (lacks_from base.lines opening.held sink.held c.in-Ok.replayed.other lines c.in-Ok.replayed.missing over.compared.within c.in_default.ensures.held over.missing) (omega arith)
+    (lacks_from base.lines opening.held sink.held c.in-Ok.replayed.other lines c.in-Ok.replayed.missing over.compared.within c.in-Ok-mend.ensures.held over.missing) (omega arith)
 
 sound_of : (flat : List ℕ → Conf) (base : Base) (log : List Numbered) → AllDistinct flat → IsBase flat base → IsFull (start_of flat base) log × FitsLog flat (start_of flat base) log → IsSound flat base log
 sound_of flat base log distinct is whole = record { distinct = distinct; base_is = is; full = whole.0; fits = whole.1 }

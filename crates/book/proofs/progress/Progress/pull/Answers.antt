@@ -1,4 +1,4 @@
-use Rattle.std.proofs.Common.{◌++◌, ◌-◌, ◌+◌, ◌∙◌, [], length, take, get_or, length-take-le, ap}
+use Rattle.std.proofs.Common.{◌++◌, ◌+◌, ◌∙◌, [], length, take, get_or, length-take-le, ap}
 use Rattle.book.proofs.Going.{pulled_going}
 use Rattle.book.proofs.progress.Progress.pull.Goals as goal
 

@@ -3,5 +3,5 @@ use Rattle.entry_step.specs.Represents.{Holds}
 use Rattle.entry_step.specs.Start.{Start, first_start}
 use Rattle.book_opening.proofs.present.Present.first.Goals as goal
 
-pub returns-clause-made : goal.returns-clause-made
-returns-clause-made c = (refl, subst (λ (s : Start). Holds s c.in_ok-cells.cells []) (ap first_start c.conf.ensures) c.in_ok-cells.ensures.holds)
+pub returns-in-Ok-clause-made : goal.returns-in-Ok-clause-made
+returns-in-Ok-clause-made c = (refl, subst (λ (s : Start). Holds s c.in-Ok.cells []) (ap first_start c.conf.ensures) c.in-Ok.ensures.holds)
