@@ -112,7 +112,7 @@ def taken(words, name, otherwise):
 
 def main():
     words = sys.argv[1:]
-    seconds, journal = int(taken(words, "--seconds", "3")), taken(words, "--journal", None)
+    seconds, journal = int(taken(words, "--seconds", "2")), taken(words, "--journal", None)
     triggers, numbers = int(taken(words, "--triggers", "1")), taken(words, "--syncers", "").split(",")
     if not words:
         print("usage: bench/serve.py PROGRAM.. [--seconds N] [--journal FOLDER] [--triggers N] [--syncers LIST]", file=sys.stderr)
