@@ -35,7 +35,8 @@ use Rattle.entry_step.specs.Due.{by_making, due_for, due_over, due_at}
 use Rattle.entry_step.specs.Each.{Each}
 use Rattle.entry_step.specs.Occasions.{is_value, occasion_of}
 use Rattle.entry_step.specs.Order.{by_event}
-use Rattle.entry_step.specs.Records.{problem_of, recovery_of, closed_records, problems_open, ruled, last_records, begun_with, verdict_records, expression_value, recovery_value, records_by, evaluated, phase}
+use Rattle.entry_step.specs.Records.{problem_of, recovery_of, closed_records, problems_open, ruled, last_records, begun_with, verdict_records, records_by, evaluated, phase}
+use Rattle.conf_index.specs.Evaluation.{expression_value, recovery_value}
 use Rattle.entry_step.specs.Represents.{AllAtHome}
 use Rattle.entry_step.specs.Seen.{Seen, seen_in}
 use Rattle.entry_step.proofs.Members.{any_elim, each_append, each_at, each_map, each_sub, filter_map, flat_map_cong, flat_maps}

@@ -107,7 +107,9 @@ fn take_steps(
 {
     for one in ran {
         let step = step_of(alloc, problem, one)?;
-        take(alloc, stage, rows, &step)?;
+        let taken = take(alloc, stage, rows, &step);
+        drop(step);
+        taken?;
     }
     Ok(())
 }

@@ -74,12 +74,12 @@ fresh_marks gate id fresh i =
     sym (ap (λ b. is_taken id (cond b Pending (get_or gate.marks ((gate.first + i) - gate.first) Pending))) e ∙ ap (λ k. is_taken id (get_or gate.marks k Pending)) z)
     ∙ fresh (gate.first + i)
 
-pub has_claimed : (from : Start) (p : ProgressView) (gate : Gate) (batch : Batch) (limit : ℕ) → IsGoing from p
-    → Some batch ≡ batch_of p.gate.next (chosen (feet_of from.stage.conf) p.gate p.entries limit)
-    → gate ≡ claimed p.gate (chosen (feet_of from.stage.conf) p.gate p.entries limit)
+pub has_claimed : (from : Start) (p : ProgressView) (gate : Gate) (batch : Batch) (looks limit : ℕ) → IsGoing from p
+    → Some batch ≡ batch_of p.gate.next (chosen (feet_of from.stage.conf) p.gate p.entries looks limit)
+    → gate ≡ claimed p.gate (chosen (feet_of from.stage.conf) p.gate p.entries looks limit)
     → AreAlike p.gate gate → IsStep (feet_of from.stage.conf) p.entries p.gate (Claim batch.id batch.numbers) gate
     → HasClaimed from p gate batch
-has_claimed from p gate batch limit going some is alike step = record {
+has_claimed from p gate batch looks limit going some is alike step = record {
   going = next;
   opened = opened;
   back = back;
@@ -88,7 +88,7 @@ has_claimed from p gate batch limit going some is alike step = record {
 }
   where
     numbers : List ℕ
-    numbers = chosen (feet_of from.stage.conf) p.gate p.entries limit
+    numbers = chosen (feet_of from.stage.conf) p.gate p.entries looks limit
 
     stands : IsConsistent from (worked_of from.number p going.cells)
     stands = stands_of from p going
@@ -122,8 +122,8 @@ has_claimed from p gate batch limit going some is alike step = record {
     opened =
         is_parts.1
         ∙ sym (held_taken p.gate.next p.gate.first numbers p.gate.marks fresh
-        (picked_rise (feet_of from.stage.conf) (conflicts_with (feet_of from.stage.conf) (opens p.gate.marks p.entries)) 1000 limit p.gate.first p.gate.marks p.entries (by_marks p.gate p.entries going.offered))
-        (λ n h. ((chosen_free (feet_of from.stage.conf) p.gate p.entries limit going.offered).offered n h).1))
+        (picked_rise (feet_of from.stage.conf) (conflicts_with (feet_of from.stage.conf) (opens p.gate.marks p.entries)) looks limit p.gate.first p.gate.marks p.entries (by_marks p.gate p.entries going.offered))
+        (λ n h. ((chosen_free (feet_of from.stage.conf) p.gate p.entries looks limit going.offered).offered n h).1))
         ∙ ap (λ id. held_by id p.gate.first (with_taken p.gate.next numbers p.gate.first p.gate.marks)) (sym is_parts.0)
         ∙ ap (λ f. held_by batch.id f (with_taken p.gate.next numbers p.gate.first p.gate.marks)) (sym first_is)
         ∙ ap (held_by batch.id gate.first) (sym marks_are)
@@ -132,7 +132,7 @@ has_claimed from p gate batch limit going some is alike step = record {
     pending n h l =
         let e : nat_lt n p.gate.first ≡ false = le-ltb n p.gate.first l in
         sym (ap (λ b. cond b Pending (get_or p.gate.marks (n - p.gate.first) Pending)) e)
-        ∙ (chosen_free (feet_of from.stage.conf) p.gate p.entries limit going.offered).pending n h
+        ∙ (chosen_free (feet_of from.stage.conf) p.gate p.entries looks limit going.offered).pending n h
 
     back : map (ended batch.id Pending) gate.marks ≡ p.gate.marks
     back =
@@ -144,7 +144,7 @@ has_claimed from p gate batch limit going some is alike step = record {
     single n one =
         let is_one : numbers ≡ n ∷ [] = sym is_parts.1 ∙ one in
         let has : has_id numbers n ≡ true = ap (λ ns. has_id ns n) is_one ∙ ap (λ b. b || false) (eq-eqb n n refl) in
-        let bound = (chosen_free (feet_of from.stage.conf) p.gate p.entries limit going.offered).offered n has in
+        let bound = (chosen_free (feet_of from.stage.conf) p.gate p.entries looks limit going.offered).offered n has in
         let size = going.offered.size in
         let first = going.first in
         record {
@@ -158,13 +158,13 @@ has_claimed from p gate batch limit going some is alike step = record {
         }
 
 -- a claim with some feet that are the configuration's
-pub some_claimed : (from : Start) (feet : Footing) (entries : List Numbered) (before gate : Gate) (limit : ℕ) (taken : Option Batch) → feet ≡ feet_of from.stage.conf → taken ≡ batch_of before.next (chosen feet before entries limit) → gate ≡ claimed before (chosen feet before entries limit) → AreAlike before gate
+pub some_claimed : (from : Start) (feet : Footing) (entries : List Numbered) (before gate : Gate) (looks limit : ℕ) (taken : Option Batch) → feet ≡ feet_of from.stage.conf → taken ≡ batch_of before.next (chosen feet before entries looks limit) → gate ≡ claimed before (chosen feet before entries looks limit) → AreAlike before gate
     → IfSome taken (λ batch. IsStep feet entries before (Claim batch.id batch.numbers) gate) → IfSome taken (IsClaim from entries before gate)
-some_claimed from feet entries before gate limit None same is gate_is alike step = tt
-some_claimed from feet entries before gate limit (Some batch) same is gate_is alike step = λ held made going.
-    has_claimed from (record { entries = entries; gate = before; cells = held; made = made }) gate batch limit going
-    (is ∙ ap (λ f. batch_of before.next (chosen f before entries limit)) same)
-    (gate_is ∙ ap (λ f. claimed before (chosen f before entries limit)) same)
+some_claimed from feet entries before gate looks limit None same is gate_is alike step = tt
+some_claimed from feet entries before gate looks limit (Some batch) same is gate_is alike step = λ held made going.
+    has_claimed from (record { entries = entries; gate = before; cells = held; made = made }) gate batch looks limit going
+    (is ∙ ap (λ f. batch_of before.next (chosen f before entries looks limit)) same)
+    (gate_is ∙ ap (λ f. claimed before (chosen f before entries looks limit)) same)
     alike
     (subst (λ f. IsStep f entries before (Claim batch.id batch.numbers) gate) same step)
 
@@ -194,10 +194,10 @@ few_picked feet waits looks room (m ∷ marks) (e ∷ entries) =
     go true false c some w skip take rest = rest
     go false b c some w skip take rest = rest
 
-pub few_claimed : (feet : Footing) (entries : List Numbered) (before : Gate) (limit : ℕ) (taken : Option Batch) → taken ≡ batch_of before.next (chosen feet before entries limit) → IfSome taken (λ batch. (0 < length batch.numbers) × (length batch.numbers ≤ limit))
-few_claimed feet entries before limit None is = tt
-few_claimed feet entries before limit (Some batch) is =
-    go (chosen feet before entries limit) is (few_picked feet (conflicts_with feet (opens before.marks entries)) 1000 limit before.marks entries)
+pub few_claimed : (feet : Footing) (entries : List Numbered) (before : Gate) (looks limit : ℕ) (taken : Option Batch) → taken ≡ batch_of before.next (chosen feet before entries looks limit) → IfSome taken (λ batch. (0 < length batch.numbers) × (length batch.numbers ≤ limit))
+few_claimed feet entries before looks limit None is = tt
+few_claimed feet entries before looks limit (Some batch) is =
+    go (chosen feet before entries looks limit) is (few_picked feet (conflicts_with feet (opens before.marks entries)) looks limit before.marks entries)
   where
     go : (ns : List ℕ) → Some batch ≡ batch_of before.next ns → length ns ≤ limit → (0 < length batch.numbers) × (length batch.numbers ≤ limit)
     go [] q l = let r : Some batch ≡ None = q in absurd (cc)

@@ -53,8 +53,8 @@ keep_taken id numbers n (m ∷ marks) free zero e = go (has_id numbers n) refl
 keep_taken id numbers n (m ∷ marks) free (suc i) e =
     keep_taken id numbers (n + 1) marks (λ j h. free (suc j) (let next : n + suc j ≡ (n + 1) + j = omega arith in ap (has_id numbers) next ∙ h)) i e
 
-pub keep_claimed : (feet : Footing) (gate : Gate) (entries : List Numbered) (limit : ℕ) → AreOffered gate entries → StayApplied gate.marks (claimed gate (chosen feet gate entries limit)).marks
-keep_claimed feet gate entries limit offered = by (chosen feet gate entries limit) (chosen_free feet gate entries limit offered)
+pub keep_claimed : (feet : Footing) (gate : Gate) (entries : List Numbered) (looks limit : ℕ) → AreOffered gate entries → StayApplied gate.marks (claimed gate (chosen feet gate entries looks limit)).marks
+keep_claimed feet gate entries looks limit offered = by (chosen feet gate entries looks limit) (chosen_free feet gate entries looks limit offered)
   where
     pending_at : (numbers : List ℕ) → AreFree gate numbers → (i : ℕ) → has_id numbers (gate.first + i) ≡ true → get_or gate.marks i Pending ≡ Pending
     pending_at numbers free i h =
@@ -78,10 +78,10 @@ keep_ending gate gate' batch to ends other = by (same_numbers batch.numbers (hel
 -- ---- what a call has done to the marks
 
 -- a claim, which may have been refused
-pub keep_claim : {T E : Type 0} (feet : Footing) (p : ProgressView) (gate' : Gate) (limit : ℕ) (r : Result T E) → AreOffered p.gate p.entries
-    → OnOk r (gate' ≡ claimed p.gate (chosen feet p.gate p.entries limit)) → OnErr r (gate'.marks ≡ p.gate.marks) → StayApplied p.gate.marks gate'.marks
-keep_claim feet p gate' limit (Ok x) offered ok err = subst (λ (g : Gate). StayApplied p.gate.marks g.marks) (sym ok) (keep_claimed feet p.gate p.entries limit offered)
-keep_claim feet p gate' limit (Err x) offered ok err = keep_same p.gate.marks gate'.marks err
+pub keep_claim : {T E : Type 0} (feet : Footing) (p : ProgressView) (gate' : Gate) (looks limit : ℕ) (r : Result T E) → AreOffered p.gate p.entries
+    → OnOk r (gate' ≡ claimed p.gate (chosen feet p.gate p.entries looks limit)) → OnErr r (gate'.marks ≡ p.gate.marks) → StayApplied p.gate.marks gate'.marks
+keep_claim feet p gate' looks limit (Ok x) offered ok err = subst (λ (g : Gate). StayApplied p.gate.marks g.marks) (sym ok) (keep_claimed feet p.gate p.entries looks limit offered)
+keep_claim feet p gate' looks limit (Err x) offered ok err = keep_same p.gate.marks gate'.marks err
 
 -- the end of a batch, which may have been refused
 pub keep_done : {T E : Type 0} (p p' : ProgressView) (batch : Batch) (to : Mark) (r : Result T E) → OnOk r (IsOpenBatch p.gate batch → p'.gate ≡ with_ended batch.id to p.gate)
@@ -91,12 +91,12 @@ keep_done p p' batch to (Err x) ok other err = keep_same p.gate.marks p'.gate.ma
 
 -- an entry that was worked out, or none
 pub keep_one : {E : Type 0} (feet : Footing) (p p' : ProgressView) (r : Result Bool E) → AreOffered p.gate p.entries
-    → IfOk r (λ some. some ≡ true → (id : ℕ) × (p'.gate.marks ≡ (with_ended id Applied (claimed p.gate (chosen feet p.gate p.entries 1))).marks))
-    → IfOk r (λ some. some ≡ false → (chosen feet p.gate p.entries 1 ≡ []) × (p' ≡ p))
+    → IfOk r (λ some. some ≡ true → (id : ℕ) × (p'.gate.marks ≡ (with_ended id Applied (claimed p.gate (chosen feet p.gate p.entries 4000 1))).marks))
+    → IfOk r (λ some. some ≡ false → (chosen feet p.gate p.entries 4000 1 ≡ []) × (p' ≡ p))
     → OnErr r ((p'.gate.marks ≡ p.gate.marks) × (p'.cells ≡ p.cells) × (p'.made ≡ p.made)) → StayApplied p.gate.marks p'.gate.marks
 keep_one feet p p' (Ok true) offered one none err =
     let some = one refl in
-    let gate = claimed p.gate (chosen feet p.gate p.entries 1) in
-    subst (StayApplied p.gate.marks) (sym some.1) (keep_both p.gate.marks gate.marks (map (ended some.0 Applied) gate.marks) (keep_claimed feet p.gate p.entries 1 offered) (keep_ended some.0 Applied gate.marks))
+    let gate = claimed p.gate (chosen feet p.gate p.entries 4000 1) in
+    subst (StayApplied p.gate.marks) (sym some.1) (keep_both p.gate.marks gate.marks (map (ended some.0 Applied) gate.marks) (keep_claimed feet p.gate p.entries 4000 1 offered) (keep_ended some.0 Applied gate.marks))
 keep_one feet p p' (Ok false) offered one none err = keep_same p.gate.marks p'.gate.marks (ap (λ (q : ProgressView). q.gate.marks) (none refl).1)
 keep_one feet p p' (Err x) offered one none err = keep_same p.gate.marks p'.gate.marks err.0

@@ -26,7 +26,7 @@ ghost use Rattle.book.specs.Book.{work_of, AreApplied, IsFrontier, lines_upto};
 use crate::alone::work_all;
 use crate::errors::FlushError;
 use crate::names::RunName;
-use crate::order::{Done, Order};
+use crate::order::{Done, Order, capped};
 use crate::progress::Progress;
 use crate::ring::{RingEnd, RingHead};
 use book_opening::{
@@ -248,22 +248,24 @@ impl<S: StartName, N: RunName, O: Sink> Book<S, N, O> {
         Ok(capped(count))
     }
 
-    /// Takes a batch of at most `limit` entries, as the crate `syncer_gate` chooses it, with copies of the cells in
-    /// their feet. None comes exactly where there is nothing to take; with no open batch that is exactly where nothing is
+    /// Takes a batch of at most `limit` of the first `looks` pending entries, as the crate `syncer_gate` chooses it, with
+    /// copies of the cells in their feet. None comes exactly where there is nothing to take; with no open batch that is exactly where nothing is
     /// pending. Where memory is refused nothing was taken.
     pub fn claim(
         &mut self,
         alloc: Global,
         ready: &Ready,
+        looks: u32,
         limit: u32,
     ) -> Result<Option<Order<S>>, OutOfMemory>
         requires conf { ready.now ≡ S.start.stage }
+        requires looks { 1 ≤ looks }
         requires limit { 1 ≤ limit }
         ensures batch { IfOk result (λ made. option_map (λ order. order.batch) made ≡ batch_of self.old.gate.next
-            (chosen (feet_of S.start.stage.conf) self.old.gate self.old.entries limit)) }
+            (chosen (feet_of S.start.stage.conf) self.old.gate self.old.entries looks limit)) }
         ensures inputs { IfOk result (λ made. IfSome made (λ order. HasInputs (work_of self.old) order)) }
         ensures gate { OnOk result (self.new.gate ≡ claimed self.old.gate
-            (chosen (feet_of S.start.stage.conf) self.old.gate self.old.entries limit)) }
+            (chosen (feet_of S.start.stage.conf) self.old.gate self.old.entries looks limit)) }
         ensures rest { (self.new.entries ≡ self.old.entries) × (self.new.cells ≡ self.old.cells)
             × (self.new.made ≡ self.old.made) }
         ensures out { (self.new.frontier ≡ self.old.frontier) × (self.new.tally ≡ self.old.tally)
@@ -273,7 +275,7 @@ impl<S: StartName, N: RunName, O: Sink> Book<S, N, O> {
         ensures err { OnErr result (self.new.gate.marks ≡ self.old.gate.marks) }
     {
         self.progress.going();
-        self.progress.claim(alloc, ready, limit)
+        self.progress.claim(alloc, ready, looks, limit)
     }
 
     /// Puts what an order came to in place: its entries are applied. Where its batch isn't open here nothing changes.
@@ -325,9 +327,9 @@ impl<S: StartName, N: RunName, O: Sink> Book<S, N, O> {
         ensures entries { self.new.entries ≡ self.old.entries }
         ensures one { IfOk result (λ some. some ≡ true → (id : ℕ)
             × (self.new.gate.marks ≡ (with_ended id Mark.Applied
-            (claimed self.old.gate (chosen (feet_of S.start.stage.conf) self.old.gate self.old.entries 1))).marks)) }
+            (claimed self.old.gate (chosen (feet_of S.start.stage.conf) self.old.gate self.old.entries 4000 1))).marks)) }
         ensures none { IfOk result (λ some. some ≡ false
-            → (chosen (feet_of S.start.stage.conf) self.old.gate self.old.entries 1 ≡ []) × (self.new ≡ self.old)) }
+            → (chosen (feet_of S.start.stage.conf) self.old.gate self.old.entries 4000 1 ≡ []) × (self.new ≡ self.old)) }
         ensures more { IfOk result (λ some. some ≡ true → IsOneMore self.old.gate.marks self.new.gate.marks) }
         ensures idle { IfOk result (λ some. some ≡ false → list_any is_open self.old.gate.marks ≡ false
             → list_any is_pending self.old.gate.marks ≡ false) }
@@ -548,16 +550,5 @@ impl<S: StartName, N: RunName, O: Sink> Book<S, N, O> {
         ensures since { S.outbox.faults ≤ result }
     {
         self.outbox.faults()
-    }
-}
-
-/// A number of entries, or 2^32 - 1 where it is more.
-fn capped(count: usize) -> u32
-    ensures { result ≡ min count 4294967295 }
-{
-    if count < u32::MAX as usize {
-        count as u32
-    } else {
-        u32::MAX
     }
 }

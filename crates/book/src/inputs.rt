@@ -343,21 +343,23 @@ pub(crate) fn work_in<S: StartName, L: Ledger>(
     Ok(())
 }
 
-/// Takes a batch of at most `limit` entries.
+/// Takes a batch of at most `limit` of the first `looks` pending entries.
 pub(crate) fn take_batch<S: StartName>(
     alloc: Global,
     ready: &Ready,
     claims: &mut Claims,
     entries: &[Numbered],
+    looks: u32,
     limit: u32,
 ) -> Result<Option<Batch>, OutOfMemory>
     requires conf { ready.now ≡ S.start.stage }
+    requires looks { 1 ≤ looks }
     requires limit { 1 ≤ limit }
     requires offered { AreOffered claims.old entries.now }
     ensures batch { IfOk result (λ taken. taken ≡ batch_of claims.old.next
-        (chosen (feet_of S.start.stage.conf) claims.old entries.now limit)) }
+        (chosen (feet_of S.start.stage.conf) claims.old entries.now looks limit)) }
     ensures gate { OnOk result (claims.new ≡ claimed claims.old
-        (chosen (feet_of S.start.stage.conf) claims.old entries.now limit)) }
+        (chosen (feet_of S.start.stage.conf) claims.old entries.now looks limit)) }
     ensures some { IfOk result (λ taken. IfSome taken (IsClaim S.start entries.now claims.old claims.new)) }
     ensures few { IfOk result (λ taken. IfSome taken (λ batch. (0 < length batch.numbers)
         × (length batch.numbers ≤ limit))) }
@@ -368,7 +370,7 @@ pub(crate) fn take_batch<S: StartName>(
         → is_some taken ≡ list_any is_pending claims.old.marks) }
     ensures err { OnErr result (claims.new ≡ claims.old) }
 {
-    let taken = claims.claim(alloc, ready.feet(), entries, limit)?;
+    let taken = claims.claim(alloc, ready.feet(), entries, looks, limit)?;
     Ok(taken)
 }
 

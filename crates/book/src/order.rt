@@ -1,6 +1,6 @@
 //! Orders: batches with all that is needed to work them out, apart from the book.
 
-ghost use Rattle.std.specs.Prelude.{◌≡◌, get_or, IfOk, IfErr, OnOk};
+ghost use Rattle.std.specs.Prelude.{◌≡◌, get_or, length, min, IfOk, IfErr, OnOk};
 ghost use Rattle.entry_step.specs.Parts.{IsCounted};
 
 use book_opening::StartName;
@@ -53,12 +53,30 @@ impl<S: StartName> Model for Done<S> {
     ghost invariant = { λ d. WorksOut S.start.stage d.order.entries d.order.part d.part d.made × (d.part.cache ≡ S.cache) };
 }
 
+/// A number of entries, or 2^32 - 1 where it is more.
+pub(crate) fn capped(count: usize) -> u32
+    ensures { result ≡ min count 4294967295 }
+{
+    if count < u32::MAX as usize {
+        count as u32
+    } else {
+        u32::MAX
+    }
+}
+
 impl<S: StartName> Order<S> {
     /// The number of its first entry.
     pub fn first(&self) -> u64
         ensures { result ≡ get_or self.now.batch.numbers 0 0 }
     {
         self.batch.numbers.as_slice().first().copied().unwrap_or(0)
+    }
+
+    /// How many entries it has, or 2^32 - 1 where they are more.
+    pub fn count(&self) -> u32
+        ensures { result ≡ min (length self.now.batch.numbers) 4294967295 }
+    {
+        capped(self.batch.numbers.as_slice().len())
     }
 
     /// Works the entries out, one after another, on the copies. It needs nothing of the book. One step is counted for

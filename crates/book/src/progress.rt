@@ -33,6 +33,9 @@ use std::sync::ledger::Ledger;
 use syncer_gate::Claims;
 use zbx_types::{Many, Numbered, OutOfMemory, Rec};
 
+/// How many pending entries are looked at for one that may be worked out in place.
+const LOOKS: u32 = 4000;
+
 /// The entries behind those with which the run began, in the order of their numbers, where each of them stands, the
 /// cells behind those that are applied, and the records of these. Some cells before the first entry are spare, for
 /// orders to work in.
@@ -155,22 +158,24 @@ impl<S: StartName> Progress<S> {
         Ok(())
     }
 
-    /// Takes a batch of at most `limit` entries, as the crate `syncer_gate` chooses it, with copies of the cells in
-    /// their feet. None comes exactly where there is nothing to take; with no open batch that is exactly where nothing is
+    /// Takes a batch of at most `limit` of the first `looks` pending entries, as the crate `syncer_gate` chooses it, with
+    /// copies of the cells in their feet. None comes exactly where there is nothing to take; with no open batch that is exactly where nothing is
     /// pending. Where memory is refused nothing was taken.
     pub(crate) fn claim(
         &mut self,
         alloc: Global,
         ready: &Ready,
+        looks: u32,
         limit: u32,
     ) -> Result<Option<Order<S>>, OutOfMemory>
         requires conf { ready.now ≡ S.start.stage }
+        requires looks { 1 ≤ looks }
         requires limit { 1 ≤ limit }
         ensures batch { IfOk result (λ made. option_map (λ order. order.batch) made ≡ batch_of self.old.gate.next
-            (chosen (feet_of S.start.stage.conf) self.old.gate self.old.entries limit)) }
+            (chosen (feet_of S.start.stage.conf) self.old.gate self.old.entries looks limit)) }
         ensures inputs { IfOk result (λ made. IfSome made (λ order. HasInputs self.old order)) }
         ensures gate { OnOk result (self.new.gate ≡ claimed self.old.gate
-            (chosen (feet_of S.start.stage.conf) self.old.gate self.old.entries limit)) }
+            (chosen (feet_of S.start.stage.conf) self.old.gate self.old.entries looks limit)) }
         ensures rest { (self.new.entries ≡ self.old.entries) × (self.new.cells ≡ self.old.cells)
             × (self.new.made ≡ self.old.made) }
         ensures idle { IfOk result (λ made. list_any is_open self.old.gate.marks ≡ false
@@ -178,7 +183,7 @@ impl<S: StartName> Progress<S> {
         ensures err { OnErr result (self.new.gate.marks ≡ self.old.gate.marks) }
     {
         let all = self.entries.as_slice();
-        let taken = take_batch::<S>(alloc, ready, &mut self.claims, all, limit)?;
+        let taken = take_batch::<S>(alloc, ready, &mut self.claims, all, looks, limit)?;
         match taken {
             None => Ok(None),
             Some(batch) => {
@@ -217,6 +222,7 @@ impl<S: StartName> Progress<S> {
         ensures back { IfErr result (λ refused. refused.0 ≡ done) }
     {
         if !is_open_here(&self.claims, &done) {
+            drop(done);
             return Ok(());
         }
         let all = Listed {
@@ -236,6 +242,7 @@ impl<S: StartName> Progress<S> {
             entries: entries.as_slice(),
         };
         put_in(&mut self.cells, &mut self.made, ones, part, made);
+        drop(entries);
         self.claims.settle(batch);
         put_by(&mut self.spare, scratch);
         Ok(())
@@ -267,9 +274,9 @@ impl<S: StartName> Progress<S> {
         ensures entries { self.new.entries ≡ self.old.entries }
         ensures one { IfOk result (λ some. some ≡ true → (id : ℕ)
             × (self.new.gate.marks ≡ (with_ended id Mark.Applied
-            (claimed self.old.gate (chosen (feet_of S.start.stage.conf) self.old.gate self.old.entries 1))).marks)) }
+            (claimed self.old.gate (chosen (feet_of S.start.stage.conf) self.old.gate self.old.entries 4000 1))).marks)) }
         ensures none { IfOk result (λ some. some ≡ false
-            → (chosen (feet_of S.start.stage.conf) self.old.gate self.old.entries 1 ≡ []) × (self.new ≡ self.old)) }
+            → (chosen (feet_of S.start.stage.conf) self.old.gate self.old.entries 4000 1 ≡ []) × (self.new ≡ self.old)) }
         ensures more { IfOk result (λ some. some ≡ true → IsOneMore self.old.gate.marks self.new.gate.marks) }
         ensures idle { IfOk result (λ some. some ≡ false → list_any is_open self.old.gate.marks ≡ false
             → list_any is_pending self.old.gate.marks ≡ false) }
@@ -277,7 +284,7 @@ impl<S: StartName> Progress<S> {
             × (self.new.made ≡ self.old.made)) }
     {
         let all = self.entries.as_slice();
-        let taken = take_batch::<S>(alloc, ready, &mut self.claims, all, 1)?;
+        let taken = take_batch::<S>(alloc, ready, &mut self.claims, all, LOOKS, 1)?;
         match taken {
             None => Ok(false),
             Some(batch) => {

@@ -1,10 +1,16 @@
 //! Long texts of rows, and bytes as rows show them.
 
+ghost use Rattle.std.specs.Prelude.{◌≡◌, ◌≤◌, ◌<◌};
+ghost use Rattle.zbx_types.specs.Numerals.{digits_after};
+
 use std::alloc::Global;
 use zbx_types::{OutOfMemory, number_within};
 
 /// The number that a text of digits is, and 0 where it is above the greatest.
-pub fn number(text: &str) -> u32 {
+pub fn number(text: &str) -> u32
+    ensures within { digits_after 0 text.now ≤ 4294967295 → result ≡ digits_after 0 text.now }
+    ensures above { 4294967295 < digits_after 0 text.now → result ≡ 0 }
+{
     number_within(u32::MAX, text.as_bytes()).unwrap_or(0)
 }
 

@@ -2,6 +2,7 @@ mod Naming
 mod Listing
 mod Packing
 mod Planned
+mod Evaluated
 mod Dependents
 mod Sight
 mod Reaches

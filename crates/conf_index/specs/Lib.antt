@@ -3,6 +3,7 @@ pub mod Timed
 pub mod Patterned
 pub mod Asked
 pub mod Plans
+pub mod Evaluation
 pub mod Packed
 pub mod Names
 pub mod Index

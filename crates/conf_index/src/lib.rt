@@ -7,6 +7,8 @@
 //! global correlation reaches; the feet of the items, as the crate `footprint` says. Each is what a search of the
 //! configuration finds (`specs/Index.antt`), and none walks over it.
 //!
+//! [`plan_value`] and [`recovery_value`] evaluate such nodes over the values of a trigger's calls.
+//!
 //! Beside its configuration a `Ready` has where the events of earlier configurations come from, which `know` tells it.
 //! The crate `entry_step` takes entries by it.
 //!
@@ -17,6 +19,7 @@
 #![tactic(auto)]
 
 mod asked;
+mod evaluation;
 mod fault;
 mod index;
 mod indexes;
@@ -31,6 +34,7 @@ mod reached;
 mod rows;
 mod timed;
 
+pub use evaluation::{plan_value, recovery_value};
 pub use fault::BuildError;
 pub use index::Ready;
 pub use plans::Node;

@@ -24,7 +24,8 @@ use Rattle.trigger_state.specs.declared.answer.Verdict.TheVariants.{Nothing, New
 use Rattle.trigger_state.specs.declared.problems.Open.{Open}
 use Rattle.entry_step.specs.Each.{Each}
 use Rattle.entry_step.specs.Seen.{shown_values, Seen, seen_in}
-use Rattle.entry_step.specs.Records.{problem_of, closed_records, ruled, verdict_records, expression_value, recovery_value, evaluated, phase}
+use Rattle.entry_step.specs.Records.{problem_of, closed_records, ruled, verdict_records, evaluated, phase}
+use Rattle.conf_index.specs.Evaluation.{expression_value, recovery_value}
 use Rattle.entry_step.specs.Represents.{IsTagged}
 use Rattle.entry_step.specs.Changes.{judged}
 use Rattle.entry_step.specs.declared.occasions.Occasion.{Occasion}

@@ -17,7 +17,8 @@ use Rattle.entry_step.specs.Seen.{shown_values, Seen, seen_in}
 use Rattle.entry_step.specs.Evaluation.{call_value}
 use Rattle.event_text.specs.Titles.{event_tags}
 use Rattle.zbx_types.specs.declared.entries.Held.{Held}
-use Rattle.entry_step.specs.Records.{problem_of, closed_records, ruled, ruled_records, last_records, begun_with, verdict_records, expression_value, recovery_value, records_by, evaluated}
+use Rattle.entry_step.specs.Records.{problem_of, closed_records, ruled, ruled_records, last_records, begun_with, verdict_records, records_by, evaluated}
+use Rattle.conf_index.specs.Evaluation.{expression_value, recovery_value}
 use Rattle.entry_step.specs.Changes.{outcome_records, outcome_rows, EachClosed, judged, AreTidy, Absorbed}
 use Rattle.entry_step.specs.declared.changes.TriggerOutcome.{TriggerOutcome}
 use Rattle.trigger_state.specs.Verdicts.{some_open, is_held, lets_close, makes_new, is_closed_by, closing, close_all, verdict_over, verdict_by}

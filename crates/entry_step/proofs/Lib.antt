@@ -12,7 +12,6 @@ pub mod Orders
 pub mod Making
 pub mod Replays
 pub mod Feet
-pub mod Planned
 pub mod Sight
 pub mod Showing
 pub mod Said

@@ -1,9 +1,8 @@
 -- The calls of a trigger over cells.
-use Rattle.std.specs.Prelude.{◌≡◌, ℕ, List, Option, None, IfSome, ℤ, slice_index_or}
-use Rattle.zbx_types.specs.Tree.{Tree}
+use Rattle.std.specs.Prelude.{◌≡◌, ℕ, List, Option, IfSome, ℤ}
 use Rattle.zbx_types.specs.declared.entries.Held.{Held}
 use Rattle.zbx_types.specs.declared.entries.Stored.{Stored}
-use Rattle.expr_eval.specs.Values.{value_over}
+use Rattle.conf_index.specs.Evaluation.{value_in}
 use Rattle.value_cache.specs.Cells.{CellView}
 use Rattle.value_cache.specs.Tokens.{CacheId, AreOf}
 use Rattle.preprocess.specs.Cached.{DraftView}
@@ -12,8 +11,6 @@ use Rattle.entry_step.specs.Kept.{still_to_come, SeesFor}
 use Rattle.entry_step.specs.Evaluation.{call_value}
 use Rattle.entry_step.specs.Seen.{shown_values, Seen}
 use Rattle.entry_step.specs.declared.calls.Calls.{Calls}
-use Rattle.entry_step.specs.declared.evaluation.Found.{Found}
-use Rattle.conf_index.specs.declared.plans.Node.{Node}
 
 -- what is kept shows the trigger these histories
 abbrev pub Shown : Calls → (ℕ → List Stored) → Type 0
@@ -32,10 +29,6 @@ AreCached calls = AreSeenIn calls.cache.now calls.items.now calls.coming.now
 abbrev pub values_of : Calls → (ℕ → List Stored) → ℕ → Option ℤ
 values_of calls items = call_value items calls.occasion calls.ready.now.conf.utc_offset calls.trigger.now
 
--- values by their places; None behind the last
-abbrev pub value_in : List (Option ℤ) → ℕ → Option ℤ
-value_in values place = slice_index_or values place None
-
 -- these are the values of the calls over all histories that the trigger is shown
 abbrev pub AreValues : Calls → List (Option ℤ) → Type 0
 AreValues calls values =
@@ -50,8 +43,3 @@ AreShown calls values =
 abbrev pub sight_of : Calls → List (Option ℤ) → (ℕ → List Stored) → Seen
 sight_of calls values items =
     record { calls = value_in values; values = shown_values items calls.occasion.now calls.trigger.now }
-
--- what is found is the value of a tree, and these nodes behind it
-pub record Evaluates (calls : ℕ → Option ℤ) (t : Tree) (more : List Node) (found : Found) : Type 0 where
-  pub value : found.value ≡ value_over calls t
-  pub rest : found.rest.now ≡ more

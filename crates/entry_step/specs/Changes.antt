@@ -18,7 +18,8 @@ use Rattle.entry_step.specs.Each.{Each}
 use Rattle.entry_step.specs.Due.{due_for, due_over}
 use Rattle.entry_step.specs.declared.due.Due.{Due}
 use Rattle.entry_step.specs.Seen.{Seen}
-use Rattle.entry_step.specs.Records.{verdict_records, expression_value, recovery_value, evaluated, phase, has_call}
+use Rattle.entry_step.specs.Records.{verdict_records, evaluated, phase, has_call}
+use Rattle.conf_index.specs.Evaluation.{expression_value, recovery_value}
 use Rattle.conf_index.specs.Timed.{timed_triggers}
 use Rattle.entry_step.specs.Represents.{CellsView, problems_at, AllAtHome}
 use Rattle.value_cache.specs.Cells.{CellView}

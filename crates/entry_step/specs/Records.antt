@@ -22,7 +22,7 @@ use Rattle.entry_step.specs.Occasions.{occasion_of}
 use Rattle.prep_steps.specs.declared.memory.StepMemory.{StepMemory}
 use Rattle.preprocess.specs.Draft.{failures_of}
 use Rattle.entry_step.specs.History.{visits_at, stored_of, memory_of, history_of}
-use Rattle.expr_eval.specs.Values.{value_over}
+use Rattle.conf_index.specs.Evaluation.{expression_value, recovery_value}
 use Rattle.entry_step.specs.Seen.{Seen, seen_in}
 use Rattle.event_text.specs.Titles.{name_of, event_tags}
 use Rattle.maintenance.specs.Suppression.{is_suppressed}
@@ -99,15 +99,6 @@ verdict_records stage number now values id trigger all New =
     begun_records stage number now all id (problem_of stage.conf number now values id trigger)
 verdict_records stage number now values id trigger all (Close events) =
     flat_map (closed_records stage.conf number now causes.Expression (all id)) events
-
--- the value of an expression over the values of the calls
-abbrev pub expression_value : (ℕ → Option ℤ) → Expr → Option ℤ
-expression_value calls expr = value_over calls (tree_of expr)
-
--- the value of an expression that a trigger may not have
-abbrev pub recovery_value : (ℕ → Option ℤ) → Option Expr → Option ℤ
-recovery_value calls None = None
-recovery_value calls (Some expr) = expression_value calls expr
 
 -- the records of the verdict on a trigger that sees this: its tags are those that it has now
 abbrev pub judged_by : Stage → Occasion → Seen → (ℕ → List Open) → ℕ → Trigger → List Rec

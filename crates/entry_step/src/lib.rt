@@ -49,7 +49,6 @@ mod cells;
 mod changes;
 mod copying;
 mod due;
-mod evaluation;
 mod exchange;
 mod occasions;
 mod opens;

@@ -22,11 +22,10 @@ ghost use Rattle.conf_index.specs.Plans.{plan_of, recovery_plan_of};
 
 use crate::calls::Calls;
 use crate::changes::{Change, Fresh, TriggerOutcome};
-use crate::evaluation::{plan_value, recovery_value};
 use crate::opens::{absorbed_row, problems_at};
 use crate::ruling::{others_of, ruled};
 use crate::seen::shown_values;
-use conf_index::{Node, Ready};
+use conf_index::{Node, Ready, plan_value, recovery_value};
 use escalations::{first_of, recovered};
 use event_correlation::Closes;
 use maintenance::suppressed;

@@ -66,6 +66,9 @@ fn again(alloc: Global, batches: &[Batch], word: &str) -> Result<Option<Batch>, 
     }
 }
 
+/// How many pending entries a claim looks at.
+const LOOKS: u32 = 1000;
+
 /// Claims so many entries at most, and notes the batch.
 fn claim(
     alloc: Global,
@@ -81,7 +84,7 @@ fn claim(
     if limit == 0 {
         return add_word(&mut told.words, "out of range");
     }
-    let batch = claims.claim(alloc, feet, entries, limit)?;
+    let batch = claims.claim(alloc, feet, entries, LOOKS, limit)?;
     note(alloc, &mut told.words, &batch)?;
     if let Some(batch) = batch {
         told.batches.push(batch)?;

@@ -1,10 +1,10 @@
 -- Runs of bytes of a key.
 use Rattle.std.proofs.lemmas.List.{take_all, length-drop}
-use Rattle.std.proofs.Common.{zero, suc, ◌+◌, ◌-◌, ◌<◌, ◌≤◌, length, take, drop, get_or, arith, add-one, ◌≡◌, ℕ, List, [], ◌∷◌, ◌++◌, refl, ap, sym, ◌∙◌, Option, Some, None, Bool, true, false, length-take, length-append, append_assoc, append-nil, inl, inr, subst}
+use Rattle.std.proofs.Common.{zero, suc, ◌+◌, ◌-◌, ◌<◌, ◌≤◌, length, take, drop, get_or, arith, ◌≡◌, ℕ, List, [], ◌∷◌, ◌++◌, refl, ap, sym, ◌∙◌, Option, Some, None, false, length-take, length-append, append_assoc, append-nil, inl, inr, subst}
 use Rattle.zbx_types.specs.declared.calls.Call.{Call}
 use Rattle.zbx_types.specs.declared.calls.Fun.{Fun}
 use Rattle.zbx_types.specs.Limits.{longest_key}
-use Rattle.expr_parser.specs.Machine.{State, Key, after, go, is_zero, is_delimiter, move, start, state, step}
+use Rattle.expr_parser.specs.Machine.{State, Key, after, go, is_delimiter, move, start, state, step}
 use Rattle.expr_parser.specs.Staying.{KeyGoes, KeyLeads, Leads}
 use Rattle.expr_parser.specs.declared.keys.Spot.{Spot}
 use Rattle.expr_parser.specs.declared.pending.Pending.{Pending}

@@ -3,6 +3,7 @@ pub mod Amounts
 pub mod WrittenWholes
 pub mod NumberPaths
 pub mod PartPaths
+pub mod NumberBytes
 pub mod TextPaths
 pub mod PartRuns
 pub mod Words
@@ -22,7 +23,3 @@ pub mod Bounds
 pub mod Places
 pub mod KeyRuns
 pub mod SlotViews
-pub mod Escapes
-pub mod WrittenNumbers
-pub mod WrittenCalls
-pub mod WrittenTrees

@@ -9,4 +9,3 @@ pub mod Parts
 pub mod Machine
 pub mod View
 pub mod Staying
-pub mod Written

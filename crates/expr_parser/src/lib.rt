@@ -1,9 +1,8 @@
-//! Expressions of triggers, as `avg(/h/system.cpu.load,5m)>2 and last(/h/k)<>0`: from a text to a tree and its calls,
-//! and back.
+//! Expressions of triggers, as `avg(/h/system.cpu.load,5m)>2 and last(/h/k)<>0`: from a text to a tree and its calls.
+//! The way back is `expr_text`'s.
 //!
 //! The public contract: [`read`] gives the expression that the grammar relates to the text, with its calls in order, or
-//! the first byte where no expression goes on; [`one_expression`]: no text is two; [`write`] gives one text of an
-//! expression, which is read again as the same.
+//! the first byte where no expression goes on; [`one_expression`]: no text is two.
 //!
 //! The grammar is the Zabbix 6.0 manual's ("Trigger expression", "Supported functions"), within limits of this project:
 //!
@@ -24,12 +23,10 @@
 //! ```text
 //! let parsed = expr_parser::read(alloc, b"last(/h/k,#2)>5")?;
 //! // parsed.expr is Bin(Gt, Call(0), Const(5)), and parsed.calls has one call, of Last over #2
-//! let text = expr_parser::write(alloc, &parsed)?;             // last(/h/k,#2) > 5
 //! ```
 #![tactic(auto)]
 
 mod call_bytes;
-mod call_text;
 mod figures;
 mod keys;
 mod moves;
@@ -44,7 +41,5 @@ mod slots;
 mod states;
 mod staying;
 mod whole_numbers;
-mod writing;
 
 pub use reading::{ParseError, Parsed, one_expression, read};
-pub use writing::write;

@@ -20,7 +20,7 @@ const GREATEST_PERCENT: u128 = 100_000_000;
 
 /// What an argument says.
 #[derive(Drop)]
-pub(crate) enum Value {
+pub enum Value {
     /// A range with its shift in seconds.
     Ranged(Range, u32),
     /// A text.

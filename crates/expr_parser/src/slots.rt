@@ -11,7 +11,7 @@ use zbx_types::{Fun, Range};
 
 /// The words of an argument.
 #[derive(Clone, Copy)]
-pub(crate) enum Words {
+pub enum Words {
     /// Of `count` and `find`.
     Operators,
     /// Of `changecount`.
@@ -22,7 +22,7 @@ pub(crate) enum Words {
 
 /// An argument that a function takes.
 #[derive(Clone, Copy)]
-pub(crate) enum Slot {
+pub enum Slot {
     /// `#n`, optional.
     Newest,
     /// A range.

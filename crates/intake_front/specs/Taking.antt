@@ -81,6 +81,11 @@ keyed conf now origin asked host (Some item) =
     else if not (is_collected conf host now) then Err InMaintenance
     else valued now item asked.clock asked.value
 
+-- a value for the item that takes it, or why none takes it
+abbrev pub taken_for : ℕ → Asked → Result ℕ ValueRefusal → Result Entry ValueRefusal
+taken_for now asked (Ok item) = valued now item asked.clock asked.value
+taken_for now asked (Err cause) = Err cause
+
 -- by the host that it names
 unfoldable pub hosted : Conf → ℕ → Origin → Asked → Option ℕ → Result Entry ValueRefusal
 hosted conf now origin asked None = Err UnknownHost

@@ -1,11 +1,12 @@
 //! Events that are taken: their groups are staged, and their answers held back.
 
-ghost use Rattle.std.specs.Prelude.{◌≡◌, ◌≢◌, ◌+◌, [], All, Option, Some, None, MatchResult};
+ghost use Rattle.std.specs.Prelude.{◌≡◌, ◌≢◌, ◌≤◌, ◌<◌, ◌+◌, ◌^◌, ◌++◌, [], length, All, Option, Some, None, MatchResult, IfOk, OnOk, OnErr};
+ghost use Rattle.std.specs.Vec.{vec_len, vec_capacity};
 ghost use Rattle.intake_journal.specs.Bytes.{HasShortValue};
 ghost use Rattle.intake_journal.specs.declared.state.State.TheVariants as state;
-ghost use Rattle.intake_front.specs.Intake.{Intake, ticked, handled, offered};
+ghost use Rattle.intake_front.specs.Intake.{Intake, ticked, handled, offered, numbered_from};
 ghost use Rattle.intake_front.specs.Fronted.{HasRoom, limits_of};
-ghost use Rattle.intake_front.specs.Staging.{FollowsBlock, IsOffered};
+ghost use Rattle.intake_front.specs.Staging.{FollowsBlock, IsOffered, IsStagedAs};
 ghost use Rattle.intake_front.specs.Waiting.{IsBatch, IsWaiting, IsTaken, IsLeft};
 ghost use Rattle.intake_front.specs.declared.answer.Stop.TheVariants as stop;
 
@@ -15,12 +16,12 @@ use crate::collection::Collection;
 use crate::drafts::{Draft, stop_of, ticks_at, turned};
 use crate::held::Held;
 use crate::settling::{Settled, enter, groups_of, numbered_both, settle, ticked_with};
-use crate::staging::stage_both;
+use crate::staging::{Staged, stage_both};
 use conf_index::Ready;
-use intake_journal::Journal;
+use intake_journal::{Block, Journal};
 use outside::{Disk, WireEvent};
 use std::alloc::Global;
-use zbx_types::{Entry, Many, Moment, OutOfMemory};
+use zbx_types::{Entry, Many, Moment, Numbered, OutOfMemory};
 
 /// The half minute of the last Tick once these Ticks are kept at a moment, of which there is one at most.
 fn half_behind(last: Option<u32>, now: Moment, ticks: &[Entry]) -> Option<u32>
@@ -31,6 +32,65 @@ fn half_behind(last: Option<u32>, now: Moment, ticks: &[Entry]) -> Option<u32>
     } else {
         Some(now.half_minutes())
     }
+}
+
+/// Copies an event's groups with the numbers from this one on, and stages them. Where memory is refused the block is
+/// as before.
+fn staged_numbered<D: Disk>(
+    alloc: Global,
+    journal: &Journal<D>,
+    block: &mut Block,
+    first: u64,
+    ticks: &[Entry],
+    group: &[Entry],
+) -> Result<(Staged, Many<Numbered>), OutOfMemory>
+    requires short_ticks { All HasShortValue ticks.now }
+    requires short_values { All HasShortValue group.now }
+    requires few { first + length ticks.now + length group.now < 2 ^ 64 }
+    ensures staged { IfOk result (λ r. IsStagedAs journal.now block.old ticks.now group.now block.new r.0) }
+    ensures added { IfOk result (λ r. r.1 ≡ numbered_from first (ticks.now ++ group.now)) }
+    ensures room { OnOk result (HasRoom journal.now block.old → HasRoom journal.now block.new) }
+    ensures err { OnErr result (block.new ≡ block.old) }
+{
+    let added = numbered_both(alloc, first, ticks, group)?;
+    match stage_both(alloc, journal, block, ticks, group) {
+        Ok(staged) => Ok((staged, added)),
+        Err(refused) => {
+            drop(added);
+            Err(refused)
+        }
+    }
+}
+
+/// Takes all memory that an event's groups need, and stages them. But for its room and its block nothing is changed.
+fn prepared<D: Disk>(
+    alloc: Global,
+    journal: &Journal<D>,
+    entries: &mut Vec<Numbered>,
+    batch: &mut Batch,
+    first: u64,
+    ticks: &[Entry],
+    group: &[Entry],
+) -> Result<(Staged, Many<Numbered>), OutOfMemory>
+    requires short_ticks { All HasShortValue ticks.now }
+    requires short_values { All HasShortValue group.now }
+    requires few { first + length ticks.now + length group.now < 2 ^ 64 }
+    ensures staged { IfOk result (λ r. IsStagedAs journal.now batch.old.block ticks.now group.now batch.new.block r.0) }
+    ensures added { IfOk result (λ r. r.1 ≡ numbered_from first (ticks.now ++ group.now)) }
+    ensures room { OnOk result (HasRoom journal.now batch.old.block → HasRoom journal.now batch.new.block) }
+    ensures err { OnErr result (batch.new.block ≡ batch.old.block) }
+    ensures entries { entries.new.items ≡ entries.old.items }
+    ensures len { vec_len entries.new ≡ vec_len entries.old }
+    ensures roomy { OnOk result (vec_len entries.old + length ticks.now + length group.now ≤ vec_capacity entries.new) }
+    ensures answers { batch.new.answers.items ≡ batch.old.answers.items }
+    ensures answer { OnOk result (0 < batch.new.answers.room) }
+    ensures first { batch.new.first ≡ batch.old.first }
+    ensures ticked { batch.new.is_ticked ≡ batch.old.is_ticked }
+    ensures mark { batch.new.mark ≡ batch.old.mark }
+{
+    entries.reserve(ticks.len() + group.len())?;
+    batch.answers.reserve(1)?;
+    staged_numbered(alloc, journal, &mut batch.block, first, ticks, group)
 }
 
 /// Stages an event's Tick and its values, enters what was staged, and holds its answers back. All memory is taken
@@ -55,17 +115,22 @@ fn offer<D: Disk>(
     ensures room { HasRoom journal.now batch.old.block → HasRoom journal.now batch.new.block }
 {
     let first = held.before + held.entries.as_slice().len() as u64 + 1;
-    let count = ticks.as_slice().len() + draft.group.as_slice().len();
-    held.entries.reserve(count)?;
-    let added = numbered_both(alloc, first, ticks.as_slice(), draft.group.as_slice())?;
-    batch.answers.reserve(1)?;
-    let staged = stage_both(
+    let (staged, added) = match prepared(
         alloc,
         journal,
-        &mut batch.block,
+        &mut held.entries,
+        batch,
+        first,
         ticks.as_slice(),
         draft.group.as_slice(),
-    )?;
+    ) {
+        Ok(both) => both,
+        Err(refused) => {
+            drop(ticks);
+            drop(draft);
+            return Err(refused);
+        }
+    };
     let Settled {
         ticks,
         group,

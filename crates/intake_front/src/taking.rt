@@ -6,7 +6,8 @@ ghost use Rattle.maintenance.specs.Suppression.{is_collected};
 ghost use Rattle.conf_index.specs.Names.{host_named, item_keyed};
 ghost use Rattle.zbx_types.specs.Items.{is_trapper_item};
 ghost use Rattle.agent_json.specs.Checks.{is_active_kind};
-ghost use Rattle.intake_front.specs.Taking.{is_enabled_host, is_enabled_item, is_active_item, comes_from, not_from, is_unsupported, AllCollected, clocked, valued, keyed, hosted, supported, taken_of, agent_taken_of};
+ghost use Rattle.sender_json.specs.declared.asked.Asked.{Asked};
+ghost use Rattle.intake_front.specs.Taking.{is_enabled_host, is_enabled_item, is_active_item, comes_from, not_from, is_unsupported, AllCollected, clocked, valued, keyed, taken_for, hosted, supported, taken_of, agent_taken_of};
 
 use crate::origin::Origin;
 use crate::refusal::ValueRefusal;
@@ -177,19 +178,21 @@ fn valued(now: Moment, item: u32, clock: Clock, value: Option<Text>) -> Result<E
     }
 }
 
+/// The item that a key names, if it takes a value of this host from there at this moment, or why it takes none.
 #[tactic(auto, unfolding(crate::specs::Taking::keyed))]
-fn keyed(
+fn open_item(
     ready: &Ready,
     now: Moment,
     some_out: bool,
     origin: Origin,
-    asked: Asked,
+    key: &Option<Text>,
     host: u32,
-) -> Result<Entry, ValueRefusal>
+) -> Result<u32, ValueRefusal>
     requires { some_out ≡ false → AllCollected ready.now.conf now }
-    ensures { result ≡ keyed ready.now.conf now origin asked host (option_and_then (item_keyed ready.now.conf host) asked.key) }
+    ensures { (asked : Asked) → keyed ready.now.conf now origin asked host (option_and_then (item_keyed ready.now.conf host) key.now)
+        ≡ taken_for now asked result }
 {
-    let Some(item) = asked_item(ready, host, &asked.key) else {
+    let Some(item) = asked_item(ready, host, key) else {
         return Err(ValueRefusal::UnknownKey);
     };
     let conf = ready.conf();
@@ -203,7 +206,36 @@ fn keyed(
     if !is_collected(conf, now, some_out, host) {
         return Err(ValueRefusal::InMaintenance);
     }
-    valued(now, item, asked.clock, asked.value)
+    Ok(item)
+}
+
+fn keyed(
+    ready: &Ready,
+    now: Moment,
+    some_out: bool,
+    origin: Origin,
+    asked: Asked,
+    host: u32,
+) -> Result<Entry, ValueRefusal>
+    requires { some_out ≡ false → AllCollected ready.now.conf now }
+    ensures { result ≡ keyed ready.now.conf now origin asked host (option_and_then (item_keyed ready.now.conf host) asked.key) }
+{
+    let Asked {
+        host: name,
+        key,
+        value,
+        clock,
+    } = asked;
+    drop(name);
+    let open = open_item(ready, now, some_out, origin, &key, host);
+    drop(key);
+    match open {
+        Ok(item) => valued(now, item, clock, value),
+        Err(cause) => {
+            drop(value);
+            Err(cause)
+        }
+    }
 }
 
 #[tactic(auto, unfolding(crate::specs::Taking::hosted))]
@@ -219,7 +251,10 @@ fn hosted(
 {
     match asked_host(ready, &asked.host) {
         Some(host) => keyed(ready, now, some_out, origin, asked, host),
-        None => Err(ValueRefusal::UnknownHost),
+        None => {
+            drop(asked);
+            Err(ValueRefusal::UnknownHost)
+        }
     }
 }
 
@@ -229,6 +264,7 @@ fn supported(unsupported: bool, taken: Result<Entry, ValueRefusal>) -> Result<En
     match taken {
         Ok(entry) => {
             if unsupported {
+                drop(entry);
                 Err(ValueRefusal::Unsupported)
             } else {
                 Ok(entry)

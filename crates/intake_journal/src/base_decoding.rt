@@ -231,19 +231,26 @@ fn record_of(alloc: Global, bytes: &[u8]) -> Result<(Rec, &[u8]), Unread>
     let (sec, ns, rest) = moment_of(rest)?;
     let (severity, suppressed, rest) = marks_of(rest)?;
     let (host, trigger, name, rest) = names_of(alloc, rest)?;
-    let (tags, rest) = list_of::<Tags>(alloc, rest)?;
-    let now = Moment { sec, ns };
-    let read = Rec::Problem {
-        event,
-        now,
-        severity,
-        suppressed,
-        host,
-        trigger,
-        name,
-        tags,
-    };
-    Ok((read, rest))
+    match list_of::<Tags>(alloc, rest) {
+        Ok((tags, rest)) => {
+            let now = Moment { sec, ns };
+            let read = Rec::Problem {
+                event,
+                now,
+                severity,
+                suppressed,
+                host,
+                trigger,
+                name,
+                tags,
+            };
+            Ok((read, rest))
+        }
+        Err(why) => {
+            drop((host, trigger, name));
+            Err(why)
+        }
+    }
 }
 
 /// Whether an action's name comes before that of the first of these.
@@ -282,11 +289,21 @@ impl PartReader for Problems {
     #[tactic(auto, unfolding(crate::specs::BaseForm::problem_at))]
     fn read(alloc: Global, bytes: &[u8]) -> Result<(BaseProblem, &[u8]), Unread> {
         let (problem, rest) = record_of(alloc, bytes)?;
-        let (ran, rest) = list_of::<Runs>(alloc, rest)?;
-        if !are_in_order(ran.as_slice()) {
-            return Err(Unread::Malformed);
+        match list_of::<Runs>(alloc, rest) {
+            Ok((ran, rest)) => {
+                if are_in_order(ran.as_slice()) {
+                    Ok((BaseProblem { problem, ran }, rest))
+                } else {
+                    drop(problem);
+                    drop(ran);
+                    Err(Unread::Malformed)
+                }
+            }
+            Err(why) => {
+                drop(problem);
+                Err(why)
+            }
         }
-        Ok((BaseProblem { problem, ran }, rest))
     }
 }
 

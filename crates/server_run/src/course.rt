@@ -352,7 +352,7 @@ fn named<S: StartName, N: RunName, W: Wire, D: Disk, O: Sink>(
 }
 
 /// How many entries a ring has room for.
-const RING_CAPACITY: usize = 4096;
+const RING_CAPACITY: usize = 16_384;
 
 /// Runs on one thread behind what the journal kept, with which and with what the outbox tells the run begins. The
 /// configurations are that of the journal's base, where it has one, and those of the Configs among the kept entries, in

@@ -246,7 +246,7 @@ where
     if syncers == 0 {
         return (book, Taken::Going(0));
     }
-    let shared = Shared::new(book);
+    let shared = Shared::new(book, syncers);
     let taken = serve_beside(
         rt, alloc, syncers, turns, prepared, wire, front, head, &shared, gate,
     );

@@ -1,6 +1,6 @@
 //! What the threads of a run share: the configuration, a book under a lock, and whether the run ends.
 
-ghost use Rattle.std.specs.Prelude.{◌≡◌, OnOk};
+ghost use Rattle.std.specs.Prelude.{◌≡◌, ◌≤◌, OnOk};
 
 use book::{Book, Done, FlushError, Order, RingHead, RunName};
 use book_opening::StartName;
@@ -44,13 +44,38 @@ impl<S: StartName> Prepared<S> {
     }
 }
 
-/// The most entries of one order.
-const MOST_IN_ORDER: u32 = 64;
+/// What an order may have at least.
+const LEAST_IN_ORDER: u32 = 64;
+
+/// The most that it may have.
+const MOST_IN_ORDER: u32 = 512;
+
+/// How many pending entries are looked at for an order.
+const LOOKS: u32 = 4000;
+
+/// How many entries an order may have: a syncer's share of those that wait. An order keeps the items that its entries
+/// touch from the others, so it has at most half as many as there are items for each syncer.
+fn size_of_order(waiting: u32, items: u32, syncers: u32) -> u32
+    ensures least { 64 ≤ result }
+    ensures most { result ≤ 512 }
+{
+    let share = waiting.checked_div(syncers).unwrap_or(waiting);
+    let spread = (items / 2).checked_div(syncers).unwrap_or(items);
+    share.min(spread).max(LEAST_IN_ORDER).min(MOST_IN_ORDER)
+}
+
+/// How many items a configuration has.
+fn count_of_items(ready: &Ready) -> u32 {
+    u32::try_from(ready.conf().items.len()).unwrap_or(u32::MAX)
+}
 
 /// What lies under the lock.
 #[derive(Drop)]
 struct State<S: StartName, N: RunName, O: Sink> {
     book: Book<S, N, O>,
+    syncers: u32,
+    // How many entries wait for an order.
+    waiting: u32,
     // How many orders are being worked out.
     open: u32,
     ending: bool,
@@ -63,12 +88,30 @@ impl<S: StartName, N: RunName, O: Sink> State<S, N, O> {
         alloc: Global,
         prepared: &Prepared<S>,
     ) -> Result<Option<Order<S>>, OutOfMemory> {
-        self.book.pull(alloc)?;
-        let order = self.book.claim(alloc, prepared.ready(), MOST_IN_ORDER)?;
-        if order.is_some() {
-            self.open = self.open.saturating_add(1);
+        let count = self.book.pull(alloc)?;
+        self.waiting = self.waiting.saturating_add(count);
+        let ready = prepared.ready();
+        let limit = size_of_order(self.waiting, count_of_items(ready), self.syncers);
+        match self.book.claim(alloc, ready, LOOKS, limit) {
+            Ok(Some(order)) => {
+                self.open = self.open.saturating_add(1);
+                self.waiting = self.waiting.saturating_sub(order.count());
+                Ok(Some(order))
+            }
+            Ok(None) => Ok(None),
+            Err(OutOfMemory) => Err(OutOfMemory),
         }
-        Ok(order)
+    }
+
+    /// Takes all that is in the ring, for the thread that sends.
+    fn pull_beside(&mut self, alloc: Global, head: &mut RingHead<S, N>) -> Result<(), OutOfMemory>
+        ensures sent { head.new.sent ≡ head.old.sent }
+        ensures capacity { head.new.capacity ≡ head.old.capacity }
+        ensures free { OnOk result (head.new.free ≡ head.new.capacity) }
+    {
+        let count = self.book.pull_beside(alloc, head)?;
+        self.waiting = self.waiting.saturating_add(count);
+        Ok(())
     }
 
     /// Whether nothing will be there to take, where there is nothing now: an order that is being worked out may hold
@@ -103,6 +146,7 @@ impl<S: StartName, N: RunName, O: Sink> State<S, N, O> {
     /// Gives an order back that wasn't worked out.
     fn give_back(&mut self, order: Order<S>) {
         self.open = self.open.saturating_sub(1);
+        self.waiting = self.waiting.saturating_add(order.count());
         self.book.give_back(order);
     }
 }
@@ -115,11 +159,13 @@ pub(crate) struct Shared<S: StartName, N: RunName, O: Sink> {
 }
 
 impl<S: StartName, N: RunName, O: Sink> Shared<S, N, O> {
-    /// Shares a book. The run isn't ending.
-    pub(crate) fn new(book: Book<S, N, O>) -> Shared<S, N, O> {
+    /// Shares a book among so many syncers. The run isn't ending.
+    pub(crate) fn new(book: Book<S, N, O>, syncers: u32) -> Shared<S, N, O> {
         Shared {
             state: Mutex::new(State {
                 book,
+                syncers,
+                waiting: 0,
                 open: 0,
                 ending: false,
             }),
@@ -151,7 +197,7 @@ impl<S: StartName, N: RunName, O: Sink> Shared<S, N, O> {
         ensures capacity { head.new.capacity ≡ head.old.capacity }
         ensures free { OnOk result (head.new.free ≡ head.new.capacity) }
     {
-        self.state.lock(rt).book.pull_beside(alloc, head)?;
+        self.state.lock(rt).pull_beside(alloc, head)?;
         self.woken.notify_one();
         Ok(())
     }
@@ -169,15 +215,22 @@ impl<S: StartName, N: RunName, O: Sink> Shared<S, N, O> {
     ) -> Result<Option<Order<S>>, OutOfMemory> {
         for _ in rt.forever() {
             let mut state = self.state.lock(rt);
-            match state.next_order(alloc, prepared)? {
-                Some(order) => {
+            let found = state.next_order(alloc, prepared);
+            let is_over = state.is_over();
+            match found {
+                Err(OutOfMemory) => {
+                    drop(state);
+                    return Err(OutOfMemory);
+                }
+                Ok(Some(order)) => {
                     drop(state);
                     self.woken.notify_one();
                     return Ok(Some(order));
                 }
-                None => {}
+                Ok(None) => {}
             }
-            if state.is_over() {
+            if is_over {
+                drop(state);
                 return Ok(None);
             }
             drop(self.woken.wait(rt, state));
@@ -207,6 +260,8 @@ impl<S: StartName, N: RunName, O: Sink> Shared<S, N, O> {
         let Shared { state, woken: _ } = self;
         let State {
             book,
+            syncers: _,
+            waiting: _,
             open: _,
             ending: _,
         } = state.into_inner();

@@ -31,8 +31,27 @@ fn do_order<S: StartName, N: RunName, O: Sink, L: Ledger, R: Wait>(
     }
 }
 
-/// Works orders out until there is no more to do, or the outbox fails. Between taking an order and working it out the
-/// syncer says so at the gate.
+/// Takes the next order and works it out. Between the two the syncer says so at the gate. Answers whether there may be more
+/// to do: not where the run is over, or the outbox failed.
+fn do_next<S: StartName, N: RunName, O: Sink, L: Ledger, R: Wait, G: Gate>(
+    rt: &R,
+    alloc: Global,
+    prepared: &Prepared<S>,
+    shared: &Shared<S, N, O>,
+    gate: &G,
+    syncer: u32,
+    steps: &mut Steps<L>,
+) -> Result<bool, OutOfMemory> {
+    match shared.next_order(rt, alloc, prepared)? {
+        None => Ok(false),
+        Some(order) => {
+            gate.reached(syncer, order.first());
+            do_order(rt, alloc, prepared, shared, order, steps)
+        }
+    }
+}
+
+/// Works orders out until there is no more to do, or the outbox fails.
 fn do_orders<S: StartName, N: RunName, O: Sink, L: Ledger, R: Wait, G: Gate>(
     rt: &R,
     alloc: Global,
@@ -48,12 +67,7 @@ fn do_orders<S: StartName, N: RunName, O: Sink, L: Ledger, R: Wait, G: Gate>(
 {
     let mut steps = Steps::<L>::new(blank);
     for _ in rt.forever() {
-        let order = match shared.next_order(rt, alloc, prepared)? {
-            Some(order) => order,
-            None => return Ok(()),
-        };
-        gate.reached(syncer, order.first());
-        if !do_order(rt, alloc, prepared, shared, order, &mut steps)? {
+        if !do_next(rt, alloc, prepared, shared, gate, syncer, &mut steps)? {
             return Ok(());
         }
     }

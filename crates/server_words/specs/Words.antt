@@ -8,6 +8,8 @@ use Rattle.clap.specs.ValueTests.{is_numeral}
 use Rattle.clap.specs.declared.builder.value_parser.ValueParser.TheVariants as vp
 use Rattle.server_words.specs.declared.words.Plan.{Plan}
 use Rattle.server_words.specs.declared.planning.Numbers.{Numbers}
+use Rattle.server_words.specs.declared.planning.RunTexts.{RunTexts}
+use Rattle.server_words.specs.declared.planning.JobTexts.{JobTexts}
 use Rattle.server_words.specs.declared.words.Mode.{Mode}
 use Rattle.server_words.specs.declared.words.Mode.TheVariants.{Feed, Serve, Workload, Alerts, Checkpoint}
 use Rattle.server_words.specs.declared.words.Call.{Call}
@@ -52,21 +54,29 @@ number name value least most = record (with_default name value) { parser = Some 
 abbrev pub bare_app : App
 bare_app = let app = new_app (codes "zabbix_server") in record app { top = record app.top { no_binary_name = true } }
 
--- the command with its texts
-abbrev pub text_app : App
-text_app = with_rule (with_rule (with_rule (with_rule (with_rule (with_rule (with_rule (with_rule (with_rule (with_rule bare_app
+-- the command with its mode and the texts of a run
+abbrev pub input_app : App
+input_app = with_rule (with_rule (with_rule (with_rule (with_rule bare_app
     (needed (codes "mode"))) (option (codes "config"))) (option (codes "listen")))
-    (option (codes "script"))) (option (codes "journal"))) (option (codes "progress")))
-    (option (codes "command"))) (option (codes "media"))) (option (codes "into")))
+    (option (codes "script"))) (option (codes "journal"))
+
+-- the command with all its texts
+abbrev pub text_app : App
+text_app = with_rule (with_rule (with_rule (with_rule (with_rule input_app
+    (option (codes "progress"))) (option (codes "command"))) (option (codes "media"))) (option (codes "into")))
     (with_default (codes "outbox") (codes "-"))
+
+-- the command with its texts, and the numbers that limit a run
+abbrev pub limit_app : App
+limit_app = with_rule (with_rule (with_rule text_app
+    (number (codes "syncers") (codes "4") 0 most_syncers)) (number (codes "turns") (codes "1000000000") 1 most_turns))
+    (number (codes "max-entries") (codes "4000000") 1 most_entries)
 
 -- the command: its texts and its numbers
 abbrev pub server_app : App
-server_app = with_rule (with_rule (with_rule (with_rule (with_rule (with_rule (with_rule text_app
-    (number (codes "syncers") (codes "4") 0 most_syncers)) (number (codes "turns") (codes "1000000000") 1 most_turns))
-    (number (codes "max-entries") (codes "4000000") 1 most_entries)) (number (codes "number") (codes "1") 0 (2 ^ 64 - 1)))
-    (number (codes "attempts") (codes "3") 1 most_attempts)) (number (codes "sessions") (codes "1") 1 most_sessions))
-    (number (codes "values") (codes "1000") 1 most_values)
+server_app = with_rule (with_rule (with_rule (with_rule limit_app
+    (number (codes "number") (codes "1") 0 (2 ^ 64 - 1))) (number (codes "attempts") (codes "3") 1 most_attempts))
+    (number (codes "sessions") (codes "1") 1 most_sessions)) (number (codes "values") (codes "1000") 1 most_values)
 
 -- the mode of this name
 abbrev pub mode_of : List ℕ → Option Mode
@@ -135,6 +145,24 @@ numbers_in rows =
     (number_in 64 1 most_entries (codes "max-entries") rows))
     (number_in 64 1 most_turns (codes "turns") rows))
     (number_in 32 0 most_syncers (codes "syncers") rows)
+
+-- the texts of a run
+abbrev pub run_texts : List Row → RunTexts
+run_texts rows = record {
+  config = first_of (codes "config") rows;
+  script = first_of (codes "script") rows;
+  listen = first_of (codes "listen") rows;
+  journal = first_of (codes "journal") rows;
+}
+
+-- the texts of alerts and of a copy
+abbrev pub job_texts : List Row → JobTexts
+job_texts rows = record {
+  progress = first_of (codes "progress") rows;
+  command = first_of (codes "command") rows;
+  media = first_of (codes "media") rows;
+  into = first_of (codes "into") rows;
+}
 
 -- the plan with this mode and these numbers, and with the texts of the options
 abbrev pub plan_with : List Row → Mode → Numbers → Plan

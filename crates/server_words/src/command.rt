@@ -2,7 +2,7 @@
 
 ghost use Rattle.std.specs.Prelude.{◌≡◌, IfOk, false};
 ghost use Rattle.clap.specs.Words.{app_of, rule_of};
-ghost use Rattle.server_words.specs.Words.{needed, option, with_default, number, text_app, server_app};
+ghost use Rattle.server_words.specs.Words.{needed, option, with_default, number, input_app, text_app, limit_app, server_app};
 
 use clap::builder::ValueParser;
 use clap::{Arg, Command};
@@ -61,9 +61,9 @@ fn number<'a>(alloc: Global, name: &'a str, value: &'a str, least: u64, most: u6
         .value_parser(ValueParser::unsigned(least, most))
 }
 
-/// The command with its texts.
-fn text_command<'a>(alloc: Global) -> Result<Command<'a>, AllocError>
-    ensures { IfOk result (λ command. app_of command ≡ text_app) }
+/// The command with its mode and the texts of a run.
+fn input_command<'a>(alloc: Global) -> Result<Command<'a>, AllocError>
+    ensures { IfOk result (λ command. app_of command ≡ input_app) }
 {
     Command::new(alloc, "zabbix_server")
         .no_binary_name(true)
@@ -71,7 +71,14 @@ fn text_command<'a>(alloc: Global) -> Result<Command<'a>, AllocError>
         .arg(option(alloc, "config"))?
         .arg(option(alloc, "listen"))?
         .arg(option(alloc, "script"))?
-        .arg(option(alloc, "journal"))?
+        .arg(option(alloc, "journal"))
+}
+
+/// The command with all its texts.
+fn text_command<'a>(alloc: Global) -> Result<Command<'a>, AllocError>
+    ensures { IfOk result (λ command. app_of command ≡ text_app) }
+{
+    input_command(alloc)?
         .arg(option(alloc, "progress"))?
         .arg(option(alloc, "command"))?
         .arg(option(alloc, "media"))?
@@ -79,14 +86,21 @@ fn text_command<'a>(alloc: Global) -> Result<Command<'a>, AllocError>
         .arg(with_default(alloc, "outbox", "-"))
 }
 
-/// The command: its texts and its numbers.
-pub(crate) fn command<'a>(alloc: Global) -> Result<Command<'a>, AllocError>
-    ensures { IfOk result (λ command. app_of command ≡ server_app) }
+/// The command with its texts, and the numbers that limit a run.
+fn limit_command<'a>(alloc: Global) -> Result<Command<'a>, AllocError>
+    ensures { IfOk result (λ command. app_of command ≡ limit_app) }
 {
     text_command(alloc)?
         .arg(number(alloc, "syncers", "4", 0, MOST_SYNCERS as u64))?
         .arg(number(alloc, "turns", "1000000000", 1, MOST_TURNS))?
-        .arg(number(alloc, "max-entries", "4000000", 1, MOST_ENTRIES))?
+        .arg(number(alloc, "max-entries", "4000000", 1, MOST_ENTRIES))
+}
+
+/// The command: its texts and its numbers.
+pub(crate) fn command<'a>(alloc: Global) -> Result<Command<'a>, AllocError>
+    ensures { IfOk result (λ command. app_of command ≡ server_app) }
+{
+    limit_command(alloc)?
         .arg(number(alloc, "number", "1", 0, u64::MAX))?
         .arg(number(alloc, "attempts", "3", 1, MOST_ATTEMPTS as u64))?
         .arg(number(alloc, "sessions", "1", 1, MOST_SESSIONS as u64))?

@@ -2,7 +2,7 @@
 
 ghost use Rattle.std.specs.Prelude.{◌≡◌, [], IfOk, IsErrOf, Some, None, option_and_then, unwrap_or, codes};
 ghost use Rattle.clap.specs.Words.{found_of, first_of, one_of, rows_of};
-ghost use Rattle.server_words.specs.Words.{IsWithin, plan_of, alerts_plan_of, checkpoint_plan_of, plan_for, plan_in, plan_with, mode_of, is_mode_of, number_of, within, number_in, numbers_in, has_needed};
+ghost use Rattle.server_words.specs.Words.{IsWithin, plan_of, alerts_plan_of, checkpoint_plan_of, plan_for, plan_in, run_texts, job_texts, plan_with, mode_of, is_mode_of, number_of, within, number_in, numbers_in, has_needed};
 
 use crate::command::{
     MOST_ATTEMPTS, MOST_ENTRIES, MOST_SESSIONS, MOST_SYNCERS, MOST_TURNS, MOST_VALUES, command,
@@ -254,6 +254,62 @@ fn outbox_in(alloc: Global, matches: &ArgMatches) -> Result<Text, OutOfMemory>
     Ok(text_in(alloc, matches, "outbox")?.unwrap_or(Text::new(alloc)))
 }
 
+/// The texts of a run.
+#[derive(Drop)]
+struct RunTexts {
+    config: Option<Text>,
+    script: Option<Text>,
+    listen: Option<Text>,
+    journal: Option<Text>,
+}
+
+/// Copies of the texts of a run.
+fn run_texts(alloc: Global, matches: &ArgMatches) -> Result<RunTexts, OutOfMemory>
+    ensures { IfOk result (λ made. made ≡ run_texts (rows_of (found_of matches.now))) }
+{
+    let sources = texts_in(alloc, matches, "config", "script")?;
+    match texts_in(alloc, matches, "listen", "journal") {
+        Ok((listen, journal)) => Ok(RunTexts {
+            config: sources.0,
+            script: sources.1,
+            listen,
+            journal,
+        }),
+        Err(OutOfMemory) => {
+            drop(sources);
+            Err(OutOfMemory)
+        }
+    }
+}
+
+/// The texts of alerts and of a copy.
+#[derive(Drop)]
+struct JobTexts {
+    progress: Option<Text>,
+    command: Option<Text>,
+    media: Option<Text>,
+    into: Option<Text>,
+}
+
+/// Copies of the texts of alerts and of a copy.
+fn job_texts(alloc: Global, matches: &ArgMatches) -> Result<JobTexts, OutOfMemory>
+    ensures { IfOk result (λ made. made ≡ job_texts (rows_of (found_of matches.now))) }
+{
+    let working = texts_in(alloc, matches, "progress", "command")?;
+    match texts_in(alloc, matches, "media", "into") {
+        Ok((media, into)) => Ok(JobTexts {
+            progress: working.0,
+            command: working.1,
+            media,
+            into,
+        }),
+        Err(OutOfMemory) => {
+            drop(working);
+            Err(OutOfMemory)
+        }
+    }
+}
+
 /// The plan with this mode and these numbers, and with copies of the options' texts.
 fn plan_with(
     alloc: Global,
@@ -264,27 +320,37 @@ fn plan_with(
     ensures { IfOk result (λ plan. plan ≡ plan_with (rows_of (found_of matches.now)) mode numbers) }
 {
     let outbox = outbox_in(alloc, matches)?;
-    let (config, script) = texts_in(alloc, matches, "config", "script")?;
-    let (listen, journal) = texts_in(alloc, matches, "listen", "journal")?;
-    let (progress, command) = texts_in(alloc, matches, "progress", "command")?;
-    let (media, into) = texts_in(alloc, matches, "media", "into")?;
-    Ok(Plan {
-        mode,
-        config,
-        script,
-        listen,
-        journal,
-        outbox,
-        syncers: numbers.syncers,
-        turns: numbers.turns,
-        max_entries: numbers.max_entries,
-        number: numbers.number,
-        values: numbers.values,
-        progress,
-        command,
-        attempts: numbers.attempts,
-        media,
-        into,
-        sessions: numbers.sessions,
-    })
+    let of_run = match run_texts(alloc, matches) {
+        Ok(texts) => texts,
+        Err(OutOfMemory) => {
+            drop(outbox);
+            return Err(OutOfMemory);
+        }
+    };
+    match job_texts(alloc, matches) {
+        Ok(of_job) => Ok(Plan {
+            mode,
+            config: of_run.config,
+            script: of_run.script,
+            listen: of_run.listen,
+            journal: of_run.journal,
+            outbox,
+            syncers: numbers.syncers,
+            turns: numbers.turns,
+            max_entries: numbers.max_entries,
+            number: numbers.number,
+            values: numbers.values,
+            progress: of_job.progress,
+            command: of_job.command,
+            attempts: numbers.attempts,
+            media: of_job.media,
+            into: of_job.into,
+            sessions: numbers.sessions,
+        }),
+        Err(OutOfMemory) => {
+            drop(of_run);
+            drop(outbox);
+            Err(OutOfMemory)
+        }
+    }
 }

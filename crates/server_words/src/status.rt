@@ -6,7 +6,7 @@ ghost use Rattle.server_words.specs.Printed.{exit_of};
 use zbx_types::{Cause, Text};
 
 /// How a run ended (this project's own).
-#[derive(Debug, PartialEq, Eq, Drop)]
+#[derive(PartialEq, Eq, Drop)]
 pub enum Status {
     /// The wire was read to its end.
     Ok,

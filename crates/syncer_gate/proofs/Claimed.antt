@@ -96,23 +96,23 @@ pub record AreFree (gate : Gate) (numbers : List ℕ) : Type 0 where
   pub offered : (n : ℕ) → has_id numbers n ≡ true → (gate.first ≤ n) × (n < gate.first + length gate.marks)
   pub pending : (n : ℕ) → has_id numbers n ≡ true → mark_of gate n ≡ Pending
 
-module _ (feet : Footing) (gate : Gate) (entries : List Numbered) (limit : ℕ) (offered_all : AreOffered gate entries) where
+module _ (feet : Footing) (gate : Gate) (entries : List Numbered) (looks limit : ℕ) (offered_all : AreOffered gate entries) where
   off : map (λ e. e.number) entries ≡ ids_from gate.first gate.marks
   off = by_marks gate entries offered_all
 
-  right : IsPicked feet (conflicts_with feet (opens gate.marks entries)) gate.first gate.marks entries (chosen feet gate entries limit)
-  right = picked_right feet (conflicts_with feet (opens gate.marks entries)) 1000 limit gate.first gate.marks entries off
+  right : IsPicked feet (conflicts_with feet (opens gate.marks entries)) gate.first gate.marks entries (chosen feet gate entries looks limit)
+  right = picked_right feet (conflicts_with feet (opens gate.marks entries)) looks limit gate.first gate.marks entries off
 
-  pub chosen_free : AreFree gate (chosen feet gate entries limit)
+  pub chosen_free : AreFree gate (chosen feet gate entries looks limit)
   chosen_free = record { offered = offered; pending = pending }
     where
-      offered : (n : ℕ) → has_id (chosen feet gate entries limit) n ≡ true → (gate.first ≤ n) × (n < gate.first + length gate.marks)
+      offered : (n : ℕ) → has_id (chosen feet gate entries looks limit) n ≡ true → (gate.first ≤ n) × (n < gate.first + length gate.marks)
       offered n h = let r = right.within n h in let a = in_from gate.first gate.marks entries r.0 off r.1 in let q = r.2 in (omega arith, omega arith)
 
-      pending : (n : ℕ) → has_id (chosen feet gate entries limit) n ≡ true → mark_of gate n ≡ Pending
+      pending : (n : ℕ) → has_id (chosen feet gate entries looks limit) n ≡ true → mark_of gate n ≡ Pending
       pending n h = mark_from gate n (offered n h).0 ∙ (right.within n h).3
 
-  chosen_may : AreBelow gate.next gate.marks → MayClaim feet (core_of entries gate) gate.next (chosen feet gate entries limit)
+  chosen_may : AreBelow gate.next gate.marks → MayClaim feet (core_of entries gate) gate.next (chosen feet gate entries looks limit)
   chosen_may below = record { fresh = fresh; known = known; pending = chosen_free.pending; behind = behind; beside = beside }
     where
       fresh : (n : ℕ) → is_taken gate.next (mark_of gate n) ≡ false
@@ -121,15 +121,15 @@ module _ (feet : Footing) (gate : Gate) (entries : List Numbered) (limit : ℕ) 
         | inr g ↦ ap (is_taken gate.next) (mark_from gate n g) ∙ is_new gate.next (get_or gate.marks (n - gate.first) Pending) (λ x e. below (n - gate.first) x e)
       ]
 
-      known : (n : ℕ) → has_id (chosen feet gate entries limit) n ≡ true → IsNumber (reverse entries) n
+      known : (n : ℕ) → has_id (chosen feet gate entries looks limit) n ≡ true → IsNumber (reverse entries) n
       known n h = let r = right.within n h in (r.0, in_turned r.0 entries r.1, r.2)
 
-      behind : (y e : Numbered) → In y (reverse entries) → In e (reverse entries) → y.number < e.number → has_id (chosen feet gate entries limit) e.number ≡ true → has_id (chosen feet gate entries limit) y.number ≡ false → mark_of gate y.number ≡ Pending → conflict_by feet y.entry e.entry ≡ false
+      behind : (y e : Numbered) → In y (reverse entries) → In e (reverse entries) → y.number < e.number → has_id (chosen feet gate entries looks limit) e.number ≡ true → has_id (chosen feet gate entries looks limit) y.number ≡ false → mark_of gate y.number ≡ Pending → conflict_by feet y.entry e.entry ≡ false
       behind y e yi ei l he hy pend =
           let i = turned_in y entries yi in
           right.behind y e i (turned_in e entries ei) l he hy (sym (mark_from gate y.number (in_from gate.first gate.marks entries y off i).0) ∙ pend)
 
-      beside : (y e : Numbered) → In y (reverse entries) → In e (reverse entries) → has_id (chosen feet gate entries limit) e.number ≡ true → is_open (mark_of gate y.number) ≡ true → conflict_by feet y.entry e.entry ≡ false
+      beside : (y e : Numbered) → In y (reverse entries) → In e (reverse entries) → has_id (chosen feet gate entries looks limit) e.number ≡ true → is_open (mark_of gate y.number) ≡ true → conflict_by feet y.entry e.entry ≡ false
       beside y e yi ei he o =
           let i = turned_in y entries yi in
           open_apart feet gate.first gate.marks entries y e.entry off i (ap is_open (sym (mark_from gate y.number (in_from gate.first gate.marks entries y off i).0)) ∙ o) (right.free e (turned_in e entries ei) he)
@@ -209,12 +209,12 @@ core_claimed gate entries n numbers free = ap over (fun_ext status)
     status k = elim (cases_lt k gate.first) [ inl l ↦ outside k l | inr g ↦ inside k g ]
 
 -- a claim is a step of the core
-pub claim_steps : (feet : Footing) (gate after : Gate) (entries : List Numbered) (limit : ℕ) (answer : List ℕ) → AreOffered gate entries → AreBelow gate.next gate.marks
-    → answer ≡ chosen feet gate entries limit → after ≡ claimed gate answer → IfSome (batch_of gate.next answer) (λ batch. IsStep feet entries gate (Claim batch.id batch.numbers) after)
-claim_steps feet gate after entries limit [] all below is so = tt
-claim_steps feet gate after entries limit (n ∷ numbers) all below is so =
-    let may = subst (MayClaim feet (core_of entries gate) gate.next) (sym is) (chosen_may feet gate entries limit all below) in
-    let free = subst (AreFree gate) (sym is) (chosen_free feet gate entries limit all) in
+pub claim_steps : (feet : Footing) (gate after : Gate) (entries : List Numbered) (looks limit : ℕ) (answer : List ℕ) → AreOffered gate entries → AreBelow gate.next gate.marks
+    → answer ≡ chosen feet gate entries looks limit → after ≡ claimed gate answer → IfSome (batch_of gate.next answer) (λ batch. IsStep feet entries gate (Claim batch.id batch.numbers) after)
+claim_steps feet gate after entries looks limit [] all below is so = tt
+claim_steps feet gate after entries looks limit (n ∷ numbers) all below is so =
+    let may = subst (MayClaim feet (core_of entries gate) gate.next) (sym is) (chosen_may feet gate entries looks limit all below) in
+    let free = subst (AreFree gate) (sym is) (chosen_free feet gate entries looks limit all) in
     (may, ap (core_of entries) so ∙ core_claimed gate entries n numbers free)
 
 -- with no open batch a claim takes nothing exactly where nothing is pending
@@ -242,7 +242,7 @@ picked_idle feet waits id looks room (m ∷ marks) (e ∷ entries) free some lef
     go true ih = refl
     go false ih = ih
 
-pub claim_idles : (feet : Footing) (gate : Gate) (entries : List Numbered) (limit : ℕ) → AreOffered gate entries → 1 ≤ limit → list_any is_open gate.marks ≡ false → is_some (batch_of gate.next (chosen feet gate entries limit)) ≡ list_any is_pending gate.marks
-claim_idles feet gate entries limit all l none =
-    picked_idle feet (conflicts_with feet (opens gate.marks entries)) gate.next 1000 limit gate.marks entries
+pub claim_idles : (feet : Footing) (gate : Gate) (entries : List Numbered) (looks limit : ℕ) → AreOffered gate entries → 1 ≤ looks → 1 ≤ limit → list_any is_open gate.marks ≡ false → is_some (batch_of gate.next (chosen feet gate entries looks limit)) ≡ list_any is_pending gate.marks
+claim_idles feet gate entries looks limit all k l none =
+    picked_idle feet (conflicts_with feet (opens gate.marks entries)) gate.next looks limit gate.marks entries
     (λ e. ap (λ es. conflicts_with feet es e) (no_opens gate.marks entries none)) (omega arith) (omega arith) all.size

@@ -32,8 +32,8 @@ picked feet waits looks room (mark ∷ marks) (e ∷ entries) =
     else e.number ∷ picked feet waits (looks - 1) (room - 1) marks entries)
     else picked feet waits looks room marks entries
 
--- Among the first 1,000 pending entries in order, each that conflicts with no skipped one before it and with no entry of
--- an open batch, up to a limit.
-abbrev pub chosen : Footing → Gate → List Numbered → ℕ → List ℕ
-chosen feet gate entries limit =
-    picked feet (conflicts_with feet (opens gate.marks entries)) 1000 limit gate.marks entries
+-- Among the first `looks` pending entries in order, each that conflicts with no skipped one before it and with no entry
+-- of an open batch, up to a limit.
+abbrev pub chosen : Footing → Gate → List Numbered → ℕ → ℕ → List ℕ
+chosen feet gate entries looks limit =
+    picked feet (conflicts_with feet (opens gate.marks entries)) looks limit gate.marks entries

@@ -15,9 +15,6 @@ use footprint::Feet;
 use std::alloc::Global;
 use zbx_types::{Entry, Many, Numbered, OutOfMemory};
 
-/// How many pending entries a claim looks at.
-const LOOKS: u32 = 1000;
-
 /// Notes what an entry touches, where it is in an open batch.
 fn note_one(
     touched: &mut Touched,
@@ -68,7 +65,8 @@ fn skips(touched: &mut Touched, feet: &Feet, entry: &Entry) -> Result<bool, OutO
     }
 }
 
-/// Takes entries, where what stands in the way is noted. Those that are skipped are noted, too.
+/// Takes entries, up to `limit`, of the first `looks` pending ones, where what stands in the way is noted. Those that are
+/// skipped are noted, too.
 pub(crate) fn pick(
     alloc: Global,
     touched: &mut Touched,
@@ -76,23 +74,24 @@ pub(crate) fn pick(
     marks: &[Mark],
     entries: &[Numbered],
     low: usize,
+    looks: u32,
     limit: u32,
 ) -> Result<Many<u64>, OutOfMemory>
     requires size { length entries.now ≡ length marks.now }
     requires done { AreDone low marks.now }
-    ensures { IfOk result (λ made. made ≡ picked (told_by feet.now) (meets (told_by feet.now) touched.old) 1000 limit marks.now entries.now) }
+    ensures { IfOk result (λ made. made ≡ picked (told_by feet.now) (meets (told_by feet.now) touched.old) looks limit marks.now entries.now) }
 {
     let mut made = Many::new(alloc);
-    let mut looks = LOOKS;
+    let mut left = looks;
     let mut room = limit;
     for place in low..marks.len() {
-        if looks == 0 || room == 0 {
+        if left == 0 || room == 0 {
             return Ok(made);
         }
         if !marks[place].is_pending() {
             continue;
         }
-        looks -= 1;
+        left -= 1;
         let one = &entries[place];
         if skips(touched, feet, &one.entry)? {
             continue;

@@ -91,8 +91,8 @@ impl Claims {
         }
     }
 
-    /// Takes a batch: among the first 1,000 pending entries, in order, each that conflicts with no skipped one before it
-    /// and with no entry of an open batch, up to `limit`, which is at least 1. `entries` are all entries that were
+    /// Takes a batch: among the first `looks` pending entries, in order, each that conflicts with no skipped one before it
+    /// and with no entry of an open batch, up to `limit`; both are at least 1. `entries` are all entries that were
     /// offered, in order. None comes exactly where there is nothing to take; with no open batch that is exactly where
     /// nothing is pending. At [`OutOfMemory`] all is as before; it comes also once all ids of batches are used up.
     ///
@@ -102,18 +102,20 @@ impl Claims {
         alloc: Global,
         feet: &Feet,
         entries: &[Numbered],
+        looks: u32,
         limit: u32,
     ) -> Result<Option<Batch>, OutOfMemory>
+        requires looks { 1 ≤ looks }
         requires limit { 1 ≤ limit }
         requires offered { AreOffered self.old entries.now }
-        ensures batch { IfOk result (λ made. made ≡ batch_of self.old.next (chosen (told_by feet.now) self.old entries.now limit)) }
-        ensures gate { OnOk result (self.new ≡ claimed self.old (chosen (told_by feet.now) self.old entries.now limit)) }
+        ensures batch { IfOk result (λ made. made ≡ batch_of self.old.next (chosen (told_by feet.now) self.old entries.now looks limit)) }
+        ensures gate { OnOk result (self.new ≡ claimed self.old (chosen (told_by feet.now) self.old entries.now looks limit)) }
         ensures alike { AreAlike self.old self.new }
         ensures idle { IfOk result (λ made. list_any is_open self.old.marks ≡ false → is_some made ≡ list_any is_pending self.old.marks) }
         ensures step { IfOk result (λ made. IfSome made (λ batch. IsStep (told_by feet.now) entries.now self.old (Claim batch.id batch.numbers) self.new)) }
         ensures err { OnErr result (self.new ≡ self.old) }
     {
-        let numbers = self.choose(alloc, feet, entries, limit)?;
+        let numbers = self.choose(alloc, feet, entries, looks, limit)?;
         Ok(self.hand_out(numbers))
     }
 
@@ -123,10 +125,11 @@ impl Claims {
         alloc: Global,
         feet: &Feet,
         entries: &[Numbered],
+        looks: u32,
         limit: u32,
     ) -> Result<Many<u64>, OutOfMemory>
         requires { AreOffered self.old entries.now }
-        ensures numbers { IfOk result (λ numbers. numbers ≡ chosen (told_by feet.now) self.old entries.now limit) }
+        ensures numbers { IfOk result (λ numbers. numbers ≡ chosen (told_by feet.now) self.old entries.now looks limit) }
         ensures same { self.new ≡ self.old }
         ensures fresh { AreBelow self.old.next self.old.marks }
         ensures room { OnOk result (self.old.next + 1 < 2 ^ 64) }
@@ -143,6 +146,7 @@ impl Claims {
             marks,
             entries,
             self.low,
+            looks,
             limit,
         )
     }

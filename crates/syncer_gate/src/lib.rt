@@ -1,7 +1,7 @@
 //! The choice of batches: which pending entries a syncer may work on beside the others.
 //!
 //! The one contract: [`Claims::claim`] gives exactly the chosen batch, by the definition `chosen` of
-//! `specs/Chosen.antt`. Of the first 1,000 pending entries in order it takes each that conflicts with no skipped one
+//! `specs/Chosen.antt`. Of the first pending entries, as many as it is told to look at, in order it takes each that conflicts with no skipped one
 //! before it and with no entry of an open batch, up to a limit.
 //!
 //! Each entry has one mark. It says where the entry stands:
@@ -21,7 +21,7 @@
 //! ```text
 //! let mut claims = Claims::new(alloc, 1);                                // the first entry has number 1
 //! claims.offer(6)?;                                                      // entries 1 to 6 are pending
-//! if let Some(batch) = claims.claim(alloc, &feet, &entries, 64)? {
+//! if let Some(batch) = claims.claim(alloc, &feet, &entries, 1000, 64)? {
 //!     ..                                                                 // work on the entries of `batch.numbers`
 //!     claims.settle(batch);                                              // or `give_back`
 //! }

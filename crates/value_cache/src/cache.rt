@@ -100,6 +100,11 @@ impl Cache {
         Ok(Cache { alloc, next, rows })
     }
 
+    /// From what its memory comes.
+    pub(crate) fn alloc(&self) -> Global {
+        self.alloc
+    }
+
     // The row, made where it isn't there. None where memory is refused, or another thread is storing it just now.
     fn row(&self, at: usize) -> Option<Written<Row>>
         requires { at < length self.now.rows }

@@ -19,6 +19,7 @@ use crate::trimming::trim;
 use crate::windows::window;
 use std::alloc::Global;
 use std::marker::Model;
+use std::mem::replace;
 use zbx_types::{Many, Moment, OutOfMemory, Range, Stored};
 
 /// The values of an item, by their tokens: those that a window within its [`Keep`] can see from the moment of the last
@@ -59,7 +60,7 @@ impl ItemCell {
 
     /// Takes a value in at a moment, which isn't before that of an earlier insert, and drops what no longer is to be
     /// kept. The value may be of any moment; of two values with one time that with the greater number is the later one.
-    /// Where no memory is to be had the value comes back in the error, and the cell keeps the same.
+    /// Where no memory is to be had the value comes back in the error, and the cell is as before.
     pub fn insert(
         &mut self,
         cache: &Cache,
@@ -72,14 +73,31 @@ impl ItemCell {
         ensures exact { OnOk result (StaysExact self.old self.new stored now) }
         ensures trimmed { OnOk result (self.new.values ≡ trim self.old.keep now (placed stored self.old.values)) }
         ensures keep { self.new.keep ≡ self.old.keep }
-        ensures err { IfErr result (λ e. (e.0 ≡ stored) × IsSame self.new self.old) }
+        ensures err { IfErr result (λ e. (e.0 ≡ stored) × (self.new ≡ self.old)) }
     {
-        if self.reserve().is_err() {
-            return Err((stored, OutOfMemory));
+        if self.tokens.has_room() {
+            let token = cache.push(stored)?;
+            self.insert_token(token, now);
+            return Ok(());
         }
+        let Ok(mut roomier) = self.roomier(cache.alloc()) else {
+            return Err((stored, OutOfMemory));
+        };
         let token = cache.push(stored)?;
-        self.insert_token(token, now);
+        roomier.insert_token(token, now);
+        drop(replace(self, roomier));
         Ok(())
+    }
+
+    // A copy with room for one more value: the cell itself stays as it is until the value is stored.
+    fn roomier(&self, alloc: Global) -> Result<ItemCell, OutOfMemory>
+        ensures room { IfOk result (λ made. 0 < made.room) }
+        ensures same { IfOk result (λ made. IsSame made self.now) }
+        ensures of { IfOk result (λ made. (cache : CacheId) → IsIn cache self.now → IsIn cache made) }
+    {
+        let mut made = self.copy(alloc)?;
+        made.reserve()?;
+        Ok(made)
     }
 
     /// Makes room for one more value, so that [`ItemCell::insert_token`] may be called once. At [`OutOfMemory`] the

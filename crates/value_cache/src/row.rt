@@ -1,6 +1,6 @@
 //! Rows, which grow at one end and are dropped at the other.
 
-ghost use Rattle.std.specs.Prelude.{◌≡◌, ◌≤◌, ◌<◌, [], drop, insert, length, OnOk, OnErr};
+ghost use Rattle.std.specs.Prelude.{◌≡◌, ◌≤◌, ◌<◌, ◌↔◌, IsTrue, [], drop, insert, length, OnOk, OnErr};
 
 use std::alloc::Global;
 use std::marker::Model;
@@ -51,6 +51,13 @@ impl<T: Drop> Row<T> {
         ensures { result.now ≡ self.now.items }
     {
         &self.items.as_slice()[self.lost..]
+    }
+
+    /// Whether there is room for one more item.
+    pub(crate) fn has_room(&self) -> bool
+        ensures { IsTrue result ↔ (0 < self.now.room) }
+    {
+        self.items.len() < self.items.capacity()
     }
 
     /// Makes room for one more item. At [`OutOfMemory`] the row is as before.

@@ -1,7 +1,8 @@
 //! Expressions of triggers as texts, and what items keep for their calls.
 
 use case_rows::bytes_of;
-use expr_parser::{ParseError, Parsed, read, write};
+use expr_parser::{ParseError, Parsed, read};
+use expr_text::write;
 use std::alloc::Global;
 use std::convert::AsStr;
 use value_cache::{Keep, keeps};

@@ -9,5 +9,5 @@ use Rattle.base_state.proofs.problems.take_steps.Goals as goal
 pub loop-one-preserved : goal.loop-one-preserved
 loop-one-preserved c =
     let event = event_of c.args.problem.now in
-    let second : IsHoused c.args.stage.now c.loop-one.rows.items event → Absorbed c.args.stage.now c.loop-one.rows.items (read_ran event c.one-item.result ∷ []) c.take.new.rows.items = search rules in
-    taken_step c.args.stage.now c.args.rows.now.items c.loop-one.rows.items c.take.new.rows.items event c.args.ran.now c.loop-one.one-index c.one-item.result c.loop-one-test.true c.one-item.is c.loop-one.invariant second
+    let second : IsHoused c.args.stage.now c.loop-one.rows.items event → Absorbed c.args.stage.now c.loop-one.rows.items (read_ran event c.one-item.result ∷ []) c.take-taken.new.rows.items = search rules in
+    taken_step c.args.stage.now c.args.rows.now.items c.loop-one.rows.items c.take-taken.new.rows.items event c.args.ran.now c.loop-one.one-index c.one-item.result c.loop-one-test.true c.one-item.is c.loop-one.invariant second

@@ -1,7 +1,7 @@
 use Rattle.std.proofs.Common.{rules, ◌≡◌, Some, ◌∙◌, ap, refl, List, Option, ℤ}
 use Rattle.zbx_types.specs.Ids.{at_id}
 use Rattle.entry_step.specs.Represents.{problems_at}
-use Rattle.entry_step.specs.Calls.{value_in}
+use Rattle.conf_index.specs.Evaluation.{value_in}
 use Rattle.entry_step.proofs.Landing.{outcome_is}
 use Rattle.entry_step.proofs.Represented.{ok_sub}
 use Rattle.entry_step.proofs.stepping.outcome_of.Goals as goal

@@ -1,4 +1,4 @@
-use Rattle.std.proofs.Common.{◌≡◌, ◌≤◌, ◌-◌, length}
+use Rattle.std.proofs.Common.{◌≤◌, ◌-◌, length}
 use Rattle.zbx_types.specs.Limits.{longest_expression}
 use Rattle.expr_parser.specs.View.{state}
 use Rattle.expr_parser.proofs.Places.{Reached}

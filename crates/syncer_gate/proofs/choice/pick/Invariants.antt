@@ -6,5 +6,5 @@ use Rattle.syncer_gate.proofs.choice.pick.Given as goal
 
 abbrev pub invariant-loop-place : goal.invariant-loop-place
 invariant-loop-place l =
-    l.made ++ picked (told_by l.feet) (meets (told_by l.feet) l.touched) l.looks l.room (drop l.place l.marks) (drop l.place l.entries)
-    ≡ picked (told_by l.feet) (meets (told_by l.feet) l.fn.touched) 1000 l.limit l.marks l.entries
+    l.made ++ picked (told_by l.feet) (meets (told_by l.feet) l.touched) l.left l.room (drop l.place l.marks) (drop l.place l.entries)
+    ≡ picked (told_by l.feet) (meets (told_by l.feet) l.fn.touched) l.looks l.limit l.marks l.entries

@@ -55,8 +55,8 @@ returns-in-Ok-clause-one g c =
       c.in-Some.batch.id,
       ap (λ (x : Gate). x.marks) (c.settle.ensures.open claim.opened)
           ∙ ap (λ (x : Gate). map (ended c.in-Some.batch.id Applied) x.marks)
-          (c.in_ok-taken.ensures.gate ∙ ap (λ (es : List Numbered). claimed c.self.inside.claims (chosen (feet_of g.S.StartName.start.stage.conf) c.self.inside.claims es 1)) c.as_slice-all.ensures.value
-          ∙ ap (λ (p : ProgressView). claimed p.gate (chosen (feet_of g.S.StartName.start.stage.conf) p.gate p.entries 1)) c.self.view_is),
+          (c.in_ok-taken.ensures.gate ∙ ap (λ (es : List Numbered). claimed c.self.inside.claims (chosen (feet_of g.S.StartName.start.stage.conf) c.self.inside.claims es 4000 1)) c.as_slice-all.ensures.value
+          ∙ ap (λ (p : ProgressView). claimed p.gate (chosen (feet_of g.S.StartName.start.stage.conf) p.gate p.entries 4000 1)) c.self.view_is),
     )
 
 pub returns-in-Err-clause-err : goal.returns-in-Err-clause-err

@@ -5,10 +5,10 @@ ghost use Rattle.zbx_types.specs.Tree.{Tree};
 ghost use Rattle.zbx_types.specs.Trees.{tree_of};
 ghost use Rattle.zbx_types.specs.declared.calls.Call.{Call};
 ghost use Rattle.expr_parser.specs.Grammar.{IsExpr, op_text};
-ghost use Rattle.expr_parser.specs.Written.{is_simple, nesting, written_of};
+ghost use Rattle.expr_text.specs.Written.{is_simple, nesting, written_of};
 
 use crate::call_text::put_place;
-use crate::reading::Parsed;
+use expr_parser::Parsed;
 use std::alloc::Global;
 use zbx_types::{Call, Expr, Op, OutOfMemory, Text};
 
@@ -109,7 +109,7 @@ fn put_expr(expr: &Expr, calls: &[Call], out: &mut Text) -> Result<(), OutOfMemo
 /// arguments behind the range are texts in quotes, each `"` in them as `\"`, up to the last one that isn't empty. Its
 /// commas have no blanks.
 ///
-/// The written form of what [`read`](crate::read) gave is again a text of that expression, and of no other, where at
+/// The written form of what [`read`](expr_parser::read) gave is again a text of that expression, and of no other, where at
 /// most 32 parentheses are open at one place; it may be longer than `read` takes,
 /// [`LONGEST_EXPRESSION`](zbx_types::LONGEST_EXPRESSION). A call whose place isn't in the list, which `read` never gives,
 /// is written as nothing.

@@ -1,5 +1,5 @@
 use Rattle.std.proofs.Common.{length}
-use Rattle.entry_step.proofs.evaluation.+value_at.Given as goal
+use Rattle.conf_index.proofs.evaluation.+value_at.Given as goal
 
 abbrev pub decreases-value_at : goal.decreases-value_at
 decreases-value_at l = length l.nodes.now

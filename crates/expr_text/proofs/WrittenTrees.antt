@@ -7,10 +7,10 @@ use Rattle.zbx_types.specs.declared.calls.Call.{Call}
 use Rattle.expr_parser.specs.Bytes.{is_gap, first_byte, AreBlanks, Point, behind, beginning}
 use Rattle.expr_parser.specs.Calls.{IsCall, greatest_number}
 use Rattle.expr_parser.specs.Grammar.{op_text, op_level, StandsApart, Spells, number, called, paren, minus, denied, tighter, joined, IsExpr}
-use Rattle.expr_parser.specs.Written.{written_call, is_simple, as_operand, written_of, operand_nesting, nesting}
+use Rattle.expr_text.specs.Written.{written_call, is_simple, as_operand, written_of, operand_nesting, nesting}
 use Rattle.expr_parser.proofs.Lists.{no_blanks, one_blank, last_snoc, held_behind, behind_one}
-use Rattle.expr_parser.proofs.WrittenNumbers.{constant_again, number_fits}
-use Rattle.expr_parser.proofs.WrittenCalls.{call_again}
+use Rattle.expr_text.proofs.WrittenNumbers.{constant_again, number_fits}
+use Rattle.expr_text.proofs.WrittenCalls.{call_again}
 
 -- ---- levels
 

@@ -1,13 +1,12 @@
-//! The values of expressions.
+//! The values of expressions that lie flat.
 
 ghost use Rattle.std.specs.Prelude.{◌≡◌, ◌≤◌, List, length, neg_ℤ, option_map};
 ghost use Rattle.zbx_types.specs.Tree.{Tree};
-ghost use Rattle.entry_step.specs.Calls.{value_in, Evaluates};
+ghost use Rattle.conf_index.specs.Evaluation.{value_in, Evaluates, expression_value, recovery_value};
 ghost use Rattle.conf_index.specs.Plans.{flat, plan_of, recovery_plan_of};
-ghost use Rattle.entry_step.specs.Records.{expression_value, recovery_value};
 ghost use Rattle.conf_index.specs.declared.plans.Node.{Node};
 
-use conf_index::Node;
+use crate::plans::Node;
 use expr_eval::{negation, operation};
 use zbx_types::{Fix, Trigger};
 
@@ -72,7 +71,7 @@ fn value_at<'a>(values: &[Option<Fix>], nodes: &'a [Node]) -> Found<'a>
 }
 
 /// The value of a trigger's expression, whose nodes these are, over the values of its calls.
-pub(crate) fn plan_value(values: &[Option<Fix>], trigger: &Trigger, plan: &[Node]) -> Option<Fix>
+pub fn plan_value(values: &[Option<Fix>], trigger: &Trigger, plan: &[Node]) -> Option<Fix>
     requires { plan.now ≡ plan_of trigger.now }
     ensures { result ≡ expression_value (value_in values.now) trigger.now.expr }
 {
@@ -80,11 +79,7 @@ pub(crate) fn plan_value(values: &[Option<Fix>], trigger: &Trigger, plan: &[Node
 }
 
 /// The value of a trigger's recovery expression, whose nodes these are. None where it has none.
-pub(crate) fn recovery_value(
-    values: &[Option<Fix>],
-    trigger: &Trigger,
-    plan: &[Node],
-) -> Option<Fix>
+pub fn recovery_value(values: &[Option<Fix>], trigger: &Trigger, plan: &[Node]) -> Option<Fix>
     requires { plan.now ≡ recovery_plan_of trigger.now }
     ensures { result ≡ recovery_value (value_in values.now) trigger.now.recovery_expr }
 {

@@ -1,11 +1,11 @@
 use Rattle.std.proofs.Common.{◌∙◌, sym, ap, neg_ℤ, option_map, Option, ℤ}
 use Rattle.expr_eval.specs.Operations.{negation_of, operation}
 use Rattle.expr_eval.specs.Values.{value_over}
-use Rattle.entry_step.specs.Calls.{value_in}
+use Rattle.conf_index.specs.Evaluation.{value_in}
 use Rattle.conf_index.specs.declared.plans.Node.TheVariants.{Const, Called, Neg, Not, Bin}
 use Rattle.conf_index.specs.Plans.{flat}
-use Rattle.entry_step.proofs.Planned.{headed, no_nodes}
-use Rattle.entry_step.proofs.evaluation.+value_at.Goals as goal
+use Rattle.conf_index.proofs.Evaluated.{headed, no_nodes}
+use Rattle.conf_index.proofs.evaluation.+value_at.Goals as goal
 
 pub returns-in_default-clause-value : goal.returns-in_default-clause-value
 returns-in_default-clause-value t c = λ tree more e. absurd (no_nodes tree c.args.nodes.now more c.in_default.ensures.cases e)

@@ -3,7 +3,7 @@ use Rattle.std.proofs.Common.{◌≡◌, ℕ, suc, ◌+◌, ◌<◌, List, [], �
 use denote.Ref.{Bor}
 use Rattle.std.proofs.lemmas.Str.Pattern.{IsSplitOnceResult, split_once_first}
 use Rattle.std.specs.List.{position_or_len, before_first, after_first}
-use Rattle.expr_parser.specs.Written.{escaped}
+use Rattle.expr_text.specs.Written.{escaped}
 use Rattle.expr_parser.proofs.Lists.{either_way}
 
 -- no quote

@@ -2,9 +2,8 @@
 
 ghost use Rattle.std.specs.Prelude.{◌≡◌, ◌++◌, ◌<◌, length, OnOk, MatchOption, IfSome, codes, slice_get};
 ghost use Rattle.expr_parser.specs.Functions as functions;
-ghost use Rattle.expr_parser.specs.Written as written;
+ghost use Rattle.expr_text.specs.Written as written;
 
-use crate::slots::{Slots, slots_of};
 use std::convert::AsStr;
 use zbx_types::{Call, Fun, OutOfMemory, Range, Text};
 
@@ -94,9 +93,9 @@ fn put_shift(shift: u32, out: &mut Text) -> Result<(), OutOfMemory>
 fn ranged(fun: Fun) -> bool
     ensures { result ≡ written.is_ranged (functions.slots fun) }
 {
-    match slots_of(fun) {
-        Slots::Zero => false,
-        _ => true,
+    match fun {
+        Fun::Change => false,
+        _ => !fun.is_dated(),
     }
 }
 

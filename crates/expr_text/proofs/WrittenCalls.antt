@@ -19,11 +19,12 @@ use Rattle.expr_parser.specs.Numbers.{IsNumber, IsPeriod, seconds, suffixed_peri
 use Rattle.expr_parser.specs.Functions.{name_of, slots, default_range, takes_count, least_period, word_list}
 use Rattle.zbx_types.specs.Operators.{is_dated}
 use Rattle.expr_parser.specs.Calls.{absent_value, number_limit, is_one_of, is_same, greatest_percent, IsRange, latest, span, IsQuoted, nothing, quote, backslash, plain, IsPart, absent, ranged, shifted, word, number, quoted_number, quoted, put, all_absent, may_be_absent, Arguments, no_more, another, plain_call, IsCall, dated, of_item}
-use Rattle.expr_parser.specs.Written.{escaped, quoted_text, written_range, written_shift, range_argument, last_arguments, written_call}
+use Rattle.expr_text.specs.Written.{escaped, quoted_text, written_range, written_shift, range_argument, last_arguments, written_call}
 use Rattle.expr_parser.proofs.Lists.{no_blanks, way, either_way, eq_true, held_behind, some_is, none_some}
 use Rattle.expr_parser.proofs.NumberPaths.{number_path}
 use Rattle.expr_parser.proofs.PartPaths.{same_is}
-use Rattle.expr_parser.proofs.WrittenNumbers.{decimal_is, is_plain, number_plain, number_utf8}
+use Rattle.expr_parser.proofs.NumberBytes.{is_plain, number_plain, number_utf8}
+use Rattle.expr_text.proofs.WrittenNumbers.{decimal_is}
 
 -- ---- texts in quotes
 

@@ -1,8 +1,6 @@
--- Written numbers are numbers of the grammar, and their texts have neither quotes nor backslashes.
-use Rattle.std.proofs.Common.{◌≡◌, ℕ, zero, suc, ◌+◌, ◌-◌, ◌*◌, ◌/◌, ◌%◌, ◌^◌, ◌≤◌, ◌<◌, List, [], ◌∷◌, ◌++◌, length, refl, ap, sym, subst, ◌∙◌, Bool, true, false, ◌==◌, arith, option_map, codes, pos, unsigned_abs, if◌then◌else◌, append_assoc}
+-- Written numbers are numbers of the grammar.
+use Rattle.std.proofs.Common.{◌≡◌, ℕ, ◌+◌, ◌-◌, ◌*◌, ◌/◌, ◌%◌, ◌^◌, ◌≤◌, ◌<◌, List, [], ◌∷◌, ◌++◌, length, refl, ap, sym, subst, ◌∙◌, Bool, true, false, ◌==◌, arith, option_map, codes, pos, unsigned_abs, if◌then◌else◌, append_assoc}
 use Rattle.std.specs.Fmt.{decimal}
-use Rattle.std.specs.Str.{IsAscii, IsUtf8}
-use Rattle.std.proofs.lemmas.Str.{IsUtf8-from_ascii}
 use Rattle.std.proofs.lemmas.Bool.Decides.{nat_tests}
 use Rattle.std.proofs.lemmas.Fmt.{decimal_by_steps_wide}
 use Rattle.zbx_types.specs.Digits.{digit_at, last_six_digits}
@@ -12,13 +10,10 @@ use Rattle.zbx_types.specs.Written.{without_last_zeros, written}
 use Rattle.zbx_types.proofs.DigitLemmas.{length-without_last_zeros, value-without_last_zeros, six_write}
 use Rattle.zbx_types.proofs.ReadAgain.{written_is_read}
 use Rattle.byte_grammar.specs.Bytes.{is_digit}
-use Rattle.expr_parser.specs.declared.figures.Figures.{Figures}
 use Rattle.expr_parser.specs.Bytes.{AreDigits, Digits}
-use Rattle.expr_parser.specs.Figures.{is_figure}
 use Rattle.expr_parser.specs.Numbers.{IsDecimal, whole, pointed, IsNumber, decimal as plain_number, suffixed}
 use Rattle.expr_parser.specs.Calls.{greatest_number}
 use Rattle.expr_parser.proofs.Lists.{one_digit, digits_snoc, are_one, are_snoc}
-use Rattle.expr_parser.proofs.NumberPaths.{Path, here, there, NumberRun, number_path}
 
 digit_byte : (d : ℕ) → d < 10 → is_digit (48 + d) ≡ true
 digit_byte d h = grind (arith, nat_tests)
@@ -104,49 +99,3 @@ constant_again n h = plain_number (is_decimal n h) (ap (option_map unsigned_abs)
 pub number_fits : {most : ℕ} {t : List ℕ} {n : ℕ} → IsNumber most t n → n ≤ most
 number_fits (plain_number d e h) = h
 number_fits (suffixed u b m f d e s k p q t) = q
-
--- ---- texts without quotes and backslashes
-
-abbrev pub is_plain : List ℕ → Bool
-is_plain [] = true
-is_plain (b ∷ bs) = if b == 34 then false else if b == 92 then false else is_plain bs
-
-figure_not_quote : (b : ℕ) → is_figure b ≡ true → (b == 34) ≡ false
-figure_not_quote b h = grind (arith, nat_tests)
-
-figure_not_slash : (b : ℕ) → is_figure b ≡ true → (b == 92) ≡ false
-figure_not_slash b h = grind (arith, nat_tests)
-
-figures_plain : (most : ℕ) {f g : Figures} {bs : List ℕ} → Path most f bs g → is_plain bs ≡ true
-figures_plain most (here {f}) = refl
-figures_plain most (there {f} {g} {h} b {bs} i k p) = rw (figure_not_quote b i, figure_not_slash b i) (figures_plain most p)
-
-run_plain : (most : ℕ) (t : List ℕ) (n : ℕ) → NumberRun most t n → is_plain t ≡ true
-run_plain most t n r =
-    let d : is_figure r.first ≡ true = rw r.digit refl in
-    rw r.is (rw (figure_not_quote r.first d, figure_not_slash r.first d) (figures_plain most r.path))
-
-pub number_plain : (most : ℕ) (t : List ℕ) (n : ℕ) → IsNumber most t n → is_plain t ≡ true
-number_plain most t n h = run_plain most t n (number_path h)
-
--- ---- and of ASCII
-
-figure_low : (b : ℕ) → is_figure b ≡ true → b < 128
-figure_low b h = grind (arith, nat_tests)
-
-figures_ascii : (most : ℕ) {f g : Figures} {bs : List ℕ} → Path most f bs g → IsAscii bs
-figures_ascii most (here {f}) i = omega arith
-figures_ascii most (there {f} {g} {h} b {bs} d k p) zero = figure_low b d
-figures_ascii most (there {f} {g} {h} b {bs} d k p) (suc i) = figures_ascii most p i
-
-run_ascii : (most : ℕ) (t : List ℕ) (n : ℕ) → NumberRun most t n → IsAscii t
-run_ascii most t n r =
-    let d : is_figure r.first ≡ true = rw r.digit refl in
-    subst IsAscii (sym r.is) (first r.first r.more (figure_low r.first d) (figures_ascii most r.path))
-  where
-    first : (b : ℕ) (bs : List ℕ) → b < 128 → IsAscii bs → IsAscii (b ∷ bs)
-    first b bs low rest zero = low
-    first b bs low rest (suc i) = rest i
-
-pub number_utf8 : (most : ℕ) (t : List ℕ) (n : ℕ) → IsNumber most t n → IsUtf8 t
-number_utf8 most t n h = IsUtf8-from_ascii t (run_ascii most t n (number_path h))

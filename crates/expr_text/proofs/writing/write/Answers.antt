@@ -2,8 +2,8 @@ use Rattle.std.proofs.Common.{ℕ, List, sym, subst, rules}
 use Rattle.zbx_types.specs.Trees.{tree_of}
 use Rattle.expr_parser.specs.Grammar.{IsExpr}
 use Rattle.expr_parser.proofs.Complete.{one}
-use Rattle.expr_parser.proofs.WrittenTrees.{written_again}
-use Rattle.expr_parser.proofs.writing.write.Goals as goal
+use Rattle.expr_text.proofs.WrittenTrees.{written_again}
+use Rattle.expr_text.proofs.writing.write.Goals as goal
 
 pub returns-clause-text : goal.returns-clause-text
 returns-clause-text c = search rules

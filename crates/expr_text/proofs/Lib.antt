@@ -1,0 +1,4 @@
+pub mod Escapes
+pub mod WrittenNumbers
+pub mod WrittenCalls
+pub mod WrittenTrees
